@@ -24,9 +24,9 @@ fn lines(alloc: Global, a: &Tree, b: &Tree) -> Result<Vec<u8>, AllocError> {
 /// Checks the lines while allocation `turn` fails. Returns whether it failed.
 fn tells(rt: &impl Abort, alloc: Global, (a, b): (&Tree, &Tree), turn: u16) -> bool {
     refuse_growth(alloc, turn);
-    let answer = lines(alloc, a, b);
+    let outcome = lines(alloc, a, b);
     let is_refused = was_refused(alloc);
-    match answer {
+    match outcome {
         Ok(text) => assert!(rt; text.as_slice() == LINES),
         Err(_) => was_wanted(rt, is_refused, turn),
     }

@@ -12,14 +12,14 @@ use std::process::Abort;
 fn writes_frame(rt: &impl Abort, alloc: Global, turn: u16) -> bool {
     let mut out = Vec::from_slice(alloc, b"before").expect(rt, "no memory");
     refuse_growth(alloc, turn);
-    let answer = write_frame(&mut out, b"{}", LIMITS);
+    let outcome = write_frame(&mut out, b"{}", LIMITS);
     let is_refused = was_refused(alloc);
-    if answer == Err(FrameFault::Memory) {
+    if outcome == Err(FrameFault::Memory) {
         was_wanted(rt, is_refused, turn);
         assert!(rt; out.as_slice() == b"before".as_slice());
         assert!(rt; write_frame(&mut out, b"{}", LIMITS) == Ok(()));
     } else {
-        assert!(rt; answer == Ok(()));
+        assert!(rt; outcome == Ok(()));
     }
     assert!(rt; out.as_slice() == b"beforeContent-Length: 2\r\n\r\n{}".as_slice());
     is_refused
@@ -52,7 +52,7 @@ enum Made {
     Failed,
 }
 
-fn told(fed: &Fed) -> Made {
+fn reported(fed: &Fed) -> Made {
     match &fed.content {
         None => Made::Took(fed.used),
         Some(content) if content.as_slice() == FIRST_CONTENT => Made::Gave(fed.used),
@@ -64,7 +64,7 @@ fn feed(framer: &mut Framer, bytes: &[u8]) -> Made {
     let held = framer.held();
     let piece = bytes.get(..20).unwrap_or(bytes);
     match framer.feed(piece) {
-        Ok(fed) => told(&fed),
+        Ok(fed) => reported(&fed),
         Err(FrameFault::Memory) if framer.held() == held => Made::Wanted,
         Err(_) => Made::Failed,
     }
@@ -119,10 +119,10 @@ const TEXT: &str = "{\"a\":null,\"b\":[1,{\"c\":\"a text of some forty bytes, mo
 fn is_tree(
     rt: &impl Abort,
     alloc: Global,
-    answer: Result<Tree, TreeFault>,
+    outcome: Result<Tree, TreeFault>,
     (is_refused, turn): (bool, u16),
 ) {
-    match answer {
+    match outcome {
         Ok(tree) => assert!(rt; is_written(alloc, &tree, TEXT)),
         Err(fault) => {
             assert!(rt; fault == TreeFault::Memory);
@@ -135,9 +135,9 @@ fn is_tree(
 fn a_tree_is_refused_in_turn(rt: HostRuntime) {
     for turn in 1..1000u16 {
         refuse_growth(rt.alloc(), turn);
-        let answer = read_tree(rt.alloc(), CONTENT);
+        let outcome = read_tree(rt.alloc(), CONTENT);
         let is_refused = was_refused(rt.alloc());
-        is_tree(&rt, rt.alloc(), answer, (is_refused, turn));
+        is_tree(&rt, rt.alloc(), outcome, (is_refused, turn));
         if !is_refused {
             break;
         }
@@ -149,9 +149,9 @@ fn a_copy_is_refused_in_turn(rt: HostRuntime) {
     let tree = read_tree(rt.alloc(), TEXT.as_bytes()).expect(&rt, "no tree");
     for turn in 1..1000u16 {
         refuse_growth(rt.alloc(), turn);
-        let answer = tree.copy(rt.alloc());
+        let outcome = tree.copy(rt.alloc());
         let is_refused = was_refused(rt.alloc());
-        is_tree(&rt, rt.alloc(), answer, (is_refused, turn));
+        is_tree(&rt, rt.alloc(), outcome, (is_refused, turn));
         assert!(rt; is_written(rt.alloc(), &tree, TEXT));
         if !is_refused {
             break;

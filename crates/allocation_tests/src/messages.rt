@@ -85,9 +85,9 @@ fn types_turn(
 ) -> bool {
     let tree = read_tree(alloc, text.as_bytes()).expect(rt, "no tree");
     refuse_growth(alloc, turn);
-    let answer = typed(alloc, Side::Adapter, tree);
+    let outcome = typed(alloc, Side::Adapter, tree);
     let is_refused = was_refused(alloc);
-    let found = content(alloc, answer);
+    let found = content(alloc, outcome);
     if found == Err(MessageFault::Memory) {
         was_wanted(rt, is_refused, turn);
     } else {
@@ -176,12 +176,12 @@ fn has_content_behind(
     if out.extend_from_slice(b"before").is_err() {
         return Err(MessageFault::Memory);
     }
-    let answer = message.write_content_to(alloc, &mut out);
+    let outcome = message.write_content_to(alloc, &mut out);
     let rest = out.as_slice().strip_prefix(b"before");
-    if answer.is_err() {
+    if outcome.is_err() {
         assert!(rt; rest == Some(b"".as_slice()));
     }
-    answer?;
+    outcome?;
     Ok(rest == Some(known.text.as_bytes()))
 }
 
@@ -233,12 +233,12 @@ fn gives_turn(
     turn: u16,
 ) -> bool {
     refuse_growth(alloc, turn);
-    let answer = gives(rt, alloc, call, message, known);
+    let outcome = gives(rt, alloc, call, message, known);
     let is_refused = was_refused(alloc);
-    if answer == Err(MessageFault::Memory) {
+    if outcome == Err(MessageFault::Memory) {
         was_wanted(rt, is_refused, turn);
     } else {
-        assert!(rt; answer == Ok(true));
+        assert!(rt; outcome == Ok(true));
     }
     assert!(rt; gives(rt, alloc, call, message, known) == Ok(true));
     is_refused

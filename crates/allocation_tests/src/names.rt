@@ -19,9 +19,9 @@ fn names_new<T: NameTable>(
 ) -> bool {
     assert!(rt; 0 <= index && index < 40);
     let number = 7 * index - 90;
-    let answer = table.name(number);
-    if answer != Err(NameFault::Memory) {
-        assert!(rt; answer == Ok(index + 1));
+    let outcome = table.name(number);
+    if outcome != Err(NameFault::Memory) {
+        assert!(rt; outcome == Ok(index + 1));
         return false;
     }
     was_wanted(rt, was_refused(alloc), turn);
@@ -81,12 +81,12 @@ fn own_pairs(alloc: Global, names: &Names<IndexTable>) -> Result<usize, NameFaul
 /// Returns whether it failed.
 fn pairs_turn(rt: &impl Abort, alloc: Global, names: &Names<IndexTable>, turn: u16) -> bool {
     refuse_growth(alloc, turn);
-    let answer = own_pairs(alloc, names);
+    let outcome = own_pairs(alloc, names);
     let is_refused = was_refused(alloc);
-    if answer == Err(NameFault::Memory) {
+    if outcome == Err(NameFault::Memory) {
         was_wanted(rt, is_refused, turn);
     } else {
-        assert!(rt; answer == Ok(2));
+        assert!(rt; outcome == Ok(2));
     }
     is_refused
 }

@@ -64,7 +64,7 @@ enum Made {
     Failed,
 }
 
-fn told(fed: &FedRecord) -> Made {
+fn reported(fed: &FedRecord) -> Made {
     match &fed.whole {
         None => Made::Took(fed.used),
         Some(record) if is_initialize(record) => Made::Took(fed.used),
@@ -76,7 +76,7 @@ fn told(fed: &FedRecord) -> Made {
 fn read(reader: &mut RecordReader, bytes: &[u8]) -> Made {
     let piece = bytes.get(..20).unwrap_or(bytes);
     match reader.feed(piece) {
-        Ok(fed) => told(&fed),
+        Ok(fed) => reported(&fed),
         Err(fault) if fault.number == 1 && fault.cause == RecordCause::Memory => Made::Wanted,
         Err(_) => Made::Failed,
     }
@@ -184,11 +184,11 @@ fn a_recorder_is_refused_in_turn(rt: HostRuntime) {
 fn writes_record(rt: &impl Abort, alloc: Global, turn: u16) -> bool {
     let mut out = Vec::from_slice(alloc, b"before").expect(rt, "no memory");
     refuse_growth(alloc, turn);
-    let answer = write_record(&mut out, Side::Adapter, b"{}", LIMITS);
+    let outcome = write_record(&mut out, Side::Adapter, b"{}", LIMITS);
     let is_refused = was_refused(alloc);
-    if answer.is_err() {
+    if outcome.is_err() {
         was_wanted(rt, is_refused, turn);
-        assert!(rt; answer == Err(FrameFault::Memory));
+        assert!(rt; outcome == Err(FrameFault::Memory));
         assert!(rt; out.as_slice() == b"before".as_slice());
         assert!(rt; write_record(&mut out, Side::Adapter, b"{}", LIMITS).is_ok());
     }
@@ -215,12 +215,12 @@ fn accepts(
     turn: u16,
 ) -> bool {
     let open = session.open(Side::Client);
-    let answer = session.accept(message);
-    if answer.is_ok() {
+    let outcome = session.accept(message);
+    if outcome.is_ok() {
         return false;
     }
     was_wanted(rt, was_refused(alloc), turn);
-    assert!(rt; answer == Err(SessionFault::Memory));
+    assert!(rt; outcome == Err(SessionFault::Memory));
     assert!(rt; session.open(Side::Client) == open);
     assert!(rt; session.accept(message) == Ok(()));
     true
@@ -283,16 +283,16 @@ fn renames(rt: &impl Abort, alloc: Global, turn: u16) -> bool {
     let first = message(rt, alloc, Side::Adapter, SCOPES);
     let again = message(rt, alloc, Side::Adapter, SCOPES);
     refuse_growth(alloc, turn);
-    let mut answer = renamed(&mut names, first);
+    let mut outcome = renamed(&mut names, first);
     let is_refused = was_refused(alloc);
-    if let Err(fault) = answer {
+    if let Err(fault) = outcome {
         assert!(rt; fault == NameFault::Memory);
         was_wanted(rt, is_refused, turn);
         assert!(rt; are_empty(&names));
-        answer = renamed(&mut names, again);
+        outcome = renamed(&mut names, again);
     }
-    let answer = answer.expect(rt, "not renamed");
-    assert!(rt; has_content(alloc, &answer, RENAMED_SCOPES));
+    let outcome = outcome.expect(rt, "not renamed");
+    assert!(rt; has_content(alloc, &outcome, RENAMED_SCOPES));
     assert!(rt; names.len(Sort::Reference) == 2);
     is_refused
 }
@@ -325,9 +325,9 @@ fn begins_again(rt: &impl Abort, alloc: Global, turn: u16) -> bool {
     let first = message(rt, alloc, Side::Adapter, STOPPED);
     let again = message(rt, alloc, Side::Adapter, STOPPED);
     refuse_growth(alloc, turn);
-    let answer = renamed(&mut names, first);
+    let outcome = renamed(&mut names, first);
     let is_refused = was_refused(alloc);
-    if let Err(fault) = answer {
+    if let Err(fault) = outcome {
         assert!(rt; fault == NameFault::Memory);
         was_wanted(rt, is_refused, turn);
         assert!(rt; have_counts(&names, 0, 2));

@@ -28,13 +28,13 @@ fn names<T: NameTable>(
     (number, wanted): (i64, Result<i64, NameFault>),
     turn: u16,
 ) -> bool {
-    let answer = table.name(number);
-    if answer == Err(NameFault::Memory) {
+    let outcome = table.name(number);
+    if outcome == Err(NameFault::Memory) {
         was_wanted(rt, was_refused(alloc), turn);
         assert!(rt; table.name(number) == wanted);
         return true;
     }
-    assert!(rt; answer == wanted);
+    assert!(rt; outcome == wanted);
     false
 }
 
@@ -202,11 +202,11 @@ fn writes_turn(rt: &impl Abort, alloc: Global, turn: u16) -> bool {
     refuse_growth(alloc, turn);
     let answers = writes_too_much(&mut out);
     let is_refused = was_refused(alloc);
-    for answer in answers {
-        if answer == Err(FrameFault::Memory) {
+    for outcome in answers {
+        if outcome == Err(FrameFault::Memory) {
             was_wanted(rt, is_refused, turn);
         } else {
-            assert!(rt; answer == Err(FrameFault::ContentTooLong));
+            assert!(rt; outcome == Err(FrameFault::ContentTooLong));
         }
     }
     assert!(rt; out.as_slice() == b"before".as_slice());

@@ -36,11 +36,11 @@ fn has_text(rt: &impl Abort, alloc: Global, tree: &Tree, wanted: &str) -> Result
 }
 
 /// Checks that the result is `true`, or `Memory` if an allocation failed.
-fn is_true(rt: &impl Abort, answer: Result<bool, TreeFault>, (is_refused, turn): (bool, u16)) {
-    if answer == Err(TreeFault::Memory) {
+fn is_true(rt: &impl Abort, outcome: Result<bool, TreeFault>, (is_refused, turn): (bool, u16)) {
+    if outcome == Err(TreeFault::Memory) {
         was_wanted(rt, is_refused, turn);
     } else {
-        assert!(rt; answer == Ok(true));
+        assert!(rt; outcome == Ok(true));
     }
 }
 
@@ -48,9 +48,9 @@ fn is_true(rt: &impl Abort, answer: Result<bool, TreeFault>, (is_refused, turn):
 /// failed.
 fn writes_turn(rt: &impl Abort, alloc: Global, tree: &Tree, wanted: &str, turn: u16) -> bool {
     refuse_growth(alloc, turn);
-    let answer = has_text(rt, alloc, tree, wanted);
+    let outcome = has_text(rt, alloc, tree, wanted);
     let is_refused = was_refused(alloc);
-    is_true(rt, answer, (is_refused, turn));
+    is_true(rt, outcome, (is_refused, turn));
     assert!(rt; has_text(rt, alloc, tree, wanted) == Ok(true));
     is_refused
 }
@@ -78,14 +78,14 @@ fn append(rt: &impl Abort, alloc: Global, tree: &Tree, out: &mut Vec<u8>) -> Res
 fn appends_turn(rt: &impl Abort, alloc: Global, tree: &Tree, wanted: &str, turn: u16) -> bool {
     let mut out = Vec::from_slice(alloc, b"before").expect(rt, "no memory");
     refuse_growth(alloc, turn);
-    let answer = append(rt, alloc, tree, &mut out);
+    let outcome = append(rt, alloc, tree, &mut out);
     let is_refused = was_refused(alloc);
-    if answer == Err(TreeFault::Memory) {
+    if outcome == Err(TreeFault::Memory) {
         was_wanted(rt, is_refused, turn);
         assert!(rt; out.as_slice() == b"before".as_slice());
         assert!(rt; append(rt, alloc, tree, &mut out) == Ok(()));
     } else {
-        assert!(rt; answer == Ok(()));
+        assert!(rt; outcome == Ok(()));
     }
     assert!(rt; out.as_slice().strip_prefix(b"before") == Some(wanted.as_bytes()));
     is_refused
@@ -142,9 +142,9 @@ fn reads_turn(
 ) -> bool {
     let mut scratch = Scratch::new(alloc);
     refuse_growth(alloc, turn);
-    let answer = has_tree(rt, alloc, read, &mut scratch);
+    let outcome = has_tree(rt, alloc, read, &mut scratch);
     let is_refused = was_refused(alloc);
-    is_true(rt, answer, (is_refused, turn));
+    is_true(rt, outcome, (is_refused, turn));
     assert!(rt; has_tree(rt, alloc, read, &mut scratch) == Ok(true));
     is_refused
 }

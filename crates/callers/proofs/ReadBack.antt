@@ -7,10 +7,10 @@ use Rattle.dap_frame.specs.declared.limits.FrameLimits.{FrameLimits}
 use Rattle.dap_frame.specs.declared.fault.FrameFault.{FrameFault}
 use Rattle.dap_frame.specs.declared.fault.FrameFault.TheVariants.{Memory}
 use Rattle.dap_frame.specs.declared.fed.Fed.{Fed}
-use Rattle.dap_frame.specs.Frame.{IsFrame, IsOpen, Shows, frame_text}
+use Rattle.dap_frame.specs.Frame.{IsFrame, IsOpen, FailsAt, frame_text}
 use Rattle.dap_frame.specs.Laws.{FrameNotFaulty, FrameNotOpen, OneFrame, WrittenIsFrame}
 use Rattle.dap_frame.specs.Limits.{IsSound}
-use Rattle.dap_frame.specs.Reading.{GivesFault, GivesFed, Reading, Stands, limits_of}
+use Rattle.dap_frame.specs.Reading.{GivesFault, GivesFed, Reading, Represents, limits_of}
 
 -- The bytes written for a content within the limit are a frame with that content.
 pub whole_frame : WrittenIsFrame → (limits own : FrameLimits) → IsSound limits → own ≡ limits
@@ -28,9 +28,9 @@ module _ (limits : FrameLimits) (frame content : List ℕ) (is_frame : IsFrame l
   pub some_content : FrameNotOpen → limits_of new ≡ limits → (fed : Fed)
       → GivesFed limits [] frame fed new → fed.content ≡ None → ⊥
   some_content not_open same fed gives none =
-      let all : (fed.used ≡ length frame) × Stands new frame = subst
-      (λ given. MatchOption given ((fed.used ≡ length frame) × Stands new frame)
-      (λ read. IsFrame limits (take fed.used frame) read × Stands new [])) none gives.1 in
+      let all : (fed.used ≡ length frame) × Represents new frame = subst
+      (λ given. MatchOption given ((fed.used ≡ length frame) × Represents new frame)
+      (λ read. IsFrame limits (take fed.used frame) read × Represents new [])) none gives.1 in
       not_open limits frame [] content is_frame
       (subst (IsOpen limits) (sym (append-nil frame))
       (subst (λ l. IsOpen l frame) same all.1.is_open))
@@ -39,9 +39,9 @@ module _ (limits : FrameLimits) (frame content : List ℕ) (is_frame : IsFrame l
   pub same_content : OneFrame → (fed : Fed) → GivesFed limits [] frame fed new
       → (read : List ℕ) → fed.content ≡ Some read → read ≡ content
   same_content one fed gives read some =
-      let front : IsFrame limits (take fed.used frame) read × Stands new [] = subst
-      (λ given. MatchOption given ((fed.used ≡ length frame) × Stands new frame)
-      (λ read. IsFrame limits (take fed.used frame) read × Stands new [])) some gives.1 in
+      let front : IsFrame limits (take fed.used frame) read × Represents new [] = subst
+      (λ given. MatchOption given ((fed.used ≡ length frame) × Represents new frame)
+      (λ read. IsFrame limits (take fed.used frame) read × Represents new [])) some gives.1 in
       (one limits (take fed.used frame) frame (drop fed.used frame) [] read content
       (take-append-drop fed.used frame ∙ sym (append-nil frame)) front.0 is_frame).1
 
@@ -52,6 +52,6 @@ module _ (limits : FrameLimits) (frame content : List ℕ) (is_frame : IsFrame l
   only_memory not_faulty fault gives =
       absurd (faulty fault (gives.shown (λ e. absurd (let same = e in cc))))
     where
-      faulty : (why : FrameFault) → (i : ℕ) × Shows limits frame why i → ⊥
+      faulty : (why : FrameFault) → (i : ℕ) × FailsAt limits frame why i → ⊥
       faulty why shown = not_faulty limits frame [] content why shown.0 is_frame
-          (subst (λ bytes. Shows limits bytes why shown.0) (sym (append-nil frame)) shown.1)
+          (subst (λ bytes. FailsAt limits bytes why shown.0) (sym (append-nil frame)) shown.1)

@@ -11,10 +11,10 @@ use Rattle.dap_input.specs.declared.limits.Limits.{Limits}
 use Rattle.dap_input.specs.declared.refused.Refused.{Refused}
 use Rattle.dap_input.specs.declared.refused.Refused.TheVariants.{Incomplete, Memory, WriteFault}
 use Rattle.dap_input.specs.Inputs.{Fault, IsRefusedAt, read_fault, refused}
-use Rattle.dap_input.specs.Judging.{IsFirstRefusal, Reason, cut}
+use Rattle.dap_input.specs.Validation.{IsFirstRefusal, Reason, cut}
 use Rattle.dap_input.specs.Limits.{AreSound}
 use Rattle.dap_input.specs.ReadTo.{has_failed, so_far}
-use Rattle.dap_input.specs.Refusals.{IsRefused, Tells, reason_of}
+use Rattle.dap_input.specs.Refusals.{IsRefused, RefusalMatches, reason_of}
 use Rattle.dap_input.proofs.Refusals.{cut_told, refused_as}
 use Rattle.dap_normal.specs.Accepting.{IsAccepted, RecordingRefusalStays, accepting}
 use Rattle.dap_normal.specs.Checking.{Checks, HasChecked}
@@ -32,7 +32,7 @@ arriving = record { left = λ s. Some (bytes_left s); given = given_so_far; fail
 -- The result is that the record is incomplete.
 abbrev TellsCut : Option (ℕ × Reason) → Type 0
 TellsCut (Some (n, cut)) = Unit {0}
-TellsCut told = ⊥
+TellsCut reported = ⊥
 
 module _ (limits : Limits) (mode : Mode) (old new : Arriving) where
   pub judged : (checked : Checked) → HasChecked arriving limits mode false old new checked
@@ -63,7 +63,7 @@ module _ (limits : Limits) (mode : Mode) (old new : Arriving) where
 
   module _ (sound : AreSound limits) (stays : RecordingRefusalStays) (because : Refused)
       (text : List ℕ) (next : RefusesNext arriving limits mode old new because text) where
-    is_refused : (why : Reason) → Tells because next.number (refused why)
+    is_refused : (why : Reason) → RefusalMatches because next.number (refused why)
         → IsFirstRefusal (accepting limits mode) next.to.bytes next.number why
         → IsRefused (accepting limits mode) (bytes_left old) because
     is_refused cut tells is =
@@ -77,22 +77,22 @@ module _ (limits : Limits) (mode : Mode) (old new : Arriving) where
         (λ n same. subst TellsCut (sym (ap reason_of same) ∙ tells) tt)
         (refused_as (accepting limits mode) next.to.bytes because next.number why tells is))
 
-    told : (fault : Fault) → Tells because next.number fault
+    reported : (fault : Fault) → RefusalMatches because next.number fault
         → IsRefusedAt (accepting limits mode) (so_far next.to.bytes next.stop) next.number fault
         → IsRefused (accepting limits mode) (bytes_left old) because
-    told (refused why) tells is = is_refused why tells is.0
-    told read_fault tells is = absurd (good next.stop next.to.came.paused is.0)
+    reported (refused why) tells is = is_refused why tells is.0
+    reported read_fault tells is = absurd (good next.stop next.to.came.paused is.0)
 
     refuses_next : IsRefused (accepting limits mode) (bytes_left old) because
-    refuses_next = told next.refuses.fault next.refuses.tells next.refuses.is_refused
+    refuses_next = reported next.refuses.fault next.refuses.tells next.refuses.is_refused
 
   pub refuses : AreSound limits → RecordingRefusalStays → (because : Refused)
       → Checks arriving limits mode false old new (Err because)
       → RefusesBytes limits mode (bytes_left old) because
-  refuses sound stays Memory answer = tt
-  refuses sound stays WriteFault answer = absurd answer
-  refuses sound stays (Incomplete client adapter) answer = absurd (true≢false (sym answer.asked))
-  refuses sound stays because answer = refuses_next sound stays because answer.0 answer.1
+  refuses sound stays Memory outcome = tt
+  refuses sound stays WriteFault outcome = absurd outcome
+  refuses sound stays (Incomplete client adapter) outcome = absurd (true≢false (sym outcome.asked))
+  refuses sound stays because outcome = refuses_next sound stays because outcome.0 outcome.1
 
   -- The same for every result.
   pub answered : (result : Result Checked Refused) → Checks arriving limits mode false old new

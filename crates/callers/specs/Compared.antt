@@ -17,7 +17,7 @@ pub record AreCompared (limits : Limits) (mode : Mode) (a b : List ℕ) (same : 
   pub messages_b : List Sent
   pub accepts_a : IsAccepted limits mode a messages_a
   pub accepts_b : IsAccepted limits mode b messages_b
-  pub told : (same ≡ true) ↔ AreSame (stop_in mode) messages_a messages_b
+  pub reported : (same ≡ true) ↔ AreSame (stop_in mode) messages_a messages_b
 
 -- This is the first error of one of the two recordings, or an allocation failed.
 abbrev pub IsOfOne : Limits → Mode → List ℕ → List ℕ → Refused → Type 0

@@ -11,8 +11,8 @@ use Rattle.callers.specs.declared.told_frames.NoFrames.{NoFrames}
 use Rattle.callers.specs.declared.told_frames.NoFrames.TheVariants.{Tree, Message, Memory}
 
 -- The two parts of a location: the bytes of the function's name, and the line.
-abbrev pub told : Place → List ℕ × ℤ
-told place = (string_bytes place.function, place.line)
+abbrev pub reported : Place → List ℕ × ℤ
+reported place = (string_bytes place.function, place.line)
 
 -- The same two parts of a stack frame.
 abbrev pub place_of_frame : StackFrame → List ℕ × ℤ
@@ -23,7 +23,7 @@ place_of_frame frame = (frame.name, frame.line)
 pub record TellsFrames (content : List ℕ) (places : List Place) : Type 0 where
   pub message : Doc
   pub is_message : IsTypedContent Adapter content message
-  pub same : map told places ≡ map place_of_frame (frames_of message)
+  pub same : map reported places ≡ map place_of_frame (frames_of message)
 
 -- The content is not a tree, or the tree is not a message, for this reason.
 abbrev pub Explains : List ℕ → NoFrames → Type 0

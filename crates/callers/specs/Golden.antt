@@ -1,7 +1,7 @@
 -- A golden file: the normal text of a recording. Source: own.
 use Rattle.std.specs.Prelude.{◌≡◌, ◌↔◌, ℕ, Bool, true, List, Result, Ok, Err}
 use Rattle.dap_device.specs.declared.device.Sink.{Ghosts as Sink}
-use Rattle.dap_device.specs.Written.{AllSent, FrontWritten}
+use Rattle.dap_device.specs.Written.{AllSent, PrefixWritten}
 use Rattle.dap_message.specs.Message.{Sent}
 use Rattle.dap_rename.specs.Messages.{AreSame}
 use Rattle.dap_rename.specs.Modes.{stop_in}
@@ -24,7 +24,7 @@ module _ {W : Type 0} (sink : Sink W) (limits : Limits) (mode : Mode) (recording
   pub record HasNotMade : Type 0 where
     pub golden : List ℕ
     pub canonical : IsCanonical limits mode recording golden
-    pub written : FrontWritten sink old new golden
+    pub written : PrefixWritten sink old new golden
 
   -- The file was written; or it could not be written; or the recording is rejected and nothing was
   -- written.

@@ -22,7 +22,7 @@ pub fn are_same(
     requires { AreSound limits }
 
     // True if and only if a renaming of ids maps the messages of `a` to those of `b`.
-    ensures told { IfOk result (AreCompared limits mode a.now b.now) }
+    ensures reported { IfOk result (AreCompared limits mode a.now b.now) }
     ensures refused { IfErr result (IsOfOne limits mode a.now b.now) }
 {
     let a = normalise_bytes(alloc, a, limits, mode)?;

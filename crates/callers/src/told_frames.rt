@@ -1,7 +1,7 @@
 //! Reads a message and lists its stack frames.
 ghost use Rattle.std.specs.Prelude.{◌≡◌, map, IfErr, IfOk};
 ghost use Rattle.dap_message.specs.ViewItems.{frames_left};
-ghost use Rattle.callers.specs.Frames.{Explains, TellsFrames, place_of_frame, told};
+ghost use Rattle.callers.specs.Frames.{Explains, TellsFrames, place_of_frame, reported};
 
 use dap_message::{Frames, MessageFault, Side, typed};
 use dap_tree::{TreeFault, read_tree};
@@ -35,7 +35,7 @@ pub enum NoFrames {
 /// - `Message`: the tree is not a message that satisfies the profile, or an allocation failed.
 /// - `Memory`: an allocation failed while the frames were copied.
 pub fn tell_frames(alloc: Global, content: &[u8]) -> Result<Vec<Place>, NoFrames>
-    ensures told { IfOk result (λ places. TellsFrames content.now places.items) }
+    ensures reported { IfOk result (λ places. TellsFrames content.now places.items) }
     ensures refused { IfErr result (Explains content.now) }
 {
     let tree = match read_tree(alloc, content) {
@@ -55,7 +55,7 @@ pub fn tell_frames(alloc: Global, content: &[u8]) -> Result<Vec<Place>, NoFrames
 /// Returns the locations of the frames, in their order.
 fn places(alloc: Global, frames: Frames<'_>) -> Result<Vec<Place>, AllocError>
     ensures { IfOk result
-        (λ places. map told places.items ≡ map place_of_frame (frames_left frames.entry)) }
+        (λ places. map reported places.items ≡ map place_of_frame (frames_left frames.entry)) }
 {
     let mut places = Vec::new(alloc);
     for frame in frames {

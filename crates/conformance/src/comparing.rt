@@ -133,10 +133,10 @@ fn verdict_on(alloc: Global, a: &[u8], b: &[u8], mode: Mode) -> Result<Verdict, 
 fn are_carried(rt: &impl Abort, alloc: Global, (a, b, mode): (&[Line], &[Line], Mode)) {
     let bytes_a = recording(rt, alloc, a);
     let bytes_b = recording(rt, alloc, b);
-    let answer = verdict_on(alloc, bytes_a.as_slice(), bytes_b.as_slice(), mode);
+    let outcome = verdict_on(alloc, bytes_a.as_slice(), bytes_b.as_slice(), mode);
     let from = messages(rt, alloc, a);
     let to = messages(rt, alloc, b);
-    match answer {
+    match outcome {
         Ok(Verdict::Same(renaming)) => {
             assert!(rt; renaming.carries(from.as_slice(), to.as_slice(), mode))
         }

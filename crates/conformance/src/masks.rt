@@ -150,15 +150,15 @@ fn input_of(rt: &impl Abort, alloc: Global, lines: &[Line], rest: &[u8]) -> Vec<
 fn is_answer(
     rt: &impl Abort,
     alloc: Global,
-    (answer, sink): (Result<(), Refused>, &TestSink),
+    (outcome, sink): (Result<(), Refused>, &TestSink),
     (wanted, left): (Result<(), Refused>, &[Line]),
     (is_refused, turn): (bool, u16),
 ) {
-    if answer == Err(Refused::Memory) {
+    if outcome == Err(Refused::Memory) {
         was_wanted(rt, is_refused, turn);
         assert!(rt; has_leading_records(rt, alloc, sink, left));
     } else {
-        assert!(rt; answer == wanted);
+        assert!(rt; outcome == wanted);
         assert!(rt; sink.bytes() == recording(rt, alloc, left).as_slice());
         assert!(rt; sink.flushes == 1);
     }
@@ -175,9 +175,9 @@ fn masks_turn(
     let mut reader = MemorySource::new(input);
     let mut sink = TestSink::new(alloc, false).expect(rt, "no memory");
     refuse_growth(alloc, turn);
-    let answer = masked(alloc, rules, &mut reader, &mut sink);
+    let outcome = masked(alloc, rules, &mut reader, &mut sink);
     let is_refused = was_refused(alloc);
-    is_answer(rt, alloc, (answer, &sink), wanted, (is_refused, turn));
+    is_answer(rt, alloc, (outcome, &sink), wanted, (is_refused, turn));
     is_refused
 }
 
@@ -200,8 +200,8 @@ fn mask_is_refused_in_turn(rt: HostRuntime) {
 /// Checks that all masked records are written and `WriteFault` is returned if the flush fails.
 fn fails_to_flush(rt: &impl Abort, alloc: Global, rules: &MaskRules, input: &[u8], left: &[Line]) {
     let mut sink = TestSink::new(alloc, true).expect(rt, "no memory");
-    let answer = masked(alloc, rules, &mut MemorySource::new(input), &mut sink);
-    assert!(rt; answer == Err(Refused::WriteFault));
+    let outcome = masked(alloc, rules, &mut MemorySource::new(input), &mut sink);
+    assert!(rt; outcome == Err(Refused::WriteFault));
     assert!(rt; sink.bytes() == recording(rt, alloc, left).as_slice());
 }
 

@@ -21,7 +21,8 @@ use Rattle.clap.specs.declared.builder.value_parser.Reading.{Reading}
 use Rattle.clap.specs.declared.parser.matches.ValueSource.{ValueSource}
 use Rattle.clap.specs.declared.parser.matches.ValueSource.TheVariants.{CommandLine, DefaultValue}
 use Rattle.clap.proofs.WalkLemmas.{both}
-use Rattle.dap_command_line.specs.CommandLine.{Told, asks_per_stop, file, is_set, job_named, masker}
+use Rattle.dap_command_line.specs.CommandLine.{JobSpec, asks_per_stop, file, is_set, job_named}
+use Rattle.dap_command_line.specs.CommandLine.{masker}
 use Rattle.dap_command_line.specs.CommandLine.{names_job, of_two_files, over_files, per_stop_flag, program}
 use Rattle.dap_command_line.specs.CommandLine.{two_files}
 use Rattle.dap_command_line.specs.CommandLine as line
@@ -297,7 +298,7 @@ module _ (word : Text) (shape : Shape) (Has : List Row → Type 0) (only : IsOnl
 
 -- ---- the job
 
-both_files : (job : Text → Text → Bool → Told) (given : List Row) → HasFiles given
+both_files : (job : Text → Text → Bool → JobSpec) (given : List Row) → HasFiles given
     → is_some (over_files job given) ≡ true
 both_files job given files =
     by_names (first_of (codes "A") given) (first_of (codes "B") given) files.0 files.1
@@ -315,7 +316,7 @@ mask_there None some = some
 mask_there (Some rules) some = refl
 
 by_name : (compact record_trace normalise check show mask rows compare diff : Bool)
-    (normalised checked row : Told) (masked files apart : Option Told)
+    (normalised checked row : JobSpec) (masked files apart : Option JobSpec)
     → (mask ≡ true → is_some masked ≡ true) → (compare ≡ true → is_some files ≡ true)
     → (diff ≡ true → is_some apart ≡ true)
     → (compact || (record_trace
@@ -354,7 +355,7 @@ pub takes_job : (words : List Text) → takes program words ≡ true
     → is_some (job_named (subcommand_of program words)) ≡ true
 takes_job words taken names = by_subcommand (subcommand_of program words) refl names
   where
-    there : (job : Text → Text → Bool → Told) (word : Text) → IsOnly word (built_of_two word)
+    there : (job : Text → Text → Bool → JobSpec) (word : Text) → IsOnly word (built_of_two word)
         → (p : Text × List Row) → bytes_eq p.0 word ≡ true → subcommand_of program words ≡ Some p
         → is_some (over_files job p.1) ≡ true
     there job word only p named is =

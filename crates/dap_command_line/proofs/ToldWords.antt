@@ -4,17 +4,19 @@ use Rattle.clap.specs.Values.{kind_of}
 use Rattle.clap.specs.Words.{HasKind, Kinds}
 use Rattle.clap.specs.declared.error.Error.{Error}
 use Rattle.clap.specs.declared.error.kind.ErrorKind.TheVariants as kind
-use Rattle.dap_command_line.specs.CommandLine.{IsToldFor, IsToldOf}
+use Rattle.dap_command_line.specs.CommandLine.{IsUsageErrorFor, IsUsageErrorOf}
 use Rattle.dap_command_line.specs.declared.jobs.UsageFault.{UsageFault}
 use Rattle.dap_command_line.specs.declared.jobs.UsageFault.TheVariants as usage
 
 pub told_for : (kinds : Kinds) (error : Error) (fault : UsageFault) → HasKind kinds error
-    → (kind_of error ≡ kind.OutOfMemory → fault ≡ usage.Memory) → IsToldOf (kind_of error) fault
-    → IsToldFor kinds fault
-told_for kinds error (usage.Help text) (inl memory) is told =
+    → (kind_of error ≡ kind.OutOfMemory → fault ≡ usage.Memory)
+    → IsUsageErrorOf (kind_of error) fault
+    → IsUsageErrorFor kinds fault
+told_for kinds error (usage.Help text) (inl memory) is reported =
     absurd (let wrong = is memory in cc)
-told_for kinds error (usage.Help text) (inr among) is told = (kind_of error, among, told)
-told_for kinds error (usage.Usage text) (inl memory) is told =
+told_for kinds error (usage.Help text) (inr among) is reported = (kind_of error, among, reported)
+told_for kinds error (usage.Usage text) (inl memory) is reported =
     absurd (let wrong = is memory in cc)
-told_for kinds error (usage.Usage text) (inr among) is told = inr (kind_of error, among, told)
-told_for kinds error usage.Memory has is told = told
+told_for kinds error (usage.Usage text) (inr among) is reported = inr
+    (kind_of error, among, reported)
+told_for kinds error usage.Memory has is reported = reported

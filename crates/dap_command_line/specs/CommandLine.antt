@@ -39,8 +39,8 @@ abbrev pub checker : App
 checker = with_rule (with_rule (new_app (codes "check")) complete_flag) per_stop_flag
 
 -- The subcommand `rows`, with the number of a row.
-abbrev pub row_teller : App
-row_teller =
+abbrev pub rows_app : App
+rows_app =
     with_rule (new_app (codes "rows")) (record (new_rule (codes "N")) { action = Some Set })
 
 -- The name of a file, which is required.
@@ -84,7 +84,7 @@ program =
     (plain (codes "record")).top) normaliser.top) checker.top)
     (plain (codes "show")).top)
     masker.top)
-    row_teller.top)
+    rows_app.top)
     comparer.top)
     differ.top
 
@@ -93,27 +93,27 @@ abbrev pub IsCommand : App → Command → Type 0
 IsCommand app command = (app_of command ≡ app) × ((fields_of command).has_globals ≡ false)
 
 -- A job, with the byte strings of its arguments.
-pub data Told : Type 0 where
-  compact : Told
-  recording : Told
-  normalise : Bool → Told
-  check : Bool → Bool → Told
-  show : Told
-  mask : Text → Told
-  rows : Option Text → Told
-  compare : Text → Text → Bool → Told
-  diff : Text → Text → Bool → Told
+pub data JobSpec : Type 0 where
+  compact : JobSpec
+  recording : JobSpec
+  normalise : Bool → JobSpec
+  check : Bool → Bool → JobSpec
+  show : JobSpec
+  mask : Text → JobSpec
+  rows : Option Text → JobSpec
+  compare : Text → Text → Bool → JobSpec
+  diff : Text → Text → Bool → JobSpec
 
-abbrev pub told : Job → Told
-told job.Compact = compact
-told job.Record = recording
-told (job.Normalise per_stop) = normalise per_stop
-told (job.Check complete per_stop) = check complete per_stop
-told job.Show = show
-told (job.Mask rules) = mask rules.now
-told (job.Rows number) = rows (option_map (λ text. text.now) number)
-told (job.Compare a b per_stop) = compare a.now b.now per_stop
-told (job.Diff a b per_stop) = diff a.now b.now per_stop
+abbrev pub job_spec : Job → JobSpec
+job_spec job.Compact = compact
+job_spec job.Record = recording
+job_spec (job.Normalise per_stop) = normalise per_stop
+job_spec (job.Check complete per_stop) = check complete per_stop
+job_spec job.Show = show
+job_spec (job.Mask rules) = mask rules.now
+job_spec (job.Rows number) = rows (option_map (λ text. text.now) number)
+job_spec (job.Compare a b per_stop) = compare a.now b.now per_stop
+job_spec (job.Diff a b per_stop) = diff a.now b.now per_stop
 
 -- The byte string of an optional reference.
 abbrev pub text_in : Option (Bor Text) → Option Text
@@ -138,13 +138,13 @@ abbrev pub asks_per_stop : List Row → Bool
 asks_per_stop given = is_set (first_of (codes "per-stop") given)
 
 -- A job with two files.
-abbrev pub over_files : (Text → Text → Bool → Told) → List Row → Option Told
+abbrev pub over_files : (Text → Text → Bool → JobSpec) → List Row → Option JobSpec
 over_files job given =
     option_map (λ files. job files.0 files.1 (asks_per_stop given))
     (two_files (first_of (codes "A") given) (first_of (codes "B") given))
 
 -- The job of a subcommand with its arguments.
-abbrev pub job_of : Text → List Row → Option Told
+abbrev pub job_of : Text → List Row → Option JobSpec
 job_of name given =
     if bytes_eq name (codes "compact") then Some compact
     else if bytes_eq name (codes "record") then Some recording
@@ -172,28 +172,28 @@ names_job (Some p) =
     || (bytes_eq p.0 (codes "rows")
     || (bytes_eq p.0 (codes "compare") || bytes_eq p.0 (codes "diff"))))))))
 
-abbrev pub job_named : Option (Text × List Row) → Option Told
+abbrev pub job_named : Option (Text × List Row) → Option JobSpec
 job_named = option_and_then (λ p. job_of p.0 p.1)
 
 -- Help or the version is requested, which is not an error.
-abbrev pub is_asked : ErrorKind → Bool
-is_asked kind.DisplayHelp = true
-is_asked kind.DisplayVersion = true
-is_asked found = false
+abbrev pub is_help_or_version : ErrorKind → Bool
+is_help_or_version kind.DisplayHelp = true
+is_help_or_version kind.DisplayVersion = true
+is_help_or_version found = false
 
 -- The `UsageFault` returned for an error of this kind: the requested text, a usage error, or a
 -- failed allocation.
-abbrev pub IsToldOf : ErrorKind → UsageFault → Type 0
-IsToldOf found (usage.Help text) = is_asked found ≡ true
-IsToldOf found (usage.Usage text) = is_asked found ≡ false
-IsToldOf found usage.Memory = Unit {0}
+abbrev pub IsUsageErrorOf : ErrorKind → UsageFault → Type 0
+IsUsageErrorOf found (usage.Help text) = is_help_or_version found ≡ true
+IsUsageErrorOf found (usage.Usage text) = is_help_or_version found ≡ false
+IsUsageErrorOf found usage.Memory = Unit {0}
 
 -- The `UsageFault` returned for arguments in which the parser finds these kinds of errors: the
 -- requested text if one kind is such a request, a usage error if one kind is an error or there is
 -- no kind, or a failed allocation.
-abbrev pub IsToldFor : Kinds → UsageFault → Type 0
-IsToldFor kinds (usage.Help text) =
-    (found : ErrorKind) × IsAmong found kinds × (is_asked found ≡ true)
-IsToldFor kinds (usage.Usage text) =
-    (kinds ≡ []) ⊎ ((found : ErrorKind) × IsAmong found kinds × (is_asked found ≡ false))
-IsToldFor kinds usage.Memory = Unit {0}
+abbrev pub IsUsageErrorFor : Kinds → UsageFault → Type 0
+IsUsageErrorFor kinds (usage.Help text) =
+    (found : ErrorKind) × IsAmong found kinds × (is_help_or_version found ≡ true)
+IsUsageErrorFor kinds (usage.Usage text) =
+    (kinds ≡ []) ⊎ ((found : ErrorKind) × IsAmong found kinds × (is_help_or_version found ≡ false))
+IsUsageErrorFor kinds usage.Memory = Unit {0}

@@ -4,7 +4,7 @@ ghost use Rattle.clap.specs.Words.{app_of, rule_of, with_subcommand};
 ghost use Rattle.clap.specs.declared.Command.TheViews.{out-Command as fields_of};
 ghost use Rattle.dap_command_line.specs.CommandLine.{IsCommand, bare, checker, file, masker};
 ghost use Rattle.dap_command_line.specs.CommandLine.{normaliser, of_two_files, per_stop_flag};
-ghost use Rattle.dap_command_line.specs.CommandLine.{plain, program, row_teller};
+ghost use Rattle.dap_command_line.specs.CommandLine.{plain, program, rows_app};
 
 use clap::{Arg, ArgAction, Command};
 use std::alloc::{AllocError, Global};
@@ -109,7 +109,7 @@ fn mask_command<'a>(alloc: Global) -> Result<Command<'a>, AllocError>
 
 /// Returns the subcommand `rows`.
 fn rows_command<'a>(alloc: Global) -> Result<Command<'a>, AllocError>
-    ensures { IfOk result (IsCommand row_teller) }
+    ensures { IfOk result (IsCommand rows_app) }
 {
     let number = Arg::new(alloc, "N")
         .action(ArgAction::Set)
@@ -174,7 +174,7 @@ fn with_mask<'a>(command: Command<'a>, alloc: Global) -> Result<Command<'a>, All
 /// Adds the subcommand `rows` to `command`.
 fn with_rows<'a>(command: Command<'a>, alloc: Global) -> Result<Command<'a>, AllocError>
     ensures { IfOk result (λ c. app_of c
-        ≡ with_subcommand (app_of command.entry) row_teller.top) }
+        ≡ with_subcommand (app_of command.entry) rows_app.top) }
 {
     let rows = rows_command(alloc)?;
     with_other(command, rows, "Example: dapnorm rows 62")

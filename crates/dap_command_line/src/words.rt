@@ -2,10 +2,12 @@
 ghost use Rattle.std.specs.Prelude.{[], ◌≡◌, codes, IfOk, IfErr, Some, true, map, option_map};
 ghost use Rattle.clap.specs.Words.{fault_of as faults_of, first_of, found_of, kind_of, rows_of};
 ghost use Rattle.clap.specs.Words.{subcommand_of, subcommand_rows_of, takes};
-ghost use Rattle.dap_command_line.specs.CommandLine.{IsToldFor, IsToldOf, asks_per_stop};
-ghost use Rattle.dap_command_line.specs.CommandLine.{is_asked, is_set, job_named, job_of, mask};
+ghost use Rattle.dap_command_line.specs.CommandLine.{IsUsageErrorFor, IsUsageErrorOf};
+ghost use Rattle.dap_command_line.specs.CommandLine.{asks_per_stop};
+ghost use Rattle.dap_command_line.specs.CommandLine.{is_help_or_version, is_set, job_named, job_of};
+ghost use Rattle.dap_command_line.specs.CommandLine.{mask};
 ghost use Rattle.dap_command_line.specs.CommandLine.{names_job, program, text_in, texts_in};
-ghost use Rattle.dap_command_line.specs.CommandLine.{told, two_files};
+ghost use Rattle.dap_command_line.specs.CommandLine.{job_spec, two_files};
 ghost use Rattle.dap_command_line.specs.FirstWords.{FirstDecides};
 ghost use Rattle.dap_command_line.specs.declared.jobs.UsageFault.TheVariants.{Memory};
 
@@ -45,7 +47,7 @@ fn files_of<'a>(rows: &ArgMatches<'a>) -> Option<(&'a str, &'a str)>
 
 /// Returns the job `Mask`, if the file of its rules is named.
 fn masking<'a>(rules: Option<&'a str>) -> Option<Job<'a>>
-    ensures { option_map told result ≡ option_map mask (text_in rules.entry) }
+    ensures { option_map job_spec result ≡ option_map mask (text_in rules.entry) }
 {
     match rules {
         Some(rules) => Some(Job::Mask { rules }),
@@ -62,7 +64,7 @@ fn asks_per_stop(rows: &ArgMatches<'_>) -> bool
 
 /// Returns the job of a subcommand with its matches.
 fn job_by<'a>(name: &str, rows: &ArgMatches<'a>) -> Option<Job<'a>>
-    ensures { option_map told result ≡ job_of name.now (rows_of (found_of rows.now)) }
+    ensures { option_map job_spec result ≡ job_of name.now (rows_of (found_of rows.now)) }
 {
     match name {
         "compact" => Some(Job::Compact),
@@ -97,7 +99,7 @@ fn job_by<'a>(name: &str, rows: &ArgMatches<'a>) -> Option<Job<'a>>
 
 /// Returns the job that the matches of the program select.
 fn told_by<'a>(matches: &ArgMatches<'a>) -> Option<Job<'a>>
-    ensures { option_map told result ≡ job_named (subcommand_rows_of matches.now) }
+    ensures { option_map job_spec result ≡ job_named (subcommand_rows_of matches.now) }
 {
     match matches.subcommand() {
         Some((name, rows)) => job_by(name, rows),
@@ -108,21 +110,21 @@ fn told_by<'a>(matches: &ArgMatches<'a>) -> Option<Job<'a>>
 /// Returns the message for the user: the requested help or version, or the usage error.
 fn fault_of(alloc: Global, error: &Error) -> UsageFault
     ensures memory { kind_of error.now ≡ ErrorKind.OutOfMemory → result ≡ Memory }
-    ensures told { IsToldOf (kind_of error.now) result }
+    ensures reported { IsUsageErrorOf (kind_of error.now) result }
 {
     if error.kind() == ErrorKind::OutOfMemory {
         return UsageFault::Memory;
     }
     match format!(in alloc; "{error}") {
-        Ok(text) if is_asked(error.kind()) => UsageFault::Help(text),
+        Ok(text) if is_help_or_version(error.kind()) => UsageFault::Help(text),
         Ok(text) => UsageFault::Usage(text),
         Err(_) => UsageFault::Memory,
     }
 }
 
 /// Returns whether the arguments request help or the version, which is not an error.
-fn is_asked(kind: ErrorKind) -> bool
-    ensures { result ≡ is_asked kind }
+fn is_help_or_version(kind: ErrorKind) -> bool
+    ensures { result ≡ is_help_or_version kind }
 {
     matches!(kind, ErrorKind::DisplayHelp | ErrorKind::DisplayVersion)
 }
@@ -130,7 +132,7 @@ fn is_asked(kind: ErrorKind) -> bool
 /// Returns the `UsageFault` for arguments that the parser accepts and that select no job. No such
 /// arguments are known.
 fn no_job(alloc: Global) -> UsageFault
-    ensures { IsToldFor [] result }
+    ensures { IsUsageErrorFor [] result }
 {
     match String::from_str(alloc, "error: no subcommand was given\n") {
         Ok(text) => UsageFault::Usage(text),
@@ -149,7 +151,7 @@ pub fn job<'a>(alloc: Global, words: &'a [&'a str]) -> Result<Job<'a>, UsageFaul
     // The job is the one that the model of clap finds in the arguments.
     ensures ok { IfOk result
         (λ j. job_named (subcommand_of program (map (λ w. w.now) words.entry.now))
-        ≡ Some (told j)) }
+        ≡ Some (job_spec j)) }
     ensures taken { IfOk result (λ _. faults_of program (map (λ w. w.now) words.entry.now) ≡ []) }
 
     // If the model of clap accepts the arguments with one of the subcommands, the only possible
@@ -160,14 +162,15 @@ pub fn job<'a>(alloc: Global, words: &'a [&'a str]) -> Result<Job<'a>, UsageFaul
 
     // `Help` is returned only if that model finds a request for help or the version. `Usage` is
     // returned only if it finds another error, or no error at all.
-    ensures told { IfErr result
-        (IsToldFor (faults_of program (map (λ w. w.now) words.entry.now))) }
+    ensures reported { IfErr result
+        (IsUsageErrorFor (faults_of program (map (λ w. w.now) words.entry.now))) }
 
     // If some leading arguments request help or contain an error, the first of these decides the
     // result, whatever arguments follow. A missing argument is reported only if no argument decides
     // the result.
     ensures first { IfErr result (λ fault.
-        FirstDecides program (map (λ w. w.now) words.entry.now) (λ kinds. IsToldFor kinds fault)) }
+        FirstDecides program (map (λ w. w.now) words.entry.now)
+        (λ kinds. IsUsageErrorFor kinds fault)) }
 {
     let Ok(command) = command(alloc) else {
         return Err(UsageFault::Memory);

@@ -12,9 +12,10 @@ use Rattle.clap.specs.declared.Arg.{Arg}
 use Rattle.clap.specs.declared.ArgMatches.{ArgMatches}
 use Rattle.clap.specs.declared.builder.ArgAction.TheVariants.{Set, SetTrue}
 use Rattle.clap.specs.declared.error.kind.ErrorKind.{ErrorKind}
-use Rattle.dap_command_line.specs.CommandLine.{asks_per_stop, file, is_asked, is_set, job_of}
+use Rattle.dap_command_line.specs.CommandLine.{asks_per_stop, file, is_help_or_version, is_set}
+use Rattle.dap_command_line.specs.CommandLine.{job_of}
 use Rattle.dap_command_line.specs.CommandLine.{text_in}
-use Rattle.dap_command_line.specs.CommandLine.{Told as ToldJob, told as told_job}
+use Rattle.dap_command_line.specs.CommandLine.{JobSpec as ToldJob, job_spec as told_job}
 use Rattle.dap_command_line.specs.CommandLine as line
 use Rattle.dap_command_line.specs.declared.jobs.UsageFault.{UsageFault}
 use Rattle.dap_command_line.specs.declared.jobs.UsageFault.TheVariants as usage
@@ -188,8 +189,8 @@ told_action (action.Show v) = view v.full v.faulty (text_in v.record)
 told_action (action.Golden g) =
     golden g.golden.now (text_in g.rules) g.per_stop g.open g.update
 
-abbrev pub told : Command → Told
-told command = record {
+abbrev pub reported : Command → Told
+reported command = record {
   action = told_action command.action;
   input = text_in command.input;
   output = text_in command.output;
@@ -342,7 +343,7 @@ given matches = rows_of (found_of matches)
 -- requested text, a usage error, or a failed allocation.
 abbrev pub IsFaultFor : Kinds → UsageFault → Type 0
 IsFaultFor kinds (usage.Help text) =
-    (found : ErrorKind) × IsAmong found kinds × (is_asked found ≡ true)
+    (found : ErrorKind) × IsAmong found kinds × (is_help_or_version found ≡ true)
 IsFaultFor kinds (usage.Usage text) =
-    (found : ErrorKind) × IsAmong found kinds × (is_asked found ≡ false)
+    (found : ErrorKind) × IsAmong found kinds × (is_help_or_version found ≡ false)
 IsFaultFor kinds usage.Memory = Unit {0}

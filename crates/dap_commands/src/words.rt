@@ -4,17 +4,18 @@ ghost use Rattle.std.specs.Prelude.{if◌then◌else◌, option_map};
 ghost use Rattle.clap.specs.Walk.{texts};
 ghost use Rattle.clap.specs.Words.{fault_of as faults_of, first_of, kind_of, subcommand_of};
 ghost use Rattle.clap.specs.Words.{subcommand_rows_of, takes};
-ghost use Rattle.dap_command_line.specs.CommandLine.{IsToldOf, compare, diff, is_asked};
+ghost use Rattle.dap_command_line.specs.CommandLine.{IsUsageErrorOf, compare, diff};
+ghost use Rattle.dap_command_line.specs.CommandLine.{is_help_or_version};
 ghost use Rattle.dap_command_line.specs.CommandLine.{is_set, job_of, mask, over_files, text_in};
 ghost use Rattle.dap_command_line.specs.CommandLine.{texts_in, two_files};
-ghost use Rattle.dap_command_line.specs.CommandLine.{told as told_job};
+ghost use Rattle.dap_command_line.specs.CommandLine.{job_spec as told_job};
 ghost use Rattle.dap_command_line.specs.FirstWords.{FirstDecides};
 ghost use Rattle.dap_command_line.specs.declared.jobs.UsageFault.TheVariants.{Memory};
 ghost use Rattle.dap_commands.specs.Commands.{IsFaultFor, command_named, command_of};
 ghost use Rattle.dap_commands.specs.Commands.{compare_action, compare_of, comparison_of};
 ghost use Rattle.dap_commands.specs.Commands.{diff_action, diff_of, given, golden_of, has_flag};
 ghost use Rattle.dap_commands.specs.Commands.{order_of, program, reads_input, show_action};
-ghost use Rattle.dap_commands.specs.Commands.{show_of, suggest_of, told, told_action};
+ghost use Rattle.dap_commands.specs.Commands.{show_of, suggest_of, reported, told_action};
 ghost use Rattle.dap_commands.specs.Commands.{told_comparison};
 ghost use Rattle.dap_commands.specs.Commands.{with_files, with_output, without_output};
 ghost use Rattle.dap_commands.specs.Commands.{writes_output};
@@ -148,7 +149,7 @@ fn value_if<'a>(is_there: bool, rows: &ArgMatches<'a>, id: &str) -> Option<&'a s
 
 /// Returns the command of a job with its files.
 fn with_files<'a>(job: Job<'a>, rows: &ArgMatches<'a>) -> Command<'a>
-    ensures { told result ≡ with_files (given rows.now) (told_job job.entry) }
+    ensures { reported result ≡ with_files (given rows.now) (told_job job.entry) }
 {
     Command {
         action: Action::Job(job),
@@ -210,7 +211,7 @@ fn diff_action<'a>(rows: &ArgMatches<'a>, a: &'a str, b: &'a str) -> Action<'a>
 
 /// Returns a command that reads files of its own and writes to standard output.
 fn without_output<'a>(rows: &ArgMatches<'a>, action: Action<'a>) -> Command<'a>
-    ensures { told result ≡ without_output (given rows.now) (told_action action.entry) }
+    ensures { reported result ≡ without_output (given rows.now) (told_action action.entry) }
 {
     Command {
         action,
@@ -222,7 +223,7 @@ fn without_output<'a>(rows: &ArgMatches<'a>, action: Action<'a>) -> Command<'a>
 
 /// Returns the command of `compare`.
 fn compare_by<'a>(rows: &ArgMatches<'a>) -> Option<Command<'a>>
-    ensures { option_map told result ≡ compare_of (given rows.now) }
+    ensures { option_map reported result ≡ compare_of (given rows.now) }
 {
     let (a, b) = two_files(rows)?;
     Some(without_output(rows, compare_action(rows, a, b)))
@@ -230,7 +231,7 @@ fn compare_by<'a>(rows: &ArgMatches<'a>) -> Option<Command<'a>>
 
 /// Returns the command of `diff`.
 fn diff_by<'a>(rows: &ArgMatches<'a>) -> Option<Command<'a>>
-    ensures { option_map told result ≡ diff_of (given rows.now) }
+    ensures { option_map reported result ≡ diff_of (given rows.now) }
 {
     let (a, b) = two_files(rows)?;
     Some(without_output(rows, diff_action(rows, a, b)))
@@ -238,7 +239,7 @@ fn diff_by<'a>(rows: &ArgMatches<'a>) -> Option<Command<'a>>
 
 /// Returns the command of `suggest`.
 fn suggest_by<'a>(rows: &ArgMatches<'a>) -> Option<Command<'a>>
-    ensures { option_map told result ≡ suggest_of (given rows.now) }
+    ensures { option_map reported result ≡ suggest_of (given rows.now) }
 {
     let (a, b) = two_files(rows)?;
     let action = Action::Suggest(Suggest {
@@ -251,7 +252,7 @@ fn suggest_by<'a>(rows: &ArgMatches<'a>) -> Option<Command<'a>>
 
 /// Returns the command of `order`.
 fn order_by<'a>(rows: &ArgMatches<'a>) -> Option<Command<'a>>
-    ensures { option_map told result ≡ order_of (given rows.now) }
+    ensures { option_map reported result ≡ order_of (given rows.now) }
 {
     let file = value_of(rows, "RULES")?;
     let action = Action::Order(Order { rules: file });
@@ -276,7 +277,7 @@ fn show_action<'a>(rows: &ArgMatches<'a>) -> Action<'a>
 
 /// Returns a command that reads one input and writes one output.
 fn with_output<'a>(rows: &ArgMatches<'a>, action: Action<'a>, explain: bool) -> Command<'a>
-    ensures { told result ≡ with_output (given rows.now) (told_action action.entry) explain }
+    ensures { reported result ≡ with_output (given rows.now) (told_action action.entry) explain }
 {
     Command {
         action,
@@ -288,7 +289,7 @@ fn with_output<'a>(rows: &ArgMatches<'a>, action: Action<'a>, explain: bool) -> 
 
 /// Returns the command of `show`.
 fn show_by<'a>(rows: &ArgMatches<'a>) -> Command<'a>
-    ensures { told result ≡ show_of (given rows.now) }
+    ensures { reported result ≡ show_of (given rows.now) }
 {
     let explain = has_flag(rows, "explain");
     with_output(rows, show_action(rows), explain)
@@ -296,7 +297,7 @@ fn show_by<'a>(rows: &ArgMatches<'a>) -> Command<'a>
 
 /// Returns the command of `golden`.
 fn golden_by<'a>(rows: &ArgMatches<'a>) -> Option<Command<'a>>
-    ensures { option_map told result ≡ golden_of (given rows.now) }
+    ensures { option_map reported result ≡ golden_of (given rows.now) }
 {
     let golden = Golden {
         golden: value_of(rows, "GOLDEN")?,
@@ -315,7 +316,7 @@ fn golden_by<'a>(rows: &ArgMatches<'a>) -> Option<Command<'a>>
 
 /// Returns the command of a subcommand with its arguments.
 fn command_by<'a>(name: &str, rows: &ArgMatches<'a>) -> Option<Command<'a>>
-    ensures { option_map told result ≡ command_of name.now (given rows.now) }
+    ensures { option_map reported result ≡ command_of name.now (given rows.now) }
 {
     if name == "golden" {
         return golden_by(rows);
@@ -341,7 +342,7 @@ fn command_by<'a>(name: &str, rows: &ArgMatches<'a>) -> Option<Command<'a>>
 
 /// Returns the command that the matches of the program select.
 fn named_by<'a>(matches: &ArgMatches<'a>) -> Option<Command<'a>>
-    ensures { option_map told result ≡ command_named (subcommand_rows_of matches.now) }
+    ensures { option_map reported result ≡ command_named (subcommand_rows_of matches.now) }
 {
     match matches.subcommand() {
         Some((name, rows)) => command_by(name, rows),
@@ -350,8 +351,8 @@ fn named_by<'a>(matches: &ArgMatches<'a>) -> Option<Command<'a>>
 }
 
 /// Returns whether help or the version is requested, which is not an error.
-fn is_asked(kind: ErrorKind) -> bool
-    ensures { result ≡ is_asked kind }
+fn is_help_or_version(kind: ErrorKind) -> bool
+    ensures { result ≡ is_help_or_version kind }
 {
     matches!(kind, ErrorKind::DisplayHelp | ErrorKind::DisplayVersion)
 }
@@ -359,13 +360,13 @@ fn is_asked(kind: ErrorKind) -> bool
 /// Returns the message for the user: the requested help or version, or the usage error.
 fn fault_of(alloc: Global, error: &Error) -> UsageFault
     ensures memory { kind_of error.now ≡ ErrorKind.OutOfMemory → result ≡ Memory }
-    ensures told { IsToldOf (kind_of error.now) result }
+    ensures reported { IsUsageErrorOf (kind_of error.now) result }
 {
     if error.kind() == ErrorKind::OutOfMemory {
         return UsageFault::Memory;
     }
     match format!(in alloc; "{error}") {
-        Ok(text) if is_asked(error.kind()) => UsageFault::Help(text),
+        Ok(text) if is_help_or_version(error.kind()) => UsageFault::Help(text),
         Ok(text) => UsageFault::Usage(text),
         Err(_) => UsageFault::Memory,
     }
@@ -381,7 +382,7 @@ fn fault_of(alloc: Global, error: &Error) -> UsageFault
 pub fn command<'a>(alloc: Global, words: &'a [&'a str]) -> Result<Command<'a>, UsageFault>
     // The command is the one that the model of clap finds in the arguments.
     ensures ok { IfOk result
-        (λ c. command_named (subcommand_of program (texts words.entry.now)) ≡ Some (told c)) }
+        (λ c. command_named (subcommand_of program (texts words.entry.now)) ≡ Some (reported c)) }
     ensures taken { IfOk result (λ _. faults_of program (texts words.entry.now) ≡ []) }
 
     // If the model of clap accepts the arguments, the only possible error is `Memory`.
@@ -390,7 +391,7 @@ pub fn command<'a>(alloc: Global, words: &'a [&'a str]) -> Result<Command<'a>, U
 
     // `Help` is returned only if that model finds a request for help or the version. `Usage` is
     // returned only if it finds another error.
-    ensures told { IfErr result (IsFaultFor (faults_of program (texts words.entry.now))) }
+    ensures reported { IfErr result (IsFaultFor (faults_of program (texts words.entry.now))) }
 
     // If some leading arguments request help or contain an error, the first of these decides the
     // result, whatever arguments follow. A missing argument is reported only if no argument decides

@@ -17,8 +17,8 @@ use Rattle.dap_recording.specs.declared.record_fault.RecordCause.TheVariants.{Fr
 use Rattle.dap_input.specs.declared.limits.Limits.{Limits}
 use Rattle.dap_input.specs.Limits.{AreSound}
 use Rattle.dap_message.specs.Message.{no_reading, fraction, faulty}
-use Rattle.dap_input.specs.Judging.{Objection, no_message, broken, too_many_ids, grew}
-use Rattle.dap_compact.specs.Compacting.{AreRead, Fits, Objects, compacting, text}
+use Rattle.dap_input.specs.Validation.{ContentError, no_message, broken, too_many_ids, grew}
+use Rattle.dap_compact.specs.Compacting.{AreRead, Fits, Rejects, compacting, text}
 use Rattle.dap_input.proofs.Runs.{Run, ValueLaws, ValueFacts, AcceptedFacts}
 
 -- the frames that are read as records
@@ -27,8 +27,8 @@ readable_frames limits sound =
     faults_as_readable Frame (frames limits.frame) (readable limits.frame sound.frame)
 
 module _ (limits : Limits) where
-  one_objection : (values : List Doc) (content : List ℕ) (why because : Objection)
-      → Objects limits values content why → Objects limits values content because → why ≡ because
+  one_objection : (values : List Doc) (content : List ℕ) (why because : ContentError)
+      → Rejects limits values content why → Rejects limits values content because → why ≡ because
   one_objection values content (no_message no_reading) (no_message no_reading) one two = refl
   one_objection values content (no_message no_reading) (no_message fraction) one two =
       absurd (one two.0 two.1)
@@ -49,9 +49,9 @@ module _ (limits : Limits) where
   one_objection values content too_many_ids because one two = absurd one
   one_objection values content why because one two = absurd two
 
-  next_not_objected : (values : List Doc) (content : List ℕ) (value : Doc) (why : Objection)
+  next_not_objected : (values : List Doc) (content : List ℕ) (value : Doc) (why : ContentError)
       → IsRead content value × Fits limits (values ++ value ∷ [])
-      → Objects limits values content why → ⊥
+      → Rejects limits values content why → ⊥
   next_not_objected values content value (no_message no_reading) next objects =
       objects (data_of value) next.0.0
   next_not_objected values content value (no_message fraction) next objects =
@@ -205,7 +205,7 @@ module _ (limits : Limits) where
   abbrev Judgement : List Doc → List ℕ → Type 0
   Judgement values content =
       ((value : Doc) × (IsRead content value × Fits limits (values ++ value ∷ [])))
-      ⊎ ((why : Objection) × Objects limits values content why)
+      ⊎ ((why : ContentError) × Rejects limits values content why)
 
   judge_content : (values : List Doc) (content : List ℕ) → Judgement values content
   judge_content values content = by_outcome (some_outcome content).0 (some_outcome content).1

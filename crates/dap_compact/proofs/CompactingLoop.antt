@@ -5,7 +5,7 @@ use Rattle.dap_device.specs.declared.device.Source.{Ghosts as Source}
 use Rattle.dap_tree.specs.Doc.{Doc}
 use Rattle.dap_frame.specs.Reading.{Reading}
 use Rattle.dap_input.specs.InputSteps.{AcceptsAll, RefusesOne}
-use Rattle.dap_input.specs.ItemReading.{StandsForFrame, frame_items}
+use Rattle.dap_input.specs.ItemReading.{RepresentsFrame, frame_items}
 use Rattle.dap_input.specs.Limits.{AreSound}
 use Rattle.dap_input.specs.RecordSteps.{IsAtStart, ReadsNext}
 use Rattle.dap_input.specs.declared.limits.Limits.{Limits}
@@ -36,19 +36,19 @@ pub record Compacting {R : Type 0} (limits : Limits) (source : Source R) (start 
     (records : Records Reading)
     (out : List ℕ) : Type 0 where
   pub values : List Doc
-  pub going : Going (compacting limits) (StandsForFrame limits.frame) source start
+  pub going : Going (compacting limits) (RepresentsFrame limits.frame) source start
       reader records values
   pub fits : Fits limits values
   pub text_is : out ≡ text values
 
 module _ {R : Type 0} (limits : Limits) (sound : AreSound limits) (source : Source R) where
   pub none_read : (reader : R) (records : Records Reading)
-      → IsAtStart (StandsForFrame limits.frame) limits.input records
+      → IsAtStart (RepresentsFrame limits.frame) limits.input records
       → Compacting limits source reader reader records []
   none_read reader records start = record {
     values = [];
     going = at_start (compacting limits) (frame_items limits.frame) (λ content. content)
-        (reads_frames limits sound) (StandsForFrame limits.frame) source reader records
+        (reads_frames limits sound) (RepresentsFrame limits.frame) source reader records
         start;
     fits = fits_none limits;
     text_is = refl;
@@ -59,40 +59,41 @@ module _ {R : Type 0} (limits : Limits) (sound : AreSound limits) (source : Sour
     pub few_records : records.number < 2 ^ 63
     few_records =
         small_number (compacting limits) (frame_items limits.frame) (λ content. content)
-        (reads_frames limits sound) (StandsForFrame limits.frame) source start reader
+        (reads_frames limits sound) (RepresentsFrame limits.frame) source start reader
         records was.values was.going sound.input
 
     pub few_given : source.given start < 2 ^ 62
         → source.given reader + (records.pieces.limit - records.pieces.taken) < 2 ^ 63
     few_given =
         small_count (compacting limits) (frame_items limits.frame) (λ content. content)
-        (reads_frames limits sound) (StandsForFrame limits.frame) source start reader
+        (reads_frames limits sound) (RepresentsFrame limits.frame) source start reader
         records was.values was.going sound.input
 
     pub few_failed : source.failures start < 2 ^ 62 → source.failures reader < 2 ^ 63
     few_failed =
         few_failures (compacting limits) (frame_items limits.frame) (λ content. content)
-        (reads_frames limits sound) (StandsForFrame limits.frame) source start reader
+        (reads_frames limits sound) (RepresentsFrame limits.frame) source start reader
         records was.values was.going
 
   module _ (start reader : R) (records : Records Reading) (out : List ℕ)
       (was : Compacting limits source start reader records out)
       (new : Records Reading) (after : R) where
     abbrev Reads : Result (Option (List ℕ)) Refused → Type 0
-    Reads answer = ReadsNext (frame_items limits.frame) (StandsForFrame limits.frame) source records
-        new reader after answer
+    Reads outcome = ReadsNext (frame_items limits.frame) (RepresentsFrame limits.frame) source
+        records
+        new reader after outcome
 
     abbrev Refuses : Refused → Type 0
     Refuses because = RefusesOne (compacting limits) source start after new because
 
     abbrev Appends : {U : Type 0} → List ℕ → Result U Refused → List ℕ → Type 0
-    Appends content answer written = (values : List Doc) → Fits limits values → out ≡ text values
-        → Appended limits values records.number content answer written
+    Appends content outcome written = (values : List Doc) → Fits limits values → out ≡ text values
+        → Appended limits values records.number content outcome written
 
     pub not_read : (because : Refused) → Reads (Err because) → Refuses because
     not_read =
         refuses_read (compacting limits) (frame_items limits.frame) (λ content. content)
-        (reads_frames limits sound) (StandsForFrame limits.frame) source start reader
+        (reads_frames limits sound) (RepresentsFrame limits.frame) source start reader
         records was.values was.going new after
 
     pub all_compacted : Reads (Ok None)
@@ -102,7 +103,7 @@ module _ {R : Type 0} (limits : Limits) (sound : AreSound limits) (source : Sour
     all_compacted read = (
       was.values,
       accepts_all (compacting limits) (frame_items limits.frame) (λ content. content)
-          (reads_frames limits sound) (StandsForFrame limits.frame) source start reader
+          (reads_frames limits sound) (RepresentsFrame limits.frame) source start reader
           records was.values was.going new after read,
       was.text_is,
     )
@@ -112,7 +113,7 @@ module _ {R : Type 0} (limits : Limits) (sound : AreSound limits) (source : Sour
         → Refuses because
     not_appended content written because read appended =
         refuses_held (compacting limits) (frame_items limits.frame) (λ content. content)
-        (reads_frames limits sound) (StandsForFrame limits.frame) source start reader
+        (reads_frames limits sound) (RepresentsFrame limits.frame) source start reader
         records was.values was.going new after content read because
         (appended was.values was.fits was.text_is)
 
@@ -124,7 +125,7 @@ module _ {R : Type 0} (limits : Limits) (sound : AreSound limits) (source : Sour
         record {
           values = was.values ++ added.value ∷ [];
           going = on (compacting limits) (frame_items limits.frame) (λ content. content)
-              (reads_frames limits sound) (StandsForFrame limits.frame) source start
+              (reads_frames limits sound) (RepresentsFrame limits.frame) source start
               reader records was.values was.going new after content read added.value
               (added.is_read, added.fits);
           fits = added.fits;
@@ -136,5 +137,5 @@ module _ {R : Type 0} (limits : Limits) (sound : AreSound limits) (source : Sour
         < (records.pieces.limit - records.pieces.taken) + length records.pieces.unread
     fewer =
         fewer_left (compacting limits) (frame_items limits.frame) (λ content. content)
-        (reads_frames limits sound) (StandsForFrame limits.frame) source start reader
+        (reads_frames limits sound) (RepresentsFrame limits.frame) source start reader
         records was.values was.going new after

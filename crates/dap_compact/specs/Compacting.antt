@@ -3,14 +3,14 @@
 use Rattle.std.specs.Prelude.{◌≡◌, ℕ, ◌≤◌, List, [], ◌∷◌, ◌++◌, length}
 use Rattle.std.specs.List.{flat_map, AllByRecursion}
 use Rattle.dap_frame.specs.Frame.{AreFrames, frames, frame_text}
-use Rattle.dap_items.specs.Then.{faults_as}
+use Rattle.dap_items.specs.Combinators.{map_fault}
 use Rattle.dap_message.specs.Message.{no_reading, fraction}
 use Rattle.dap_recording.specs.declared.record_fault.RecordCause.TheVariants.{Frame}
 use Rattle.dap_tree.specs.Doc.{Doc}
 use Rattle.dap_tree.specs.Json.{IsRead, HasFraction, HasNoReading, text_of}
 use Rattle.dap_input.specs.declared.limits.Limits.{Limits}
 use Rattle.dap_input.specs.Limits.{AreSound}
-use Rattle.dap_input.specs.Judging.{Judging, Objection, no_message, grew}
+use Rattle.dap_input.specs.Validation.{Validation, ContentError, no_message, grew}
 use Rattle.dap_input.specs.Refusals.{HasOneOutcome, RefusalStays}
 
 -- the output for these values: the frames of their canonical contents
@@ -39,23 +39,23 @@ pub record IsCompactable (limits : Limits) (whole : List ℕ) (values : List Doc
   pub fits : Fits limits values
 
 -- After these values, a content is rejected for this reason, and for no other.
-abbrev pub Objects : Limits → List Doc → List ℕ → Objection → Type 0
-Objects limits values content (no_message no_reading) = HasNoReading content
-Objects limits values content (no_message fraction) = HasFraction content
-Objects limits values content grew = (value : Doc) × IsRead content value
+abbrev pub Rejects : Limits → List Doc → List ℕ → ContentError → Type 0
+Rejects limits values content (no_message no_reading) = HasNoReading content
+Rejects limits values content (no_message fraction) = HasFraction content
+Rejects limits values content grew = (value : Doc) × IsRead content value
     × (Fits limits (values ++ value ∷ []) → ⊥)
-Objects limits values content why = ⊥
+Rejects limits values content why = ⊥
 
 -- a record is a frame, and a value may follow others if the content is read as it and the output
 -- does not exceed the limits
-abbrev pub compacting : Limits → Judging
+abbrev pub compacting : Limits → Validation
 compacting limits = record {
-  Held = List ℕ;
+  Payload = List ℕ;
   Value = Doc;
   input = limits.input;
-  records = faults_as Frame (frames limits.frame);
+  records = map_fault Frame (frames limits.frame);
   IsNext = λ values content value. IsRead content value × Fits limits (values ++ value ∷ []);
-  Objects = Objects limits;
+  Rejects = Rejects limits;
   IsAccepted = IsCompactable limits;
 }
 

@@ -10,8 +10,8 @@ use Rattle.dap_frame.specs.Reading.{Reading}
 use Rattle.dap_input.specs.declared.records.Records.{Records}
 use Rattle.dap_input.specs.declared.refused.Refused.{Refused}
 use Rattle.dap_input.specs.InputSteps.{JudgesAll}
-use Rattle.dap_input.specs.Refusals.{RefusesHeld}
-use Rattle.dap_compact.specs.Compacting.{Fits, Objects, compacting, text}
+use Rattle.dap_input.specs.Refusals.{RejectsPayload}
+use Rattle.dap_compact.specs.Compacting.{Fits, Rejects, compacting, text}
 
 -- The value of the content follows the values whose output was appended.
 pub record IsAppended (limits : Limits) (values : List Doc) (content new : List ℕ) : Type 0 where
@@ -26,7 +26,7 @@ abbrev pub Appended : {U : Type 0} → Limits → List Doc → ℕ → List ℕ 
     → Type 0
 Appended limits values n content (Ok done) new = IsAppended limits values content new
 Appended limits values n content (Err because) new =
-    RefusesHeld (Objects limits values content) n because
+    RejectsPayload (Rejects limits values content) n because
 
 -- The output for all records is returned, or one record is rejected.
 module _ {R : Type 0} (limits : Limits) (source : Source R) where

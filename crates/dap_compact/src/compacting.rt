@@ -4,7 +4,7 @@ ghost use Rattle.dap_tree.specs.Doc.{Doc};
 ghost use Rattle.dap_compact.specs.Compacting.{Compacts, Fits, compacting, text};
 ghost use Rattle.dap_compact.specs.CompactingSteps.{Appended, JudgesInput};
 ghost use Rattle.dap_input.specs.Engine.{Answers, ReadsNoneOrAll};
-ghost use Rattle.dap_input.specs.ItemReading.{StandsForFrame};
+ghost use Rattle.dap_input.specs.ItemReading.{RepresentsFrame};
 ghost use Rattle.dap_input.specs.Limits.{AreSound};
 ghost use Rattle.dap_input.specs.RecordSteps.{IsAtStart};
 ghost use Rattle.dap_input.specs.Refusals.{IsRefused};
@@ -63,7 +63,7 @@ fn compact_records<R: Source>(
     limits: Limits,
 ) -> Result<Vec<u8>, Refused>
     requires sound { AreSound limits }
-    requires start { IsAtStart (StandsForFrame limits.frame) limits.input records.old }
+    requires start { IsAtStart (RepresentsFrame limits.frame) limits.input records.old }
     requires given { R.given reader.old < 2 ^ 62 }
     requires failures { R.failures reader.old < 2 ^ 62 }
     ensures { JudgesInput limits R.Source reader.old reader.new records.new
@@ -121,7 +121,7 @@ pub fn compact<R: Source, W: Sink>(
     // The output for the input is written and flushed, or its first error is returned and nothing
     // is written. `WriteFault` is returned if and only if the writer failed. `ReadFault` is
     // returned only if the reader failed: a failure after another error is not reported.
-    ensures answer { Answers R.Source W.Sink limits.input (Compacts limits)
+    ensures outcome { Answers R.Source W.Sink limits.input (Compacts limits)
         (IsRefused (compacting limits)) reader.old reader.new writer.old writer.new result }
 
     // If an allocation failed, either nothing of the input was read, or all of it was.

@@ -34,7 +34,7 @@ module _ {T R : Type 0} {numbers : T → List ℤ} {table_limit : T → ℕ} (so
       was.normal,
       gone.named,
       normal_before limits mode (was.bytes ++ gone.more) new (was.messages ++ gone.message ∷ [])
-          (was.normal ++ gone.named ∷ []) gone.stands,
+          (was.normal ++ gone.named ∷ []) gone.represents,
       gone.appended ∙ ap (λ t. t ++ record_of gone.named) none,
     );
   }
@@ -52,7 +52,7 @@ module _ {T R : Type 0} {numbers : T → List ℤ} {table_limit : T → ℕ} (so
               (accepted_facts limits mode) input records.records.number (length was.messages + 1)
               here
               (whole_before (accepting limits mode) (readable limits.frame) (value_laws limits mode)
-              (accepted_facts limits mode) input was.messages taken) was.stands.number_is).2,
+              (accepted_facts limits mode) input was.messages taken) was.represents.number_is).2,
           ended.kept ∙ none,
         );
   }

@@ -3,7 +3,7 @@ use Rattle.std.proofs.Common.{◌≡◌, ◌≢◌, ◌⊎◌, inl, inr, ℕ, �
 use Rattle.std.proofs.Common.{refl, sym, ◌∙◌, ap, ap₂, subst, arith, append-nil}
 use Rattle.std.proofs.lemmas.Bool.{cases_lt}
 use Rattle.dap_items.proofs.Ends.{IsReadable}
-use Rattle.dap_input.specs.Judging.{Judging}
+use Rattle.dap_input.specs.Validation.{Validation}
 use Rattle.dap_input.specs.Inputs.{Input, IsRefusedAt, IsNotRefusedAt, IsTaken, AcceptedBefore}
 use Rattle.dap_compare.specs.Comparing.{AreSameBefore, DifferAt, AreSameInputs, Verdict, are_same}
 use Rattle.dap_compare.specs.Comparing.{differ, refused_a, refused_b, IsVerdict}
@@ -12,7 +12,7 @@ use Rattle.dap_input.proofs.RunFronts.{values_front, some_rest, same_values}
 use Rattle.dap_input.proofs.Outcomes.{one_list}
 use Rattle.dap_input.proofs.InputRefusals.{SameFacts, passed, taken_not_refused, one_fault}
 
-module _ (j : Judging) (records : IsReadable j.records) (judged : ValueLaws j)
+module _ (j : Validation) (records : IsReadable j.records) (judged : ValueLaws j)
     (accepted : AcceptedFacts j) where
   -- ---- two prefixes of one input
 
@@ -178,13 +178,14 @@ module _ (j : Judging) (records : IsReadable j.records) (judged : ValueLaws j)
 
     pub one_verdict : (v w : Verdict j AreSame pairs) → Is v → Is w → v ≡ w
     one_verdict v w p q =
-        told (cases_lt (number_of v p) (number_of w q)) (cases_lt (number_of w q) (number_of v p))
+        reported (cases_lt (number_of v p) (number_of w q))
+        (cases_lt (number_of w q) (number_of v p))
       where
-        told : (number_of v p < number_of w q) ⊎ (number_of w q ≤ number_of v p)
+        reported : (number_of v p < number_of w q) ⊎ (number_of w q ≤ number_of v p)
             → (number_of w q < number_of v p) ⊎ (number_of v p ≤ number_of w q) → v ≡ w
-        told (inl less) more = absurd (not_past v p (number_of w q) (before_of w q) less)
-        told (inr le) (inl less) = absurd (not_past w q (number_of v p) (before_of v p) less)
-        told (inr le) (inr ge) =
+        reported (inl less) more = absurd (not_past v p (number_of w q) (before_of w q) less)
+        reported (inr le) (inl less) = absurd (not_past w q (number_of v p) (before_of v p) less)
+        reported (inr le) (inr ge) =
             one_at v w p q (let e : number_of v p ≡ number_of w q = omega arith in e)
 
     pub no_earlier : (number earlier : ℕ) → Is (differ number) → earlier < number

@@ -4,7 +4,7 @@ use Rattle.std.proofs.Common.{◌≡◌, inl, inr, ⊎_elim, ℕ, zero, suc, ◌
 use Rattle.std.proofs.Common.{List, [], ◌∷◌, length}
 use Rattle.std.proofs.Common.{refl, sym, ◌∙◌, ap, arith, length-append}
 use Rattle.dap_items.proofs.Ends.{IsReadable}
-use Rattle.dap_input.specs.Judging.{Judging}
+use Rattle.dap_input.specs.Validation.{Validation}
 use Rattle.dap_input.specs.Inputs.{Input, Fault, read_fault, IsRefusedAt, IsNotRefusedAt, IsTaken}
 use Rattle.dap_input.specs.Inputs.{AcceptedBefore}
 use Rattle.dap_compare.specs.Comparing.{AreSameBefore, Verdict, are_same, differ, refused_a}
@@ -15,7 +15,7 @@ use Rattle.dap_input.proofs.InputRefusals.{SameFacts, taken_not_refused, next_no
 use Rattle.dap_input.proofs.InputRefusals.{ended_taken, ended_failed, next_accepted, refused_there}
 use Rattle.dap_compare.proofs.OneVerdict.{one_verdict, no_earlier}
 
-module _ (j : Judging) (records : IsReadable j.records) (judged : ValueFacts j)
+module _ (j : Validation) (records : IsReadable j.records) (judged : ValueFacts j)
     (accepted : AcceptedFacts j) where
   -- the possibilities after the records before this one: no more records, one more that is
   -- accepted, or one that is rejected
@@ -87,7 +87,7 @@ module _ (j : Judging) (records : IsReadable j.records) (judged : ValueFacts j)
               inr (inr (next_a, next_b, apart)),
             ),
           ))
-          (same.told next_a.front next_b.front next_a.values next_b.values next_a.accepted
+          (same.reported next_a.front next_b.front next_a.values next_b.values next_a.accepted
           next_b.accepted)
 
       one_round : ((after : Before (number + 1)) → length after.of_a.rest < length before.of_a.rest

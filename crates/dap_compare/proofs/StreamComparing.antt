@@ -6,13 +6,13 @@ use Rattle.std.proofs.Common.{append_assoc, append-nil}
 use Rattle.std.proofs.lemmas.Bool.{true≢false}
 use Rattle.std.proofs.lemmas.List.{length_push}
 use Rattle.dap_device.specs.declared.device.Source.{Ghosts as Source}
-use Rattle.dap_device.specs.Pieces.{HasComeSoFar, HasPaused}
+use Rattle.dap_device.specs.Pieces.{HasReadSoFar, HasPaused}
 use Rattle.dap_device.specs.declared.reading.Stop.{Stop}
 use Rattle.dap_device.specs.declared.reading.Stop.TheVariants.{End}
 use Rattle.dap_message.specs.Message.{Sent}
 use Rattle.dap_rename.specs.Messages.{AreSame, IsNormal, equal_places}
 use Rattle.dap_rename.specs.Modes.{stop_in}
-use Rattle.dap_rename.specs.Names.{HaveEqualCounts, StandFor, StandWith}
+use Rattle.dap_rename.specs.Names.{HaveEqualCounts, Represents, RepresentsWith}
 use Rattle.dap_rename.specs.declared.mode.Mode.{Mode}
 use Rattle.dap_rename.specs.Pairs.{entries}
 use Rattle.dap_rename.specs.Renaming.{pairs_of}
@@ -34,7 +34,7 @@ use Rattle.dap_input.specs.Inputs.{AcceptedBefore, Input, IsNotRefusedAt}
 use Rattle.dap_compare.specs.Comparing.{AreSameBefore, are_same, differ}
 use Rattle.dap_normal.specs.JudgingSteps.{judge_mode, record_of}
 use Rattle.dap_input.specs.Limits.{AreSound}
-use Rattle.dap_normal.specs.NormalSteps.{HasEnded, HasGone, HasNext, HasStoppedAt}
+use Rattle.dap_normal.specs.NormalSteps.{HasEnded, HasAdvanced, HasNext, HasStoppedAt}
 use Rattle.dap_input.specs.ReadTo.{IsOf, IsReadTo, so_far}
 use Rattle.dap_compare.specs.ComparingSteps.{AreNext, IsRefusalOf}
 use Rattle.dap_compare.specs.declared.comparing.NextRecords.TheVariants.{Apart}
@@ -120,14 +120,14 @@ module _ {T R S : Type 0} {numbers : T → List ℤ} {table_limit : T → ℕ} (
   are : AreSame (stop_in mode) a.messages b.messages
   are =
       normal_is_complete (stop_in mode) a.messages b.messages a.normal
-      (normal_before limits mode a.bytes records_a a.messages a.normal a.stands)
+      (normal_before limits mode a.bytes records_a a.messages a.normal a.represents)
       (subst (IsNormal (stop_in mode) b.messages) (sym alike)
-      (normal_before limits mode b.bytes records_b b.messages b.normal b.stands))
+      (normal_before limits mode b.bytes records_b b.messages b.normal b.represents))
 
   pub one_number : records_b.records.number ≡ number
   one_number =
-      b.stands.number_is ∙ sym (ap (λ n. n + 1) (same_lengths mode a.messages b.messages are))
-      ∙ sym a.stands.number_is
+      b.represents.number_is ∙ sym (ap (λ n. n + 1) (same_lengths mode a.messages b.messages are))
+      ∙ sym a.represents.number_is
 
   -- the records before are accepted in both inputs, of which these bytes were read
   module _ (bytes_a bytes_b more_a more_b : List ℕ) (all_a : bytes_a
@@ -154,12 +154,12 @@ module _ {T R S : Type 0} {numbers : T → List ℤ} {table_limit : T → ℕ} (
           ++ beyond_x) split_x;
       of_b = record {
         values = b.messages;
-        front = b.stands.front;
+        front = b.represents.front;
         rest = records_b.records.pieces.unread ++ (more_b ++ beyond_y);
         split = (before_in source_b limits mode start_b reader_b records_b b y (more_b
             ++ beyond_y) split_y).split;
-        accepted = b.stands.accepted;
-        is_number = sym one_number ∙ b.stands.number_is;
+        accepted = b.represents.accepted;
+        is_number = sym one_number ∙ b.represents.number_is;
       };
       same = are;
     }
@@ -184,7 +184,7 @@ module _ {T R S : Type 0} {numbers : T → List ℤ} {table_limit : T → ℕ} (
     stop_b = None;
     came_b = b.came;
     read_b = subst (IsReadTo (accepting limits mode) b.bytes)
-        (let is = b.stands.number_is in omega (arith, is, one_number)) b.stands.read_to;
+        (let is = b.represents.number_is in omega (arith, is, one_number)) b.represents.read_to;
     tells = λ x y is_x is_y.
         let here = refused_in (accepting limits mode) (readable limits.frame) (value_laws limits
         mode)
@@ -204,7 +204,7 @@ module _ {T R S : Type 0} {numbers : T → List ℤ} {table_limit : T → ℕ} (
 
   -- what is known about the record of A when that of B is read
   pub record Passed (after : R) (more : List ℕ) (stop : Option Stop) : Type 0 where
-    pub came : HasComeSoFar source_a reader_a after more stop
+    pub came : HasReadSoFar source_a reader_a after more stop
     pub read_to : IsReadTo (accepting limits mode) (a.bytes ++ more) number
     pub no_failure : source_a.failures after ≡ source_a.failures reader_a
     pub passes : (x : Input) → IsOf (a.bytes ++ more) stop x
@@ -256,11 +256,11 @@ module _ {T R S : Type 0} {numbers : T → List ℤ} {table_limit : T → ℕ} (
 
   -- These bytes of both inputs were read, and neither reader failed.
   pub gave_up : (after_a : R) (more_a : List ℕ) (stop_a : Option Stop)
-      → HasComeSoFar source_a reader_a after_a more_a stop_a
+      → HasReadSoFar source_a reader_a after_a more_a stop_a
       → IsReadTo (accepting limits mode) (a.bytes ++ more_a) number
       → source_a.failures after_a ≡ source_a.failures reader_a
       → (after_b : S) (more_b : List ℕ) (stop_b : Option Stop)
-      → HasComeSoFar source_b reader_b after_b more_b stop_b
+      → HasReadSoFar source_b reader_b after_b more_b stop_b
       → IsReadTo (accepting limits mode) (b.bytes ++ more_b) number
       → source_b.failures after_b ≡ source_b.failures reader_b
       → Compares source_a source_b limits mode start_a after_a start_b after_b
@@ -292,7 +292,7 @@ module _ {T R S : Type 0} {numbers : T → List ℤ} {table_limit : T → ℕ} (
       reader_b [] None (nothing_came source_b reader_b)
       (subst (λ bytes. IsReadTo (accepting limits mode) bytes number) (sym (append-nil b.bytes))
       (read_later (accepting limits mode) b.bytes (length b.messages) number
-      (let is = b.stands.number_is in omega (arith, is, one_number)) b.stands.read_to))
+      (let is = b.represents.number_is in omega (arith, is, one_number)) b.represents.read_to))
       refl
 
   gave_up_by_b : (passed_to : R) (more : List ℕ) (stop : Option Stop)
@@ -318,7 +318,7 @@ module _ {T R S : Type 0} {numbers : T → List ℤ} {table_limit : T → ℕ} (
       reader_b (Err refusal)
   told_by_a new after refused refusal of_it stopped =
       ⊎_elim (λ is. rw (of_it.0 is) (gave_up_by_a new after refused is stopped))
-      (λ told. rw (of_it.1 told.0) (refused_by_a new after refused stopped told.1))
+      (λ reported. rw (of_it.1 reported.0) (refused_by_a new after refused stopped reported.1))
       (as_told source_a limits mode a.bytes a.messages a.normal records_a new reader_a
       after refused stopped)
 
@@ -333,15 +333,15 @@ module _ {T R S : Type 0} {numbers : T → List ℤ} {table_limit : T → ℕ} (
   told_by_b passed_to more stop passed new after refused refusal of_it stopped =
       ⊎_elim (λ is. rw (of_it.0 is)
       (gave_up_by_b passed_to more stop passed new after refused is stopped))
-      (λ told. rw (of_it.1 told.0)
-      (refused_by_b passed_to more stop passed new after refused stopped told.1))
+      (λ reported. rw (of_it.1 reported.0)
+      (refused_by_b passed_to more stop passed new after refused stopped reported.1))
       (as_told source_b limits mode b.bytes b.messages b.normal records_b new reader_b
       after refused stopped)
 
   -- ---- the record of A
 
   module _ (new_a : NormalRecords T) (after_a : R) (text_a longer_a : List ℕ) where
-    pub gone_passed : (gone : HasGone numbers table_limit source_a limits mode a.bytes
+    pub gone_passed : (gone : HasAdvanced numbers table_limit source_a limits mode a.bytes
         a.messages a.normal records_a new_a reader_a after_a text_a longer_a)
         → Passed after_a gone.more None
     gone_passed gone = record {
@@ -378,7 +378,7 @@ module _ {T R S : Type 0} {numbers : T → List ℤ} {table_limit : T → ℕ} (
   module _ (new_a : NormalRecords T) (after_a : R) (text_a longer_a : List ℕ)
       (new_b : NormalRecords T) (after_b : S) (text_b longer_b : List ℕ) where
     abbrev pub Gone_a : Type 0
-    Gone_a = HasGone numbers table_limit source_a limits mode a.bytes a.messages
+    Gone_a = HasAdvanced numbers table_limit source_a limits mode a.bytes a.messages
         a.normal records_a new_a reader_a after_a text_a longer_a
 
     abbrev pub Ended_a : Type 0
@@ -386,7 +386,7 @@ module _ {T R S : Type 0} {numbers : T → List ℤ} {table_limit : T → ℕ} (
         a.normal records_a new_a reader_a after_a text_a longer_a
 
     abbrev pub Gone_b : Type 0
-    Gone_b = HasGone numbers table_limit source_b limits mode b.bytes b.messages
+    Gone_b = HasAdvanced numbers table_limit source_b limits mode b.bytes b.messages
         b.normal records_b new_b reader_b after_b text_b longer_b
 
     abbrev pub Ended_b : Type 0
@@ -401,18 +401,18 @@ module _ {T R S : Type 0} {numbers : T → List ℤ} {table_limit : T → ℕ} (
         longer_b gone y is_y.0 is_y.1)
 
     number_of_a : number ≡ length a.messages + 1
-    number_of_a = a.stands.number_is
+    number_of_a = a.represents.number_is
 
     number_of_b : number ≡ length b.messages + 1
-    number_of_b = sym one_number ∙ b.stands.number_is
+    number_of_b = sym one_number ∙ b.represents.number_is
 
     -- these bytes of both were read, and this is the verdict
     module _ (more_a : List ℕ) (stop_a : Option Stop)
-        (came_a : HasComeSoFar source_a reader_a after_a more_a stop_a)
+        (came_a : HasReadSoFar source_a reader_a after_a more_a stop_a)
         (read_a : IsReadTo (accepting limits mode) (a.bytes ++ more_a) number)
         (kept_a : source_a.failures after_a ≡ source_a.failures reader_a)
         (more_b : List ℕ) (stop_b : Option Stop)
-        (came_b : HasComeSoFar source_b reader_b after_b more_b stop_b)
+        (came_b : HasReadSoFar source_b reader_b after_b more_b stop_b)
         (read_b : IsReadTo (accepting limits mode) (b.bytes ++ more_b) records_b.records.number)
         (kept_b : source_b.failures after_b ≡ source_b.failures reader_b)
       where
@@ -472,7 +472,7 @@ module _ {T R S : Type 0} {numbers : T → List ℤ} {table_limit : T → ℕ} (
           subst (λ n. IsNormal (stop_in mode) (b.messages ++ went.message ∷ []) (n ++ went.named
           ∷ []))
           (sym alike) (normal_before limits mode (b.bytes ++ went.more) new_b
-          (b.messages ++ went.message ∷ []) (b.normal ++ went.named ∷ []) went.stands)
+          (b.messages ++ went.message ∷ []) (b.normal ++ went.named ∷ []) went.represents)
 
       pub texts_apart : text_a ≡ [] → text_b ≡ [] → (n : ℕ) → n ≡ number → (longer_a ≡ longer_b → ⊥)
           → HasCompared source_a source_b limits mode start_a after_a
@@ -489,7 +489,8 @@ module _ {T R S : Type 0} {numbers : T → List ℤ} {table_limit : T → ℕ} (
           (not_the_same limits mode a.normal (a.messages ++ gone.message ∷ []) (b.messages
           ++ went.message ∷ []) gone.named went.named (normal_before limits mode (a.bytes
           ++ gone.more) new_a
-          (a.messages ++ gone.message ∷ []) (a.normal ++ gone.named ∷ []) gone.stands) is_normal_b
+          (a.messages ++ gone.message ∷ []) (a.normal ++ gone.named ∷ []) gone.represents)
+          is_normal_b
           (λ equal. apart (gone.appended ∙ ap (λ t. t ++ record_of gone.named) none ∙ equal
           ∙ sym (went.appended ∙ ap (λ t. t ++ record_of went.named) nothing)))))
         where
@@ -497,11 +498,11 @@ module _ {T R S : Type 0} {numbers : T → List ℤ} {table_limit : T → ℕ} (
               → AcceptedBefore (accepting limits mode) y (number + 1)
           in_y y is_y = record {
             values = b.messages ++ went.message ∷ [];
-            front = went.stands.front;
+            front = went.represents.front;
             rest = new_b.records.pieces.unread ++ is_y.0;
             split = (next_in source_b limits mode start_b reader_b records_b b new_b
                 after_b text_b longer_b went y is_y.0 is_y.1).split;
-            accepted = went.stands.accepted;
+            accepted = went.represents.accepted;
             is_number =
                 (let is = number_of_b in omega (arith, is, length_push b.messages went.message));
           }
@@ -513,9 +514,11 @@ module _ {T R S : Type 0} {numbers : T → List ℤ} {table_limit : T → ℕ} (
           (one_form limits mode a.normal (a.messages ++ gone.message ∷ []) (b.messages
           ++ went.message
           ∷ []) gone.named went.named (normal_before limits mode (a.bytes ++ gone.more) new_a
-          (a.messages ++ gone.message ∷ []) (a.normal ++ gone.named ∷ []) gone.stands) is_normal_b
+          (a.messages ++ gone.message ∷ []) (a.normal ++ gone.named ∷ []) gone.represents)
+          is_normal_b
           sound
-          gone.stands.front went.stands.front gone.stands.accepted went.stands.accepted
+          gone.represents.front went.represents.front gone.represents.accepted
+          went.represents.accepted
           (sym (gone.appended ∙ ap (λ t. t ++ record_of gone.named) none) ∙ equal ∙ went.appended
           ∙ ap (λ t. t ++ record_of went.named) nothing))
           ∙ ap (λ n. n ++ went.named ∷ []) alike
@@ -549,34 +552,34 @@ module _ {T R S : Type 0} {numbers : T → List ℤ} {table_limit : T → ℕ} (
         absurd (true≢false (sym wrong.0))
 
     module _ (end_a : Ended_a) (end_b : Ended_b) where
-      pub names_a : StandFor numbers table_limit new_a.judge.names a.messages
+      pub names_a : Represents numbers table_limit new_a.judge.names a.messages
       names_a =
-          subst (λ judge. StandFor numbers table_limit judge.names a.messages)
-          (sym end_a.judge_is) a.stands.stands.names
+          subst (λ judge. Represents numbers table_limit judge.names a.messages)
+          (sym end_a.judge_is) a.represents.represents.names
 
-      pub names_b : StandFor numbers table_limit new_b.judge.names b.messages
+      pub names_b : Represents numbers table_limit new_b.judge.names b.messages
       names_b =
-          subst (λ judge. StandFor numbers table_limit judge.names b.messages)
-          (sym end_b.judge_is) b.stands.stands.names
+          subst (λ judge. Represents numbers table_limit judge.names b.messages)
+          (sym end_b.judge_is) b.represents.represents.names
 
       mode_a : judge_mode new_a.judge ≡ mode
       mode_a =
           subst (λ (judge : Judge T). judge_mode judge ≡ mode) (sym end_a.judge_is)
-          a.stands.judge_mode_is
+          a.represents.judge_mode_is
 
       mode_b : judge_mode new_b.judge ≡ mode
       mode_b =
           subst (λ (judge : Judge T). judge_mode judge ≡ mode) (sym end_b.judge_is)
-          b.stands.judge_mode_is
+          b.represents.judge_mode_is
 
-      stand_a : StandWith (stop_in mode) numbers table_limit new_a.judge.names a.messages
+      stand_a : RepresentsWith (stop_in mode) numbers table_limit new_a.judge.names a.messages
       stand_a =
-          subst (λ k. StandWith (stop_in k) numbers table_limit new_a.judge.names a.messages)
+          subst (λ k. RepresentsWith (stop_in k) numbers table_limit new_a.judge.names a.messages)
           mode_a names_a
 
-      stand_b : StandWith (stop_in mode) numbers table_limit new_b.judge.names b.messages
+      stand_b : RepresentsWith (stop_in mode) numbers table_limit new_b.judge.names b.messages
       stand_b =
-          subst (λ k. StandWith (stop_in k) numbers table_limit new_b.judge.names b.messages)
+          subst (λ k. RepresentsWith (stop_in k) numbers table_limit new_b.judge.names b.messages)
           mode_b names_b
 
       pub equal_counts : HaveEqualCounts numbers new_a.judge.names new_b.judge.names

@@ -16,7 +16,7 @@ use Rattle.dap_input.specs.Limits.{AreSound}
 use Rattle.dap_normal.specs.Accepting.{IsAccepted, accepting, text}
 use Rattle.dap_input.specs.Inputs.{Input, IsTaken}
 use Rattle.dap_compare.specs.Comparing.{are_same}
-use Rattle.dap_compare.specs.Verdicts.{RecordingsHaveOneVerdict, SameIsTold, SameIsToldExactly}
+use Rattle.dap_compare.specs.Verdicts.{RecordingsHaveOneVerdict, SameHasRenaming, SameIffRenaming}
 use Rattle.dap_compare.specs.Verdicts.{IsCarried, SameIsCarried, IsRecordingVerdict}
 use Rattle.dap_normal.proofs.AcceptingFacts.{accepted_facts, messages_proper, value_facts}
 use Rattle.dap_normal.proofs.AcceptingFacts.{value_laws}
@@ -97,7 +97,7 @@ module _ (limits : Limits) (mode : Mode) (sound : AreSound limits) where
         none = same_as_itself (stop_in mode) [] tt;
         lengths = same_lengths mode;
         fronts = same_fronts (stop_in mode);
-        told = same_or_not;
+        reported = same_or_not;
       }
 
   one_accepted : (bytes : List ℕ) (ms ns : List Sent) → IsAccepted limits mode bytes ms
@@ -107,7 +107,7 @@ module _ (limits : Limits) (mode : Mode) (sound : AreSound limits) where
       (accepted_facts limits mode)
 
   pub same_told : (a b : Input) (of_a of_b : List Sent) → IsTaken (accepting limits mode) a of_a
-      → IsTaken (accepting limits mode) b of_b → SameIsTold limits mode a b of_a of_b
+      → IsTaken (accepting limits mode) b of_b → SameHasRenaming limits mode a b of_a of_b
   same_told a b of_a of_b taken_a taken_b = record {
     if_same = λ same. (
       record { of_a = of_a; of_b = of_b; taken_a = taken_a; taken_b = taken_b; same = same },
@@ -139,7 +139,7 @@ recordings_have_one_verdict limits mode sound =
     (accepted_facts limits mode) (AreSame (stop_in mode)) (same_facts limits mode sound)
     (equal_places (stop_in mode))
 
-pub same_is_told_exactly : SameIsToldExactly
+pub same_is_told_exactly : SameIffRenaming
 same_is_told_exactly limits mode sound a b of_a of_b taken_a taken_b =
     same_told limits mode sound a b of_a of_b taken_a taken_b
 

@@ -1,11 +1,11 @@
 -- Comparing two inputs record by record, for any kind of records and any definition of when their
 -- values are the same: the verdict. Source: own.
 use Rattle.std.specs.Prelude.{◌≡◌, ◌≢◌, ◌⊎◌, ℕ, ◌+◌, ◌<◌, List, []}
-use Rattle.dap_input.specs.Judging.{Judging}
+use Rattle.dap_input.specs.Validation.{Validation}
 use Rattle.dap_input.specs.Inputs.{Input, Fault, IsRefusedAt, IsNotRefusedAt, IsTaken}
 use Rattle.dap_input.specs.Inputs.{AcceptedBefore}
 
-module _ (j : Judging) where
+module _ (j : Validation) where
   module _ (AreSame : List j.Value → List j.Value → Type 0) where
     -- The records before this one are accepted in both inputs, and their values are the same.
     pub record AreSameBefore (a b : Input) (number : ℕ) : Type 0 where

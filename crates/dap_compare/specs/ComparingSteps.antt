@@ -24,11 +24,11 @@ module _ {T R : Type 0} (numbers : T → List ℤ) (table_limit : T → ℕ) (so
     (old new : NormalRecords T) (before after : R) where
   -- The next record was read and has this text, or there is no next record; or the result is the
   -- error of this input, which is rejected or cannot be read.
-  abbrev pub TellsNext : Which → List ℕ → Result Bool CompareRefused → Type 0
-  TellsNext which text (Ok some) =
+  abbrev pub HasNextOutcome : Which → List ℕ → Result Bool CompareRefused → Type 0
+  HasNextOutcome which text (Ok some) =
       HasNext numbers table_limit source limits mode bytes messages normal old new before
       after [] text (Ok some)
-  TellsNext which text (Err refusal) =
+  HasNextOutcome which text (Err refusal) =
       (refused : Refused)
       × HasStoppedAt numbers table_limit source limits mode bytes messages normal old new
       before after refused

@@ -2,7 +2,7 @@
 use Rattle.std.specs.Prelude.{◌≡◌, ◌⊎◌, ℕ, ◌+◌, List, [], ◌∷◌, ◌++◌, Option, Result, Ok, Err}
 use Rattle.dap_device.specs.declared.device.Source.{Ghosts as Source}
 use Rattle.dap_device.specs.declared.reading.Stop.{Stop}
-use Rattle.dap_device.specs.Pieces.{HasComeSoFar}
+use Rattle.dap_device.specs.Pieces.{HasReadSoFar}
 use Rattle.dap_message.specs.Message.{Sent}
 use Rattle.dap_rename.specs.Messages.{IsNormal}
 use Rattle.dap_rename.specs.Modes.{stop_in}
@@ -32,7 +32,7 @@ pub record LeavesRecord {R : Type 0} (source : Source R) (limits : Limits) (mode
     (number : ℕ) (text : List ℕ) : Type 0 where
   pub bytes : List ℕ
   pub stop : Option Stop
-  pub came : HasComeSoFar source old new bytes stop
+  pub came : HasReadSoFar source old new bytes stop
   pub is_record : (input : Input) → IsOf bytes stop input → IsRecordAt limits mode input number text
 
 -- If the result is a difference, the record that differs is stored.

@@ -19,8 +19,8 @@ use Rattle.dap_compare.specs.declared.verdict.Verdict.TheVariants as code
 use Rattle.dap_compare.specs.declared.verdict.Which.TheVariants.{A, B}
 use Rattle.dap_input.specs.Limits.{AreSound}
 use Rattle.dap_normal.specs.Accepting.{accepting}
-use Rattle.dap_input.specs.Refusals.{Tells}
-use Rattle.dap_device.specs.Pieces.{HasComeSoFar}
+use Rattle.dap_input.specs.Refusals.{RefusalMatches}
+use Rattle.dap_device.specs.Pieces.{HasReadSoFar}
 use Rattle.dap_input.specs.ReadTo.{IsOf, IsReadTo}
 use Rattle.dap_input.specs.Inputs.{Input, Fault, IsTaken}
 use Rattle.dap_compare.specs.Comparing.{Verdict, IsVerdict, are_same, differ, refused_a, refused_b}
@@ -43,7 +43,7 @@ IsRecordingVerdict limits mode a b verdict =
 pub record IsRefusalOf (limits : Limits) (mode : Mode) (number : ℕ) (why : Refused) (verdict : Fault
     → RecordingVerdict limits mode) (a b : Input) : Type 0 where
   pub fault : Fault
-  pub tells : Tells why number fault
+  pub tells : RefusalMatches why number fault
   pub is_verdict : IsRecordingVerdict limits mode a b (verdict fault)
 
 -- If an allocation failed at this record, the records before it are accepted in both inputs, and
@@ -69,7 +69,7 @@ TellsVerdict limits mode a b number (Err refusal) = TellsRefusal limits mode a b
 -- first input is rejected there
 abbrev pub read_of_b : ℕ → Result CodeVerdict CompareRefused → ℕ
 read_of_b number (Err (because.Input A why)) = number - 1
-read_of_b number answer = number
+read_of_b number outcome = number
 
 -- Two readers, in terms of the bytes that they report and of their counts.
 module _ {R S : Type 0} (source_a : Source R) (source_b : Source S) (limits : Limits) (mode : Mode)
@@ -77,28 +77,28 @@ module _ {R S : Type 0} (source_a : Source R) (source_b : Source S) (limits : Li
     -- Neither reader failed, unless the error of an input is returned.
     abbrev pub NoneFails : R → R → S → S → Result CodeVerdict CompareRefused → Type 0
     NoneFails old_a new_a old_b new_b (Err (because.Input which why)) = Unit {0}
-    NoneFails old_a new_a old_b new_b answer = (source_a.failures new_a ≡ source_a.failures old_a)
+    NoneFails old_a new_a old_b new_b outcome = (source_a.failures new_a ≡ source_a.failures old_a)
         × (source_b.failures new_b ≡ source_b.failures old_b)
 
     -- These bytes were read, no more than this record requires, and the verdict on the inputs is
     -- returned, whatever bytes follow in the inputs; or an allocation failed.
     pub record HasCompared (old_a new_a : R) (old_b new_b : S)
-        (answer : Result CodeVerdict CompareRefused) : Type 0 where
+        (outcome : Result CodeVerdict CompareRefused) : Type 0 where
       pub number : ℕ
       pub bytes_a : List ℕ
       pub stop_a : Option Stop
-      pub came_a : HasComeSoFar source_a old_a new_a bytes_a stop_a
+      pub came_a : HasReadSoFar source_a old_a new_a bytes_a stop_a
       pub read_a : IsReadTo (accepting limits mode) bytes_a number
       pub bytes_b : List ℕ
       pub stop_b : Option Stop
-      pub came_b : HasComeSoFar source_b old_b new_b bytes_b stop_b
-      pub read_b : IsReadTo (accepting limits mode) bytes_b (read_of_b number answer)
+      pub came_b : HasReadSoFar source_b old_b new_b bytes_b stop_b
+      pub read_b : IsReadTo (accepting limits mode) bytes_b (read_of_b number outcome)
       pub tells : (a b : Input) → IsOf bytes_a stop_a a → IsOf bytes_b stop_b b
-          → TellsVerdict limits mode a b number answer
-      pub none_fails : NoneFails old_a new_a old_b new_b answer
+          → TellsVerdict limits mode a b number outcome
+      pub none_fails : NoneFails old_a new_a old_b new_b outcome
 
     abbrev pub Compares : R → R → S → S → Result CodeVerdict CompareRefused → Type 0
-    Compares old_a new_a old_b new_b answer = HasCompared old_a new_a old_b new_b answer
+    Compares old_a new_a old_b new_b outcome = HasCompared old_a new_a old_b new_b outcome
 
 -- Two inputs have exactly one verdict. If they differ, no earlier record differs.
 abbrev pub RecordingsHaveOneVerdict : Type 0
@@ -107,18 +107,19 @@ RecordingsHaveOneVerdict = (limits : Limits) (mode : Mode) → AreSound limits
 
 -- If both inputs are accepted, the verdict is that they are the same if and only if their messages
 -- are the same.
-pub record SameIsTold (limits : Limits) (mode : Mode) (a b : Input) (of_a of_b : List Sent) : Type 0
+pub record SameHasRenaming (limits : Limits) (mode : Mode) (a b : Input) (of_a of_b : List Sent)
+    : Type 0
   where
     pub if_same : AreSame (stop_in mode) of_a of_b
         → IsRecordingVerdict limits mode a b (are_same (equal_places (stop_in mode) of_a of_b))
     pub only_if : (how : List (Class × ℤ × ℤ)) → IsRecordingVerdict limits mode a b (are_same how)
         → AreSame (stop_in mode) of_a of_b
 
-abbrev pub SameIsToldExactly : Type 0
-SameIsToldExactly = (limits : Limits) (mode : Mode) → AreSound limits → (a b : Input) (of_a of_b :
+abbrev pub SameIffRenaming : Type 0
+SameIffRenaming = (limits : Limits) (mode : Mode) → AreSound limits → (a b : Input) (of_a of_b :
     List Sent)
     → IsTaken (accepting limits mode) a of_a → IsTaken (accepting limits mode) b of_b
-    → SameIsTold limits mode a b of_a of_b
+    → SameHasRenaming limits mode a b of_a of_b
 
 -- If the verdict is that they are the same, both inputs are accepted. The pairs are a renaming that
 -- maps the messages of the first to those of the second.

@@ -1,8 +1,8 @@
 //! Compares recordings.
 ghost use Rattle.std.specs.Prelude.{◌+◌, ◌-◌, ◌<◌, ◌≤◌, ◌^◌, ℕ, List, []};
 ghost use Rattle.dap_message.specs.Message.{Sent};
-ghost use Rattle.dap_normal.specs.NormalSteps.{StandsBefore};
-ghost use Rattle.dap_compare.specs.ComparingSteps.{AreNext, IsRefusalOf, TellsNext};
+ghost use Rattle.dap_normal.specs.NormalSteps.{RepresentsBefore};
+ghost use Rattle.dap_compare.specs.ComparingSteps.{AreNext, IsRefusalOf, HasNextOutcome};
 ghost use Rattle.dap_input.specs.Limits.{AreSound};
 ghost use Rattle.dap_normal.specs.NameTables.{AreReady};
 ghost use Rattle.dap_compare.specs.LeftTexts.{LeavesDifference};
@@ -39,8 +39,8 @@ fn next_text<R: Source, T: NameTable + Drop>(
         + (records.old.records.pieces.limit - records.old.records.pieces.taken) < 2 ^ 63 }
     requires failures { R.failures reader.old < 2 ^ 63 }
     ensures { (limits : Limits) (mode : Mode) (bytes : List ℕ) (messages normal : List Sent)
-        → StandsBefore T.numbers T.limit limits mode bytes records.old messages normal
-        → TellsNext T.numbers T.limit R.Source limits mode bytes messages normal
+        → RepresentsBefore T.numbers T.limit limits mode bytes records.old messages normal
+        → HasNextOutcome T.numbers T.limit R.Source limits mode bytes messages normal
         records.old records.new reader.old reader.new which text.new.items result }
 {
     text.clear();
@@ -104,7 +104,7 @@ pub fn compare<A: Source, B: Source>(
     // The result is the one verdict on the two inputs. `ReadFault` is returned only if the reader
     // failed. With a verdict or `Memory`, neither reader failed. With `Memory`, no more was read
     // than some record requires, and the records before it are the same.
-    ensures answer { Compares A.Source B.Source limits mode reader_a.old reader_a.new reader_b.old
+    ensures outcome { Compares A.Source B.Source limits mode reader_a.old reader_a.new reader_b.old
         reader_b.new result }
 
     // It reads at most one byte beyond the limit of each input.
@@ -146,7 +146,7 @@ pub fn compare_with<A: Source, B: Source, T: NameTable + Drop>(
     requires failures_b { B.failures reader_b.old < 2 ^ 62 }
 
     // The guarantees of `compare`, for any tables.
-    ensures answer { Compares A.Source B.Source limits mode reader_a.old reader_a.new reader_b.old
+    ensures outcome { Compares A.Source B.Source limits mode reader_a.old reader_a.new reader_b.old
         reader_b.new result }
     ensures taken_a { A.given reader_a.new ≤ A.given reader_a.old + limits.input + 1 }
     ensures taken_b { B.given reader_b.new ≤ B.given reader_b.old + limits.input + 1 }
@@ -195,7 +195,7 @@ pub fn compare_texts_with<A: Source, B: Source, T: NameTable + Drop>(
     requires failures_b { B.failures reader_b.old < 2 ^ 62 }
 
     // The guarantees of `compare`, for any tables.
-    ensures answer { Compares A.Source B.Source limits mode reader_a.old reader_a.new reader_b.old
+    ensures outcome { Compares A.Source B.Source limits mode reader_a.old reader_a.new reader_b.old
         reader_b.new result }
     ensures taken_a { A.given reader_a.new ≤ A.given reader_a.old + limits.input + 1 }
     ensures taken_b { B.given reader_b.new ≤ B.given reader_b.old + limits.input + 1 }
@@ -238,13 +238,13 @@ fn compare_records<A: Source, B: Source, T: NameTable + Drop>(
     text_b: &mut Vec<u8>,
 ) -> Result<Verdict, CompareRefused>
     requires limits { AreSound limits }
-    requires stands_a { StandsBefore T.numbers T.limit limits mode [] records_a.old [] [] }
-    requires stands_b { StandsBefore T.numbers T.limit limits mode [] records_b.old [] [] }
+    requires stands_a { RepresentsBefore T.numbers T.limit limits mode [] records_a.old [] [] }
+    requires stands_b { RepresentsBefore T.numbers T.limit limits mode [] records_b.old [] [] }
     requires given_a { A.given reader_a.old < 2 ^ 62 }
     requires given_b { B.given reader_b.old < 2 ^ 62 }
     requires failures_a { A.failures reader_a.old < 2 ^ 62 }
     requires failures_b { B.failures reader_b.old < 2 ^ 62 }
-    ensures answer { Compares A.Source B.Source limits mode reader_a.old reader_a.new reader_b.old
+    ensures outcome { Compares A.Source B.Source limits mode reader_a.old reader_a.new reader_b.old
         reader_b.new result }
     ensures taken_a { A.given reader_a.new ≤ A.given reader_a.old + limits.input + 1 }
     ensures taken_b { B.given reader_b.new ≤ B.given reader_b.old + limits.input + 1 }

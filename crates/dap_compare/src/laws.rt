@@ -1,6 +1,6 @@
 //! Theorems about two recordings, for all inputs. Each function is empty: calling it makes its
 //! `ensures` clauses available to the caller's proof.
-ghost use Rattle.dap_compare.specs.Verdicts.{RecordingsHaveOneVerdict, SameIsToldExactly};
+ghost use Rattle.dap_compare.specs.Verdicts.{RecordingsHaveOneVerdict, SameIffRenaming};
 ghost use Rattle.dap_compare.specs.Verdicts.{SameIsCarried};
 
 /// States that two inputs have exactly one verdict: the pairs of a renaming, the first record that
@@ -9,6 +9,6 @@ ghost use Rattle.dap_compare.specs.Verdicts.{SameIsCarried};
 /// first input to those of the second.
 pub fn two_recordings_have_one_verdict()
     ensures one { RecordingsHaveOneVerdict }
-    ensures same { SameIsToldExactly }
+    ensures same { SameIffRenaming }
     ensures carried { SameIsCarried }
 {}

@@ -12,7 +12,7 @@ use Rattle.std.proofs.Math.Seq.{take-append-add}
 use Rattle.dap_device.specs.declared.device.DeviceFault.{DeviceFault}
 use Rattle.dap_device.specs.declared.device.Sink.{Ghosts as Sink}
 use Rattle.dap_device.specs.Device.{AwaitFlush, HasFlushed, HasTaken, HasTakenNothing}
-use Rattle.dap_device.specs.Written.{AllWritten, FrontWritten, HasSentAll}
+use Rattle.dap_device.specs.Written.{AllWritten, PrefixWritten, HasSentAll}
 
 -- Appending, and then leaving the bytes unchanged, appends the same bytes.
 pub kept : (old mid new : Option (List ℕ)) (bs : List ℕ) → Appends old mid bs → Keeps mid new
@@ -63,8 +63,8 @@ module _ {S : Type 0} (sink : Sink S) where
           no_failure = second.no_failure ∙ first.no_failure;
         }
 
-    pub all_then_front : FrontWritten sink mid new ys
-        → FrontWritten sink old new (xs ++ ys)
+    pub all_then_front : PrefixWritten sink mid new ys
+        → PrefixWritten sink old new (xs ++ ys)
     all_then_front second = record {
       count = length xs + second.count;
       within = (let fits = second.within in omega (arith, fits, length-append xs ys));
@@ -77,8 +77,8 @@ module _ {S : Type 0} (sink : Sink S) where
     }
 
   -- A prefix of an output is a prefix of a longer output.
-  pub front_of_longer : (old new : S) (xs ys : List ℕ) → FrontWritten sink old new xs
-      → FrontWritten sink old new (xs ++ ys)
+  pub front_of_longer : (old new : S) (xs ys : List ℕ) → PrefixWritten sink old new xs
+      → PrefixWritten sink old new (xs ++ ys)
   front_of_longer old new xs ys front = record {
     count = front.count;
     within = (let fits = front.within in omega (arith, fits, length-append xs ys));
@@ -94,7 +94,7 @@ module _ {S : Type 0} (sink : Sink S) where
       (waiting : AwaitFlush sink.unflushed old mid count)
       (good : sink.failures mid ≡ sink.failures old) where
     pub front_then_fault : HasTakenNothing sink.out sink.unflushed sink.failures mid new
-        → FrontWritten sink old new bytes
+        → PrefixWritten sink old new bytes
     front_then_fault nothing = record {
       count = count;
       within = within;
@@ -106,7 +106,7 @@ module _ {S : Type 0} (sink : Sink S) where
 
     pub front_then_none : (rest : List ℕ) (taken : ℕ) → taken ≡ 0 → 0 < length rest
         → HasTaken sink.out sink.unflushed sink.failures mid new taken rest
-        → FrontWritten sink old new bytes
+        → PrefixWritten sink old new bytes
     front_then_none rest taken none some took = record {
       count = count;
       within = within;
@@ -165,12 +165,12 @@ module _ {S : Type 0} (sink : Sink S) where
           (all_then_all old mid new (flat_map line (take i xs)) (line (get_or xs i d)) before
           (subst (AllWritten sink mid new) is all))
 
-      pub line_not_sent : FrontWritten sink mid new bytes
-          → FrontWritten sink old new (flat_map line xs)
+      pub line_not_sent : PrefixWritten sink mid new bytes
+          → PrefixWritten sink old new (flat_map line xs)
       line_not_sent front =
           let some = all_then_front old mid new (flat_map line (take i xs)) (line (get_or xs i d))
-          before (subst (FrontWritten sink mid new) is front) in
-          subst (FrontWritten sink old new) (sym lines_all)
+          before (subst (PrefixWritten sink mid new) is front) in
+          subst (PrefixWritten sink old new) (sym lines_all)
           (front_of_longer old new (flat_map line (take (i + 1) xs))
           (flat_map line (drop (i + 1) xs))
-          (subst (FrontWritten sink old new) (sym lines_more) some))
+          (subst (PrefixWritten sink old new) (sym lines_more) some))

@@ -21,7 +21,7 @@ module _ {S : Type 0} (source : Source S) where
   HasPaused old new (Some stop) = HasStopped source old new stop
 
   -- These bytes were read from the source, they are counted, and reading paused for this reason.
-  pub record HasComeSoFar (old new : S) (bytes : List ℕ) (stop : Option Stop) : Type 0 where
+  pub record HasReadSoFar (old new : S) (bytes : List ℕ) (stop : Option Stop) : Type 0 where
     pub came : Consumes (source.left old) (source.left new) bytes
     pub counted : source.given new ≡ source.given old + length bytes
     pub paused : HasPaused old new stop
@@ -29,7 +29,7 @@ module _ {S : Type 0} (source : Source S) where
   -- There are unread bytes: those from before, or the chunk that was read.
   pub record HasNextPiece (before after : Window) (old new : S) : Type 0 where
     pub piece : List ℕ
-    pub came : HasComeSoFar old new piece None
+    pub came : HasReadSoFar old new piece None
     pub few : length piece ≤ 65536
     pub needed : (piece ≡ []) ⊎ (before.unread ≡ [])
     pub some : 0 < length after.unread
@@ -45,14 +45,14 @@ module _ {S : Type 0} (source : Source S) where
   -- A byte beyond the limit was read.
   pub record HasPassedLimit (before : Window) (old new : S) : Type 0 where
     pub byte : ℕ
-    pub came : HasComeSoFar old new (byte ∷ []) (Some Full)
+    pub came : HasReadSoFar old new (byte ∷ []) (Some Full)
     pub at_limit : before.taken ≡ before.limit
 
   -- There were no unread bytes, and there are none for this reason.
   abbrev pub HasNoPiece : Window → S → S → Stop → Type 0
-  HasNoPiece before old new End = HasComeSoFar old new [] (Some End)
+  HasNoPiece before old new End = HasReadSoFar old new [] (Some End)
   HasNoPiece before old new Full = HasPassedLimit before old new
-  HasNoPiece before old new Failed = HasComeSoFar old new [] (Some Failed)
+  HasNoPiece before old new Failed = HasReadSoFar old new [] (Some Failed)
 
   -- There are unread bytes; or there are none, for a reason, and the model is unchanged.
   abbrev pub HasFilled : {U : Type 0} → Window → Window → S → S → Result U Stop → Type 0

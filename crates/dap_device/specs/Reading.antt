@@ -25,14 +25,14 @@ module _ {S : Type 0} (source : Source S) (old new : S) where
   HasStopped Failed = source.failures new ≡ source.failures old + 1
 
   -- These bytes were read from the source, they are counted, and reading stopped for this reason.
-  pub record HasCome (limit : ℕ) (bytes : List ℕ) (stop : Stop) : Type 0 where
+  pub record HasReadInput (limit : ℕ) (bytes : List ℕ) (stop : Stop) : Type 0 where
     pub came : Consumes (source.left old) (source.left new) bytes
     pub counted : source.given new ≡ source.given old + length bytes
     pub has_length : HasLength limit bytes stop
     pub stopped : HasStopped stop
 
   -- At most this many bytes were read from the source, they are counted, and it did not fail.
-  pub record HasComePartly (limit : ℕ) : Type 0 where
+  pub record HasReadPartly (limit : ℕ) : Type 0 where
     pub bytes : List ℕ
     pub came : Consumes (source.left old) (source.left new) bytes
     pub counted : source.given new ≡ source.given old + length bytes

@@ -20,7 +20,7 @@ module _ {S : Type 0} (sink : Sink S) where
 
   -- A prefix of the bytes, possibly all of them, was written; a flush is due for it. Then the sink
   -- failed.
-  pub record FrontWritten (old new : S) (bytes : List ℕ) : Type 0 where
+  pub record PrefixWritten (old new : S) (bytes : List ℕ) : Type 0 where
     pub count : ℕ
     pub within : count ≤ length bytes
     pub appended : Appends (sink.out old) (sink.out new) (take count bytes)
@@ -30,10 +30,10 @@ module _ {S : Type 0} (sink : Sink S) where
   -- All bytes were written; or a prefix of them was, and the sink failed.
   abbrev pub HasWrittenAll : {U : Type 0} → S → S → Result U DeviceFault → List ℕ → Type 0
   HasWrittenAll old new (Ok done) bytes = AllWritten old new bytes
-  HasWrittenAll old new (Err fault) bytes = FrontWritten old new bytes
+  HasWrittenAll old new (Err fault) bytes = PrefixWritten old new bytes
 
   -- All bytes were written and flushed; or a prefix of them, possibly all, was written, and the
   -- sink failed.
   abbrev pub HasSentAll : {U : Type 0} → S → S → Result U DeviceFault → List ℕ → Type 0
   HasSentAll old new (Ok done) bytes = AllSent old new bytes
-  HasSentAll old new (Err fault) bytes = FrontWritten old new bytes
+  HasSentAll old new (Err fault) bytes = PrefixWritten old new bytes

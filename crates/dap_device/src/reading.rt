@@ -2,7 +2,7 @@
 ghost use Rattle.std.specs.Prelude.{◌≡◌, ◌≤◌, ◌+◌, ◌^◌, ◌<◌, IfOk, OnErr, OnOk, drop, length};
 ghost use Rattle.std.specs.Prelude.{take};
 ghost use Rattle.dap_device.specs.Device.{HasRead};
-ghost use Rattle.dap_device.specs.Reading.{HasCome, HasComePartly};
+ghost use Rattle.dap_device.specs.Reading.{HasReadInput, HasReadPartly};
 
 use crate::device::{DeviceFault, Source};
 use std::alloc::{AllocError, Global};
@@ -84,10 +84,10 @@ pub fn read_all<R: Source>(alloc: Global, reader: &mut R, limit: u64) -> Result<
     requires failures { R.failures reader.old < 2 ^ 62 }
     ensures given { R.given reader.new ≤ R.given reader.old + limit + 1 }
     ensures came { IfOk result
-        (λ input. HasCome R.Source reader.old reader.new limit input.bytes.items input.stop) }
+        (λ input. HasReadInput R.Source reader.old reader.new limit input.bytes.items input.stop) }
 
     // If an allocation failed, a prefix of the input was read, and the source did not fail.
-    ensures partly { OnErr result (HasComePartly R.Source reader.old reader.new limit) }
+    ensures partly { OnErr result (HasReadPartly R.Source reader.old reader.new limit) }
 {
     let most = limit as usize + 1;
     let mut bytes = Vec::new(alloc);

@@ -8,23 +8,23 @@ use Rattle.dap_items.proofs.Ends.{item_not_faulty, item_not_open, one_item}
 use Rattle.dap_message.specs.Message.{Sent}
 use Rattle.dap_message.proofs.Contents.{typed_not_refused}
 use Rattle.dap_recording.specs.Recording.{IsOpenRecord, IsRecord, ShowsFault}
-use Rattle.dap_recording.specs.RecordReading.{RecordReading, StandsFor, GivesRecordFault}
+use Rattle.dap_recording.specs.RecordReading.{RecordReading, RepresentsRecords, GivesRecordFault}
 use Rattle.dap_recording.specs.RecordReading.{GivesFedRecord, next_number, record_limits}
 use Rattle.dap_recording.specs.declared.fed_record.FedRecord.{FedRecord}
 use Rattle.dap_recording.specs.declared.record.Record.{Record}
 use Rattle.dap_recording.specs.declared.record_fault.RecordCause.TheVariants as cause
 use Rattle.dap_recording.specs.declared.record_fault.RecordFault.{RecordFault}
 use Rattle.dap_recording.proofs.Records.{record_grammar}
-use Rattle.dap_recording.proofs.RecordSteps.{stands_open}
+use Rattle.dap_recording.proofs.RecordSteps.{represented_is_incomplete}
 use Rattle.dap_input.specs.declared.limits.Limits.{Limits}
 use Rattle.dap_input.specs.Limits.{AreSound}
-use Rattle.dap_input.specs.Judging.{Reason, faulty, input_too_long, cut, objected, no_message}
-use Rattle.dap_input.specs.Judging.{broken, too_many_ids, grew}
-use Rattle.dap_input.specs.Refusals.{IsObjected, RefusesHeld, reason_of}
+use Rattle.dap_input.specs.Validation.{Reason, faulty, input_too_long, cut, objected, no_message}
+use Rattle.dap_input.specs.Validation.{broken, too_many_ids, grew}
+use Rattle.dap_input.specs.Refusals.{IsObjected, RejectsPayload, reason_of}
 use Rattle.dap_input.specs.declared.refused.Refused.{Refused}
 use Rattle.dap_input.specs.declared.refused.Refused.TheVariants as why
-use Rattle.dap_normal.specs.Accepting.{Held, HoldsNoMessage, IsMessage}
-use Rattle.dap_normal.specs.JudgingSteps.{held_of}
+use Rattle.dap_normal.specs.Accepting.{Payload, HoldsNoMessage, IsMessage}
+use Rattle.dap_normal.specs.JudgingSteps.{payload_of}
 use Rattle.dap_normal.proofs.AcceptingFacts.{message_once}
 use Rattle.dap_diff.specs.Texts.{IsRecordOf, IsLeftText}
 use Rattle.dap_diff.proofs.Texts.{record_here}
@@ -37,38 +37,39 @@ module _ (limits : Limits) (sound : AreSound limits) (text : List ℕ) (m : Sent
 
   -- A record that is a prefix of the text is the complete text.
   is_held : (used : ℕ) (whole : Record)
-      → IsRecord l (take used text) whole.side whole.content → IsMessage (held_of whole) m
+      → IsRecord l (take used text) whole.side whole.content → IsMessage (payload_of whole) m
   is_held used whole front =
       let one = one_item (record_grammar l) (take used text) text (drop used text) []
       (whole.side, whole.content) (m.side, text_of m.doc)
       (take-append-drop used text ∙ sym (append-nil text)) front here in
       subst (λ h. IsMessage h m) (sym one.1) (refl, is.typed)
 
-  not_open : (reader : RecordReading) → record_limits reader ≡ l → StandsFor reader 1 text → ⊥
-  not_open reader of stands =
+  not_open : (reader : RecordReading) → record_limits reader ≡ l → RepresentsRecords reader 1 text
+      → ⊥
+  not_open reader of represents =
       item_not_open (record_grammar l) text [] (m.side, text_of m.doc) here
       (subst (λ k. IsOpenRecord k (text ++ [])) of
       (subst (IsOpenRecord (record_limits reader)) (sym (append-nil text))
-      (stands_open reader 1 text stands)))
+      (represented_is_incomplete reader 1 text represents)))
 
   -- A successful call returned the record; it could not return nothing.
   module _ (fed : FedRecord) (new : RecordReading) (gives : GivesFedRecord l 1 [] text fed new)
     where
-      pub given_is_held : (whole : Record) → Some whole ≡ fed.whole → IsMessage (held_of whole) m
+      pub given_is_held : (whole : Record) → Some whole ≡ fed.whole → IsMessage (payload_of whole) m
       given_is_held whole some =
           is_held fed.used whole
           (subst (λ o. MatchOption o
-          ((fed.used ≡ length text) × StandsFor new 1 ([] ++ text))
+          ((fed.used ≡ length text) × RepresentsRecords new 1 ([] ++ text))
           (λ w. IsRecord l ([] ++ take fed.used text) w.side w.content
-          × StandsFor new (next_number 1) [])) (sym some) gives.1).0
+          × RepresentsRecords new (next_number 1) [])) (sym some) gives.1).0
 
       pub not_given : None ≡ fed.whole → record_limits new ≡ l → ⊥
       not_given none of =
           not_open new of
           (subst (λ o. MatchOption o
-          ((fed.used ≡ length text) × StandsFor new 1 ([] ++ text))
+          ((fed.used ≡ length text) × RepresentsRecords new 1 ([] ++ text))
           (λ w. IsRecord l ([] ++ take fed.used text) w.side w.content
-          × StandsFor new (next_number 1) [])) (sym none) gives.1).1
+          × RepresentsRecords new (next_number 1) [])) (sym none) gives.1).1
 
   pub no_fault : (fault : RecordFault) (new : RecordReading)
       → GivesRecordFault l 1 [] text fault new → (fault.cause ≡ cause.Memory → ⊥) → ⊥
@@ -78,7 +79,7 @@ module _ (limits : Limits) (sound : AreSound limits) (text : List ℕ) (m : Sent
       (subst (λ t. ShowsFault l t fault.cause shown.0) (sym (append-nil text)) shown.1)
 
 -- The message that is read is that of the text.
-pub is_told : (limits : Limits) (text : List ℕ) (held : Held) (n : Sent) → (text ≡ [] → ⊥)
+pub is_told : (limits : Limits) (text : List ℕ) (held : Payload) (n : Sent) → (text ≡ [] → ⊥)
     → IsLeftText limits text → ((m : Sent) → IsRecordOf limits text m → IsMessage held m)
     → IsMessage held n → IsRecordOf limits text n
 is_told limits text held n some (None, none) each is = absurd (some none)
@@ -86,42 +87,46 @@ is_told limits text held n some (Some m, holds) each is =
     subst (IsRecordOf limits text) (message_once held m n (each m holds) is) holds
 
 -- A payload with a message is not rejected as having no message.
-module _ (held : Held) (m : Sent) (is : IsMessage held m) where
+module _ (held : Payload) (m : Sent) (is : IsMessage held m) where
   no_reason : (o : Option (ℕ × Reason))
-      → MatchOption o ⊥ (λ told. (told.0 ≡ 1) × IsObjected (HoldsNoMessage held) told.1) → ⊥
-  no_reason None told = told
-  no_reason (Some (n, objected (no_message e))) told =
-      typed_not_refused held.0 held.1 m.doc e is.1 told.1
-  no_reason (Some (n, objected (broken rule))) told = told.1
-  no_reason (Some (n, objected too_many_ids)) told = told.1
-  no_reason (Some (n, objected grew)) told = told.1
-  no_reason (Some (n, faulty cause)) told = told.1
-  no_reason (Some (n, input_too_long)) told = told.1
-  no_reason (Some (n, cut)) told = told.1
+      → MatchOption o ⊥
+      (λ reported. (reported.0 ≡ 1) × IsObjected (HoldsNoMessage held) reported.1) → ⊥
+  no_reason None reported = reported
+  no_reason (Some (n, objected (no_message e))) reported =
+      typed_not_refused held.0 held.1 m.doc e is.1 reported.1
+  no_reason (Some (n, objected (broken rule))) reported = reported.1
+  no_reason (Some (n, objected too_many_ids)) reported = reported.1
+  no_reason (Some (n, objected grew)) reported = reported.1
+  no_reason (Some (n, faulty cause)) reported = reported.1
+  no_reason (Some (n, input_too_long)) reported = reported.1
+  no_reason (Some (n, cut)) reported = reported.1
 
   not_refused : (because : Refused) → (because ≡ why.Memory → ⊥)
-      → RefusesHeld (HoldsNoMessage held) 1 because → ⊥
-  not_refused (why.InputTooLong n) other told = no_reason (reason_of (why.InputTooLong n)) told
-  not_refused (why.Record n x) other told = no_reason (reason_of (why.Record n x)) told
-  not_refused (why.Json n) other told = no_reason (reason_of (why.Json n)) told
-  not_refused (why.Fraction n) other told = no_reason (reason_of (why.Fraction n)) told
-  not_refused (why.Message n x) other told = no_reason (reason_of (why.Message n x)) told
-  not_refused (why.Rule n x) other told = no_reason (reason_of (why.Rule n x)) told
-  not_refused (why.TooManyIds n) other told = no_reason (reason_of (why.TooManyIds n)) told
-  not_refused (why.Grew n) other told = no_reason (reason_of (why.Grew n)) told
-  not_refused (why.Incomplete n x) other told = no_reason (reason_of (why.Incomplete n x)) told
-  not_refused (why.TraceTooLong n) other told = no_reason (reason_of (why.TraceTooLong n)) told
-  not_refused (why.Trace n x) other told = no_reason (reason_of (why.Trace n x)) told
-  not_refused (why.Recorder n x) other told = no_reason (reason_of (why.Recorder n x)) told
-  not_refused why.ReadFault other told = no_reason (reason_of why.ReadFault) told
-  not_refused why.WriteFault other told = no_reason (reason_of why.WriteFault) told
-  not_refused why.Memory other told = other refl
+      → RejectsPayload (HoldsNoMessage held) 1 because → ⊥
+  not_refused (why.InputTooLong n) other reported = no_reason (reason_of (why.InputTooLong n))
+      reported
+  not_refused (why.Record n x) other reported = no_reason (reason_of (why.Record n x)) reported
+  not_refused (why.Json n) other reported = no_reason (reason_of (why.Json n)) reported
+  not_refused (why.Fraction n) other reported = no_reason (reason_of (why.Fraction n)) reported
+  not_refused (why.Message n x) other reported = no_reason (reason_of (why.Message n x)) reported
+  not_refused (why.Rule n x) other reported = no_reason (reason_of (why.Rule n x)) reported
+  not_refused (why.TooManyIds n) other reported = no_reason (reason_of (why.TooManyIds n)) reported
+  not_refused (why.Grew n) other reported = no_reason (reason_of (why.Grew n)) reported
+  not_refused (why.Incomplete n x) other reported = no_reason (reason_of (why.Incomplete n x))
+      reported
+  not_refused (why.TraceTooLong n) other reported = no_reason (reason_of (why.TraceTooLong n))
+      reported
+  not_refused (why.Trace n x) other reported = no_reason (reason_of (why.Trace n x)) reported
+  not_refused (why.Recorder n x) other reported = no_reason (reason_of (why.Recorder n x)) reported
+  not_refused why.ReadFault other reported = no_reason (reason_of why.ReadFault) reported
+  not_refused why.WriteFault other reported = no_reason (reason_of why.WriteFault) reported
+  not_refused why.Memory other reported = other refl
 
 -- A nonempty text with a message is not rejected as having none.
-pub refused_none : (limits : Limits) (text : List ℕ) (held : Held) (because : Refused)
+pub refused_none : (limits : Limits) (text : List ℕ) (held : Payload) (because : Refused)
     → (text ≡ [] → ⊥) → IsLeftText limits text
     → ((m : Sent) → IsRecordOf limits text m → IsMessage held m)
-    → (because ≡ why.Memory → ⊥) → RefusesHeld (HoldsNoMessage held) 1 because → ⊥
-refused_none limits text held because some (None, none) each other told = some none
-refused_none limits text held because some (Some m, holds) each other told =
-    not_refused held m (each m holds) because other told
+    → (because ≡ why.Memory → ⊥) → RejectsPayload (HoldsNoMessage held) 1 because → ⊥
+refused_none limits text held because some (None, none) each other reported = some none
+refused_none limits text held because some (Some m, holds) each other reported =
+    not_refused held m (each m holds) because other reported

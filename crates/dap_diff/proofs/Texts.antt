@@ -19,7 +19,7 @@ use Rattle.dap_input.specs.declared.limits.Limits.{Limits}
 use Rattle.dap_input.specs.Inputs.{Input}
 use Rattle.dap_input.specs.Limits.{AreSound}
 use Rattle.dap_input.specs.ReadTo.{IsOf, so_far}
-use Rattle.dap_normal.specs.Accepting.{Held, AreMessages, IsAccepted, IsMessage, text}
+use Rattle.dap_normal.specs.Accepting.{Payload, AreMessages, IsAccepted, IsMessage, text}
 use Rattle.dap_normal.specs.JudgingSteps.{record_of}
 use Rattle.dap_normal.proofs.AcceptingFacts.{message_once}
 use Rattle.dap_normal.proofs.NormalFormLaws.{normal_accepted}
@@ -27,12 +27,12 @@ use Rattle.dap_compare.specs.LeftTexts.{IsRecordAt, LeavesRecord}
 use Rattle.dap_compare.specs.Verdicts.{Compares}
 use Rattle.dap_compare.specs.declared.verdict.CompareRefused.TheVariants.{Memory}
 use Rattle.dap_compare.specs.declared.verdict.Verdict.TheVariants.{Differ}
-use Rattle.dap_diff.specs.Diffs.{HasAt, HasRead, TellsRecord}
-use Rattle.dap_diff.specs.Texts.{IsRecordOf, Holds, IsLeftText, TellsTexts}
+use Rattle.dap_diff.specs.Diffs.{HasAt, HasRead, DescribesRecord}
+use Rattle.dap_diff.specs.Texts.{IsRecordOf, Holds, IsLeftText, DescribesTexts}
 
 -- ---- a message of a normal form is that of its own text
 
-abbrev contents : List Sent → List Held
+abbrev contents : List Sent → List Payload
 contents [] = []
 contents (m ∷ ms) = (m.side, text_of m.doc) ∷ contents ms
 
@@ -45,7 +45,7 @@ module _ (limits : Limits) where
   AreShort ms = AllByRecursion (λ (m : Sent). length (text_of m.doc) ≤ limits.frame.content) ms
 
   contents_short : (ms : List Sent) → AreShort ms
-      → AllByRecursion (λ (h : Held). length h.1 ≤ limits.frame.content) (contents ms)
+      → AllByRecursion (λ (h : Payload). length h.1 ≤ limits.frame.content) (contents ms)
   contents_short [] short = tt
   contents_short (m ∷ ms) short = (short.0, contents_short ms short.1)
 
@@ -154,8 +154,8 @@ module _ (limits : Limits) (mode : Mode) (sound : AreSound limits) where
       (old_b new_b : S) (number : ℕ) (text_a text_b lines : List ℕ)
       (left_a : LeavesRecord source_a limits mode old_a new_a number text_a)
       (left_b : LeavesRecord source_b limits mode old_b new_b number text_b) where
-    pub tells_record : TellsTexts limits text_a text_b lines
-        → TellsRecord source_a source_b limits mode old_a new_a old_b new_b number lines
+    pub tells_record : DescribesTexts limits text_a text_b lines
+        → DescribesRecord source_a source_b limits mode old_a new_a old_b new_b number lines
     tells_record tells = record {
       of_a = tells.of_a;
       of_b = tells.of_b;

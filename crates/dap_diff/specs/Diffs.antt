@@ -6,7 +6,7 @@ use Rattle.std.specs.Prelude.{Result, Ok, Err, bytes_eq, codes, unwrap_or, if◌
 use Rattle.std.specs.List.{flat_map}
 use Rattle.dap_device.specs.declared.device.Source.{Ghosts as Source}
 use Rattle.dap_device.specs.declared.reading.Stop.{Stop}
-use Rattle.dap_device.specs.Pieces.{HasComeSoFar}
+use Rattle.dap_device.specs.Pieces.{HasReadSoFar}
 use Rattle.dap_tree.specs.Doc.{Doc, text}
 use Rattle.dap_tree.specs.Ids.{without_ids}
 use Rattle.dap_tree.specs.Json.{text_of}
@@ -30,8 +30,8 @@ use Rattle.dap_compare.specs.declared.verdict.CompareRefused.{CompareRefused}
 use Rattle.dap_compare.specs.declared.verdict.Verdict.TheVariants as verdict
 use Rattle.dap_difference.specs.Telling.{differences}
 use Rattle.dap_difference.specs.Lines.{difference_lines}
-use Rattle.dap_diff.specs.declared.answer.Diff.{Diff}
-use Rattle.dap_diff.specs.declared.answer.Diff.TheVariants.{Same, Differ}
+use Rattle.dap_diff.specs.declared.outcome.Diff.{Diff}
+use Rattle.dap_diff.specs.declared.outcome.Diff.TheVariants.{Same, Differ}
 
 -- ---- the lines
 
@@ -93,7 +93,7 @@ pub record HasRead {R : Type 0} (source : Source R) (limits : Limits) (mode : Mo
     (number : ℕ) (found : Option Sent) : Type 0 where
   pub bytes : List ℕ
   pub stop : Option Stop
-  pub came : HasComeSoFar source old new bytes stop
+  pub came : HasReadSoFar source old new bytes stop
   pub has : (input : Input) → IsOf bytes stop input → HasAt limits mode input number found
 
 -- ---- the result
@@ -102,7 +102,7 @@ pub record HasRead {R : Type 0} (source : Source R) (limits : Limits) (mode : Mo
 module _ {R S : Type 0} (source_a : Source R) (source_b : Source S) (limits : Limits) (mode : Mode)
     (old_a new_a : R) (old_b new_b : S) where
   -- The lines are those for the messages of both inputs at the record.
-  pub record TellsRecord (number : ℕ) (lines : List ℕ) : Type 0 where
+  pub record DescribesRecord (number : ℕ) (lines : List ℕ) : Type 0 where
     pub of_a : Option Sent
     pub of_b : Option Sent
     pub read_a : HasRead source_a limits mode old_a new_a number of_a
@@ -111,11 +111,11 @@ module _ {R S : Type 0} (source_a : Source R) (source_b : Source S) (limits : Li
 
   -- The result is one that `compare` may return. For a difference, it also has the lines for the
   -- record.
-  abbrev pub TellsDifference : Result Diff CompareRefused → Type 0
-  TellsDifference (Ok Same) = (renaming : _)
+  abbrev pub DescribesDifference : Result Diff CompareRefused → Type 0
+  DescribesDifference (Ok Same) = (renaming : _)
       × Compares source_a source_b limits mode old_a new_a old_b new_b (Ok (verdict.Same renaming))
-  TellsDifference (Ok (Differ number lines)) =
+  DescribesDifference (Ok (Differ number lines)) =
       Compares source_a source_b limits mode old_a new_a old_b new_b (Ok (verdict.Differ number))
-      × TellsRecord number lines.items
-  TellsDifference (Err refused) =
+      × DescribesRecord number lines.items
+  DescribesDifference (Err refused) =
       Compares source_a source_b limits mode old_a new_a old_b new_b (Err refused)

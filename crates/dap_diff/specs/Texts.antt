@@ -25,7 +25,7 @@ abbrev pub IsLeftText : Limits → List ℕ → Type 0
 IsLeftText limits text = (found : Option Sent) × Holds limits text found
 
 -- The lines are those for the messages in the texts of A and of B.
-pub record TellsTexts (limits : Limits) (text_a text_b lines : List ℕ) : Type 0 where
+pub record DescribesTexts (limits : Limits) (text_a text_b lines : List ℕ) : Type 0 where
   pub of_a : Option Sent
   pub of_b : Option Sent
   pub holds_a : Holds limits text_a of_a

@@ -2,11 +2,11 @@
 ghost use Rattle.std.specs.Prelude.{◌+◌, ◌<◌, ◌≤◌, ◌^◌, IfOk};
 ghost use Rattle.dap_input.specs.Limits.{AreSound};
 ghost use Rattle.dap_normal.specs.NameTables.{AreReady};
-ghost use Rattle.dap_diff.specs.Diffs.{TellsDifference};
-ghost use Rattle.dap_diff.specs.Texts.{IsLeftText, TellsTexts};
+ghost use Rattle.dap_diff.specs.Diffs.{DescribesDifference};
+ghost use Rattle.dap_diff.specs.Texts.{IsLeftText, DescribesTexts};
 
-use crate::answer::Diff;
 use crate::lines::diff_lines;
+use crate::outcome::Diff;
 use crate::reading::message_in;
 use dap_compare::{CompareRefused, Verdict, compare_texts_with};
 use dap_device::Source;
@@ -25,7 +25,7 @@ fn lines_of(
     requires sound { AreSound limits }
     requires is_left_a { IsLeftText limits text_a.now }
     requires is_left_b { IsLeftText limits text_b.now }
-    ensures { IfOk result (λ lines. TellsTexts limits text_a.now text_b.now lines.items) }
+    ensures { IfOk result (λ lines. DescribesTexts limits text_a.now text_b.now lines.items) }
 {
     let message_a = message_in(alloc, text_a, limits)?;
     let message_b = message_in(alloc, text_b, limits)?;
@@ -59,7 +59,7 @@ pub fn diff<A: Source, B: Source>(
 
     // The result is the one verdict on the two inputs; if they differ, with the differences as
     // lines.
-    ensures answer { TellsDifference A.Source B.Source limits mode reader_a.old reader_a.new
+    ensures outcome { DescribesDifference A.Source B.Source limits mode reader_a.old reader_a.new
         reader_b.old reader_b.new result }
 
     // It reads at most one byte beyond the limit of each input.
@@ -101,7 +101,7 @@ pub fn diff_with<A: Source, B: Source, T: NameTable + Drop>(
     requires failures_b { B.failures reader_b.old < 2 ^ 62 }
 
     // The guarantees of `diff`, for any tables.
-    ensures answer { TellsDifference A.Source B.Source limits mode reader_a.old reader_a.new
+    ensures outcome { DescribesDifference A.Source B.Source limits mode reader_a.old reader_a.new
         reader_b.old reader_b.new result }
     ensures taken_a { A.given reader_a.new ≤ A.given reader_a.old + limits.input + 1 }
     ensures taken_b { B.given reader_b.new ≤ B.given reader_b.old + limits.input + 1 }

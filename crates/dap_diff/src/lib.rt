@@ -1,10 +1,10 @@
 //! Compares two recordings and prints their differences as lines.
 #![tactic(auto)]
 
-mod answer;
 mod diffing;
 mod lines;
+mod outcome;
 mod reading;
 
-pub use answer::Diff;
 pub use diffing::{diff, diff_with};
+pub use outcome::Diff;

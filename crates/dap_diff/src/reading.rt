@@ -3,7 +3,7 @@ ghost use Rattle.std.specs.Prelude.{◌≡◌, IfOk, option_map, true};
 ghost use Rattle.dap_input.specs.Limits.{AreSound};
 ghost use Rattle.dap_message.specs.Message.{Sent, doc_of, sent};
 ghost use Rattle.dap_normal.specs.Accepting.{IsMessage};
-ghost use Rattle.dap_normal.specs.JudgingSteps.{held_of};
+ghost use Rattle.dap_normal.specs.JudgingSteps.{payload_of};
 ghost use Rattle.dap_tree.specs.Doc.{is_sound};
 ghost use Rattle.dap_tree.specs.Ids.{without_ids};
 ghost use Rattle.dap_tree.specs.View.{view};
@@ -44,7 +44,7 @@ fn record_in(alloc: Global, text: &[u8], limits: Limits) -> Result<Record, Alloc
     requires sound { AreSound limits }
     requires is_record { IsRecordText limits text.now }
     ensures { IfOk result (λ whole. (message : Sent) → IsRecordOf limits text.now message
-        → IsMessage (held_of whole) message) }
+        → IsMessage (payload_of whole) message) }
 {
     let mut reader = RecordReader::new(alloc, limits.frame);
     match reader.feed(text) {

@@ -80,12 +80,13 @@ items_of_b_every n (suc i) (item e es) p h =
 
 -- ---- members
 
-only_a_every : (k q : List ℕ) (d : Doc) (ms ns : Members) (p : List Step) (told : List Difference)
+only_a_every : (k q : List ℕ) (d : Doc) (ms ns : Members) (p : List Step)
+    (reported : List Difference)
     → get_member k ns ≡ None
-    → (DifferAt p (get_member q ms) (get_member q ns) → IsTold (name q ∷ p) told)
+    → (DifferAt p (get_member q ms) (get_member q ns) → IsTold (name q ∷ p) reported)
     → DifferAt p (get_member q (member k d ms)) (get_member q ns)
-    → IsTold (name q ∷ p) (only_a (name k) d ∷ told)
-only_a_every k q d ms ns p told none later h = elim (same_or_apart q k) [
+    → IsTold (name q ∷ p) (only_a (name k) d ∷ reported)
+only_a_every k q d ms ns p reported none later h = elim (same_or_apart q k) [
   | inl same ↦ let there : DifferAt p (Some d) None =
       subst (λ o. DifferAt p o None) (found_first k d ms)
       (subst (DifferAt p (get_member k (member k d ms))) none
@@ -94,12 +95,13 @@ only_a_every k q d ms ns p told none later h = elim (same_or_apart q k) [
   | inr apart ↦ inr (later (subst (λ o. DifferAt p o (get_member q ns)) (skips q k d ms apart) h))
 ]
 
-only_b_every : (l q : List ℕ) (e : Doc) (ms ns : Members) (p : List Step) (told : List Difference)
+only_b_every : (l q : List ℕ) (e : Doc) (ms ns : Members) (p : List Step)
+    (reported : List Difference)
     → get_member l ms ≡ None
-    → (DifferAt p (get_member q ms) (get_member q ns) → IsTold (name q ∷ p) told)
+    → (DifferAt p (get_member q ms) (get_member q ns) → IsTold (name q ∷ p) reported)
     → DifferAt p (get_member q ms) (get_member q (member l e ns))
-    → IsTold (name q ∷ p) (only_b (name l) e ∷ told)
-only_b_every l q e ms ns p told none later h = elim (same_or_apart q l) [
+    → IsTold (name q ∷ p) (only_b (name l) e ∷ reported)
+only_b_every l q e ms ns p reported none later h = elim (same_or_apart q l) [
   | inl same ↦ let there : DifferAt p None (Some e) =
       subst (λ o. DifferAt p None o) (found_first l e ns)
       (subst (λ o. DifferAt p o (get_member l (member l e ns))) none
@@ -109,21 +111,21 @@ only_b_every l q e ms ns p told none later h = elim (same_or_apart q l) [
 ]
 
 both_have_every : (k q : List ℕ) (d e : Doc) (ms ns : Members) (p : List Step)
-    (here told : List Difference)
+    (here reported : List Difference)
     → (DifferAt p (Some d) (Some e) → IsTold p here)
-    → (DifferAt p (get_member q ms) (get_member q ns) → IsTold (name q ∷ p) told)
+    → (DifferAt p (get_member q ms) (get_member q ns) → IsTold (name q ∷ p) reported)
     → DifferAt p (get_member q (member k d ms)) (get_member q (member k e ns))
-    → IsTold (name q ∷ p) (map (behind (name k)) here ++ told)
-both_have_every k q d e ms ns p here told first later h = elim (same_or_apart q k) [
+    → IsTold (name q ∷ p) (map (behind (name k)) here ++ reported)
+both_have_every k q d e ms ns p here reported first later h = elim (same_or_apart q k) [
   | inl same ↦ let there : DifferAt p (Some d) (Some e) =
       subst (λ o. DifferAt p o (Some e)) (found_first k d ms)
       (subst (DifferAt p (get_member k (member k d ms))) (found_first k e ns)
       (subst (λ l. DifferAt p (get_member l (member k d ms)) (get_member l (member k e ns))) same
       h)) in
-      subst (λ l. IsTold (name l ∷ p) (map (behind (name k)) here ++ told)) (sym same)
-      (told_left (name k ∷ p) (map (behind (name k)) here) told
+      subst (λ l. IsTold (name l ∷ p) (map (behind (name k)) here ++ reported)) (sym same)
+      (told_left (name k ∷ p) (map (behind (name k)) here) reported
       (told_behind (name k) p here (first there)))
-  | inr apart ↦ told_right (name q ∷ p) (map (behind (name k)) here) told
+  | inr apart ↦ told_right (name q ∷ p) (map (behind (name k)) here) reported
       (later (subst (λ o. DifferAt p o (get_member q ns)) (skips q k d ms apart)
       (subst (DifferAt p (get_member q (member k d ms))) (skips q k e ns apart) h)))
 ]

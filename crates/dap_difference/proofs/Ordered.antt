@@ -12,7 +12,7 @@ use Rattle.std.specs.Prelude.{⊤}
 use Rattle.dap_tree.specs.Doc.{Doc, list, object, Items, no_items}
 use Rattle.dap_tree.specs.Doc.{item, Members, no_members, member, is_below_all, is_ordered}
 use Rattle.dap_tree.specs.Doc.{items_ordered, members_ordered}
-use Rattle.dap_tree.specs.Path.{Step, name, place, StandsBefore, IsBefore}
+use Rattle.dap_tree.specs.Path.{Step, name, place, StepPrecedes, IsBefore}
 use Rattle.dap_tree.proofs.Booleans.{and_left, and_right}
 use Rattle.dap_difference.specs.Differences.{Difference}
 use Rattle.dap_difference.specs.Telling.{same_scalar, only_a, only_b, both, behind, items_of_b}
@@ -23,7 +23,7 @@ use Rattle.dap_difference.proofs.Told.{Each, each_append, each_is, each_behind, 
 
 abbrev BeginsAfter : Step → List Step → Type 0
 BeginsAfter s [] = ⊥
-BeginsAfter s (t ∷ p) = StandsBefore s t
+BeginsAfter s (t ∷ p) = StepPrecedes s t
 
 abbrev After : Step → Difference → Type 0
 After s x = BeginsAfter s x.path
@@ -41,7 +41,7 @@ before_each : (s : Step) (p : List Step) (ys : List Difference) → Each (After 
 before_each s p ys h =
     each_is (After s) (λ y. IsBefore (s ∷ p) y.path) (λ y. before_one s p y.path) ys h
 
-after_step : (s t : Step) → StandsBefore s t → (xs : List Difference)
+after_step : (s t : Step) → StepPrecedes s t → (xs : List Difference)
     → Each (After s) (map (behind t) xs)
 after_step s t h [] = tt
 after_step s t h (x ∷ xs) = (h, after_step s t h xs)

@@ -12,7 +12,7 @@ use Rattle.dap_tree.specs.Path.{Step, name}
 use Rattle.dap_difference.specs.Differences.{Difference}
 use Rattle.dap_difference.specs.Telling.{only_a, only_b, behind, from_member, below}
 use Rattle.dap_difference.specs.TellingSteps.{Appends, HasNoLower, HasOtherFirst}
-use Rattle.dap_difference.specs.Shown.{path_of, told}
+use Rattle.dap_difference.specs.Shown.{path_of, shown_differences}
 use Rattle.dap_difference.specs.declared.difference.Step.{Step as CodeStep}
 use Rattle.dap_difference.specs.declared.difference.Difference.{Difference as CodeDifference}
 use Rattle.dap_difference.proofs.Members.{one_name}
@@ -32,9 +32,9 @@ below_root (x ∷ xs) = ap (λ ys. x ∷ ys) (below_root xs)
 
 -- the differences found from the root are all differences
 pub all_told : (steps : List CodeStep) (old new : List CodeDifference) (xs : List Difference)
-    → steps ≡ [] → old ≡ [] → Appends steps old new xs → told new ≡ xs
+    → steps ≡ [] → old ≡ [] → Appends steps old new xs → shown_differences new ≡ xs
 all_told steps old new xs at_root none h =
-    h ∙ ap₂ (λ s o. told o ++ map (below (path_of s)) xs) at_root none ∙ below_root xs
+    h ∙ ap₂ (λ s o. shown_differences o ++ map (below (path_of s)) xs) at_root none ∙ below_root xs
 
 -- the differences after a step, followed by the remaining ones
 pub behind_step : (p : List Step) (s : Step) (old new xs rest : List Difference)

@@ -187,41 +187,41 @@ in_object ms ns x h =
     ((refl, h.tells.0), h.tells.1, h.tells.2)
 
 -- the differences after A's member k, if B has no member with that name among the remaining ones
-only_a_tells : (k : List ℕ) (d : Doc) (ms ns : Members) (told : List Difference)
-    → get_member k ms ≡ None → get_member k ns ≡ None → Each (TellsMember ms ns) told
-    → Each (TellsMember (member k d ms) ns) (only_a (name k) d ∷ told)
-only_a_tells k d ms ns told a b h = (
+only_a_tells : (k : List ℕ) (d : Doc) (ms ns : Members) (reported : List Difference)
+    → get_member k ms ≡ None → get_member k ns ≡ None → Each (TellsMember ms ns) reported
+    → Each (TellsMember (member k d ms) ns) (only_a (name k) d ∷ reported)
+only_a_tells k d ms ns reported a b h = (
   first_member k (Some d) None (member k d ms) ns (found_first k d ms) b (root (Some d) None)
       (tells_a d),
   each_is (TellsMember ms ns) (TellsMember (member k d ms) ns)
       (later_member k ms ns (member k d ms) ns a b (λ q apart. skips q k d ms apart)
       (λ q apart. refl))
-      told h,
+      reported h,
 )
 
-both_have : (k : List ℕ) (d e : Doc) (ms ns : Members) (here told : List Difference)
+both_have : (k : List ℕ) (d e : Doc) (ms ns : Members) (here reported : List Difference)
     → get_member k ms ≡ None → get_member k ns ≡ None → Each (Tells (Some d) (Some e)) here
-    → Each (TellsMember ms ns) told
-    → Each (TellsMember (member k d ms) (member k e ns)) (map (behind (name k)) here ++ told)
-both_have k d e ms ns here told a b h more =
-    each_append (TellsMember (member k d ms) (member k e ns)) (map (behind (name k)) here) told
+    → Each (TellsMember ms ns) reported
+    → Each (TellsMember (member k d ms) (member k e ns)) (map (behind (name k)) here ++ reported)
+both_have k d e ms ns here reported a b h more =
+    each_append (TellsMember (member k d ms) (member k e ns)) (map (behind (name k)) here) reported
     (each_behind (name k) (Tells (Some d) (Some e)) (TellsMember (member k d ms) (member k e ns))
     (first_member k (Some d) (Some e) (member k d ms) (member k e ns) (found_first k d ms)
     (found_first k e ns)) here h)
     (each_is (TellsMember ms ns) (TellsMember (member k d ms) (member k e ns))
     (later_member k ms ns (member k d ms) (member k e ns) a b (λ q apart. skips q k d ms apart)
-    (λ q apart. skips q k e ns apart)) told more)
+    (λ q apart. skips q k e ns apart)) reported more)
 
-only_b_tells : (l : List ℕ) (e : Doc) (ms ns : Members) (told : List Difference)
-    → get_member l ms ≡ None → get_member l ns ≡ None → Each (TellsMember ms ns) told
-    → Each (TellsMember ms (member l e ns)) (only_b (name l) e ∷ told)
-only_b_tells l e ms ns told a b h = (
+only_b_tells : (l : List ℕ) (e : Doc) (ms ns : Members) (reported : List Difference)
+    → get_member l ms ≡ None → get_member l ns ≡ None → Each (TellsMember ms ns) reported
+    → Each (TellsMember ms (member l e ns)) (only_b (name l) e ∷ reported)
+only_b_tells l e ms ns reported a b h = (
   first_member l None (Some e) ms (member l e ns) a (found_first l e ns) (root None (Some e))
       (tells_b e),
   each_is (TellsMember ms ns) (TellsMember ms (member l e ns))
       (later_member l ms ns ms (member l e ns) a b (λ q apart. refl)
       (λ q apart. skips q l e ns apart))
-      told h,
+      reported h,
 )
 
 from_tells : (k : List ℕ) (d : Doc) (ms : Members) (differ : Doc → List Difference)

@@ -15,7 +15,7 @@ use Rattle.dap_difference.specs.Differences.{Difference}
 use Rattle.dap_difference.specs.Telling.{only_a, behind, from_member, below, differences}
 use Rattle.dap_difference.specs.Telling.{items_differences, members_differences}
 use Rattle.dap_difference.specs.TellingSteps.{Appends, PassesLower, HasNoLower, TakesNamed}
-use Rattle.dap_difference.specs.Shown.{step_of, path_of, told}
+use Rattle.dap_difference.specs.Shown.{step_of, path_of, shown_differences}
 use Rattle.dap_difference.specs.declared.difference.Step.{Step as CodeStep}
 use Rattle.dap_difference.specs.declared.difference.Difference.{Difference as CodeDifference}
 use Rattle.dap_difference.proofs.Steps.{behind_step, one_step, only_a_here, both_here}
@@ -31,24 +31,26 @@ longer_path steps root s same =
 pub appended_behind : (root steps pushed : List CodeStep) (s : CodeStep)
     (old new : List CodeDifference) (xs rest : List Difference) → steps ≡ root
     → pushed ≡ steps ++ s ∷ [] → Appends pushed old new xs
-    → told new ++ map (below (path_of root)) rest
-    ≡ told old ++ map (below (path_of root)) (map (behind (step_of s)) xs ++ rest)
+    → shown_differences new ++ map (below (path_of root)) rest
+    ≡ shown_differences old ++ map (below (path_of root)) (map (behind (step_of s)) xs ++ rest)
 appended_behind root steps pushed s old new xs rest same is h =
-    behind_step (path_of root) (step_of s) (told old) (told new) xs rest
-    (h ∙ ap (λ q. told old ++ map (below q) xs) (ap path_of is ∙ longer_path steps root s same))
+    behind_step (path_of root) (step_of s) (shown_differences old) (shown_differences new) xs rest
+    (h ∙ ap (λ q. shown_differences old ++ map (below q) xs)
+    (ap path_of is ∙ longer_path steps root s same))
 
 abbrev there : List Step → Option Doc → Option Doc → Difference
 there p a b = record { path = p; of_a = a; of_b = b }
 
 pub appended_one : (root steps : List CodeStep) (s : CodeStep) (a b : Option Doc)
     (old new : List CodeDifference) (rest : List Difference) → steps ≡ root
-    → told new ≡ told old ++ there (path_of (steps ++ s ∷ [])) a b ∷ []
-    → told new ++ map (below (path_of root)) rest
-    ≡ told old ++ map (below (path_of root)) (there (step_of s ∷ []) a b ∷ rest)
+    → shown_differences new ≡ shown_differences old ++ there (path_of (steps ++ s ∷ [])) a b ∷ []
+    → shown_differences new ++ map (below (path_of root)) rest
+    ≡ shown_differences old ++ map (below (path_of root)) (there (step_of s ∷ []) a b ∷ rest)
 appended_one root steps s a b old new rest same h =
     let longer = longer_path steps root s same in
-    one_step (path_of root) (told old) (told new) (there (step_of s ∷ []) a b) rest
-    (h ∙ ap (λ q. told old ++ there q a b ∷ []) longer)
+    one_step (path_of root) (shown_differences old) (shown_differences new)
+    (there (step_of s ∷ []) a b) rest
+    (h ∙ ap (λ q. shown_differences old ++ there q a b ∷ []) longer)
 
 -- the step that was pushed is popped
 pub popped : (steps pushed left : List CodeStep) (s : CodeStep) → pushed ≡ steps ++ s ∷ []
@@ -102,14 +104,14 @@ pub members_both : (root steps : List CodeStep) (key m : String Global) (t u : T
     → all ≡ (key, t) ∷ more → steps ≡ root
     → PassesLower (string_bytes key) steps left0 left1 old lower
     → string_bytes m ≡ string_bytes key → left1 ≡ (m, u) ∷ left2
-    → told new ++ map (below (path_of root))
+    → shown_differences new ++ map (below (path_of root))
     (members_differences (members_view more) (members_view left2))
-    ≡ told lower ++ map (below (path_of root))
+    ≡ shown_differences lower ++ map (below (path_of root))
     (map (behind (name (string_bytes key))) (differences (view t) (view u))
     ++ members_differences (members_view more) (members_view left2))
-    → told new ++ map (below (path_of root))
+    → shown_differences new ++ map (below (path_of root))
     (members_differences (members_view more) (members_view left2))
-    ≡ told old ++ map (below (path_of root))
+    ≡ shown_differences old ++ map (below (path_of root))
     (members_differences (members_view all) (members_view left0))
 members_both root steps key m t u all more left0 left1 left2 old lower new is same passes named next
     h =
@@ -118,14 +120,18 @@ members_both root steps key m t u all more left0 left1 left2 old lower new is sa
     let rest : Members → List Difference = λ es. members_differences (members_view more) es in
     let found = both_here k (view t) differ rest (view u) (members_view left2) in
     let first = ap (λ l. member l (view u) (members_view left2)) named in
-    h ∙ ap (λ ys. told lower ++ map (below (path_of root)) ys) (sym found)
-    ∙ ap (λ ns. told lower ++ map (below (path_of root)) (from_all key t more ns)) (sym first)
-    ∙ ap (λ es. told lower ++ map (below (path_of root)) (from_all key t more (members_view es)))
+    h ∙ ap (λ ys. shown_differences lower ++ map (below (path_of root)) ys) (sym found)
+    ∙ ap (λ ns. shown_differences lower ++ map (below (path_of root)) (from_all key t more ns))
+    (sym first)
+    ∙ ap (λ es. shown_differences lower
+    ++ map (below (path_of root)) (from_all key t more (members_view es)))
     (sym next)
-    ∙ subst (λ r. told lower ++ map (below (path_of r)) (from_all key t more (members_view left1))
-    ≡ told old ++ map (below (path_of r)) (from_all key t more (members_view left0))) same
+    ∙ subst (λ r. shown_differences lower
+    ++ map (below (path_of r)) (from_all key t more (members_view left1))
+    ≡ shown_differences old ++ map (below (path_of r)) (from_all key t more (members_view left0)))
+    same
     (passes (view t) differ rest)
-    ∙ ap (λ es. told old ++ map (below (path_of root))
+    ∙ ap (λ es. shown_differences old ++ map (below (path_of root))
     (members_differences (members_view es) (members_view left0))) (sym is)
 
 -- only A has one
@@ -135,24 +141,27 @@ pub members_only_a : (root steps : List CodeStep) (key : String Global) (t : Tre
     → PassesLower (string_bytes key) steps left0 left1 old lower
     → HasNoLower (string_bytes key) (members_view left1)
     → TakesNamed (string_bytes key) left1 left2 None
-    → told new ++ map (below (path_of root))
+    → shown_differences new ++ map (below (path_of root))
     (members_differences (members_view more) (members_view left2))
-    ≡ told lower ++ map (below (path_of root)) (only_a (name (string_bytes key)) (view t)
+    ≡ shown_differences lower
+    ++ map (below (path_of root)) (only_a (name (string_bytes key)) (view t)
     ∷ members_differences (members_view more) (members_view left2))
-    → told new ++ map (below (path_of root))
+    → shown_differences new ++ map (below (path_of root))
     (members_differences (members_view more) (members_view left2))
-    ≡ told old ++ map (below (path_of root))
+    ≡ shown_differences old ++ map (below (path_of root))
     (members_differences (members_view all) (members_view left0))
 members_only_a root steps key t all more left0 left1 left2 old lower new is same passes low next h =
     let k = string_bytes key in
     let differ : Doc → List Difference = λ e. differences (view t) e in
     let rest : Members → List Difference = λ es. members_differences (members_view more) es in
     let found = only_a_here k (view t) differ rest (members_view left1) low next.1 in
-    h ∙ ap (λ es. told lower ++ map (below (path_of root))
+    h ∙ ap (λ es. shown_differences lower ++ map (below (path_of root))
     (only_a (name k) (view t) ∷ rest (members_view es))) next.0
-    ∙ ap (λ ys. told lower ++ map (below (path_of root)) ys) (sym found)
-    ∙ subst (λ r. told lower ++ map (below (path_of r)) (from_all key t more (members_view left1))
-    ≡ told old ++ map (below (path_of r)) (from_all key t more (members_view left0))) same
+    ∙ ap (λ ys. shown_differences lower ++ map (below (path_of root)) ys) (sym found)
+    ∙ subst (λ r. shown_differences lower
+    ++ map (below (path_of r)) (from_all key t more (members_view left1))
+    ≡ shown_differences old ++ map (below (path_of r)) (from_all key t more (members_view left0)))
+    same
     (passes (view t) differ rest)
-    ∙ ap (λ es. told old ++ map (below (path_of root))
+    ∙ ap (λ es. shown_differences old ++ map (below (path_of root))
     (members_differences (members_view es) (members_view left0))) (sym is)

@@ -35,11 +35,12 @@ pub record Difference : Type 0 where
 -- The list contains exactly the differences of the documents. They differ at each path of the list
 -- and have these values there. Each path at which they differ is in the list, and each path
 -- precedes the later ones.
-pub record AreDifferences (a b : Doc) (told : List Difference) : Type 0 where
-  pub differ : All (λ x. DifferAt x.path (Some a) (Some b)) told
-  pub values : All (λ x. (x.of_a ≡ at x.path a) × (x.of_b ≡ at x.path b)) told
-  pub every : (p : List Step) → DifferAt p (Some a) (Some b) → Contains (map (λ x. x.path) told) p
-  pub ordered : AllPairs IsBefore (map (λ x. x.path) told)
+pub record AreDifferences (a b : Doc) (reported : List Difference) : Type 0 where
+  pub differ : All (λ x. DifferAt x.path (Some a) (Some b)) reported
+  pub values : All (λ x. (x.of_a ≡ at x.path a) × (x.of_b ≡ at x.path b)) reported
+  pub every : (p : List Step) → DifferAt p (Some a) (Some b)
+      → Contains (map (λ x. x.path) reported) p
+  pub ordered : AllPairs IsBefore (map (λ x. x.path) reported)
 
 -- ---- inserting values
 
@@ -51,15 +52,16 @@ form d = d
 
 -- The path is not one of these, and leads through none of them.
 abbrev pub IsApart : List Difference → List Step → Type 0
-IsApart told p = All (λ x. (rest : List Step) → p ≡ x.path ++ rest → ⊥) told
+IsApart reported p = All (λ x. (rest : List Step) → p ≡ x.path ++ rest → ⊥) reported
 
 -- The document is A's with the values of B inserted at the paths of the list: it has B's values
 -- there. At all other paths it has A's values, compared without their parts.
-pub record HasValuesOfB (told : List Difference) (a put : Doc) : Type 0 where
-  pub at_told : All (λ x. at x.path put ≡ x.of_b) told
-  pub apart : (p : List Step) → IsApart told p
+pub record HasValuesOfB (reported : List Difference) (a put : Doc) : Type 0 where
+  pub at_told : All (λ x. at x.path put ≡ x.of_b) reported
+  pub apart : (p : List Step) → IsApart reported p
       → option_map form (at p put) ≡ option_map form (at p a)
 
 -- Among the documents whose members are in order, exactly B's document has these values.
 abbrev pub PutInIsB : List Difference → Doc → Doc → Type 0
-PutInIsB told a b = (put : Doc) → is_ordered put ≡ true → HasValuesOfB told a put ↔ (put ≡ b)
+PutInIsB reported a b = (put : Doc) → is_ordered put ≡ true
+    → HasValuesOfB reported a put ↔ (put ≡ b)

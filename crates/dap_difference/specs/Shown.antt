@@ -35,5 +35,5 @@ at_path steps values =
 abbrev pub difference_of : CodeDifference → Difference
 difference_of x = at_path x.path.items x.values
 
-abbrev pub told : List CodeDifference → List Difference
-told xs = map difference_of xs
+abbrev pub shown_differences : List CodeDifference → List Difference
+shown_differences xs = map difference_of xs

@@ -10,14 +10,15 @@ use Rattle.dap_tree.specs.View.{members_view}
 use Rattle.dap_tree.specs.declared.tree.Tree.{Tree}
 use Rattle.dap_difference.specs.Differences.{Difference}
 use Rattle.dap_difference.specs.Telling.{from_member, below}
-use Rattle.dap_difference.specs.Shown.{path_of, told}
+use Rattle.dap_difference.specs.Shown.{path_of, shown_differences}
 use Rattle.dap_difference.specs.declared.difference.Step.{Step}
 use Rattle.dap_difference.specs.declared.difference.Difference.{Difference as CodeDifference}
 
 -- These differences, at paths that start with the given one, are appended.
 abbrev pub Appends : List Step → List CodeDifference → List CodeDifference → List Difference
     → Type 0
-Appends steps old new xs = told new ≡ told old ++ map (below (path_of steps)) xs
+Appends steps old new xs = shown_differences new ≡ shown_differences old
+    ++ map (below (path_of steps)) xs
 
 -- The members that were passed are below the name, and are appended. With the remaining members,
 -- the differences from that name on are the same as with all members.
@@ -25,8 +26,10 @@ abbrev pub PassesLower : List ℕ → List Step → List (String Global × Tree)
     → List (String Global × Tree) → List CodeDifference → List CodeDifference → Type 0
 PassesLower k steps all left old new = (d : Doc) (differ : Doc → List Difference)
     (rest : Members → List Difference)
-    → told new ++ map (below (path_of steps)) (from_member k d differ rest (members_view left))
-    ≡ told old ++ map (below (path_of steps)) (from_member k d differ rest (members_view all))
+    → shown_differences new
+    ++ map (below (path_of steps)) (from_member k d differ rest (members_view left))
+    ≡ shown_differences old
+    ++ map (below (path_of steps)) (from_member k d differ rest (members_view all))
 
 -- The first of the members is not below the name.
 abbrev pub HasNoLower : List ℕ → Members → Type 0

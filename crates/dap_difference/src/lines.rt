@@ -10,7 +10,7 @@ ghost use Rattle.dap_difference.specs.Lines.{goes_on};
 ghost use Rattle.dap_difference.specs.Lines.{is_plain, is_plain_name, is_sound_difference};
 ghost use Rattle.dap_difference.specs.Lines.{are_sound};
 ghost use Rattle.dap_difference.specs.Lines.{name_text, path_text, step_text, value_line};
-ghost use Rattle.dap_difference.specs.Shown.{at_path, path_of, step_of, told};
+ghost use Rattle.dap_difference.specs.Shown.{at_path, path_of, step_of, shown_differences};
 ghost use Rattle.dap_difference.specs.Telling.{differences, same_scalar};
 
 use crate::{Difference, Step, Values, differences};
@@ -211,9 +211,10 @@ pub fn difference_text(alloc: Global, a: &Tree, b: &Tree) -> Result<Vec<u8>, All
 }
 
 fn lines_of(alloc: Global, found: &[Difference<'_>]) -> Result<Vec<u8>, AllocError>
-    requires { are_sound (told found.now) ≡ true }
-    ensures lines { IfOk result (λ text. text.items ≡ flat_map difference_lines (told found.now)) }
-    ensures none { told found.now ≡ [] → IsOk result }
+    requires { are_sound (shown_differences found.now) ≡ true }
+    ensures lines { IfOk result
+        (λ text. text.items ≡ flat_map difference_lines (shown_differences found.now)) }
+    ensures none { shown_differences found.now ≡ [] → IsOk result }
 {
     let mut text = Vec::new(alloc);
     for difference in found {

@@ -6,7 +6,7 @@ ghost use Rattle.dap_difference.specs.Differences.{AreDifferences, PutInIsB};
 ghost use Rattle.dap_difference.specs.Telling.{both, differences, items_differences};
 ghost use Rattle.dap_difference.specs.Telling.{items_of_b, members_differences, members_of_b};
 ghost use Rattle.dap_difference.specs.Telling.{same_scalar};
-ghost use Rattle.dap_difference.specs.Shown.{at_path, told};
+ghost use Rattle.dap_difference.specs.Shown.{at_path, shown_differences};
 ghost use Rattle.dap_difference.specs.TellingSteps.{Appends, HasNoLower, PassesLower};
 ghost use Rattle.dap_difference.specs.TellingSteps.{TakesNamed};
 
@@ -31,19 +31,19 @@ pub fn differences<'t>(
     a: &'t Tree,
     b: &'t Tree,
 ) -> Result<Vec<Difference<'t>>, AllocError>
-    ensures told { IfOk result
-        (λ found. told found.items ≡ differences (view a.now) (view b.now)) }
+    ensures reported { IfOk result
+        (λ found. shown_differences found.items ≡ differences (view a.now) (view b.now)) }
 
     // If the members are in order, as in every tree that was read, the paths are exactly those at
     // which the documents differ. Each path has the values of both documents.
     ensures exactly { IfOk result (λ found. is_ordered (view a.now) ≡ true
         → is_ordered (view b.now) ≡ true
-        → AreDifferences (view a.now) (view b.now) (told found.items)) }
+        → AreDifferences (view a.now) (view b.now) (shown_differences found.items)) }
 
     // Inserting B's values at these paths turns A's document into B's.
     ensures put_in { IfOk result (λ found. is_ordered (view a.now) ≡ true
         → is_ordered (view b.now) ≡ true
-        → PutInIsB (told found.items) (view a.now) (view b.now)) }
+        → PutInIsB (shown_differences found.items) (view a.now) (view b.now)) }
 
     // Two equal scalars have no differences, and this is found without allocating.
     ensures scalars { same_scalar (view a.now) (view b.now) ≡ true → IsOk result }
@@ -75,8 +75,8 @@ fn add_found<'t>(
     values: Values<'t>,
     found: &mut Vec<Difference<'t>>,
 ) -> Result<(), AllocError>
-    ensures { OnOk result (told found.new.items
-        ≡ told found.old.items ++ at_path path.now values.entry ∷ []) }
+    ensures { OnOk result (shown_differences found.new.items
+        ≡ shown_differences found.old.items ++ at_path path.now values.entry ∷ []) }
 {
     let path = Vec::from_slice(alloc, path)?;
     found.push(Difference { path, values })?;
@@ -91,8 +91,9 @@ fn add_behind<'t>(
     path: &mut Vec<Step<'t>>,
     found: &mut Vec<Difference<'t>>,
 ) -> Result<(), AllocError>
-    ensures found { OnOk result (told found.new.items
-        ≡ told found.old.items ++ at_path (path.old.items ++ step.entry ∷ []) values.entry ∷ []) }
+    ensures found { OnOk result (shown_differences found.new.items
+        ≡ shown_differences found.old.items
+        ++ at_path (path.old.items ++ step.entry ∷ []) values.entry ∷ []) }
     ensures path { OnOk result (path.new.items ≡ path.old.items) }
 {
     path.push(step)?;

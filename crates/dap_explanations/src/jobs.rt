@@ -54,7 +54,7 @@ fn refusal_of(
     let mode = job.mode();
     let mut reader = MemorySource::new(input);
     let mut writer = StdSink::new(io::sink());
-    let answer = match *job {
+    let outcome = match *job {
         Job::Compact => compact(alloc, &mut reader, &mut writer, limits),
         Job::Record => record(alloc, &mut reader, &mut writer, limits),
         Job::Show => show(alloc, &mut reader, &mut writer, limits),
@@ -77,5 +77,5 @@ fn refusal_of(
         .map(|_| ()),
         _ => Ok(()),
     };
-    answer.err()
+    outcome.err()
 }

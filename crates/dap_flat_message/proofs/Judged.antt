@@ -17,7 +17,8 @@ use Rattle.dap_flat.specs.Pieces.{Piece, begin_list, end_list}
 use Rattle.dap_flat.specs.Pieces.{piece_of, pieces, items_pieces}
 use Rattle.dap_flat.specs.Placing.{size}
 use Rattle.dap_flat.proofs.Found.{stands_first, behind_first, first_part, second_part, size_there}
-use Rattle.dap_flat_message.specs.Judging.{top_of, is_list, told, Judges, items_fault, JudgesItems}
+use Rattle.dap_flat_message.specs.Judging.{top_of, is_list, reported, Judges, items_fault}
+use Rattle.dap_flat_message.specs.Judging.{JudgesItems}
 use Rattle.dap_flat_message.specs.Judging.{ItemsLeft, fault_told, JudgesTop}
 use Rattle.dap_flat_message.specs.Places.{Locates, FindsTop}
 use Rattle.dap_flat_message.specs.declared.members.Envelope.{Envelope}
@@ -99,7 +100,7 @@ member_judged ns at i x k w needed c r finds is obj judged n d h =
 pub absent_judged : (ns : List Node) (at : ℕ) (x : Node) (k : List ℕ) (w : Want) (needed : Bool)
     (c : Option Broken) (r : Option ℕ) → FindsChild ns at k r → r ≡ None
     → is_object (top_of (piece_of (get_or ns at x))) ≡ true
-    → ((n : ℕ) → told n c ≡ option_map (of_row n) (cause_against w needed None))
+    → ((n : ℕ) → reported n c ≡ option_map (of_row n) (cause_against w needed None))
     → Judges ns at (named k ∷ []) w needed c
 absent_judged ns at x k w needed c r finds is obj judged n d h =
     let none = none_there ns at k r d finds is h in
@@ -167,7 +168,7 @@ top_judged ns e i x k w needed c r finds is obj judged n d l =
 pub absent_top : (ns : List Node) (e : Envelope) (x : Node) (k : List ℕ) (w : Want) (needed : Bool)
     (c : Option Broken) (r : Option ℕ) → FindsTop ns e k r → r ≡ None
     → is_object (top_of (piece_of (get_or ns 0 x))) ≡ true
-    → ((n : ℕ) → told n c ≡ option_map (of_row n) (cause_against w needed None))
+    → ((n : ℕ) → reported n c ≡ option_map (of_row n) (cause_against w needed None))
     → JudgesTop ns e (named k ∷ []) w needed c
 absent_top ns e x k w needed c r finds is obj judged n d l =
     let none = none_top ns e k r d finds is l in
@@ -247,7 +248,7 @@ ended ns p x ps w needed n (item e rest) s end =
 
 pub items_ended : (ns : List Node) (p : ℕ) (x : Node) (ps : List PlaceStep) (w : Want)
     (needed : Bool) (n : ℕ) (ds : Items) → ItemsLeft ns p ps w needed ds
-    → piece_of (get_or ns p x) ≡ end_list → told n None ≡ items_fault n ps w needed ds
+    → piece_of (get_or ns p x) ≡ end_list → reported n None ≡ items_fault n ps w needed ds
 items_ended ns p x ps w needed n ds l end =
     sym (l.alike n ∙ ended ns p x ps w needed n l.left l.holds end)
 
@@ -297,7 +298,7 @@ breaks : (ns : List Node) (p : ℕ) (x : Node) (ps : List PlaceStep) (w : Want) 
     (c : Option Broken) (n : ℕ) (ds left : Items) → Stand ns p (items_pieces left ++ end_list ∷ [])
     → items_fault n ps w needed ds ≡ items_fault n ps w needed left
     → (piece_of (get_or ns p x) ≡ end_list → ⊥) → Judges ns p ps w needed c → is_some c ≡ true
-    → told n c ≡ items_fault n ps w needed ds
+    → reported n c ≡ items_fault n ps w needed ds
 breaks ns p x ps w needed c n ds no_items s alike not_end judged has =
     absurd (not_end (stands_first ns p (get_or ns p x) x end_list [] s refl))
 breaks ns p x ps w needed c n ds (item e rest) s alike not_end judged has =
@@ -311,7 +312,7 @@ breaks ns p x ps w needed c n ds (item e rest) s alike not_end judged has =
 pub item_breaks : (ns : List Node) (p : ℕ) (x : Node) (ps : List PlaceStep) (w : Want)
     (needed : Bool) (c : Option Broken) (n : ℕ) (ds : Items) → ItemsLeft ns p ps w needed ds
     → (piece_of (get_or ns p x) ≡ end_list → ⊥) → Judges ns p ps w needed c → is_some c ≡ true
-    → told n c ≡ items_fault n ps w needed ds
+    → reported n c ≡ items_fault n ps w needed ds
 item_breaks ns p x ps w needed c n ds l not_end judged has =
     breaks ns p x ps w needed c n ds l.left l.holds (l.alike n) not_end judged has
 
@@ -343,7 +344,8 @@ pub list_judged : (ns : List Node) (at : ℕ) (x : Node) (ps : List PlaceStep) (
     → JudgesItems ns (at + 1) ps w needed c → Judges ns at (each ∷ ps) w needed c
 list_judged ns at x ps w needed c is judged n d h =
     let inside = list_inside ns at d h (sym (list_there ns at x d h) ∙ is) in
-    subst (λ e. told n c ≡ option_map (of_row n) (broken_at (each ∷ ps) w needed e)) (sym inside.1)
+    subst (λ e. reported n c ≡ option_map (of_row n) (broken_at (each ∷ ps) w needed e))
+    (sym inside.1)
     (judged n inside.0 inside.2)
 
 pub no_list_judged : (ns : List Node) (at : ℕ) (x : Node) (ps : List PlaceStep) (w : Want)

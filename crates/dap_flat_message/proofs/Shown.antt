@@ -10,7 +10,7 @@ use Rattle.dap_tree.specs.declared.side.Side.{Side}
 use Rattle.dap_tree.specs.declared.sort.Sort.{Sort}
 use Rattle.dap_profile.specs.PlaceSteps.{PlaceStep, named}
 use Rattle.dap_profile.specs.ProfileRows.{ProfileRow, row_of}
-use Rattle.dap_profile.specs.Stretches.{rows_in}
+use Rattle.dap_profile.specs.RowRanges.{rows_in}
 use Rattle.dap_profile.specs.declared.profile.Row.{Row}
 use Rattle.dap_message.specs.AskedRows.{mark_by, marks_by}
 use Rattle.dap_message.specs.Marks.{mark, marked, edit}

@@ -3,17 +3,17 @@ use Rattle.std.proofs.Common.{◌≡◌, ℤ, Bool, true, false, cond, Some, Non
 use Rattle.std.proofs.Common.{codes}
 use Rattle.std.specs.Option.{option_map_or}
 use Rattle.dap_tree.specs.Doc.{Doc, get}
-use Rattle.dap_profile.specs.Stretches.{same_kind}
+use Rattle.dap_profile.specs.RowRanges.{same_kind}
 use Rattle.dap_profile.specs.declared.profile.Kind.{Kind}
 use Rattle.dap_profile.specs.declared.profile.Kind.TheVariants.{Request, Response, Event}
-use Rattle.dap_message.specs.AskedRows.{kind_told}
+use Rattle.dap_message.specs.AskedRows.{kind_of_tree}
 use Rattle.dap_message.specs.Envelope.{kind_of, name_of, text_value, id_number, boolean_value}
 use Rattle.dap_message.specs.Rows.{is_of_kind, name_key}
-use Rattle.dap_message.proofs.AskedRows.{kind-told}
+use Rattle.dap_message.proofs.AskedRows.{kind-reported}
 use Rattle.dap_flat_message.specs.Made.{Answers}
 
-pub of_kind : (j k : Kind) (d : Doc) → kind_told d ≡ Some k → is_of_kind j d ≡ same_kind j k
-of_kind j k d told = kind-told j d ∙ ap (λ o. option_map_or (same_kind j) o false) told
+pub of_kind : (j k : Kind) (d : Doc) → kind_of_tree d ≡ Some k → is_of_kind j d ≡ same_kind j k
+of_kind j k d reported = kind-reported j d ∙ ap (λ o. option_map_or (same_kind j) o false) reported
 
 itself : (k : Kind) → same_kind k k ≡ true
 itself Request = refl
@@ -26,34 +26,34 @@ by_kind Request = refl
 by_kind Response = refl
 by_kind Event = refl
 
-pub has_kind : (d : Doc) (k : Kind) → kind_told d ≡ Some k → is_of_kind k d ≡ true
-has_kind d k told = of_kind k k d told ∙ itself k
+pub has_kind : (d : Doc) (k : Kind) → kind_of_tree d ≡ Some k → is_of_kind k d ≡ true
+has_kind d k reported = of_kind k k d reported ∙ itself k
 
-pub kind_is : (d : Doc) (k : Kind) → kind_told d ≡ Some k → k ≡ kind_of d
-kind_is d k told =
+pub kind_is : (d : Doc) (k : Kind) → kind_of_tree d ≡ Some k → k ≡ kind_of d
+kind_is d k reported =
     by_kind k
-    ∙ ap₂ (λ a b. cond a Request (cond b Response Event)) (sym (of_kind Request k d told))
-    (sym (of_kind Response k d told))
+    ∙ ap₂ (λ a b. cond a Request (cond b Response Event)) (sym (of_kind Request k d reported))
+    (sym (of_kind Response k d reported))
 
-pub name_is : (d : Doc) (k : Kind) → kind_told d ≡ Some k
+pub name_is : (d : Doc) (k : Kind) → kind_of_tree d ≡ Some k
     → name_of d ≡ text_value (get (name_key k) d)
-name_is d k told = ap (λ j. text_value (get (name_key j) d)) (sym (kind_is d k told))
+name_is d k reported = ap (λ j. text_value (get (name_key j) d)) (sym (kind_is d k reported))
 
-pub no_answer : (d : Doc) (k : Kind) → kind_told d ≡ Some k → same_kind Response k ≡ false
+pub no_answer : (d : Doc) (k : Kind) → kind_of_tree d ≡ Some k → same_kind Response k ≡ false
     → Answers (None, None) d
-no_answer d k told other =
-    let not_one : is_of_kind Response d ≡ false = of_kind Response k d told ∙ other in record {
+no_answer d k reported other =
+    let not_one : is_of_kind Response d ≡ false = of_kind Response k d reported ∙ other in record {
       number = sym (ap (λ b. cond b (id_number (get (codes "request_seq") d)) None) not_one);
       number_there = sym not_one;
       success = sym (ap (λ b. cond b (boolean_value (get (codes "success") d)) None) not_one);
       success_there = sym not_one;
     }
 
-pub an_answer : (d : Doc) (n : ℤ) (b : Bool) → kind_told d ≡ Some Response
+pub an_answer : (d : Doc) (n : ℤ) (b : Bool) → kind_of_tree d ≡ Some Response
     → Some n ≡ id_number (get (codes "request_seq") d)
     → Some b ≡ boolean_value (get (codes "success") d) → Answers (Some n, Some b) d
-an_answer d n b told number success =
-    let one : is_of_kind Response d ≡ true = of_kind Response Response d told in record {
+an_answer d n b reported number success =
+    let one : is_of_kind Response d ≡ true = of_kind Response Response d reported in record {
       number = number ∙ sym (ap (λ b. cond b (id_number (get (codes "request_seq") d)) None) one);
       number_there = sym one;
       success =

@@ -6,16 +6,16 @@ use Rattle.std.specs.Option.{option_map_or}
 use Rattle.dap_tree.specs.Doc.{Doc, null, boolean, whole, text, list, object, id, get}
 use Rattle.dap_tree.specs.declared.side.Side.{Side}
 use Rattle.dap_tree.specs.declared.side.Side.TheVariants.{Client, Adapter}
-use Rattle.dap_profile.specs.Stretches.{same_kind}
+use Rattle.dap_profile.specs.RowRanges.{same_kind}
 use Rattle.dap_profile.specs.declared.profile.Kind.{Kind}
 use Rattle.dap_profile.specs.declared.profile.Kind.TheVariants.{Request, Response, Event}
-use Rattle.dap_message.specs.AskedRows.{kind_told, name_told}
-use Rattle.dap_message.specs.Capabilities.{tells_capabilities, with_capabilities}
+use Rattle.dap_message.specs.AskedRows.{kind_of_tree, name_of_tree}
+use Rattle.dap_message.specs.Capabilities.{carries_capabilities, with_capabilities}
 use Rattle.dap_message.specs.Envelope.{text_value}
 use Rattle.dap_message.specs.Marks.{mark}
 use Rattle.dap_message.specs.Message.{message_of}
 use Rattle.dap_message.specs.Rows.{is_text, is_true, is_of_kind}
-use Rattle.dap_message.proofs.AskedRows.{kind-told}
+use Rattle.dap_message.proofs.AskedRows.{kind-reported}
 use Rattle.dap_flat.specs.declared.node.Node.{Node}
 use Rattle.dap_flat.specs.Pieces.{Represents}
 use Rattle.dap_flat_message.specs.Heads.{IsNamed, IsFault}
@@ -52,19 +52,20 @@ grouped : (a b c : Bool) → ((a && b) && c) ≡ (a && (b && c))
 grouped true b c = refl
 grouped false b c = refl
 
-other_kind : (d : Doc) (k : Kind) → kind_told d ≡ Some k → same_kind Response k ≡ false
-    → tells_capabilities Adapter d ≡ false
-other_kind d k told other =
+other_kind : (d : Doc) (k : Kind) → kind_of_tree d ≡ Some k → same_kind Response k ≡ false
+    → carries_capabilities Adapter d ≡ false
+other_kind d k reported other =
     ap (λ a. (a && is_text (codes "initialize") (get (codes "command") d))
     && is_true (get (codes "success") d))
-    (kind-told Response d ∙ ap (λ o. option_map_or (same_kind Response) o false) told ∙ other)
+    (kind-reported Response d ∙ ap (λ o. option_map_or (same_kind Response) o false) reported
+    ∙ other)
 
-untold : (side : Side) (d : Doc) (k : Kind) (n : Option (List ℕ)) → kind_told d ≡ Some k
-    → name_told k d ≡ n → may_tell side k n ≡ false → tells_capabilities side d ≡ false
-untold Client d k n told name not_told = refl
-untold Adapter d Request n told name not_told = other_kind d Request told refl
-untold Adapter d Event n told name not_told = other_kind d Event told refl
-untold Adapter d Response n told name not_told =
+untold : (side : Side) (d : Doc) (k : Kind) (n : Option (List ℕ)) → kind_of_tree d ≡ Some k
+    → name_of_tree k d ≡ n → may_tell side k n ≡ false → carries_capabilities side d ≡ false
+untold Client d k n reported name not_told = refl
+untold Adapter d Request n reported name not_told = other_kind d Request reported refl
+untold Adapter d Event n reported name not_told = other_kind d Event reported refl
+untold Adapter d Response n reported name not_told =
     let w = codes "initialize" in
     let o = get (codes "command") d in
     let b = is_true (get (codes "success") d) in
@@ -78,8 +79,8 @@ located : (side : Side) (old new : List Node) (e : Envelope) (k : Kind) (n : Opt
     → Makes e old new (mark side) → (d : Doc) → Represents old d
     → Locates new e (message_of side d)
 located side old new e k n named not_told places makes d shows =
-    let told = named d shows in
-    let none = untold side d k n told.0 told.1 not_told in
+    let reported = named d shows in
+    let none = untold side d k n reported.0 reported.1 not_told in
     let is : mark side d ≡ message_of side d =
     ap (λ b. mark side (cond b (with_capabilities d) d)) (sym none) in
     subst (Locates new e) is (makes d record { shows = shows; places = places d shows })

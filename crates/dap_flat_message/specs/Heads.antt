@@ -5,7 +5,7 @@ use Rattle.std.specs.Borrow.{Bor}
 use Rattle.dap_tree.specs.Doc.{Doc, get}
 use Rattle.dap_profile.specs.ProfileRows.{ProfileRow}
 use Rattle.dap_profile.specs.declared.profile.Kind.{Kind}
-use Rattle.dap_message.specs.AskedRows.{kind_told, name_told, first_by, asked_rows}
+use Rattle.dap_message.specs.AskedRows.{kind_of_tree, name_of_tree, first_by, asked_rows}
 use Rattle.dap_message.specs.Faults.{fault}
 use Rattle.dap_message.specs.declared.fault.MessageFault.{MessageFault}
 use Rattle.dap_flat.specs.declared.node.Node.{Node}
@@ -59,9 +59,9 @@ IsFault ns f = (d : Doc) → Represents ns d → f ≡ fault d
 
 -- The document that the nodes represent has this kind, and the name by which rows apply to it.
 abbrev pub IsNamed : List Node → Kind → Option (List ℕ) → Type 0
-IsNamed ns k n = (d : Doc) → Represents ns d → (kind_told d ≡ Some k) × (name_told k d ≡ n)
+IsNamed ns k n = (d : Doc) → Represents ns d → (kind_of_tree d ≡ Some k) × (name_of_tree k d ≡ n)
 
 -- The document that the nodes represent has a kind, and these rows apply to it.
 abbrev pub AreAsked : List Node → List ProfileRow → Type 0
 AreAsked ns rs = (d : Doc) → Represents ns d
-    → (k : Kind) × (kind_told d ≡ Some k) × (rs ≡ asked_rows d)
+    → (k : Kind) × (kind_of_tree d ≡ Some k) × (rs ≡ asked_rows d)

@@ -46,18 +46,18 @@ abbrev pub fault_told : ℕ → Broken → MessageFault
 fault_told n Missing = fault.Missing n
 fault_told n WrongType = fault.WrongType n
 
-abbrev pub told : ℕ → Option Broken → Option MessageFault
-told n c = option_map (fault_told n) c
+abbrev pub reported : ℕ → Option Broken → Option MessageFault
+reported n c = option_map (fault_told n) c
 
 -- It is the fault at that path of the document that starts there.
 abbrev pub Judges : List Node → ℕ → List PlaceStep → Want → Bool → Option Broken → Type 0
 Judges ns at p want needed c = (n : ℕ) (d : Doc) → Holds ns at d
-    → told n c ≡ option_map (of_row n) (broken_at p want needed d)
+    → reported n c ≡ option_map (of_row n) (broken_at p want needed d)
 
 -- It is the fault at that path of the whole document.
 abbrev pub JudgesTop : List Node → Envelope → List PlaceStep → Want → Bool → Option Broken → Type 0
 JudgesTop ns e p want needed c = (n : ℕ) (d : Doc) → Locates ns e d
-    → told n c ≡ option_map (of_row n) (broken_at p want needed d)
+    → reported n c ≡ option_map (of_row n) (broken_at p want needed d)
 
 -- The fault at that path of some items.
 abbrev pub items_fault : ℕ → List PlaceStep → Want → Bool → Items → Option MessageFault
@@ -68,7 +68,8 @@ items_fault n p want needed ds =
 -- It is the fault at that path of the items that start there.
 abbrev pub JudgesItems : List Node → ℕ → List PlaceStep → Want → Bool → Option Broken → Type 0
 JudgesItems ns from p want needed c = (n : ℕ) (ds : Items)
-    → Stand ns from (items_pieces ds ++ end_list ∷ []) → told n c ≡ items_fault n p want needed ds
+    → Stand ns from (items_pieces ds ++ end_list ∷ []) → reported n c
+    ≡ items_fault n p want needed ds
 
 -- The path of a part of an item, or of the item itself.
 abbrev pub part_steps : Option (List ℕ) → List PlaceStep

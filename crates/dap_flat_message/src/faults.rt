@@ -1,7 +1,7 @@
 //! Finds the first row that a flat message violates.
 ghost use Rattle.std.specs.Prelude.{◌≡◌, Some, None, IfOk, map, option_map};
 ghost use Rattle.dap_tree.specs.Doc.{Doc};
-ghost use Rattle.dap_profile.specs.Stretches.{rows_in};
+ghost use Rattle.dap_profile.specs.RowRanges.{rows_in};
 ghost use Rattle.dap_profile.specs.ProfileRows.{row_of};
 ghost use Rattle.dap_message.specs.AskedRows.{fault_by, asked_rows, first_by};
 ghost use Rattle.dap_message.specs.Faults.{fault};
@@ -9,7 +9,7 @@ ghost use Rattle.dap_flat_message.specs.Heads.{IsFirst, IsTold, IsFault, IsNamed
 ghost use Rattle.dap_flat_message.specs.Heads.{text_in};
 ghost use Rattle.dap_flat_message.specs.Places.{IsEnvelope};
 
-use crate::members::{Envelope, kind_told, name_told};
+use crate::members::{Envelope, kind_of_tree, name_of_tree};
 use crate::rows::{Broken, broken_by, is_object};
 use dap_flat::{Node, Unread};
 use dap_message::MessageFault;
@@ -28,8 +28,8 @@ pub fn message_fault(nodes: &[Node<'_>], found: &Envelope) -> Result<Option<Mess
     if !is_object(&nodes[0]) {
         return Ok(Some(MessageFault::NotObject));
     }
-    match kind_told(nodes, found)? {
-        Some(kind) => first_broken(nodes, found, kind, name_told(nodes, found, kind)?),
+    match kind_of_tree(nodes, found)? {
+        Some(kind) => first_broken(nodes, found, kind, name_of_tree(nodes, found, kind)?),
         None => Ok(Some(MessageFault::UnknownType)),
     }
 }

@@ -2,7 +2,7 @@
 ghost use Rattle.std.specs.Prelude.{◌≡◌, false, IfOk, MatchOption, bytes_eq, Some, None};
 ghost use Rattle.std.specs.Option.{option_or};
 ghost use Rattle.dap_tree.specs.Doc.{Doc};
-ghost use Rattle.dap_message.specs.AskedRows.{kind_typed, kind_told, name_told};
+ghost use Rattle.dap_message.specs.AskedRows.{kind_typed, kind_of_tree, name_of_tree};
 ghost use Rattle.dap_message.specs.Envelope.{text_value, boolean_value, id_number};
 ghost use Rattle.dap_message.specs.Rows.{is_true};
 ghost use Rattle.dap_flat.specs.Pieces.{piece_of};
@@ -281,9 +281,9 @@ fn number_of(node: &Node<'_>) -> Option<i64>
 }
 
 /// Returns the kind of a document with this envelope, if it has one.
-pub fn kind_told(nodes: &[Node<'_>], envelope: &Envelope) -> Result<Option<Kind>, Unread>
+pub fn kind_of_tree(nodes: &[Node<'_>], envelope: &Envelope) -> Result<Option<Kind>, Unread>
     ensures { IfOk result
-        (λ k. (d : Doc) → Tells nodes.now d envelope.now → k ≡ kind_told d) }
+        (λ k. (d : Doc) → Tells nodes.now d envelope.now → k ≡ kind_of_tree d) }
 {
     match text_at(nodes, envelope.kind)? {
         Some(text) => Ok(kind_typed(text)),
@@ -307,13 +307,13 @@ fn kind_typed(text: &str) -> Option<Kind>
 
 /// Returns the name by which rows apply to a document of this kind, or `None` if it is a response
 /// that has no body.
-pub fn name_told<'a>(
+pub fn name_of_tree<'a>(
     nodes: &[Node<'a>],
     envelope: &Envelope,
     kind: Kind,
 ) -> Result<Option<&'a str>, Unread>
     ensures { IfOk result
-        (λ n. (d : Doc) → Tells nodes.now d envelope.now → text_in n ≡ name_told kind d) }
+        (λ n. (d : Doc) → Tells nodes.now d envelope.now → text_in n ≡ name_of_tree kind d) }
 {
     match kind {
         Kind::Request => text_at(nodes, envelope.command),
@@ -324,7 +324,8 @@ pub fn name_told<'a>(
 
 fn body_name<'a>(nodes: &[Node<'a>], envelope: &Envelope) -> Result<Option<&'a str>, Unread>
     ensures { IfOk result
-        (λ n. (d : Doc) → Tells nodes.now d envelope.now → text_in n ≡ name_told Kind.Response d) }
+        (λ n. (d : Doc) → Tells nodes.now d envelope.now → text_in n
+        ≡ name_of_tree Kind.Response d) }
 {
     if has_succeeded(nodes, envelope.success)? {
         text_at(nodes, envelope.command)

@@ -4,7 +4,7 @@ ghost use Rattle.dap_tree.specs.Doc.{Doc, get};
 ghost use Rattle.dap_tree.specs.Ids.{ids, with_ids};
 ghost use Rattle.dap_tree.specs.Json.{text_of};
 ghost use Rattle.dap_profile.specs.declared.profile.Kind.{Kind};
-ghost use Rattle.dap_message.specs.AskedRows.{kind_told};
+ghost use Rattle.dap_message.specs.AskedRows.{kind_of_tree};
 ghost use Rattle.dap_message.specs.Envelope.{kind_of, name_of, seq_of, request_seq_of, success_of};
 ghost use Rattle.dap_message.specs.Envelope.{text_value};
 ghost use Rattle.dap_message.specs.Numbers.{is_proper};
@@ -14,7 +14,7 @@ ghost use Rattle.dap_flat.specs.Pieces.{Represents};
 ghost use Rattle.dap_flat_message.specs.Made.{IsMadeOf, Answers};
 ghost use Rattle.dap_flat_message.specs.Heads.{Tells, text_in};
 
-use crate::members::{Envelope, boolean_at, kind_told, number_at, text_at};
+use crate::members::{Envelope, boolean_at, kind_of_tree, number_at, text_at};
 use dap_flat::{Node, Unread, add_ids, replace_ids, write_flat};
 use dap_message::AnyMessage;
 use dap_profile::Kind;
@@ -37,7 +37,7 @@ pub struct FlatMessage<'a> {
     nodes: Vec<Node<'a>>,
     ghost shown: { ∥ Represents nodes.items (document_of nodes.items) ∥₁ },
     ghost kind_same: { kind ≡ kind_of (document_of nodes.items) },
-    ghost kind_told: { is_of_kind kind (document_of nodes.items) ≡ true },
+    ghost kind_of_tree: { is_of_kind kind (document_of nodes.items) ≡ true },
     ghost name_same: { name_of (document_of nodes.items) ≡ Some name.now },
     ghost seq_same: { seq_of (document_of nodes.items) ≡ Some seq },
     ghost request_seq_same: { request_seq ≡ request_seq_of (document_of nodes.items) },
@@ -65,7 +65,7 @@ impl<'a> FlatMessage<'a> {
         ensures side { IfOk result (λ m. flat_side m ≡ side) }
         ensures doc { IfOk result (λ m. flat_doc m ≡ document_of nodes.entry.items) }
     {
-        let kind = kind_told(&nodes, found)?.ok_or(Unread::Unclear)?;
+        let kind = kind_of_tree(&nodes, found)?.ok_or(Unread::Unclear)?;
         let name = name_at(&nodes, found, kind)?.ok_or(Unread::Unclear)?;
         let seq = number_at(&nodes, found.seq)?.ok_or(Unread::Unclear)?;
         let (request_seq, success) = answer_at(&nodes, found, kind)?;
@@ -156,7 +156,7 @@ fn answer_at(
     kind: Kind,
 ) -> Result<(Option<i64>, Option<bool>), Unread>
     ensures { IfOk result (λ a. (d : Doc) → Tells nodes.now d found.now
-        → kind_told d ≡ Some kind → Answers a d) }
+        → kind_of_tree d ≡ Some kind → Answers a d) }
 {
     if kind != Kind::Response {
         return Ok((None, None));

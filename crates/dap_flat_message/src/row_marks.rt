@@ -1,6 +1,6 @@
 //! Marks the ids of a flat message in place, by the rows that apply to it.
 ghost use Rattle.std.specs.Prelude.{◌≡◌, ◌∷◌, OnOk, map};
-ghost use Rattle.dap_profile.specs.Stretches.{rows_in};
+ghost use Rattle.dap_profile.specs.RowRanges.{rows_in};
 ghost use Rattle.dap_profile.specs.PlaceSteps.{named, steps_of};
 ghost use Rattle.dap_profile.specs.ProfileRows.{row_of};
 ghost use Rattle.dap_message.specs.AskedRows.{mark_by, marks_by};

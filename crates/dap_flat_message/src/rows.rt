@@ -5,7 +5,7 @@ ghost use Rattle.dap_profile.specs.PlaceSteps.{named, each, steps_of};
 ghost use Rattle.dap_message.specs.Places.{is_object};
 ghost use Rattle.dap_message.specs.Rows.{has_type, is_id_number, is_null, cause_against, of_row};
 ghost use Rattle.dap_flat.specs.Pieces.{piece_of, end_list};
-ghost use Rattle.dap_flat_message.specs.Judging.{top_of, told, Judges, JudgesTop, JudgesItems};
+ghost use Rattle.dap_flat_message.specs.Judging.{top_of, reported, Judges, JudgesTop, JudgesItems};
 ghost use Rattle.dap_flat_message.specs.Judging.{part_steps, is_list};
 
 use crate::members::{Envelope, top_child};
@@ -95,7 +95,7 @@ fn is_list(node: &Node<'_>) -> bool
 }
 
 fn judge_node(node: &Node<'_>, want: Want, needed: bool) -> Option<Broken>
-    ensures { (n : ℕ) → told n result
+    ensures { (n : ℕ) → reported n result
         ≡ option_map (of_row n) (cause_against want needed (Some (top_of (piece_of node.now)))) }
 {
     if has_type(node, want) {
@@ -108,7 +108,7 @@ fn judge_node(node: &Node<'_>, want: Want, needed: bool) -> Option<Broken>
 }
 
 fn judge_absent(needed: bool) -> Option<Broken>
-    ensures { (n : ℕ) (want : Want) → told n result
+    ensures { (n : ℕ) (want : Want) → reported n result
         ≡ option_map (of_row n) (cause_against want needed None) }
 {
     if needed { Some(Broken::Missing) } else { None }

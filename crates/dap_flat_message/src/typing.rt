@@ -5,7 +5,7 @@ ghost use Rattle.dap_flat_message.specs.Places.{IsEnvelope};
 ghost use Rattle.dap_flat_message.specs.Typed.{IsTypedFlat, KeepsPlaces, HasFault, may_tell};
 
 use crate::faults::{first_asked, message_fault};
-use crate::members::{Envelope, kind_told, name_told};
+use crate::members::{Envelope, kind_of_tree, name_of_tree};
 use crate::row_marks::mark_message;
 use dap_flat::{Node, Unread};
 use dap_message::MessageFault;
@@ -26,9 +26,9 @@ pub fn typed_flat(
     ensures typed { IfOk result (IsTypedFlat side nodes.old nodes.new) }
     ensures places { IfOk result (KeepsPlaces side nodes.old found.now) }
 {
-    match kind_told(nodes, found)? {
+    match kind_of_tree(nodes, found)? {
         Some(kind) => {
-            let name = name_told(nodes, found, kind)?;
+            let name = name_of_tree(nodes, found, kind)?;
             typed_as(nodes, found, kind, name, side)
         }
         None => Ok(Some(kindless_fault(nodes, found)?)),

@@ -5,7 +5,7 @@ use Rattle.dap_frame.specs.declared.limits.FrameLimits.{FrameLimits}
 use Rattle.dap_frame.specs.declared.fault.FrameFault.{FrameFault}
 use Rattle.dap_frame.specs.declared.fault.FrameFault.TheVariants.{Cut, Memory}
 use Rattle.dap_frame.specs.Limits.{IsSound}
-use Rattle.dap_frame.specs.Frame.{EndsHeader, in_header, too_long, frames, Shows}
+use Rattle.dap_frame.specs.Frame.{EndsHeader, in_header, too_long, frames, FailsAt}
 use Rattle.dap_frame.proofs.Frames.{header_fault, readable}
 use Rattle.dap_frame.proofs.HeaderFindings.{judged-fault}
 
@@ -22,7 +22,7 @@ of_format limits bytes fault ends =
     of_header limits bytes (Err fault) fault (header_fault limits bytes fault ends) refl
 
 pub shown_within : (limits : FrameLimits) (bytes : List ℕ) (fault : FrameFault) (i : ℕ)
-    → Shows limits bytes fault i
+    → FailsAt limits bytes fault i
     → (IsSound limits → 0 < i) × (i ≤ length bytes)
 shown_within limits bytes fault i shows = (
   λ sound. (items.shown_inside (readable limits sound) bytes fault i shows).0,
@@ -30,6 +30,6 @@ shown_within limits bytes fault i shows = (
 )
 
 pub shown_of_format : (limits : FrameLimits) (bytes : List ℕ) (fault : FrameFault) (i : ℕ)
-    → Shows limits bytes fault i
+    → FailsAt limits bytes fault i
     → (fault ≢ Cut) × (fault ≢ Memory)
 shown_of_format limits bytes fault i shows = of_format limits shows.front fault shows.ends

@@ -13,23 +13,23 @@ use Rattle.dap_frame.specs.declared.progress.Progress.TheVariants.{Content}
 use Rattle.dap_frame.specs.declared.progress.HeaderTaken.{HeaderTaken}
 use Rattle.dap_frame.specs.declared.progress.HeaderTaken.TheVariants.{Unfinished, Ended}
 use Rattle.dap_frame.specs.declared.header_scan.HeaderScan.{HeaderScan}
-use Rattle.dap_frame.specs.Frame.{BeginsWith, HasContentByte, HasFrame, IsFrame, IsOpen, Shows}
-use Rattle.dap_frame.specs.Reading.{Reading, Stands, IsKeptOf, IsKeptBy}
+use Rattle.dap_frame.specs.Frame.{BeginsWith, HasContentByte, HasFrame, IsFrame, IsOpen, FailsAt}
+use Rattle.dap_frame.specs.Reading.{Reading, Represents, IsKeptOf, IsKeptBy}
 use Rattle.dap_frame.specs.Framer.{reading, progress_in}
 use Rattle.dap_frame.specs.Progress.{GoesOn, HasEnded, IsAtContent, ShowsInHeader, TakesHeader}
 use Rattle.dap_frame.specs.Progress.{TakesRestOfHeader}
 use Rattle.dap_frame.proofs.MarkEnds.{BeginsWith-more}
 use Rattle.dap_frame.proofs.Frames.{frame_grammar, frame_of, open_in_content}
 use Rattle.dap_items.proofs.Ends.{item_not_faulty, item_not_open, one_item}
-use Rattle.dap_items.specs.Then.{first_open}
+use Rattle.dap_items.specs.Combinators.{first_open}
 
 -- the fields represent the rest that the framer represents
 pub kept_of : (fields : Inside) (framer : Reading) (progress : Progress) (rest : List ℕ)
     → reading fields ≡ framer
-    → fields.state ≡ Open progress → Stands framer rest
+    → fields.state ≡ Open progress → Represents framer rest
     → IsKeptOf fields.limits progress fields.bytes.items rest
-kept_of fields framer progress rest view is stands =
-    let inside = subst (λ (r : Reading). Stands r rest) (sym view) stands in
+kept_of fields framer progress rest view is represents =
+    let inside = subst (λ (r : Reading). Represents r rest) (sym view) represents in
     subst (λ s. IsKeptBy fields.limits (progress_in s) fields.bytes.items rest) is inside.kept
 
 -- if the header part had not ended
@@ -235,4 +235,4 @@ module _ (limits : FrameLimits) (rest piece content : List ℕ) (n : ℕ)
   not_faulty fault shows =
       item_not_faulty (frame_grammar limits) (rest ++ take n piece) (drop n piece) content fault
       shows.place frame
-      (subst (λ xs. Shows limits xs fault shows.place) (split_piece rest piece n) shows.shown)
+      (subst (λ xs. FailsAt limits xs fault shows.place) (split_piece rest piece n) shows.shown)

@@ -6,7 +6,7 @@ use Rattle.dap_frame.specs.declared.limits.FrameLimits.{FrameLimits}
 use Rattle.dap_frame.specs.declared.fault.FrameFault.{FrameFault}
 use Rattle.dap_frame.specs.declared.fault.FrameFault.TheVariants.{Cut, Memory}
 use Rattle.dap_frame.specs.Lines.{is_field_line, trimmed, is_length_text, number_of}
-use Rattle.dap_frame.specs.Frame.{length_from, the_length, lengths_in, told_length}
+use Rattle.dap_frame.specs.Frame.{length_from, the_length, lengths_in, parsed_length}
 
 chosen : {A : Type 0} (b : Bool) (x y z : A) → cond b x y ≡ z
     → ((b ≡ true) × (x ≡ z)) ⊎ ((b ≡ false) × (y ≡ z))
@@ -32,7 +32,7 @@ the_length-small limits (value ∷ []) n e = length_from-small limits (trimmed v
 the_length-small limits (value ∷ other ∷ values) n e = cc
 
 pub judged-small : (limits : FrameLimits) (lines : List (List ℕ)) (n : ℕ)
-    → told_length limits lines ≡ Ok n
+    → parsed_length limits lines ≡ Ok n
     → n ≤ limits.content
 judged-small limits lines n e =
     elim (chosen (list_all is_field_line lines) _ _ _ e) [
@@ -60,7 +60,7 @@ the_length-fault limits (value ∷ other ∷ values) fault e = (λ same. cc, λ 
 
 -- a header part has only the errors of its format
 pub judged-fault : (limits : FrameLimits) (lines : List (List ℕ)) (fault : FrameFault)
-    → told_length limits lines ≡ Err fault
+    → parsed_length limits lines ≡ Err fault
     → (fault ≢ Cut) × (fault ≢ Memory)
 judged-fault limits lines fault e =
     elim (chosen (list_all is_field_line lines) _ _ _ e) [

@@ -3,14 +3,15 @@ use Rattle.std.proofs.Common.{refl, ◌≡◌, ℕ, ◌+◌, ◌<◌, ◌≤◌,
 use Rattle.std.proofs.Common.{get_or, Result, Ok, Err, sym, ap, ◌∙◌, subst, arith}
 use Rattle.std.proofs.lemmas.List.{take_more, take-append-drop, append_assoc, length-append}
 use Rattle.std.proofs.lemmas.List.{length-take-le}
-use Rattle.dap_items.specs.Then.{in_first}
+use Rattle.dap_items.specs.Combinators.{in_first}
 use Rattle.dap_frame.specs.declared.limits.FrameLimits.{FrameLimits}
 use Rattle.dap_frame.specs.declared.fault.FrameFault.{FrameFault}
 use Rattle.dap_frame.specs.declared.fault.FrameFault.TheVariants.{HeaderTooLong}
 use Rattle.dap_frame.specs.declared.header_scan.HeaderScan.{HeaderScan}
 use Rattle.dap_frame.specs.declared.header_scan.ScanStep.TheVariants.{Unfinished, Ended}
 use Rattle.dap_frame.specs.declared.header_scan.Findings.{Findings}
-use Rattle.dap_frame.specs.Frame.{BeginsWith, EndsHeader, in_header, too_long, told_length, Shows}
+use Rattle.dap_frame.specs.Frame.{BeginsWith, EndsHeader, in_header, too_long, parsed_length}
+use Rattle.dap_frame.specs.Frame.{FailsAt}
 use Rattle.dap_frame.specs.Findings.{AreFindings}
 use Rattle.dap_frame.specs.HeaderScan.{header_step, IsScanOf, StepGives, HeaderEnds}
 use Rattle.dap_frame.specs.Progress.{HasEnded, ShowsInHeader}
@@ -56,7 +57,7 @@ module _ (limits : FrameLimits) (rest piece : List ℕ) (i : ℕ) (scan : Header
     begins : (findings : Findings) (said : Result ℕ FrameFault)
         → Ended findings ≡ header_step limits scan (get_or piece i 0)
         → ((lines : List (List ℕ)) → AreFindings limits lines findings
-        → said ≡ told_length limits lines)
+        → said ≡ parsed_length limits lines)
         → BeginsWith limits (rest ++ take (i + 1) piece) (length (rest ++ take (i + 1) piece)) said
     begins findings said e found =
         let h = gives_ended findings e in
@@ -67,7 +68,7 @@ module _ (limits : FrameLimits) (rest piece : List ℕ) (i : ℕ) (scan : Header
     pub has_ended : (findings : Findings) (content : ℕ)
         → Ended findings ≡ header_step limits scan (get_or piece i 0)
         → ((lines : List (List ℕ)) → AreFindings limits lines findings
-        → Ok content ≡ told_length limits lines)
+        → Ok content ≡ parsed_length limits lines)
         → HasEnded limits rest piece (scan.count + 1) content (i + 1)
     has_ended findings content e found =
         let header_len : scan.count + 1 ≡ length (rest ++ take (i + 1) piece) =
@@ -84,7 +85,7 @@ module _ (limits : FrameLimits) (rest piece : List ℕ) (i : ℕ) (scan : Header
 
     -- the consumed prefix proves the error
     shown : {fault : FrameFault} → EndsHeader limits (rest ++ take (i + 1) piece) (Err fault)
-        → Shows limits (rest ++ piece) fault (length (rest ++ take (i + 1) piece))
+        → FailsAt limits (rest ++ piece) fault (length (rest ++ take (i + 1) piece))
     shown {fault} ends =
         record {
           front = rest
@@ -99,7 +100,7 @@ module _ (limits : FrameLimits) (rest piece : List ℕ) (i : ℕ) (scan : Header
     pub header_fault : (findings : Findings) (fault : FrameFault)
         → Ended findings ≡ header_step limits scan (get_or piece i 0)
         → ((lines : List (List ℕ)) → AreFindings limits lines findings
-        → Err fault ≡ told_length limits lines)
+        → Err fault ≡ parsed_length limits lines)
         → ShowsInHeader limits rest piece fault
     header_fault findings fault e found =
         let b = begins findings (Err fault) e found in

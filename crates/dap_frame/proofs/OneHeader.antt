@@ -11,7 +11,7 @@ use lib.Pointwise.{pointwise}
 use Rattle.dap_frame.specs.declared.limits.FrameLimits.{FrameLimits}
 use Rattle.dap_frame.specs.declared.fault.FrameFault.{FrameFault}
 use Rattle.dap_frame.specs.Lines.{ends_at, IsFirstEnd, header_end, Lacks, line_end, ended}
-use Rattle.dap_frame.specs.Frame.{Says, BeginsWith, told_length}
+use Rattle.dap_frame.specs.Frame.{HeaderGivesLength, BeginsWith, parsed_length}
 use Rattle.dap_frame.proofs.MarkEnds.{ends_at_front}
 use Rattle.dap_frame.proofs.ByteEnds.{same_mark}
 
@@ -94,12 +94,12 @@ lines_unique (l ∷ ls) (m ∷ ms) p q e =
     ap (λ x. x ∷ ls) same ∙ ap (λ xs. m ∷ xs) more
 
 pub says_one : (limits : FrameLimits) (header : List ℕ) (a b : Result ℕ FrameFault)
-    → Says limits header a
-    → Says limits header b → a ≡ b
+    → HeaderGivesLength limits header a
+    → HeaderGivesLength limits header b → a ≡ b
 says_one limits header a b p q =
     let same = lines_unique p.lines q.lines p.are_lines.each q.are_lines.each (sym p.are_lines.bytes
     ∙ q.are_lines.bytes) in
-    p.said_so ∙ ap (told_length limits) same ∙ sym q.said_so
+    p.said_so ∙ ap (parsed_length limits) same ∙ sym q.said_so
 
 first_end_one : (mark x : List ℕ) (i j : ℕ) → IsFirstEnd mark x i → IsFirstEnd mark x j → i ≡ j
 first_end_one mark x i j p q =
@@ -115,7 +115,8 @@ pub begins_one : (limits : FrameLimits) (x : List ℕ) (i j : ℕ) (a b : Result
 begins_one limits x i j a b p q =
     let same = first_end_one header_end x i j p.ended q.ended in (
       same,
-      says_one limits (take j x) a b (subst (λ k. Says limits (take k x) a) same p.says)
+      says_one limits (take j x) a b
+          (subst (λ k. HeaderGivesLength limits (take k x) a) same p.says)
           q.says,
     )
 

@@ -11,9 +11,9 @@ use Rattle.dap_frame.specs.declared.header_scan.HeaderScan.{HeaderScan}
 use Rattle.dap_frame.specs.declared.header_scan.ScanStep.{ScanStep}
 use Rattle.dap_frame.specs.declared.header_scan.ScanStep.TheVariants.{Unfinished, Ended}
 use Rattle.dap_frame.specs.declared.header_scan.Findings.{Findings}
-use Rattle.dap_items.specs.Items.{HasEnd}
+use Rattle.dap_items.specs.Grammar.{HasEnd}
 use Rattle.dap_frame.specs.Lines.{header_end, Lacks, ends_at}
-use Rattle.dap_frame.specs.Frame.{in_header, too_long, headers, told_length}
+use Rattle.dap_frame.specs.Frame.{in_header, too_long, headers, parsed_length}
 use Rattle.dap_frame.specs.HeaderScan.{IsScanOf, HeaderEnds, StepGives, header_step}
 use Rattle.dap_frame.proofs.MarkEnds.{ends_at_front}
 use Rattle.dap_frame.proofs.HeaderParts.{header_begins}
@@ -86,7 +86,7 @@ some_header limits bytes =
         | inr within ↦ record {
           front = has.header;
           more = has.behind;
-          result = told_length limits has.ends.lines;
+          result = parsed_length limits has.ends.lines;
           bytes_are = has.bytes_are;
           ends = in_header (header_begins limits has.header has.findings has.ends within);
         }

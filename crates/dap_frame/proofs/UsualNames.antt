@@ -13,7 +13,7 @@ use Rattle.dap_frame.specs.declared.length_scan.LengthScan.TheVariants.{Blank}
 use Rattle.dap_frame.specs.declared.line_scan.LineScan.TheVariants.{Length}
 use Rattle.dap_frame.specs.declared.header_scan.EndMark.TheVariants.{Nothing}
 use Rattle.dap_frame.specs.declared.header_scan.HeaderScan.{HeaderScan}
-use Rattle.dap_frame.specs.Frame.{BeginsWith, Shows}
+use Rattle.dap_frame.specs.Frame.{BeginsWith, FailsAt}
 use Rattle.dap_frame.specs.HeaderScan.{IsScanOf}
 use Rattle.dap_frame.specs.Progress.{GoesOn, HasEnded, ShowsInHeader}
 use Rattle.dap_frame.proofs.ScanSteps.{none_found, scan_of}
@@ -64,5 +64,5 @@ module _ (limits : FrameLimits) (piece behind : List ℕ) (is : piece ≡ name_t
   shows_fault fault shows = record {
     no_memory = shows.no_memory;
     place = shows.place;
-    shown = subst (λ bytes. Shows limits bytes fault shows.place) (sym is) shows.shown;
+    shown = subst (λ bytes. FailsAt limits bytes fault shows.place) (sym is) shows.shown;
   }

@@ -9,7 +9,7 @@ use Rattle.std.proofs.lemmas.Fmt.{decimal_by_steps}
 use Rattle.std.proofs.lemmas.List.{append_assoc, append-nil, length-append}
 use Rattle.std.specs.List.{list_all}
 use Rattle.std.specs.Char.{is_ascii_digit}
-use Rattle.dap_items.specs.Then.{in_second}
+use Rattle.dap_items.specs.Combinators.{in_second}
 use Rattle.dap_frame.specs.declared.limits.FrameLimits.{FrameLimits}
 use Rattle.dap_frame.specs.declared.length_scan.LengthScan.TheVariants.{Blank, Digits}
 use Rattle.dap_frame.specs.declared.line_scan.LineScan.{LineScan}
@@ -19,7 +19,7 @@ use Rattle.dap_frame.specs.declared.header_scan.ScanStep.TheVariants.{Unfinished
 use Rattle.dap_frame.specs.declared.header_scan.Findings.{Findings}
 use Rattle.dap_frame.specs.Limits.{IsSound}
 use Rattle.dap_frame.specs.Lines.{is_blank, is_value_byte}
-use Rattle.dap_frame.specs.Frame.{BeginsWith, in_header, IsFrame, frame_text, told_length}
+use Rattle.dap_frame.specs.Frame.{BeginsWith, in_header, IsFrame, frame_text, parsed_length}
 use Rattle.dap_frame.specs.LineScan.{line_step, line_run}
 use Rattle.dap_frame.specs.Findings.{with_line}
 use Rattle.dap_frame.specs.HeaderScan.{IsScanOf, HeaderEnds, StepGives, header_step}
@@ -163,7 +163,7 @@ length_header limits digits count n sound digits_run few plain short =
     let ends = subst (λ s. HeaderEnds limits header (with_line limits none_found s)) run
     (ends_after limits line (plain_append (codes "Content-Length: ") digits refl plain)) in
     let fits : nat_le n limits.content ≡ true = grind (arith, short) in
-    let says : told_length limits ends.lines ≡ Ok n =
+    let says : parsed_length limits ends.lines ≡ Ok n =
     judged_by_findings limits ends.lines _ ends.found refl ∙ rw fits refl in
     let size : length header ≤ 30 =
     omega (

@@ -5,12 +5,12 @@ use Rattle.dap_items.specs.Feeding.{Calls}
 use Rattle.dap_frame.specs.declared.fault.FrameFault.{FrameFault}
 use Rattle.dap_frame.specs.declared.fault.FrameFault.TheVariants.{Memory}
 use Rattle.dap_frame.specs.declared.fed.Fed.{Fed}
-use Rattle.dap_frame.specs.Reading.{Reading, Stands, Gives, limits_of}
+use Rattle.dap_frame.specs.Reading.{Reading, Represents, Gives, limits_of}
 
 -- The contract of one call states these facts about the framer before and after it.
 pub record IsCall (old : Reading) (piece : List ℕ) (result : Result Fed FrameFault)
     (new : Reading) : Type 0 where
-  pub gives : (rest : List ℕ) → Stands old rest → Gives (limits_of old) rest piece result new
+  pub gives : (rest : List ℕ) → Represents old rest → Gives (limits_of old) rest piece result new
   pub limits : limits_of new ≡ limits_of old
 
 -- the calls of `feed`, by their contract

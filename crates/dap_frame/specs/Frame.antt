@@ -2,9 +2,9 @@
 use Rattle.std.specs.Prelude.{◌≡◌, ℕ, ◌<◌, ◌≤◌, not, if◌then◌else◌, List, [], ◌∷◌, ◌++◌, length}
 use Rattle.std.specs.Prelude.{take, nat_le, Result, Ok, Err, map, filter, codes, decimal}
 use Rattle.std.specs.List.{list_all}
-use Rattle.dap_items.specs.Items as items
-use Rattle.dap_items.specs.Items.{Items, IsItem, AreItems, HasItem, IsStream}
-use Rattle.dap_items.specs.Then.{and_then, so_many}
+use Rattle.dap_items.specs.Grammar as items
+use Rattle.dap_items.specs.Grammar.{Grammar, IsItem, ParsesAs, HasItem, IsStream}
+use Rattle.dap_items.specs.Combinators.{and_then, take_bytes}
 use Rattle.dap_frame.specs.declared.limits.FrameLimits.{FrameLimits}
 use Rattle.dap_frame.specs.declared.fault.FrameFault.{FrameFault}
 use Rattle.dap_frame.specs.declared.fault.FrameFault.TheVariants.{HeaderLine, NoLength, TwoLengths}
@@ -34,22 +34,23 @@ lengths_in lines = map value_of (filter is_length_line lines)
 
 -- the content's length that the lines of a header part state, or the first error that applies to
 -- them (own order)
-abbrev pub told_length : FrameLimits → List (List ℕ) → Result ℕ FrameFault
-told_length limits lines =
+abbrev pub parsed_length : FrameLimits → List (List ℕ) → Result ℕ FrameFault
+parsed_length limits lines =
     if list_all is_field_line lines then the_length limits (lengths_in lines) else Err HeaderLine
 
 -- The lines of this header part state this result.
-pub record Says (limits : FrameLimits) (header : List ℕ) (said : Result ℕ FrameFault) : Type 0 where
+pub record HeaderGivesLength (limits : FrameLimits) (header : List ℕ) (said : Result ℕ FrameFault)
+    : Type 0 where
   pub lines : List (List ℕ)
   pub are_lines : AreLines header lines
-  pub said_so : said ≡ told_length limits lines
+  pub said_so : said ≡ parsed_length limits lines
 
 -- The bytes start with a header part of this length, within the limit, which states this result.
 pub record BeginsWith (limits : FrameLimits) (bytes : List ℕ) (len : ℕ)
     (said : Result ℕ FrameFault) : Type 0 where
   pub ended : IsFirstEnd header_end bytes len
   pub within : len ≤ limits.header
-  pub says : Says limits (take len bytes) said
+  pub says : HeaderGivesLength limits (take len bytes) said
 
 -- The bytes start with a header part that states a length other than 0, and a byte of the content
 -- has arrived.
@@ -74,7 +75,7 @@ pub data EndsHeader (limits : FrameLimits) (bytes : List ℕ) : Result ℕ Frame
       → EndsHeader limits bytes (Err HeaderTooLong)
 
 -- header parts as items, whose values are lengths
-abbrev pub headers : FrameLimits → Items ℕ FrameFault
+abbrev pub headers : FrameLimits → Grammar ℕ FrameFault
 headers limits = record {
   Ends = EndsHeader limits;
   IsOpen = λ bytes. (length bytes < limits.header) × Lacks header_end bytes;
@@ -82,8 +83,8 @@ headers limits = record {
 
 -- frames as the items of a stream (DAP base protocol): a header part, and as many bytes of content
 -- as it states
-abbrev pub frames : FrameLimits → Items (List ℕ) FrameFault
-frames limits = and_then (headers limits) (so_many (λ content. content)) (λ fault. fault)
+abbrev pub frames : FrameLimits → Grammar (List ℕ) FrameFault
+frames limits = and_then (headers limits) (take_bytes (λ content. content)) (λ fault. fault)
 
 -- The bytes are one frame with this content.
 abbrev pub IsFrame : FrameLimits → List ℕ → List ℕ → Type 0
@@ -96,7 +97,7 @@ IsOpen limits = (frames limits).IsOpen
 
 -- the general definitions for items, applied to frames
 abbrev pub AreFrames : FrameLimits → List ℕ → List (List ℕ) → Type 0
-AreFrames limits = AreItems (frames limits)
+AreFrames limits = ParsesAs (frames limits)
 
 abbrev pub HasFrame : FrameLimits → List ℕ → Type 0
 HasFrame limits = HasItem (frames limits)
@@ -104,5 +105,5 @@ HasFrame limits = HasItem (frames limits)
 abbrev pub Stream : FrameLimits → List ℕ → List (List ℕ) → List ℕ → Type 0
 Stream limits = IsStream (frames limits)
 
-abbrev pub Shows : FrameLimits → List ℕ → FrameFault → ℕ → Type 0
-Shows limits = items.Shows (frames limits)
+abbrev pub FailsAt : FrameLimits → List ℕ → FrameFault → ℕ → Type 0
+FailsAt limits = items.FailsAt (frames limits)

@@ -5,8 +5,8 @@ use Rattle.dap_frame.specs.declared.limits.FrameLimits.{FrameLimits}
 use Rattle.dap_frame.specs.declared.fault.FrameFault.{FrameFault}
 use Rattle.dap_frame.specs.declared.fault.FrameFault.TheVariants.{Cut, Memory}
 use Rattle.dap_frame.specs.Limits.{IsSound}
-use Rattle.dap_frame.specs.Frame.{IsFrame, HasFrame, Stream, Shows, IsOpen, frame_text}
-use Rattle.dap_frame.specs.Reading.{Reading, Stands, HasFailed, limits_of}
+use Rattle.dap_frame.specs.Frame.{IsFrame, HasFrame, Stream, FailsAt, IsOpen, frame_text}
+use Rattle.dap_frame.specs.Reading.{Reading, Represents, HasFailed, limits_of}
 use Rattle.dap_frame.specs.Feeding.{IsCall, Feeds}
 
 -- Bytes start with at most one frame.
@@ -31,32 +31,32 @@ OneStream = (limits : FrameLimits) (bytes : List ℕ) (cs ds : List (List ℕ)) 
 -- Bytes prove at most one error, at one byte.
 abbrev pub OneFault : Type 0
 OneFault = (limits : FrameLimits) (bytes : List ℕ) (f g : FrameFault) (i j : ℕ)
-    → Shows limits bytes f i → Shows limits bytes g j → (f ≡ g) × (i ≡ j)
+    → FailsAt limits bytes f i → FailsAt limits bytes g j → (f ≡ g) × (i ≡ j)
 
 -- The byte that proves an error is one of the bytes, counted from 1.
 abbrev pub ShownWithin : Type 0
 ShownWithin = (limits : FrameLimits) (bytes : List ℕ) (fault : FrameFault) (i : ℕ)
-    → Shows limits bytes fault i → (IsSound limits → 0 < i) × (i ≤ length bytes)
+    → FailsAt limits bytes fault i → (IsSound limits → 0 < i) × (i ≤ length bytes)
 
 -- Bytes prove neither the end of a stream nor an allocation failure.
 abbrev pub ShownOfFormat : Type 0
 ShownOfFormat = (limits : FrameLimits) (bytes : List ℕ) (fault : FrameFault) (i : ℕ)
-    → Shows limits bytes fault i → (fault ≢ Cut) × (fault ≢ Memory)
+    → FailsAt limits bytes fault i → (fault ≢ Cut) × (fault ≢ Memory)
 
 -- An error remains if more bytes follow.
 abbrev pub FaultStays : Type 0
 FaultStays = (limits : FrameLimits) (bytes more : List ℕ) (fault : FrameFault) (i : ℕ)
-    → Shows limits bytes fault i → Shows limits (bytes ++ more) fault i
+    → FailsAt limits bytes fault i → FailsAt limits (bytes ++ more) fault i
 
 -- An error does not depend on bytes after the one that proves it.
 abbrev pub FaultNeedsNoMore : Type 0
 FaultNeedsNoMore = (limits : FrameLimits) (bytes more : List ℕ) (fault : FrameFault) (i : ℕ)
-    → Shows limits (bytes ++ more) fault i → i ≤ length bytes → Shows limits bytes fault i
+    → FailsAt limits (bytes ++ more) fault i → i ≤ length bytes → FailsAt limits bytes fault i
 
 -- Bytes that start with a frame prove no error.
 abbrev pub FrameNotFaulty : Type 0
 FrameNotFaulty = (limits : FrameLimits) (frame more content : List ℕ) (fault : FrameFault) (i : ℕ)
-    → IsFrame limits frame content → Shows limits (frame ++ more) fault i → ⊥
+    → IsFrame limits frame content → FailsAt limits (frame ++ more) fault i → ⊥
 
 -- Bytes that start with a frame are not incomplete.
 abbrev pub FrameNotOpen : Type 0
@@ -66,13 +66,13 @@ FrameNotOpen = (limits : FrameLimits) (frame more content : List ℕ)
 -- Incomplete bytes prove no error.
 abbrev pub OpenNotFaulty : Type 0
 OpenNotFaulty = (limits : FrameLimits) (bytes : List ℕ) (fault : FrameFault) (i : ℕ)
-    → IsOpen limits bytes → Shows limits bytes fault i → ⊥
+    → IsOpen limits bytes → FailsAt limits bytes fault i → ⊥
 
 -- Every byte string starts with a frame, proves an error, or is incomplete.
 abbrev pub SomeOutcome : Type 0
 SomeOutcome = (limits : FrameLimits) (bytes : List ℕ)
     → HasFrame limits bytes
-    ⊎ (((fault : FrameFault) × (i : ℕ) × Shows limits bytes fault i) ⊎ IsOpen limits bytes)
+    ⊎ (((fault : FrameFault) × (i : ℕ) × FailsAt limits bytes fault i) ⊎ IsOpen limits bytes)
 
 -- The output for a content is a frame with this content.
 abbrev pub WrittenIsFrame : Type 0
@@ -84,9 +84,9 @@ WrittenIsFrame = (limits : FrameLimits) (content : List ℕ)
 -- of that stream.
 abbrev pub AnyPieces : Type 0
 AnyPieces = (first last : Reading) (held : List ℕ) (pieces contents : List (List ℕ))
-    → Stands first held → Feeds first pieces contents [] last
+    → Represents first held → Feeds first pieces contents [] last
     → (rest : List ℕ) × Stream (limits_of first) (held ++ concat pieces) contents rest
-    × Stands last rest
+    × Represents last rest
 
 -- For any chunks: if a call returns an error of the format, the contents returned before are those
 -- of that stream, and the rest of the stream proves the error.
@@ -94,7 +94,7 @@ abbrev pub FaultInAnyPieces : Type 0
 FaultInAnyPieces =
     (first last new : Reading) (held piece : List ℕ) (pieces contents left : List (List ℕ))
     (fault : FrameFault)
-    → Stands first held → Feeds first pieces contents (piece ∷ left) last
+    → Represents first held → Feeds first pieces contents (piece ∷ left) last
     → IsCall last piece (Err fault) new → fault ≢ Memory
     → (rest : List ℕ) × (i : ℕ) × Stream (limits_of first) (held ++ concat pieces) contents rest
-    × Shows (limits_of first) rest fault i × HasFailed new fault
+    × FailsAt (limits_of first) rest fault i × HasFailed new fault

@@ -7,7 +7,7 @@ use Rattle.dap_frame.specs.declared.fault.FrameFault.TheVariants.{Memory}
 use Rattle.dap_frame.specs.declared.header_scan.HeaderScan.{HeaderScan}
 use Rattle.dap_frame.specs.declared.progress.HeaderTaken.{HeaderTaken}
 use Rattle.dap_frame.specs.declared.progress.HeaderTaken.TheVariants.{Unfinished, Ended}
-use Rattle.dap_frame.specs.Frame.{BeginsWith, Shows}
+use Rattle.dap_frame.specs.Frame.{BeginsWith, FailsAt}
 use Rattle.dap_frame.specs.HeaderScan.{IsScanOf}
 
 -- The scan represents some bytes, fewer than the limit of a header part.
@@ -35,7 +35,7 @@ pub record ShowsInHeader (limits : FrameLimits) (rest piece : List ℕ) (fault :
   where
     pub no_memory : fault ≢ Memory
     pub place : ℕ
-    pub shown : Shows limits (rest ++ piece) fault place
+    pub shown : FailsAt limits (rest ++ piece) fault place
 
 -- the effect of a chunk on a header part that had not ended
 abbrev pub TakesHeader : FrameLimits → List ℕ → List ℕ → Result HeaderTaken FrameFault → Type 0

@@ -7,11 +7,11 @@ use Rattle.dap_frame.specs.declared.fault.FrameFault.TheVariants.{Memory}
 use Rattle.dap_frame.specs.declared.fed.Fed.{Fed}
 use Rattle.dap_frame.specs.declared.progress.Progress.{Progress}
 use Rattle.dap_frame.specs.declared.progress.Progress.TheVariants.{Header, Content}
-use Rattle.dap_frame.specs.Frame.{IsFrame, BeginsWith, IsOpen, Shows}
+use Rattle.dap_frame.specs.Frame.{IsFrame, BeginsWith, IsOpen, FailsAt}
 use Rattle.dap_frame.specs.HeaderScan.{IsScanOf}
 
 -- The stored state: the limits, the error that occurred, the progress of the current frame, and the
--- bytes of its content. Callers need only `limits_of`, `HasFailed` and `Stands`.
+-- bytes of its content. Callers need only `limits_of`, `HasFailed` and `Represents`.
 pub record Reading : Type 0 where
   pub limits : FrameLimits
   pub fault : Option FrameFault
@@ -42,7 +42,7 @@ IsKeptBy limits (Some progress) bytes rest = IsKeptOf limits progress bytes rest
 
 -- The framer represents this rest of a stream, which is incomplete. This is the abstraction
 -- relation.
-pub record Stands (framer : Reading) (rest : List ℕ) : Type 0 where
+pub record Represents (framer : Reading) (rest : List ℕ) : Type 0 where
   pub going : framer.fault ≡ None
   pub kept : IsKeptBy framer.limits framer.progress framer.bytes rest
   pub is_open : IsOpen framer.limits rest
@@ -52,15 +52,15 @@ pub record Stands (framer : Reading) (rest : List ℕ) : Type 0 where
 -- no bytes.
 abbrev pub GivesFed : FrameLimits → List ℕ → List ℕ → Fed → Reading → Type 0
 GivesFed limits rest piece fed new = (fed.used ≤ length piece) × MatchOption fed.content
-    ((fed.used ≡ length piece) × Stands new (rest ++ piece))
-    (λ content. IsFrame limits (rest ++ take fed.used piece) content × Stands new [])
+    ((fed.used ≡ length piece) × Represents new (rest ++ piece))
+    (λ content. IsFrame limits (rest ++ take fed.used piece) content × Represents new [])
 
 -- The returned error is `Memory`, and the framer still represents the rest; or the rest and the
 -- chunk prove it.
 pub record GivesFault (limits : FrameLimits) (rest piece : List ℕ) (fault : FrameFault)
     (new : Reading) : Type 0 where
-  pub memory : fault ≡ Memory → Stands new rest
-  pub shown : fault ≢ Memory → (i : ℕ) × Shows limits (rest ++ piece) fault i
+  pub memory : fault ≡ Memory → Represents new rest
+  pub shown : fault ≢ Memory → (i : ℕ) × FailsAt limits (rest ++ piece) fault i
   pub failed : fault ≢ Memory → HasFailed new fault
 
 -- The result of a call if the framer represented the rest, and the rest that it represents then.

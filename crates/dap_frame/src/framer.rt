@@ -3,7 +3,7 @@ ghost use Rattle.std.specs.Prelude.{◌≡◌, ℕ, ◌≤◌, ◌+◌, ◌<◌,
 ghost use Rattle.std.specs.Prelude.{IsErrOf, IfErr, IsOk, IfOk, IfSome, Some, take};
 ghost use Rattle.dap_frame.specs.Limits.{IsSound};
 ghost use Rattle.dap_frame.specs.Frame.{HasContentByte, HasFrame, IsFrame};
-ghost use Rattle.dap_frame.specs.Reading.{Stands, HasFailed, Gives, limits_of};
+ghost use Rattle.dap_frame.specs.Reading.{Represents, HasFailed, Gives, limits_of};
 
 use crate::content::Content;
 use crate::fault::FrameFault;
@@ -59,7 +59,7 @@ impl Framer {
     /// Returns a framer at the start of a stream. Does not allocate.
     pub fn new(alloc: Global, limits: FrameLimits) -> Framer
         requires { IsSound limits }
-        ensures stands { Stands result [] }
+        ensures represents { Represents result [] }
         ensures limits { limits_of result ≡ limits }
     {
         Framer {
@@ -73,7 +73,7 @@ impl Framer {
     /// Returns the number of bytes consumed of the current, incomplete frame, or 0 after an error.
     /// Does not allocate.
     pub fn held(&self) -> usize
-        ensures rest { (rest : List ℕ) → Stands self.now rest → result ≡ length rest }
+        ensures rest { (rest : List ℕ) → Represents self.now rest → result ≡ length rest }
         ensures failed { (fault : _) → HasFailed self.now fault → result ≡ 0 }
         ensures bound { result ≤ (limits_of self.now).header + (limits_of self.now).content }
     {
@@ -96,7 +96,7 @@ impl Framer {
     /// - Any error except `Cut`: the bytes so far prove it. After that, `feed` and
     ///   [`finish`](Framer::finish) always return this error.
     pub fn feed(&mut self, piece: &[u8]) -> Result<Fed, FrameFault>
-        ensures gives { (rest : List ℕ) → Stands self.old rest
+        ensures gives { (rest : List ℕ) → Represents self.old rest
             → Gives (limits_of self.old) rest piece.now result self.new }
         ensures used { IfOk result (λ fed. fed.used ≤ length piece.now) }
         ensures progress { IfOk result (λ fed. 0 < length piece.now → 0 < fed.used) }
@@ -104,10 +104,10 @@ impl Framer {
         // The state after an error.
         ensures memory { IsErrOf result FrameFault.Memory → self.new ≡ self.old }
         ensures memory_for_content { IsErrOf result FrameFault.Memory → (rest : List ℕ)
-            → Stands self.old rest
+            → Represents self.old rest
             → HasContentByte (limits_of self.old) (rest ++ piece.now) }
         ensures memory_for_bytes { IsErrOf result FrameFault.Memory → (rest : List ℕ)
-            → Stands self.old rest → 0 < length piece.now }
+            → Represents self.old rest → 0 < length piece.now }
         ensures failed { (fault : _) → HasFailed self.old fault
             → (result ≡ Err fault) × (self.new ≡ self.old) }
 
@@ -190,9 +190,9 @@ impl Framer {
     /// Returns the length of the content of the current frame, if the frame ends in the chunk. Does
     /// not allocate.
     pub fn content_len_in(&self, piece: &[u8]) -> Option<usize>
-        ensures ends { IfSome result (λ len. (rest : List ℕ) → Stands self.now rest
+        ensures ends { IfSome result (λ len. (rest : List ℕ) → Represents self.now rest
             → (0 < length piece.now) × HasFrame (limits_of self.now) (rest ++ piece.now)) }
-        ensures len { (rest content : List ℕ) (used : ℕ) → Stands self.now rest
+        ensures len { (rest content : List ℕ) (used : ℕ) → Represents self.now rest
             → IsFrame (limits_of self.now) (rest ++ take used piece.now) content
             → result ≡ Some (length content) }
         ensures within { IfSome result (λ len. len ≤ (limits_of self.now).content) }
@@ -239,8 +239,8 @@ impl Framer {
     /// - `Cut`: the stream ends inside a frame.
     /// - The error that occurred before, if any.
     pub fn finish(&self) -> Result<(), FrameFault>
-        ensures ok { (rest : List ℕ) → Stands self.now rest → (IsOk result ↔ (rest ≡ [])) }
-        ensures cut { (rest : List ℕ) → Stands self.now rest
+        ensures ok { (rest : List ℕ) → Represents self.now rest → (IsOk result ↔ (rest ≡ [])) }
+        ensures cut { (rest : List ℕ) → Represents self.now rest
             → IfErr result (λ fault. fault ≡ FrameFault.Cut) }
         ensures failed { (fault : _) → HasFailed self.now fault → result ≡ Err fault }
     {

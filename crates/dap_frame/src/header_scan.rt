@@ -1,7 +1,7 @@
 //! Scans a header part byte by byte, without storing its bytes.
 
 ghost use Rattle.std.specs.Prelude.{◌≡◌, ◌<◌, ℕ, List, [], codes};
-ghost use Rattle.dap_frame.specs.Frame.{told_length};
+ghost use Rattle.dap_frame.specs.Frame.{parsed_length};
 ghost use Rattle.dap_frame.specs.Findings.{AreFindings, with_line};
 ghost use Rattle.dap_frame.specs.HeaderScan.{header_step, IsScanOf};
 
@@ -51,7 +51,7 @@ impl Findings {
     /// Returns the content's length or the error, by all the lines.
     pub fn outcome(self) -> Result<usize, FrameFault>
         ensures { (limits : _) (lines : List (List ℕ)) → AreFindings limits lines self
-            → result ≡ told_length limits lines }
+            → result ≡ parsed_length limits lines }
     {
         if self.are_fields {
             self.length

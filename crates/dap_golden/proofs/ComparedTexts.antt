@@ -2,7 +2,7 @@
 use Rattle.std.proofs.Common.{◌≡◌, ℕ, ℤ, List, Option, Result, Ok, Err, Vec, Global, refl, sym}
 use Rattle.std.proofs.Common.{subst, true≢false}
 use Rattle.dap_device.specs.Memory.{GivenBytes}
-use Rattle.dap_device.specs.Pieces.{HasComeSoFar}
+use Rattle.dap_device.specs.Pieces.{HasReadSoFar}
 use Rattle.dap_device.specs.declared.reading.Stop.{Stop}
 use Rattle.dap_rename.specs.Messages.{AreSame, Class}
 use Rattle.dap_rename.specs.Modes.{stop_in}
@@ -26,9 +26,9 @@ use Rattle.dap_compare.specs.declared.verdict.Verdict.{Verdict}
 use Rattle.dap_compare.specs.declared.verdict.Verdict.TheVariants as code
 use Rattle.dap_compare.specs.declared.verdict.Which.TheVariants.{A, B}
 use Rattle.dap_compare.proofs.Verdicts.{recordings_have_one_verdict, same_is_told_exactly}
-use Rattle.dap_diff.specs.Diffs.{TellsDifference}
-use Rattle.dap_diff.specs.declared.answer.Diff.{Diff}
-use Rattle.dap_diff.specs.declared.answer.Diff.TheVariants.{Same, Differ}
+use Rattle.dap_diff.specs.Diffs.{DescribesDifference}
+use Rattle.dap_diff.specs.declared.outcome.Diff.{Diff}
+use Rattle.dap_diff.specs.declared.outcome.Diff.TheVariants.{Same, Differ}
 use Rattle.dap_golden.specs.GoldenFiles.{DiffersAt, IsNormalText, IsRefusedFile, all_of}
 
 module _ (limits : Limits) (mode : Mode) (sound : AreSound limits) (golden later : List ℕ)
@@ -61,10 +61,10 @@ module _ (limits : Limits) (mode : Mode) (sound : AreSound limits) (golden later
       → Normalises limits mode golden later → ⊥
   differs_not_normal number differs made =
       let same = (equal_texts_tell limits mode sound golden later later later made normal).0 refl in
-      let told = same_is_told_exactly limits mode sound (all_of golden) (all_of later)
+      let exactly = same_is_told_exactly limits mode sound (all_of golden) (all_of later)
       made.messages normal.messages (made.accepts, refl) (normal.accepts, refl) in
       let one = (recordings_have_one_verdict limits mode sound).one (all_of golden) (all_of later)
-      (differ number) (are_same _) differs (told.if_same same) in
+      (differ number) (are_same _) differs (exactly.if_same same) in
       cc
 
   -- The text is not rejected.
@@ -78,30 +78,31 @@ module _ (limits : Limits) (mode : Mode) (sound : AreSound limits) (golden later
     (normal : IsNormalText limits mode later) (old_a new_a old_b new_b : GivenBytes)
     (all_a : old_a.left ≡ golden) (all_b : old_b.left ≡ later)
     (result : Result Diff CompareRefused)
-    (tells : TellsDifference memory memory limits mode old_a new_a old_b new_b result) where
+    (tells : DescribesDifference memory memory limits mode old_a new_a old_b new_b result) where
   abbrev Told : Result Diff CompareRefused → Type 0
-  Told = TellsDifference memory memory limits mode old_a new_a old_b new_b
+  Told = DescribesDifference memory memory limits mode old_a new_a old_b new_b
 
-  of_a : (bytes : List ℕ) (stop : Option Stop) → HasComeSoFar memory old_a new_a bytes stop
+  of_a : (bytes : List ℕ) (stop : Option Stop) → HasReadSoFar memory old_a new_a bytes stop
       → IsOf bytes stop (all_of golden)
   of_a bytes stop came =
       subst (λ all. IsOf bytes stop (all_of all)) all_a (came_of old_a new_a bytes stop came)
 
-  of_b : (bytes : List ℕ) (stop : Option Stop) → HasComeSoFar memory old_b new_b bytes stop
+  of_b : (bytes : List ℕ) (stop : Option Stop) → HasReadSoFar memory old_b new_b bytes stop
       → IsOf bytes stop (all_of later)
   of_b bytes stop came =
       subst (λ all. IsOf bytes stop (all_of all)) all_b (came_of old_b new_b bytes stop came)
 
-  module _ (answer : Result Verdict CompareRefused)
-      (has : HasCompared memory memory limits mode old_a new_a old_b new_b answer) where
-    told : TellsVerdict limits mode (all_of golden) (all_of later) has.number answer
-    told = has.tells (all_of golden) (all_of later) (of_a has.bytes_a has.stop_a has.came_a)
+  module _ (outcome : Result Verdict CompareRefused)
+      (has : HasCompared memory memory limits mode old_a new_a old_b new_b outcome) where
+    verdict : TellsVerdict limits mode (all_of golden) (all_of later) has.number outcome
+    verdict = has.tells (all_of golden) (all_of later) (of_a has.bytes_a has.stop_a has.came_a)
         (of_b has.bytes_b has.stop_b has.came_b)
 
   pub normalises : result ≡ Ok Same → Normalises limits mode golden later
   normalises is =
       let same : Told (Ok Same) = subst Told is tells in
-      same_normalises limits mode sound golden later normal _ (told (Ok (code.Same same.0)) same.1)
+      same_normalises limits mode sound golden later normal _
+      (verdict (Ok (code.Same same.0)) same.1)
 
   module _ (number : ℕ) (lines : Vec ℕ Global) (is : result ≡ Ok (Differ number lines)) where
     apart : Told (Ok (Differ number lines))
@@ -109,7 +110,7 @@ module _ (limits : Limits) (mode : Mode) (sound : AreSound limits) (golden later
 
     pub differs : IsRecordingVerdict limits mode (all_of golden) (all_of later) (differ number)
     differs =
-        let at = told (Ok (code.Differ number)) apart.0 in
+        let at = verdict (Ok (code.Differ number)) apart.0 in
         subst (λ n. IsRecordingVerdict limits mode (all_of golden) (all_of later) (differ n))
         (sym at.0) at.1
 
@@ -131,7 +132,7 @@ module _ (limits : Limits) (mode : Mode) (sound : AreSound limits) (golden later
       → IsRefusedFile limits mode golden later why
   refused_file why is =
       let compared : Told (Err (because.Input A why)) = subst Told is tells in
-      let first = told (Err (because.Input A why)) compared in
+      let first = verdict (Err (because.Input A why)) compared in
       record {
         is_refused = reported (accepting limits mode) golden why compared.number first.fault
             first.tells first.is_verdict.1;
@@ -142,6 +143,6 @@ module _ (limits : Limits) (mode : Mode) (sound : AreSound limits) (golden later
   pub not_refused_text : (why : Refused) → result ≡ Err (because.Input B why) → ⊥
   not_refused_text why is =
       let compared : Told (Err (because.Input B why)) = subst Told is tells in
-      let first = told (Err (because.Input B why)) compared in
+      let first = verdict (Err (because.Input B why)) compared in
       not_refused limits mode sound golden later normal compared.number first.fault
       first.is_verdict.2

@@ -4,7 +4,7 @@ use Rattle.std.proofs.Common.{◌≡◌, ℕ, List, [], Result, Ok, Err, sym, su
 use Rattle.dap_device.specs.declared.reading.Stop.{Stop}
 use Rattle.dap_device.specs.declared.reading.Stop.TheVariants.{End, Full, Failed}
 use Rattle.dap_device.specs.Memory.{GivenBytes}
-use Rattle.dap_device.specs.Reading.{HasCome}
+use Rattle.dap_device.specs.Reading.{HasReadInput}
 use Rattle.dap_recording.specs.Recording.{recording_text}
 use Rattle.dap_tree.specs.declared.side.Side.{Side}
 use Rattle.dap_input.specs.declared.limits.Limits.{Limits}
@@ -28,7 +28,7 @@ module _ (old new : GivenBytes) (before after : WrittenBytes) (limits : Limits) 
       → IsRecordingOf limits old.left after.out
   recorded_whole none head has =
       let judged = has.judged in
-      let came = subst (HasCome memory old new limits.input judged.bytes) judged.judges.0
+      let came = subst (HasReadInput memory old new limits.input judged.bytes) judged.judges.0
       judged.came in
       of_trace head judged.messages
       (subst (λ bytes. IsRecordedAs limits bytes judged.messages)
@@ -36,7 +36,7 @@ module _ (old new : GivenBytes) (before after : WrittenBytes) (limits : Limits) 
       (all_sent before after (recording_text judged.messages) none has.written)
 
   module _ (bytes : List ℕ) (because : Refused) (messages : List (Side × List ℕ)) where
-    stays_refused : (stop : Stop) → HasCome memory old new limits.input bytes stop
+    stays_refused : (stop : Stop) → HasReadInput memory old new limits.input bytes stop
         → (IsOfEnd because → stop ≡ End) → IsTraceRefused limits bytes because messages
         → IsTraceRefused limits old.left because messages
     stays_refused End come end is =
@@ -54,12 +54,12 @@ module _ (old new : GivenBytes) (before after : WrittenBytes) (limits : Limits) 
       × IsTraceRefused limits old.left because messages
 
   judged_refused : (because : Refused) (bytes : List ℕ) (stop : Stop)
-      → HasCome memory old new limits.input bytes stop → (messages : List (Side × List ℕ))
+      → HasReadInput memory old new limits.input bytes stop → (messages : List (Side × List ℕ))
       → JudgesTrace {U = Unit {0}} limits bytes stop (Err because) messages
       → RefusedTrace because
   judged_refused ReadFault bytes stop come messages judges =
-      let failed : HasCome memory old new limits.input bytes Failed =
-      subst (HasCome memory old new limits.input bytes) judges.0 come in
+      let failed : HasReadInput memory old new limits.input bytes Failed =
+      subst (HasReadInput memory old new limits.input bytes) judges.0 come in
       absurd (let failure = failed.stopped in omega (arith, failure))
   judged_refused WriteFault bytes stop come messages judges = absurd judges
   judged_refused Memory bytes stop come messages judges = absurd judges

@@ -4,7 +4,7 @@ use Rattle.std.specs.Prelude.{Result, Ok, Err}
 use Rattle.dap_device.specs.declared.device.Source.{Ghosts as Source}
 use Rattle.dap_device.specs.declared.reading.Stop.{Stop}
 use Rattle.dap_device.specs.declared.reading.Stop.TheVariants.{Failed}
-use Rattle.dap_device.specs.Reading.{HasCome}
+use Rattle.dap_device.specs.Reading.{HasReadInput}
 use Rattle.dap_file.specs.Calls.{IsLonger, KeepsTarget}
 use Rattle.dap_file.specs.Crash.{Content}
 use Rattle.dap_file.specs.Replacing.{HasFailedAt, HasReplaced}
@@ -28,7 +28,7 @@ module _ {I : Type 0} (source : Source I) (limits : Limits) (mask : Option Mask)
   -- These bytes are the complete input, or its first bytes up to one past the limit.
   pub record HasRead (bytes : List ℕ) : Type 0 where
     pub reason : Stop
-    pub came : HasCome source old new limits.input bytes reason
+    pub came : HasReadInput source old new limits.input bytes reason
     pub not_failed : reason ≢ Failed
 
   -- The input has this golden text.
@@ -39,7 +39,7 @@ module _ {I : Type 0} (source : Source I) (limits : Limits) (mask : Option Mask)
 
   -- The input has no golden text, for this reason.
   abbrev pub HasNoText : GoldenStop → Type 0
-  HasNoText stop.Unread = (bytes : List ℕ) × HasCome source old new limits.input bytes Failed
+  HasNoText stop.Unread = (bytes : List ℕ) × HasReadInput source old new limits.input bytes Failed
   HasNoText (stop.Input refused) = (bytes : List ℕ) × HasRead bytes
       × IsRefusedGolden limits request.mode mask request.allow_open bytes refused
   HasNoText stop.Memory = Unit {0}

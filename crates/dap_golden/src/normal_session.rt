@@ -2,7 +2,7 @@
 ghost use Rattle.std.specs.Prelude.{◌≡◌, [], IfErr, IfOk};
 ghost use Rattle.dap_input.specs.Limits.{AreSound};
 ghost use Rattle.dap_normal.specs.NameTables.{AreReady};
-ghost use Rattle.dap_normal.specs.NormalSteps.{StandsBefore};
+ghost use Rattle.dap_normal.specs.NormalSteps.{RepresentsBefore};
 ghost use Rattle.dap_normal.specs.Normalising.{RefusesBytes};
 ghost use Rattle.dap_golden.specs.NormalSession.{IsNormalSession};
 
@@ -68,7 +68,7 @@ fn normalise_records<T: NameTable + Drop>(
     mode: Mode,
 ) -> Result<NormalSession, Refused>
     requires limits { AreSound limits }
-    requires stands { StandsBefore T.numbers T.limit limits mode [] records.old [] [] }
+    requires represents { RepresentsBefore T.numbers T.limit limits mode [] records.old [] [] }
     ensures ok { IfOk result (IsNormalSession limits mode recording.now) }
     ensures err { IfErr result (RefusesBytes limits mode recording.now) }
 {

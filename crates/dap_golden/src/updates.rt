@@ -212,7 +212,7 @@ pub fn golden_file<I: Source, F: Replaceable>(
 
     // The result is determined by the text of the input and the golden file. The golden file is
     // written only on an update, after the input was checked.
-    ensures answer { Answers I.Source F.Replaceable limits (mask_given rules.entry) request
+    ensures outcome { Answers I.Source F.Replaceable limits (mask_given rules.entry) request
         input.old input.new file.old file.new result }
 
     // A crash, the end of the process or a loss of power may happen at any moment. It leaves a

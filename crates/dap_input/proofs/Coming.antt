@@ -3,21 +3,21 @@ use Rattle.std.proofs.Common.{ℕ, ◌+◌, List, [], ◌++◌, Option, Some, No
 use Rattle.std.proofs.Common.{ap, arith, length-append}
 use Rattle.std.proofs.KnownBytes.{Consumes-nil, Consumes-trans}
 use Rattle.dap_device.specs.declared.device.Source.{Ghosts as Source}
-use Rattle.dap_device.specs.Pieces.{HasComeSoFar, HasPaused}
+use Rattle.dap_device.specs.Pieces.{HasReadSoFar, HasPaused}
 use Rattle.dap_device.specs.declared.reading.Stop.{Stop}
 use Rattle.dap_device.specs.declared.reading.Stop.TheVariants.{End, Full, Failed}
 
 module _ {R : Type 0} (source : Source R) where
   -- Nothing has been received.
-  pub nothing_came : (reader : R) → HasComeSoFar source reader reader [] None
+  pub nothing_came : (reader : R) → HasReadSoFar source reader reader [] None
   nothing_came reader =
       record { came = Consumes-nil (source.left reader); counted = omega arith; paused = refl }
 
   -- More bytes were received.
   pub came_on : (start mid end : R) (bytes more : List ℕ) (stop : Option Stop)
-      → HasComeSoFar source start mid bytes None
-      → HasComeSoFar source mid end more stop
-      → HasComeSoFar source start end (bytes ++ more) stop
+      → HasReadSoFar source start mid bytes None
+      → HasReadSoFar source mid end more stop
+      → HasReadSoFar source start end (bytes ++ more) stop
   came_on start mid end bytes more stop was next = record {
     came = Consumes-trans _ _ _ _ _ was.came next.came;
     counted = (let before = was.counted in let behind = next.counted in omega

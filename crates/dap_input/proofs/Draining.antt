@@ -4,7 +4,7 @@ use Rattle.std.proofs.Common.{None, true, false, Result, Ok, Err, refl, ◌∙�
 use Rattle.std.proofs.Common.{arith, append-nil, length-append}
 use Rattle.std.specs.Result.{is_ok}
 use Rattle.dap_device.specs.declared.device.Source.{Ghosts as Source}
-use Rattle.dap_device.specs.Pieces.{HasComeSoFar, HasFilled, HasNextPiece, HasNoPiece, Window}
+use Rattle.dap_device.specs.Pieces.{HasReadSoFar, HasFilled, HasNextPiece, HasNoPiece, Window}
 use Rattle.dap_device.specs.declared.reading.Stop.{Stop}
 use Rattle.dap_device.specs.declared.reading.Stop.TheVariants.{End, Full, Failed}
 use Rattle.dap_input.specs.RecordSteps.{ReadsRest}
@@ -15,7 +15,7 @@ use Rattle.dap_input.proofs.Coming.{came_on, nothing_came}
 pub record Draining {I R : Type 0} (source : Source R) (old now : Records I) (before mid : R)
     : Type 0 where
   pub more : List ℕ
-  pub came : HasComeSoFar source before mid more None
+  pub came : HasReadSoFar source before mid more None
   pub taken : now.pieces.taken ≡ old.pieces.taken + length more
   pub limit_is : now.pieces.limit ≡ old.pieces.limit
   pub within : old.pieces.taken ≤ old.pieces.limit → now.pieces.taken ≤ now.pieces.limit
@@ -66,10 +66,10 @@ module _ {I R : Type 0} (source : Source R) (old : Records I) (before : R) where
     at_most le = let within = was.within le in omega (arith, within, was.taken, was.limit_is)
 
     came_none : (after : R) (stop : Stop)
-        → HasComeSoFar source mid after [] (Some stop)
-        → HasComeSoFar source before after was.more (Some stop)
+        → HasReadSoFar source mid after [] (Some stop)
+        → HasReadSoFar source before after was.more (Some stop)
     came_none after stop next =
-        subst (λ more. HasComeSoFar source before after more (Some stop))
+        subst (λ more. HasReadSoFar source before after more (Some stop))
         (append-nil was.more)
         (came_on source before mid after was.more [] (Some stop) was.came next)
 

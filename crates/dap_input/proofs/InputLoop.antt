@@ -5,14 +5,15 @@ use Rattle.std.proofs.Common.{length, take, min, refl, sym, ◌∙◌, ap, subst
 use Rattle.std.proofs.Common.{length-append, Err}
 use Rattle.std.proofs.lemmas.List.{take_min}
 use Rattle.dap_device.specs.Pieces.{Window}
-use Rattle.dap_items.specs.Items.{Items, IsItem, Shows}
+use Rattle.dap_items.specs.Grammar.{Grammar, IsItem, FailsAt}
 use Rattle.dap_items.proofs.Ends.{IsReadable, open_shorter, shown_inside, shown_later}
 use Rattle.dap_recording.specs.declared.record_fault.RecordCause.{RecordCause}
 use Rattle.dap_input.specs.Inputs.{EndsAt}
-use Rattle.dap_input.specs.Judging.{Judging, Objection, Reason, faulty, input_too_long, cut}
-use Rattle.dap_input.specs.Judging.{objected, Refuses, IsFirstRefusal}
+use Rattle.dap_input.specs.Validation.{Validation, ContentError, Reason, faulty, input_too_long}
+use Rattle.dap_input.specs.Validation.{cut}
+use Rattle.dap_input.specs.Validation.{objected, Refuses, IsFirstRefusal}
 use Rattle.dap_input.specs.ReadTo.{IsReadTo}
-use Rattle.dap_input.specs.RecordSteps.{IsAtStart, StandsBetween}
+use Rattle.dap_input.specs.RecordSteps.{IsAtStart, IsBetweenRecords}
 use Rattle.dap_input.specs.declared.records.Records.{Records}
 use Rattle.dap_input.proofs.Outcomes.{first_of_stop}
 use Rattle.dap_input.proofs.Runs.{ValueLaws, AcceptedFacts, Run, run_none, run_push}
@@ -26,8 +27,8 @@ read_is_taken bytes limit =
     omega arith in rw (least, take_min)
 
 -- The conditions for a validation and for the grammar of its records.
-pub record ReadsAs (j : Judging) {A : Type 0} (g : Items A RecordCause)
-    (held_of : A → j.Held) : Type 0 where
+pub record ReadsAs (j : Validation) {A : Type 0} (g : Grammar A RecordCause)
+    (held_of : A → j.Payload) : Type 0 where
   pub records : IsReadable j.records
   pub judged : ValueLaws j
   pub accepted : AcceptedFacts j
@@ -39,24 +40,25 @@ pub record ReadsAs (j : Judging) {A : Type 0} (g : Items A RecordCause)
 
 -- Among these received bytes, the unread ones come after records that are validated as these
 -- values.
-pub record StandsBehind {I : Type 0} (j : Judging) (stands : I → List ℕ
+pub record StandsBehind {I : Type 0} (j : Validation) (represents : I → List ℕ
     → Type 0) (bytes : List ℕ) (records : Records I) (values : List j.Value) : Type 0 where
   pub front : List ℕ
   pub accepted : j.IsAccepted front values
   pub came : bytes ≡ front ++ records.pieces.unread
   pub taken : records.pieces.taken ≡ length bytes
   pub limit_is : records.pieces.limit ≡ j.input
-  pub between : StandsBetween stands records
+  pub between : IsBetweenRecords represents records
   pub number_is : records.number ≡ length values + 1
   -- at most as many records as bytes, so a number that counts bytes can count records
   pub few : records.number ≤ length front + 1
   pub read_to : IsReadTo j bytes (length values)
 
-module _ (j : Judging) where
+module _ (j : Validation) where
   -- Nothing of the input has been read.
-  pub none_read : {I : Type 0} (stands : I → List ℕ → Type 0) (new : Records I) → AcceptedFacts j
-      → IsAtStart stands j.input new → StandsBehind j stands [] new []
-  none_read stands new accepted start = record {
+  pub none_read : {I : Type 0} (represents : I → List ℕ → Type 0) (new : Records I)
+      → AcceptedFacts j
+      → IsAtStart represents j.input new → StandsBehind j represents [] new []
+  none_read represents new accepted start = record {
     front = [];
     accepted = accepted.accepted_of_run [] [] (run_none j [] 0);
     came = sym (ap (λ (w : Window). w.unread) start.pieces);
@@ -85,7 +87,7 @@ module _ (j : Judging) where
       on (inl none) = inl none
       on (inr (earlier, early, ends)) = inr (earlier, omega (arith, early, le), ends)
 
-module _ (j : Judging) {A : Type 0} (g : Items A RecordCause) (held_of : A → j.Held)
+module _ (j : Validation) {A : Type 0} (g : Grammar A RecordCause) (held_of : A → j.Payload)
     (facts : ReadsAs j g held_of) (bytes front rest : List ℕ) (values : List j.Value) (number : ℕ)
     (split : bytes ≡ front ++ rest) (is_accepted : j.IsAccepted front values) (number_is : number
     ≡ length values + 1) where
@@ -105,10 +107,10 @@ module _ (j : Judging) {A : Type 0} (g : Items A RecordCause) (held_of : A → j
       run refuses)
 
   -- The bytes after the prefix prove an error.
-  pub first_faulty : (why : RecordCause) (place : ℕ) → Shows g rest why place
+  pub first_faulty : (why : RecordCause) (place : ℕ) → FailsAt g rest why place
       → length bytes ≤ j.input → First (faulty why)
   first_faulty why place shows short =
-      let here : Shows j.records rest why place =
+      let here : FailsAt j.records rest why place =
       record {
         front = shows.front;
         more = shows.more;
@@ -132,7 +134,7 @@ module _ (j : Judging) {A : Type 0} (g : Items A RecordCause) (held_of : A → j
         before_faults = λ cause place shown.
             let later =
             shown_later facts.records.grammar held (byte ∷ []) cause place held_open
-            (subst (λ t. Shows j.records t cause place) is shown) in
+            (subst (λ t. FailsAt j.records t cause place) is shown) in
             omega (arith, long, length_all, count, later);
         before_end = λ item more what split_rest is_record.
             let longer =
@@ -172,7 +174,7 @@ module _ (j : Judging) {A : Type 0} (g : Items A RecordCause) (held_of : A → j
     in_time = omega (arith, short, length_all, ap length split_rest, length-append item more)
 
     -- The record after the prefix is rejected for its content.
-    pub first_objected : (why : Objection) → j.Objects values (held_of whole) why
+    pub first_objected : (why : ContentError) → j.Rejects values (held_of whole) why
         → First (objected why)
     first_objected why objects = refused_here (objected why) (record {
       front = item;

@@ -5,24 +5,25 @@ use Rattle.std.proofs.Common.{refl, sym, ◌∙◌, ap, subst, arith, append_ass
 use Rattle.std.proofs.Common.{length-append, true≢false, zero-add}
 use Rattle.std.proofs.lemmas.List.{length_push}
 use Rattle.dap_items.proofs.Ends.{IsReadable}
-use Rattle.dap_input.specs.Judging.{Judging, Reason, faulty, input_too_long, cut, objected}
-use Rattle.dap_input.specs.Judging.{IsFirstRefusal, Refuses}
+use Rattle.dap_input.specs.Validation.{Validation, Reason, faulty, input_too_long, cut, objected}
+use Rattle.dap_input.specs.Validation.{IsFirstRefusal, Refuses}
 use Rattle.dap_input.specs.Inputs.{Input, Fault, refused, read_fault, EndsAt, IsRefusedAt}
 use Rattle.dap_input.specs.Inputs.{IsNotRefusedAt, IsTaken, AcceptedBefore}
 use Rattle.dap_input.proofs.Runs.{ValueLaws, AcceptedFacts, PassesAt, run_push, run_goes_on}
 use Rattle.dap_input.proofs.Outcomes.{first_of_stop, one_refusal, one_list}
 
 -- The conditions for equal outcomes.
-pub record SameFacts (j : Judging) (AreSame : List j.Value → List j.Value → Type 0) : Type 0 where
+pub record SameFacts (j : Validation) (AreSame : List j.Value → List j.Value → Type 0)
+    : Type 0 where
   pub none : AreSame [] []
   pub lengths : (values others : List j.Value) → AreSame values others
       → length values ≡ length others
   pub fronts : (values more others rest : List j.Value) → length values ≡ length others
       → AreSame (values ++ more) (others ++ rest) → AreSame values others
-  pub told : (bytes other : List ℕ) (values others : List j.Value) → j.IsAccepted bytes values
+  pub reported : (bytes other : List ℕ) (values others : List j.Value) → j.IsAccepted bytes values
       → j.IsAccepted other others → AreSame values others ⊎ (AreSame values others → ⊥)
 
-module _ (j : Judging) (records : IsReadable j.records) (judged : ValueLaws j)
+module _ (j : Validation) (records : IsReadable j.records) (judged : ValueLaws j)
     (accepted : AcceptedFacts j) where
   -- ---- one input
 

@@ -6,15 +6,15 @@ use Rattle.std.proofs.lemmas.List.{length_push}
 use Rattle.dap_device.specs.declared.device.Source.{Ghosts as Source}
 use Rattle.dap_device.specs.declared.reading.Stop.{Stop}
 use Rattle.dap_device.specs.declared.reading.Stop.TheVariants.{End, Full, Failed}
-use Rattle.dap_items.specs.Items.{Items, Shows}
+use Rattle.dap_items.specs.Grammar.{Grammar, FailsAt}
 use Rattle.dap_recording.specs.declared.record_fault.RecordCause.{RecordCause}
 use Rattle.dap_recording.specs.declared.record_fault.RecordCause.TheVariants as cause
-use Rattle.dap_input.specs.InputSteps.{Says}
+use Rattle.dap_input.specs.InputSteps.{RefusalHolds}
 use Rattle.dap_input.specs.Inputs.{refused, read_fault}
-use Rattle.dap_input.specs.Judging.{Judging, faulty, cut, input_too_long, objected}
+use Rattle.dap_input.specs.Validation.{Validation, faulty, cut, input_too_long, objected}
 use Rattle.dap_input.specs.ReadTo.{IsReadTo, has_failed, so_far}
 use Rattle.dap_input.specs.RecordSteps.{Finds, HasWhole, IsNeeded, IsTooLong, IsWithin, ReadsNext}
-use Rattle.dap_input.specs.Refusals.{RefusesAt, RefusesHeld, reason_of}
+use Rattle.dap_input.specs.Refusals.{RefusesAt, RejectsPayload, reason_of}
 use Rattle.dap_input.specs.declared.records.Records.{Records}
 use Rattle.dap_input.specs.declared.refused.Refused.{Refused}
 use Rattle.dap_input.specs.declared.refused.Refused.TheVariants.{InputTooLong, Record, ReadFault}
@@ -25,12 +25,12 @@ use Rattle.dap_input.proofs.InputLoop.{only_ends, next_accepted, some_bytes}
 use Rattle.dap_input.proofs.Refusals.{IsShownCause, faulty_told, objected_not_cut}
 use Rattle.dap_input.proofs.Refusals.{objection_told}
 
-module _ {I A R : Type 0} (j : Judging) (g : Items A RecordCause) (held_of : A → j.Held)
-    (facts : ReadsAs j g held_of) (stands : I → List ℕ → Type 0) (source : Source R)
+module _ {I A R : Type 0} (j : Validation) (g : Grammar A RecordCause) (held_of : A → j.Payload)
+    (facts : ReadsAs j g held_of) (represents : I → List ℕ → Type 0) (source : Source R)
     (bytes : List ℕ) (old : Records I) (values : List j.Value)
-    (was : StandsBehind j stands bytes old values) (new : Records I) (before after : R) where
-  module _ (answer : Result (Option A) Refused)
-      (read : ReadsNext g stands source old new before after answer) where
+    (was : StandsBehind j represents bytes old values) (new : Records I) (before after : R) where
+  module _ (outcome : Result (Option A) Refused)
+      (read : ReadsNext g represents source old new before after outcome) where
     abbrev pub all : List ℕ
     all = bytes ++ read.more
 
@@ -112,7 +112,7 @@ module _ {I A R : Type 0} (j : Judging) (g : Items A RecordCause) (held_of : A �
     Refuses because = RefusesAt j (so_far all read.stop) old.number because
 
     shown : (why : RecordCause) → IsShownCause why → read.stop ≡ None
-        → (place : ℕ) × Shows g rest why place → Refuses (Record old.number why)
+        → (place : ℕ) × FailsAt g rest why place → Refuses (Record old.number why)
     shown why is_shown stop shows = record {
       fault = refused (faulty why);
       tells = faulty_told why old.number is_shown;
@@ -165,41 +165,41 @@ module _ {I A R : Type 0} (j : Judging) (g : Items A RecordCause) (held_of : A �
 
   -- The meaning of the rejection. A cut is reported only at the end.
   pub refused_read : (because : Refused)
-      → (read : ReadsNext g stands source old new before after (Err because))
-      → Says j (all (Err because) read) read.stop old.number because
+      → (read : ReadsNext g represents source old new before after (Err because))
+      → RefusalHolds j (all (Err because) read) read.stop old.number because
       × ((n : ℕ) → because ≡ Record n cause.Cut → read.stop ≡ Some End)
-  refused_read because read = told because read.finds
+  refused_read because read = reported because read.finds
     where
       numbered : {n : ℕ} (b : ℕ → Refused) → n ≡ old.number
           → Refuses (Err because) read (b old.number) → Refuses (Err because) read (b n)
       numbered b same is = subst (λ k. Refuses (Err because) read (b k)) (sym same) is
 
-      told : (b : Refused)
-          → Finds g stands old new (rest (Err because) read) read.more read.stop (Err b)
-          → Says j (all (Err because) read) read.stop old.number b
+      reported : (b : Refused)
+          → Finds g represents old new (rest (Err because) read) read.more read.stop (Err b)
+          → RefusalHolds j (all (Err because) read) read.stop old.number b
           × ((n : ℕ) → b ≡ Record n cause.Cut → read.stop ≡ Some End)
-      told (InputTooLong n) is = (
+      reported (InputTooLong n) is = (
         numbered InputTooLong is.0 (is_too_long (Err because) read is.1 is.2),
         λ m same. absurd (let e = same in cc),
       )
-      told (Record n cause.Cut) is = (
+      reported (Record n cause.Cut) is = (
         numbered (λ k. Record k cause.Cut) is.0 (is_cut (Err because) read is.1 is.2 is.3),
         λ m same. is.1,
       )
-      told (Record n cause.Memory) is = absurd is
-      told (Record n why) is = (
+      reported (Record n cause.Memory) is = absurd is
+      reported (Record n why) is = (
         numbered (λ k. Record k why) is.0 (shown (Err because) read why tt is.1 is.2),
         λ m same. absurd (let e = same in cc),
       )
-      told ReadFault is = (
+      reported ReadFault is = (
         has_failed_there (Err because) read is.0 is.1,
         λ m same. absurd (let e = same in cc),
       )
-      told Memory is = (tt, λ m same. absurd (let e = same in cc))
-      told other is = absurd is
+      reported Memory is = (tt, λ m same. absurd (let e = same in cc))
+      reported other is = absurd is
 
   -- All records were received, and the input is accepted.
-  pub none_left : (read : ReadsNext g stands source old new before after (Ok None))
+  pub none_left : (read : ReadsNext g represents source old new before after (Ok None))
       → (read.stop ≡ Some End) × j.IsAccepted (all (Ok None) read) values
       × (new.number ≡ old.number)
   none_left read = (
@@ -212,11 +212,11 @@ module _ {I A R : Type 0} (j : Judging) (g : Items A RecordCause) (held_of : A �
   -- ---- a record was received
 
   module _ (whole : A)
-      (read : ReadsNext g stands source old new before after (Ok (Some whole))) where
+      (read : ReadsNext g represents source old new before after (Ok (Some whole))) where
     abbrev pub come : List ℕ
     come = all (Ok (Some whole)) read
 
-    found : HasWhole g stands old new (rest (Ok (Some whole)) read) whole
+    found : HasWhole g represents old new (rest (Ok (Some whole)) read) whole
     found = read.finds.1
 
     short : length come ≤ j.input
@@ -224,29 +224,30 @@ module _ {I A R : Type 0} (j : Judging) (g : Items A RecordCause) (held_of : A �
 
     -- It is rejected for its content.
     pub refused_held : (because : Refused)
-        → RefusesHeld (j.Objects values (held_of whole)) old.number because
-        → Says j come read.stop old.number because
+        → RejectsPayload (j.Rejects values (held_of whole)) old.number because
+        → RefusalHolds j come read.stop old.number because
         × ((n : ℕ) → because ≡ Record n cause.Cut → read.stop ≡ Some End)
     refused_held Memory h = (tt, λ n same. absurd (let e = same in cc))
     refused_held because h =
-        let told = objection_told (j.Objects values (held_of whole)) old.number
+        let reported = objection_told (j.Rejects values (held_of whole)) old.number
         (reason_of because) h in (
           record {
-            fault = refused (objected told.0);
-            tells = told.1;
+            fault = refused (objected reported.0);
+            tells = reported.1;
             is_refused = (
               first_objected j g held_of facts come was.front (rest (Ok (Some whole)) read) values
                   old.number (all_is (Ok (Some whole)) read) was.accepted was.number_is whole
-                  found.front new.pieces.unread found.split found.is_record short told.0 told.2,
+                  found.front new.pieces.unread found.split found.is_record short reported.0
+                  reported.2,
               λ failed same. absurd (let e = same in cc),
             );
           },
-          λ n same. absurd (objected_not_cut because old.number n told.0 told.1 same),
+          λ n same. absurd (objected_not_cut because old.number n reported.0 reported.1 same),
         )
 
     -- It is accepted as the next value.
     pub gone_on : (value : j.Value) → j.IsNext values (held_of whole) value
-        → StandsBehind j stands come new (values ++ value ∷ [])
+        → StandsBehind j represents come new (values ++ value ∷ [])
     gone_on value is_next =
         let some = some_bytes j g held_of facts come was.front (rest (Ok (Some whole)) read) values
         old.number (all_is (Ok (Some whole)) read) was.accepted was.number_is whole found.front

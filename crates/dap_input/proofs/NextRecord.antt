@@ -3,16 +3,17 @@ use Rattle.std.proofs.Common.{◌≡◌, ◌≢◌, ◌⊎◌, inl, inr, ⊎_eli
 use Rattle.std.proofs.Common.{◌++◌, length}
 use Rattle.std.proofs.Common.{refl, sym, ◌∙◌, ap, arith, append_assoc, length-append}
 use Rattle.std.proofs.lemmas.Bool.{cases_lt}
-use Rattle.dap_items.specs.Items.{IsItem, Shows}
+use Rattle.dap_items.specs.Grammar.{IsItem, FailsAt}
 use Rattle.dap_items.proofs.Ends.{IsReadable, item_not_faulty, item_not_open, one_fault, one_item}
 use Rattle.dap_items.proofs.Ends.{open_not_faulty, shown_inside, some_outcome}
 use Rattle.dap_recording.specs.declared.record_fault.RecordCause.{RecordCause}
-use Rattle.dap_input.specs.Judging.{Judging, Objection, Reason, faulty, input_too_long, cut}
-use Rattle.dap_input.specs.Judging.{objected, ShowsInTime, PassesLimit, IsCut, IsObjectedTo}
-use Rattle.dap_input.specs.Judging.{Refuses}
+use Rattle.dap_input.specs.Validation.{Validation, ContentError, Reason, faulty, input_too_long}
+use Rattle.dap_input.specs.Validation.{cut}
+use Rattle.dap_input.specs.Validation.{objected, ShowsInTime, PassesLimit, IsCut, IsObjectedTo}
+use Rattle.dap_input.specs.Validation.{Refuses}
 use Rattle.dap_input.proofs.Runs.{ValueLaws, ValueFacts, PassesAt, Run, some_bytes}
 
-module _ (j : Judging) (records : IsReadable j.records) where
+module _ (j : Validation) (records : IsReadable j.records) where
   -- If a record is rejected, some bytes remain.
   pub refuses_some : (values : List j.Value) (used : ℕ) (rest : List ℕ) (why : Reason)
       → Refuses j values used rest why → used ≤ j.input → 0 < length rest
@@ -35,7 +36,7 @@ module _ (j : Judging) (records : IsReadable j.records) where
     faulty_not_cut cause r ended =
         open_not_faulty records.grammar rest cause r.place ended.is_open r.shows
 
-    faulty_not_objected : (cause : RecordCause) (why : Objection) → ShowsInTime j used rest cause
+    faulty_not_objected : (cause : RecordCause) (why : ContentError) → ShowsInTime j used rest cause
         → IsObjectedTo j values used rest why → ⊥
     faulty_not_objected cause why r o =
         item_not_faulty records.grammar o.front o.more o.held cause r.place o.is_record
@@ -44,20 +45,21 @@ module _ (j : Judging) (records : IsReadable j.records) where
     late_not_cut : PassesLimit j used rest → IsCut j used rest → ⊥
     late_not_cut late ended = let past = late.long in let early = ended.in_time in omega arith
 
-    late_not_objected : (why : Objection) → PassesLimit j used rest
+    late_not_objected : (why : ContentError) → PassesLimit j used rest
         → IsObjectedTo j values used rest why → ⊥
     late_not_objected why late o = let past =
         late.before_end o.front o.more o.held o.whole o.is_record in let early =
         o.in_time in omega arith
 
-    cut_not_objected : (why : Objection) → IsCut j used rest → IsObjectedTo j values used rest why
+    cut_not_objected : (why : ContentError) → IsCut j used rest
+        → IsObjectedTo j values used rest why
         → ⊥
     cut_not_objected why ended o =
         item_not_open records.grammar o.front o.more o.held o.is_record
         (rw o.whole at ended.is_open)
 
     module _ (judged : ValueLaws j) where
-      one_objection : (why because : Objection) → IsObjectedTo j values used rest why
+      one_objection : (why because : ContentError) → IsObjectedTo j values used rest why
           → IsObjectedTo j values used rest because → why ≡ because
       one_objection why because r s =
           let one = one_item records.grammar r.front s.front r.more s.more r.held s.held
@@ -113,7 +115,7 @@ module _ (j : Judging) (records : IsReadable j.records) where
           absurd (refuses_not_passes front (next ++ more) value why r rest_is passes)
 
 -- The next record of the rest passes.
-pub record NextPasses (j : Judging) (values : List j.Value) (used : ℕ) (rest : List ℕ) : Type 0
+pub record NextPasses (j : Validation) (values : List j.Value) (used : ℕ) (rest : List ℕ) : Type 0
   where
     pub front : List ℕ
     pub more : List ℕ
@@ -122,13 +124,13 @@ pub record NextPasses (j : Judging) (values : List j.Value) (used : ℕ) (rest :
     pub passes : PassesAt j used values front value
 
 -- The next record of the rest passes, or is rejected.
-abbrev pub NextIsJudged : (j : Judging) → List j.Value → ℕ → List ℕ → Type 0
+abbrev pub NextIsJudged : (j : Validation) → List j.Value → ℕ → List ℕ → Type 0
 NextIsJudged j values used rest = NextPasses j values used rest
     ⊎ ((why : Reason) × Refuses j values used rest why)
 
-module _ (j : Judging) (records : IsReadable j.records) (judged : ValueFacts j) where
+module _ (j : Validation) (records : IsReadable j.records) (judged : ValueFacts j) where
   module _ (values : List j.Value) (used : ℕ) (rest : List ℕ) where
-    judge_faulty : (cause : RecordCause) (place : ℕ) → Shows j.records rest cause place
+    judge_faulty : (cause : RecordCause) (place : ℕ) → FailsAt j.records rest cause place
         → NextIsJudged j values used rest
     judge_faulty cause place shown =
         ⊎_elim (λ past. inr (input_too_long, late past))
@@ -164,11 +166,11 @@ module _ (j : Judging) (records : IsReadable j.records) (judged : ValueFacts j) 
               (item_not_open records.grammar front more held is_record (rw is at is_open));
         }
 
-    module _ (front more : List ℕ) (held : j.Held) (whole : rest
+    module _ (front more : List ℕ) (held : j.Payload) (whole : rest
         ≡ front ++ more) (is_record : IsItem j.records front held) where
       judge_held : used + length front ≤ j.input
           → ((value : j.Value) × j.IsNext values held value)
-          ⊎ ((why : Objection) × j.Objects values held why)
+          ⊎ ((why : ContentError) × j.Rejects values held why)
           → NextIsJudged j values used rest
       judge_held early (inl next) = inl (record {
         front = front;
@@ -191,7 +193,7 @@ module _ (j : Judging) (records : IsReadable j.records) (judged : ValueFacts j) 
       )
 
       judge_record : ((value : j.Value) × j.IsNext values held value)
-          ⊎ ((why : Objection) × j.Objects values held why)
+          ⊎ ((why : ContentError) × j.Rejects values held why)
           → NextIsJudged j values used rest
       judge_record judgement =
           ⊎_elim (λ past. inr (input_too_long, late past)) (λ early. judge_held early judgement)

@@ -1,14 +1,14 @@
 -- An input is accepted, or has one rejection, which remains if more bytes follow.
 use Rattle.std.proofs.Common.{◌≡◌, ◌≢◌, inl, inr, ⊎_elim, ℕ, List, ◌++◌, Option, Some, None}
 use Rattle.std.proofs.Common.{MatchOption, refl, sym, ◌∙◌, ap, ap₂}
-use Rattle.dap_items.specs.Items.{Shows}
+use Rattle.dap_items.specs.Grammar.{FailsAt}
 use Rattle.dap_items.proofs.Ends.{IsReadable}
 use Rattle.dap_message.specs.Message.{no_reading, fraction, faulty as profile_fault}
 use Rattle.dap_recording.specs.declared.record_fault.RecordCause.{RecordCause}
 use Rattle.dap_recording.specs.declared.record_fault.RecordCause.TheVariants.{Cut}
 use Rattle.dap_recording.specs.declared.record_fault.RecordCause.TheVariants.{Memory as NoMemory}
-use Rattle.dap_input.specs.Judging.{Judging, Reason, faulty, input_too_long, cut, objected}
-use Rattle.dap_input.specs.Judging.{no_message, broken, too_many_ids, grew, IsFirstRefusal}
+use Rattle.dap_input.specs.Validation.{Validation, Reason, faulty, input_too_long, cut, objected}
+use Rattle.dap_input.specs.Validation.{no_message, broken, too_many_ids, grew, IsFirstRefusal}
 use Rattle.dap_input.specs.Refusals.{HasOneOutcome, IsRefused, RefusalStays, reason_of}
 use Rattle.dap_input.specs.declared.refused.Refused.{Refused}
 use Rattle.dap_input.specs.declared.refused.Refused.TheVariants.{InputTooLong, Record, Json}
@@ -49,7 +49,7 @@ told_by_one (TooManyIds n) = refl
 told_by_one (Grew n) = refl
 told_by_one because = tt
 
-module _ (j : Judging) where
+module _ (j : Validation) where
   -- the record and the reason of a rejection
   record Told (whole : List ℕ) (because : Refused) : Type 0 where
     pub number : ℕ
@@ -58,18 +58,18 @@ module _ (j : Judging) where
     pub is_refusal : because ≡ refusal_of number why
     pub first : IsFirstRefusal j whole number why
 
-  told_behind : (whole : List ℕ) (because : Refused) (told : Option (ℕ × Reason))
-      → reason_of because ≡ told → IsToldBy told because
-      → MatchOption told ⊥ (λ t. IsFirstRefusal j whole t.0 t.1) → Told whole because
+  told_behind : (whole : List ℕ) (because : Refused) (reported : Option (ℕ × Reason))
+      → reason_of because ≡ reported → IsToldBy reported because
+      → MatchOption reported ⊥ (λ t. IsFirstRefusal j whole t.0 t.1) → Told whole because
   told_behind whole because None is by refused = absurd refused
   told_behind whole because (Some (n, why)) is by refused =
       record { number = n; why = why; is_told = is; is_refusal = by; first = refused }
 
-  told : (whole : List ℕ) (because : Refused) → IsRefused j whole because → Told whole because
-  told whole because = told_behind whole because (reason_of because) refl (told_by_one because)
+  reported : (whole : List ℕ) (because : Refused) → IsRefused j whole because → Told whole because
+  reported whole because = told_behind whole because (reason_of because) refl (told_by_one because)
 
   module _ (shown : (bytes : List ℕ) (cause : RecordCause) (place : ℕ)
-      → Shows j.records bytes cause place → IsShownCause cause) where
+      → FailsAt j.records bytes cause place → IsShownCause cause) where
     -- Each first rejection is reported by a value of `Refused`.
     refused_for : (whole : List ℕ) (number : ℕ) (why : Reason)
         → IsFirstRefusal j whole number why → IsRefused j whole (refusal_of number why)
@@ -91,8 +91,8 @@ module _ (j : Judging) where
         one_refusal_of : (whole : List ℕ) (because other : Refused) → IsRefused j whole because
             → IsRefused j whole other → because ≡ other
         one_refusal_of whole because other p q =
-            let a = told whole because p in
-            let b = told whole other q in
+            let a = reported whole because p in
+            let b = reported whole other q in
             let same =
             one_refusal j records judged.laws accepted whole a.number b.number a.why b.why a.first
             b.first in
@@ -110,13 +110,13 @@ module _ (j : Judging) where
           one_list = one_list j records judged.laws accepted;
           one_refusal = one_refusal_of;
           not_both = λ whole values because taken refused.
-              let a = told whole because refused in
+              let a = reported whole because refused in
               not_both j whole values a.number a.why taken a.first;
         }
 
   pub refusal_of_stays : IsReadable j.records → ValueFacts j → AcceptedFacts j → RefusalStays j
   refusal_of_stays records judged accepted whole more because not_cut refused =
-      let a = told whole because refused in
+      let a = reported whole because refused in
       let other : a.why ≢ cut = λ is. not_cut a.number (a.is_refusal ∙ ap (refusal_of a.number) is)
       in
       refused_as j (whole ++ more) because a.number a.why a.is_told

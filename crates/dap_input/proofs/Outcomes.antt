@@ -8,13 +8,14 @@ use Rattle.std.proofs.lemmas.Bool.{cases_lt}
 use Rattle.std.proofs.lemmas.List.{append_cancel_left}
 use Rattle.dap_items.proofs.Fronts.{same_front, shorter_front}
 use Rattle.dap_items.proofs.Ends.{IsReadable, fault_early, fault_stays}
-use Rattle.dap_input.specs.Judging.{Judging, Reason, faulty, input_too_long, cut, objected, Refuses}
-use Rattle.dap_input.specs.Judging.{IsFirstRefusal}
+use Rattle.dap_input.specs.Validation.{Validation, Reason, faulty, input_too_long, cut, objected}
+use Rattle.dap_input.specs.Validation.{Refuses}
+use Rattle.dap_input.specs.Validation.{IsFirstRefusal}
 use Rattle.dap_input.proofs.Runs.{ValueLaws, ValueFacts, AcceptedFacts, Run}
 use Rattle.dap_input.proofs.Runs.{run_none, run_push, run_within, run_goes_on, some_bytes, one_run}
 use Rattle.dap_input.proofs.NextRecord.{NextPasses, refuses_some, one_reason, run_stops, judge_next}
 
-module _ (j : Judging) where
+module _ (j : Validation) where
   pub not_both : (whole : List ℕ) (values : List j.Value) (number : ℕ) (why : Reason)
       → j.IsAccepted whole values → IsFirstRefusal j whole number why → ⊥
   not_both whole values number why taken first = first.not_accepted values taken
@@ -144,12 +145,12 @@ module _ (j : Judging) where
       first.values why split run refuses)
 
 -- The input is accepted, or has a first rejection.
-abbrev pub HasOutcome : (j : Judging) → List ℕ → Type 0
+abbrev pub HasOutcome : (j : Validation) → List ℕ → Type 0
 HasOutcome j whole =
     ((values : List j.Value) × j.IsAccepted whole values)
     ⊎ ((number : ℕ) × (why : Reason) × IsFirstRefusal j whole number why)
 
-module _ (j : Judging) (records : IsReadable j.records) (judged : ValueFacts j)
+module _ (j : Validation) (records : IsReadable j.records) (judged : ValueFacts j)
     (accepted : AcceptedFacts j) where
   some_outcome_behind : (fuel : ℕ) (whole front rest : List ℕ) (values : List j.Value)
       → length rest < fuel → whole ≡ front ++ rest → Run j [] 0 front values → HasOutcome j whole

@@ -3,21 +3,21 @@ use Rattle.std.proofs.Common.{◌≡◌, ◌⊎◌, inl, inr, ⊎_elim, ℕ, ◌
 use Rattle.std.proofs.Common.{length, sym, ◌∙◌, ap, subst, arith, append_assoc, length-append}
 use Rattle.std.proofs.lemmas.Bool.{cases_lt}
 use Rattle.std.proofs.lemmas.List.{append_cancel_left}
-use Rattle.dap_items.specs.Items.{IsItem, Shows}
+use Rattle.dap_items.specs.Grammar.{IsItem, FailsAt}
 use Rattle.dap_items.proofs.Ends.{IsReadable, open_shorter, shown_later}
 use Rattle.dap_input.specs.Inputs.{EndsAt}
 use Rattle.dap_recording.specs.declared.record_fault.RecordCause.{RecordCause}
-use Rattle.dap_input.specs.Judging.{Judging, cut, IsFirstRefusal}
+use Rattle.dap_input.specs.Validation.{Validation, cut, IsFirstRefusal}
 use Rattle.dap_input.specs.ReadTo.{IsReadTo}
 use Rattle.dap_input.proofs.RunFronts.{no_bytes, same_values}
 use Rattle.dap_input.proofs.Runs.{ValueLaws, AcceptedFacts, GoesOn, Run, run_goes_on}
 
-module _ (j : Judging) (records : IsReadable j.records) (judged : ValueLaws j)
+module _ (j : Validation) (records : IsReadable j.records) (judged : ValueLaws j)
     (accepted : AcceptedFacts j) where
   -- More values have more bytes, and those start with a record.
   some_record : (before : List j.Value) (used : ℕ) (bytes : List ℕ) (values : List j.Value)
       → Run j before used bytes values → 0 < length values
-      → (whole : List ℕ) × (more : List ℕ) × (held : j.Held) × (bytes ≡ whole ++ more)
+      → (whole : List ℕ) × (more : List ℕ) × (held : j.Payload) × (bytes ≡ whole ++ more)
       × IsItem j.records whole held
   unfolding Run
   some_record before used bytes [] run some = absurd (omega (arith, some))
@@ -172,7 +172,7 @@ module _ (j : Judging) (records : IsReadable j.records) (judged : ValueLaws j)
               by_reach (reach read.before read.last read.split earlier early ends)
 
       -- The bound on the bytes read beyond a complete record.
-      pub past_record : (whole more : List ℕ) (held : j.Held) → rest ≡ whole ++ more
+      pub past_record : (whole more : List ℕ) (held : j.Payload) → rest ≡ whole ++ more
           → IsItem j.records whole held → length bytes ≤ length front + length whole + 65536
       past_record whole more held whole_is is_record =
           bounded (length whole)
@@ -180,10 +180,10 @@ module _ (j : Judging) (records : IsReadable j.records) (judged : ValueLaws j)
           held is_open (sym is ∙ whole_is) is_record in omega (arith, short))
 
       -- The bound on the bytes read beyond the byte that proves an error.
-      pub past_fault : (cause : RecordCause) (place : ℕ) → Shows j.records rest cause place
+      pub past_fault : (cause : RecordCause) (place : ℕ) → FailsAt j.records rest cause place
           → length bytes ≤ length front + place + 65536
       past_fault cause place shows =
           bounded place (λ part is is_open.
           let later =
           shown_later records.grammar part read.last cause place is_open
-          (subst (λ t. Shows j.records t cause place) is shows) in omega (arith, later))
+          (subst (λ t. FailsAt j.records t cause place) is shows) in omega (arith, later))

@@ -7,15 +7,15 @@ use Rattle.std.proofs.lemmas.Bool.{true≢false}
 use Rattle.std.proofs.lemmas.List.{drop_all}
 use Rattle.std.specs.Prelude.{MatchOption, is_some}
 use Rattle.dap_device.specs.declared.device.Source.{Ghosts as Source}
-use Rattle.dap_device.specs.Pieces.{HasComeSoFar, HasNextPiece, HasNoPiece, HasPassedLimit}
+use Rattle.dap_device.specs.Pieces.{HasReadSoFar, HasNextPiece, HasNoPiece, HasPassedLimit}
 use Rattle.dap_device.specs.Pieces.{Window}
 use Rattle.dap_device.specs.declared.reading.Stop.{Stop}
 use Rattle.dap_device.specs.declared.reading.Stop.TheVariants.{End, Full, Failed}
-use Rattle.dap_items.specs.Items.{Items, IsItem, Shows}
+use Rattle.dap_items.specs.Grammar.{Grammar, IsItem, FailsAt}
 use Rattle.dap_recording.specs.declared.record_fault.RecordCause.{RecordCause}
 use Rattle.dap_recording.specs.declared.record_fault.RecordCause.TheVariants as cause
 use Rattle.dap_input.specs.ItemReading.{GivesFedItem, GivesItem}
-use Rattle.dap_input.specs.RecordSteps.{Finds, IsNeeded, ReadsNext, StandsBetween, Stops}
+use Rattle.dap_input.specs.RecordSteps.{Finds, IsNeeded, ReadsNext, IsBetweenRecords, Stops}
 use Rattle.dap_input.specs.declared.item_reader.FedItem.{FedItem}
 use Rattle.dap_input.specs.declared.records.Records.{Records}
 use Rattle.dap_input.specs.declared.refused.Refused.{Refused}
@@ -58,10 +58,10 @@ nothing (Some whole) is = absurd (true≢false is)
 
 -- The invariant of the search for the next record. These bytes were received, and no more than
 -- required. The reader represents all of them except the unread ones.
-pub record Looking {I A R : Type 0} (g : Items A RecordCause) (stands : I → List ℕ
+pub record Looking {I A R : Type 0} (g : Grammar A RecordCause) (represents : I → List ℕ
     → Type 0) (source : Source R) (old now : Records I) (before mid : R) : Type 0 where
   pub more : List ℕ
-  pub came : HasComeSoFar source before mid more None
+  pub came : HasReadSoFar source before mid more None
   pub needed : IsNeeded g old.pieces.unread more
   pub taken : now.pieces.taken ≡ old.pieces.taken + length more
   pub within : now.pieces.taken ≤ now.pieces.limit
@@ -69,19 +69,19 @@ pub record Looking {I A R : Type 0} (g : Items A RecordCause) (stands : I → Li
   pub number_is : now.number ≡ old.number
   pub held : List ℕ
   pub split : old.pieces.unread ++ more ≡ held ++ now.pieces.unread
-  pub reads : stands now.reader held
+  pub reads : represents now.reader held
   pub goes_on : now.is_over ≡ false
 
-module _ {I A R : Type 0} (g : Items A RecordCause) (stands : I → List ℕ
-    → Type 0) (opens : (reader : I) (bytes : List ℕ) → stands reader bytes → g.IsOpen bytes)
+module _ {I A R : Type 0} (g : Grammar A RecordCause) (represents : I → List ℕ
+    → Type 0) (opens : (reader : I) (bytes : List ℕ) → represents reader bytes → g.IsOpen bytes)
     (source : Source R) (old : Records I) (before : R) where
   abbrev pub At : Records I → R → Type 0
-  At now mid = Looking g stands source old now before mid
+  At now mid = Looking g represents source old now before mid
 
   abbrev pub Gives : Records I → R → Result (Option A) Refused → Type 0
-  Gives new after answer = ReadsNext g stands source old new before after answer
+  Gives new after outcome = ReadsNext g represents source old new before after outcome
 
-  pub at_start : StandsBetween stands old → At old before
+  pub at_start : IsBetweenRecords represents old → At old before
   at_start between = record {
     more = [];
     came = nothing_came source before;
@@ -108,16 +108,16 @@ module _ {I A R : Type 0} (g : Items A RecordCause) (stands : I → List ℕ
     all_open none = subst (λ t. g.IsOpen t) (sym (all_held none)) open_held
 
     came_more : (after : R) (piece : List ℕ) (stop : Option Stop)
-        → HasComeSoFar source mid after piece stop
-        → HasComeSoFar source before after (was.more ++ piece) stop
+        → HasReadSoFar source mid after piece stop
+        → HasReadSoFar source before after (was.more ++ piece) stop
     came_more after piece stop next =
         came_on source before mid after was.more piece stop was.came next
 
     came_none : (after : R) (stop : Option Stop)
-        → HasComeSoFar source mid after [] stop
-        → HasComeSoFar source before after was.more stop
+        → HasReadSoFar source mid after [] stop
+        → HasReadSoFar source before after was.more stop
     came_none after stop next =
-        subst (λ more. HasComeSoFar source before after more stop)
+        subst (λ more. HasReadSoFar source before after more stop)
         (append-nil was.more) (came_more after [] stop next)
 
     taken_within : old.pieces.taken + length was.more ≤ old.pieces.limit
@@ -142,7 +142,7 @@ module _ {I A R : Type 0} (g : Items A RecordCause) (stands : I → List ℕ
       split = sym (append_assoc old.pieces.unread was.more got.piece)
           ∙ ap (λ t. t ++ got.piece) was.split ∙ append_assoc was.held now.pieces.unread got.piece
           ∙ ap (λ t. was.held ++ t) (sym (ap (λ (w : Window). w.unread) got.window));
-      reads = subst (λ r. stands r was.held) (sym reader_is) was.reads;
+      reads = subst (λ r. represents r was.held) (sym reader_is) was.reads;
       goes_on = over_is ∙ was.goes_on;
     }
       where
@@ -173,7 +173,7 @@ module _ {I A R : Type 0} (g : Items A RecordCause) (stands : I → List ℕ
       same_number : new.number ≡ old.number
       same_number = number_is ∙ was.number_is
 
-      has_failed : HasComeSoFar source mid after [] (Some Failed)
+      has_failed : HasReadSoFar source mid after [] (Some Failed)
           → Gives new after (Err ReadFault)
       has_failed next = record {
         more = was.more;
@@ -216,7 +216,7 @@ module _ {I A R : Type 0} (g : Items A RecordCause) (stands : I → List ℕ
         );
       }
 
-      has_ended : HasComeSoFar source mid after [] (Some End) → was.held ≡ []
+      has_ended : HasReadSoFar source mid after [] (Some End) → was.held ≡ []
           → Gives new after (Ok None)
       has_ended next nothing = record {
         more = was.more;
@@ -230,7 +230,7 @@ module _ {I A R : Type 0} (g : Items A RecordCause) (stands : I → List ℕ
         finds = (refl, all_held none ∙ nothing, same_number);
       }
 
-      is_cut : HasComeSoFar source mid after [] (Some End) → was.held ≢ []
+      is_cut : HasReadSoFar source mid after [] (Some End) → was.held ≢ []
           → Gives new after (Err (Record new.number cause.Cut))
       is_cut next some = record {
         more = was.more;
@@ -244,25 +244,26 @@ module _ {I A R : Type 0} (g : Items A RecordCause) (stands : I → List ℕ
         finds = (same_number, refl, (λ empty. some (sym (all_held none) ∙ empty)), all_open none);
       }
 
-      pub stopped : (stop : Stop) (answer : Result (Option A) Refused)
-          → HasNoPiece source now.pieces mid after stop → Stops stands new stop answer
-          → Gives new after answer
-      stopped Full answer next told = subst (Gives new after) (sym told) (is_too_long next)
-      stopped Failed answer next told = subst (Gives new after) (sym told) (has_failed next)
-      stopped End answer next told =
-          by_held (told was.held (subst (λ r. stands r was.held) (sym reader_is) was.reads))
+      pub stopped : (stop : Stop) (outcome : Result (Option A) Refused)
+          → HasNoPiece source now.pieces mid after stop → Stops represents new stop outcome
+          → Gives new after outcome
+      stopped Full outcome next reported = subst (Gives new after) (sym reported) (is_too_long next)
+      stopped Failed outcome next reported = subst (Gives new after) (sym reported)
+          (has_failed next)
+      stopped End outcome next reported =
+          by_held (reported was.held (subst (λ r. represents r was.held) (sym reader_is) was.reads))
         where
-          by_held : ((was.held ≡ []) × (answer ≡ Ok None))
-              ⊎ ((was.held ≢ []) × (answer ≡ Err (Record new.number cause.Cut)))
-              → Gives new after answer
+          by_held : ((was.held ≡ []) × (outcome ≡ Ok None))
+              ⊎ ((was.held ≢ []) × (outcome ≡ Err (Record new.number cause.Cut)))
+              → Gives new after outcome
           by_held (inl nothing) = subst (Gives new after) (sym nothing.1) (has_ended next nothing.0)
           by_held (inr some) = subst (Gives new after) (sym some.1) (is_cut next some.0)
 
     -- ---- the reader has read more
 
     abbrev pub Fed : FedItem A → I → Type 0
-    Fed fed reader = (held : List ℕ) → stands now.reader held
-        → GivesFedItem g stands held now.pieces.unread fed reader
+    Fed fed reader = (held : List ℕ) → represents now.reader held
+        → GivesFedItem g represents held now.pieces.unread fed reader
 
     module _ (fed : FedItem A) (next : Records I) (gives : Fed fed next.reader)
         (window : next.pieces
@@ -284,9 +285,9 @@ module _ {I A R : Type 0} (g : Items A RecordCause) (stands : I → List ℕ
       abbrev IsFed : Option A → Type 0
       IsFed ended = MatchOption ended
           ((fed.used ≡ length now.pieces.unread)
-          × stands next.reader (was.held ++ now.pieces.unread))
+          × represents next.reader (was.held ++ now.pieces.unread))
           (λ whole. IsItem g (was.held ++ take fed.used now.pieces.unread) whole
-          × stands next.reader [])
+          × represents next.reader [])
 
       is_fed : (ended : Option A) → fed.item ≡ ended → IsFed ended
       is_fed ended same = subst IsFed same (gives was.held was.reads)
@@ -383,11 +384,11 @@ module _ {I A R : Type 0} (g : Items A RecordCause) (stands : I → List ℕ
 
       abbrev Faulty : RecordCause → Type 0
       Faulty why =
-          (held : List ℕ) → stands now.reader held → (place : ℕ)
-          × Shows g (held ++ now.pieces.unread) why place
+          (held : List ℕ) → represents now.reader held → (place : ℕ)
+          × FailsAt g (held ++ now.pieces.unread) why place
 
       is_faulty : (why : RecordCause)
-          → Finds g stands old new (old.pieces.unread ++ was.more) was.more None
+          → Finds g represents old new (old.pieces.unread ++ was.more) was.more None
           (Err (Record now.number why))
           → Gives new mid (Err (Record now.number why))
       is_faulty why finds = record {
@@ -404,8 +405,8 @@ module _ {I A R : Type 0} (g : Items A RecordCause) (stands : I → List ℕ
 
       -- The bytes prove the error that the reader returned.
       pub faulty : (why : RecordCause) (reader : I) → why ≢ cause.Memory
-          → ((held : List ℕ) → stands now.reader held
-          → GivesItem g stands held now.pieces.unread (Err why) reader)
+          → ((held : List ℕ) → represents now.reader held
+          → GivesItem g represents held now.pieces.unread (Err why) reader)
           → Gives new mid (Err (Record now.number why))
       faulty cause.Cut reader other gives = absurd (gives was.held was.reads)
       faulty cause.Memory reader other gives = absurd (other refl)
@@ -413,6 +414,6 @@ module _ {I A R : Type 0} (g : Items A RecordCause) (stands : I → List ℕ
           is_faulty why (
             was.number_is,
             refl,
-            subst (λ t. (place : ℕ) × Shows g t why place) (sym was.split)
+            subst (λ t. (place : ℕ) × FailsAt g t why place) (sym was.split)
                 (gives was.held was.reads),
           )

@@ -9,10 +9,10 @@ use Rattle.dap_recording.specs.declared.record_fault.RecordCause.TheVariants.{Cu
 use Rattle.dap_recording.specs.declared.record_fault.RecordCause.TheVariants.{Memory as NoMemory}
 use Rattle.dap_items.proofs.Ends.{IsReadable}
 use Rattle.dap_input.specs.Inputs.{Input, Fault, refused, read_fault, IsRefusedAt}
-use Rattle.dap_input.specs.Judging.{Judging, Objection, Reason, faulty, cut, objected}
-use Rattle.dap_input.specs.Judging.{IsFirstRefusal}
+use Rattle.dap_input.specs.Validation.{Validation, ContentError, Reason, faulty, cut, objected}
+use Rattle.dap_input.specs.Validation.{IsFirstRefusal}
 use Rattle.dap_input.specs.ReadTo.{IsOf, has_failed, so_far}
-use Rattle.dap_input.specs.Refusals.{IsObjected, IsRefused, RefusesAt, Tells}
+use Rattle.dap_input.specs.Refusals.{IsObjected, IsRefused, RefusesAt, RefusalMatches}
 use Rattle.dap_input.specs.Refusals.{reason_of}
 use Rattle.dap_input.specs.declared.refused.Refused.{Refused}
 use Rattle.dap_input.specs.declared.refused.Refused.TheVariants.{Record, ReadFault}
@@ -22,19 +22,20 @@ use Rattle.dap_input.proofs.Runs.{ValueLaws, AcceptedFacts}
 -- The reported reason is that the record is cut.
 abbrev TellsCut : Option (ℕ × Reason) → Type 0
 TellsCut (Some (n, cut)) = Unit {0}
-TellsCut told = ⊥
+TellsCut reported = ⊥
 
 -- Only a cut record is reported as cut.
 pub cut_told : (because : Refused) (n : ℕ) → reason_of because ≡ Some (n, cut)
     → because ≡ Record n Cut
-cut_told (Record m Cut) n told =
-    ap (λ t. Record (option_map_or (λ (of : ℕ × Reason). of.0) t n) Cut) told
-cut_told because n told = absurd (subst TellsCut (sym told) tt)
+cut_told (Record m Cut) n reported =
+    ap (λ t. Record (option_map_or (λ (of : ℕ × Reason). of.0) t n) Cut) reported
+cut_told because n reported = absurd (subst TellsCut (sym reported) tt)
 
 -- The reason is the content of a record, not where it ends.
-pub objected_not_cut : (because : Refused) (n m : ℕ) (why : Objection)
+pub objected_not_cut : (because : Refused) (n m : ℕ) (why : ContentError)
     → reason_of because ≡ Some (n, objected why) → because ≡ Record m Cut → ⊥
-objected_not_cut because n m why told same = subst TellsCut (sym (ap reason_of same) ∙ told) tt
+objected_not_cut because n m why reported same = subst TellsCut
+    (sym (ap reason_of same) ∙ reported) tt
 
 -- Bytes prove neither that a recording ends too early nor an allocation failure.
 abbrev pub IsShownCause : RecordCause → Type 0
@@ -49,45 +50,47 @@ faulty_told NoMemory n shown = absurd shown
 faulty_told cause n shown = refl
 
 -- A complete record is rejected for one of the objections.
-pub objection_told : (Objects : Objection → Type 0) (n : ℕ) (told : Option (ℕ × Reason))
-    → MatchOption told ⊥ (λ t. (t.0 ≡ n) × IsObjected Objects t.1)
-    → (why : Objection) × (told ≡ Some (n, objected why)) × Objects why
-objection_told Objects n None refuses = absurd refuses
-objection_told Objects n (Some (m, objected why)) (same, objects) =
+pub objection_told : (Rejects : ContentError → Type 0) (n : ℕ) (reported : Option (ℕ × Reason))
+    → MatchOption reported ⊥ (λ t. (t.0 ≡ n) × IsObjected Rejects t.1)
+    → (why : ContentError) × (reported ≡ Some (n, objected why)) × Rejects why
+objection_told Rejects n None refuses = absurd refuses
+objection_told Rejects n (Some (m, objected why)) (same, objects) =
     (why, ap (λ k. Some (k, objected why)) same, objects)
-objection_told Objects n (Some (m, why)) (same, objects) = absurd objects
+objection_told Rejects n (Some (m, why)) (same, objects) = absurd objects
 
 -- A value that has no reason, and is not a failure of the reader, reports nothing.
 pub untold : (because : Refused) (number : ℕ) (fault : Fault) → reason_of because ≡ None
-    → because ≢ ReadFault → Tells because number fault → ⊥
-untold because number (refused why) none other told =
-    subst (λ o. MatchOption o (Unit {0}) (λ t. ⊥)) (sym none ∙ told) tt
-untold because number read_fault none other told = other told
+    → because ≢ ReadFault → RefusalMatches because number fault → ⊥
+untold because number (refused why) none other reported =
+    subst (λ o. MatchOption o (Unit {0}) (λ t. ⊥)) (sym none ∙ reported) tt
+untold because number read_fault none other reported = other reported
 
-module _ (j : Judging) where
+module _ (j : Validation) where
   -- The first rejection of an input is the one that reports it.
   pub refused_as : (whole : List ℕ) (because : Refused) (number : ℕ) (why : Reason)
       → reason_of because ≡ Some (number, why) → IsFirstRefusal j whole number why
       → IsRefused j whole because
   refused_as whole because number why is first =
-      subst (λ told. MatchOption told ⊥ (λ t. IsFirstRefusal j whole t.0 t.1)) (sym is) first
+      subst (λ reported. MatchOption reported ⊥ (λ t. IsFirstRefusal j whole t.0 t.1)) (sym is)
+      first
 
   module _ (records : IsReadable j.records) (judged : ValueLaws j) (accepted : AcceptedFacts j)
       (bytes : List ℕ) (number : ℕ) (because : Refused) (input : Input) where
     -- If more may follow, the received bytes are not rejected for where they end.
     stays : (stop : Option Stop) → has_failed stop ≡ false → stop ≢ Some End → (more : List ℕ)
         → input.bytes ≡ bytes ++ more → ((n : ℕ) → because ≡ Record n Cut → stop ≡ Some End)
-        → (fault : Fault) → Tells because number fault
+        → (fault : Fault) → RefusalMatches because number fault
         → IsRefusedAt j (so_far bytes stop) number fault → RefusesAt j input number because
-    stays stop still on more split ended read_fault told is = absurd (true≢false (sym is.0 ∙ still))
-    stays stop still on more split ended (refused cut) told is =
-        absurd (on (ended number (cut_told because number told)))
-    stays stop still on more split ended (refused why) told is =
+    stays stop still on more split ended read_fault reported is = absurd
+        (true≢false (sym is.0 ∙ still))
+    stays stop still on more split ended (refused cut) reported is =
+        absurd (on (ended number (cut_told because number reported)))
+    stays stop still on more split ended (refused why) reported is =
         let other : why ≢ cut = λ e. absurd (let same = e in cc) in
         let first =
         subst (λ t. IsFirstRefusal j t number why) (sym split)
         (refusal_stays j records judged accepted bytes more number why other is.0) in
-        record { fault = refused why; tells = told; is_refused = (first, λ failed. other) }
+        record { fault = refused why; tells = reported; is_refused = (first, λ failed. other) }
 
     -- an input by its parts
     same_input : (failed : Bool) → input.bytes ≡ bytes → input.failed ≡ failed

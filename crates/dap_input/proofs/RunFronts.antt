@@ -5,17 +5,17 @@ use Rattle.std.proofs.Common.{sym, ◌∙◌, ap, subst, arith, append-nil, leng
 use Rattle.std.proofs.lemmas.Bool.{cases_lt}
 use Rattle.std.proofs.lemmas.List.{append_cancel_left, nil_from_length}
 use Rattle.dap_items.proofs.Ends.{IsReadable}
-use Rattle.dap_input.specs.Judging.{Judging}
+use Rattle.dap_input.specs.Validation.{Validation}
 use Rattle.dap_input.proofs.Runs.{ValueLaws, Run, GoesOn, no_values, run_goes_on}
 
 -- No values have no bytes.
-pub no_bytes : (j : Judging) (before : List j.Value) (used : ℕ) (bytes : List ℕ)
+pub no_bytes : (j : Validation) (before : List j.Value) (used : ℕ) (bytes : List ℕ)
     (values : List j.Value) → Run j before used bytes values → length values ≡ 0 → bytes ≡ []
 unfolding Run
 no_bytes j before used bytes [] run none = run
 no_bytes j before used bytes (value ∷ values) run none = absurd (omega (arith, none))
 
-module _ (j : Judging) (records : IsReadable j.records) (judged : ValueLaws j) where
+module _ (j : Validation) (records : IsReadable j.records) (judged : ValueLaws j) where
   module _ (front other rest more : List ℕ) (values others : List j.Value)
       (run : Run j [] 0 front values) (longer : Run j [] 0 other others) (same : front ++ rest
       ≡ other ++ more) where

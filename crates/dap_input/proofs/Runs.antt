@@ -4,19 +4,19 @@ use Rattle.std.proofs.Common.{◌≡◌, ◌⊎◌, ℕ, ◌+◌, ◌<◌, ◌�
 use Rattle.std.proofs.Common.{refl, ap, arith, append_assoc, append-nil, length-append, add-zero}
 use Rattle.std.proofs.Common.{add_assoc}
 use Rattle.std.proofs.lemmas.List.{append_cancel_left}
-use Rattle.dap_items.specs.Items.{IsItem}
+use Rattle.dap_items.specs.Grammar.{IsItem}
 use Rattle.dap_items.proofs.Ends.{IsReadable, not_empty, one_item}
-use Rattle.dap_input.specs.Judging.{Judging, Objection}
+use Rattle.dap_input.specs.Validation.{Validation, ContentError}
 
 -- The bytes start with a complete record, within the limit, that is validated as this value.
-pub record PassesAt (j : Judging) (used : ℕ) (values : List j.Value) (front : List ℕ)
+pub record PassesAt (j : Validation) (used : ℕ) (values : List j.Value) (front : List ℕ)
     (value : j.Value) : Type 0 where
-  pub held : j.Held
+  pub held : j.Payload
   pub is_record : IsItem j.records front held
   pub is_next : j.IsNext values held value
   pub in_time : used + length front ≤ j.input
 
-module _ (j : Judging) where
+module _ (j : Validation) where
   -- After `used` bytes and the values before, the bytes are records that pass as these values.
   unfoldable pub Run : List j.Value → ℕ → List ℕ → List j.Value → Type 0
   Run before used bytes [] = bytes ≡ []
@@ -26,31 +26,31 @@ module _ (j : Judging) where
       × Run (before ++ value ∷ []) (used + length front) more values
 
 -- The content of a record is at most one value, or has one objection.
-pub record ValueLaws (j : Judging) : Type 0 where
-  pub one_value : (values : List j.Value) (held : j.Held) (value other : j.Value)
+pub record ValueLaws (j : Validation) : Type 0 where
+  pub one_value : (values : List j.Value) (held : j.Payload) (value other : j.Value)
       → j.IsNext values held value → j.IsNext values held other → value ≡ other
-  pub one_objection : (values : List j.Value) (held : j.Held) (why because : Objection)
-      → j.Objects values held why → j.Objects values held because → why ≡ because
-  pub next_not_objected : (values : List j.Value) (held : j.Held) (value : j.Value)
-      (why : Objection)
-      → j.IsNext values held value → j.Objects values held why → ⊥
+  pub one_objection : (values : List j.Value) (held : j.Payload) (why because : ContentError)
+      → j.Rejects values held why → j.Rejects values held because → why ≡ because
+  pub next_not_objected : (values : List j.Value) (held : j.Payload) (value : j.Value)
+      (why : ContentError)
+      → j.IsNext values held value → j.Rejects values held why → ⊥
 
 -- The conditions for the contents of records.
-pub record ValueFacts (j : Judging) : Type 0 where
+pub record ValueFacts (j : Validation) : Type 0 where
   pub laws : ValueLaws j
   pub some_judgement : (bytes : List ℕ) (values : List j.Value) → Run j [] 0 bytes values
-      → (held : j.Held)
+      → (held : j.Payload)
       → ((value : j.Value) × j.IsNext values held value)
-      ⊎ ((why : Objection) × j.Objects values held why)
+      ⊎ ((why : ContentError) × j.Rejects values held why)
 
 -- The condition for accepted inputs: they are the runs.
-pub record AcceptedFacts (j : Judging) : Type 0 where
+pub record AcceptedFacts (j : Validation) : Type 0 where
   pub run_of_accepted : (bytes : List ℕ) (values : List j.Value) → j.IsAccepted bytes values
       → Run j [] 0 bytes values
   pub accepted_of_run : (bytes : List ℕ) (values : List j.Value) → Run j [] 0 bytes values
       → j.IsAccepted bytes values
 
-module _ (j : Judging) where
+module _ (j : Validation) where
   pub run_none : (before : List j.Value) (used : ℕ) → Run j before used [] []
   unfolding Run
   run_none before used = refl
@@ -100,7 +100,7 @@ module _ (j : Judging) where
 
   module _ (records : IsReadable j.records) where
     -- A record is not empty.
-    pub some_bytes : (front : List ℕ) (held : j.Held) → IsItem j.records front held
+    pub some_bytes : (front : List ℕ) (held : j.Payload) → IsItem j.records front held
         → 0 < length front
     some_bytes [] held is = absurd (not_empty records held is)
     some_bytes (byte ∷ front) held is = omega arith

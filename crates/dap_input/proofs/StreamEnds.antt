@@ -10,32 +10,32 @@ use Rattle.std.proofs.KnownBytes.{Appends-nil, Appends-trans}
 use Rattle.dap_device.specs.declared.device.Source.{Ghosts as Source}
 use Rattle.dap_device.specs.declared.device.Sink.{Ghosts as Sink}
 use Rattle.dap_device.specs.Device.{HasFlushedAll, HasTakenNothing}
-use Rattle.dap_device.specs.Written.{AllSent, AllWritten, FrontWritten, HasWrittenAll}
+use Rattle.dap_device.specs.Written.{AllSent, AllWritten, PrefixWritten, HasWrittenAll}
 use Rattle.dap_device.specs.declared.device.DeviceFault.{DeviceFault}
 use Rattle.dap_device.specs.declared.reading.Stop.{Stop}
 use Rattle.dap_device.specs.declared.reading.Stop.TheVariants.{End}
 use Rattle.dap_device.proofs.Sending.{kept, nothing_awaits, some_of_both}
 use Rattle.dap_recording.specs.declared.record_fault.RecordCause.TheVariants.{Cut}
 use Rattle.dap_input.specs.Engine.{Accepts}
-use Rattle.dap_input.specs.InputSteps.{Says}
-use Rattle.dap_input.specs.Judging.{Judging}
+use Rattle.dap_input.specs.InputSteps.{RefusalHolds}
+use Rattle.dap_input.specs.Validation.{Validation}
 use Rattle.dap_input.specs.Streaming.{AnswersRefusal, Flushes, HasComeTo, HasFailedToWrite}
-use Rattle.dap_input.specs.Streaming.{HasGivenUp, HasGivenUpAt, IsNextText, Streams}
+use Rattle.dap_input.specs.Streaming.{RanOutOfMemory, HasGivenUpAt, IsNextText, Streams}
 use Rattle.dap_input.specs.declared.refused.Refused.{Refused}
 use Rattle.dap_input.specs.declared.refused.Refused.TheVariants.{Record, WriteFault, Memory}
 use Rattle.dap_input.proofs.Coming.{nothing_came}
 use Rattle.dap_input.proofs.Refusals.{untold}
 
 -- The effect of a written text on the writer.
-pub all_written : {W U : Type 0} (sink : Sink W) (old new : W) (answer : Result U DeviceFault)
-    (bytes : List ℕ) → HasWrittenAll sink old new answer bytes → is_err answer ≡ false
+pub all_written : {W U : Type 0} (sink : Sink W) (old new : W) (outcome : Result U DeviceFault)
+    (bytes : List ℕ) → HasWrittenAll sink old new outcome bytes → is_err outcome ≡ false
     → AllWritten sink old new bytes
 all_written sink old new (Ok done) bytes sent none = sent
 all_written sink old new (Err fault) bytes sent none = absurd (true≢false none)
 
-pub front_written : {W U : Type 0} (sink : Sink W) (old new : W) (answer : Result U DeviceFault)
-    (bytes : List ℕ) → HasWrittenAll sink old new answer bytes → is_err answer ≡ true
-    → FrontWritten sink old new bytes
+pub front_written : {W U : Type 0} (sink : Sink W) (old new : W) (outcome : Result U DeviceFault)
+    (bytes : List ℕ) → HasWrittenAll sink old new outcome bytes → is_err outcome ≡ true
+    → PrefixWritten sink old new bytes
 front_written sink old new (Ok done) bytes sent some = absurd (true≢false (sym some))
 front_written sink old new (Err fault) bytes sent some = sent
 
@@ -46,11 +46,11 @@ nothing_written sink before = record {
   no_failure = refl;
 }
 
-module _ {R W : Type 0} (j : Judging) (Gives Promises : List ℕ → List ℕ → Type 0)
+module _ {R W : Type 0} (j : Validation) (Gives Promises : List ℕ → List ℕ → Type 0)
     (source : Source R) (sink : Sink W) (start : R) (before : W) where
   -- Nothing has been read or written.
   pub given_up : j.IsAccepted [] [] → Gives [] []
-      → HasGivenUp j Gives Promises source sink start start before before
+      → RanOutOfMemory j Gives Promises source sink start start before before
   given_up accepted gives = record {
     number = 1;
     stop = None;
@@ -77,9 +77,9 @@ module _ {R W : Type 0} (j : Judging) (Gives Promises : List ℕ → List ℕ �
       (to : HasComeTo j Gives source start after stop number text)
       (written : AllWritten sink before writer text) where
     abbrev pub Answer : W → Result (Unit {0}) Refused → Type 0
-    Answer end answer = Streams j Gives Promises source sink start after before end answer
+    Answer end outcome = Streams j Gives Promises source sink start after before end outcome
 
-    pub given_up_at : HasGivenUp j Gives Promises source sink start after before writer
+    pub given_up_at : RanOutOfMemory j Gives Promises source sink start after before writer
     given_up_at = record {
       number = number;
       stop = stop;
@@ -118,7 +118,7 @@ module _ {R W : Type 0} (j : Judging) (Gives Promises : List ℕ → List ℕ �
     -- a write that fails
     pub failed_to_write : (next : List ℕ)
         → IsNextText j Gives Promises source sink to.bytes stop number text next → (end : W)
-        → FrontWritten sink writer end next
+        → PrefixWritten sink writer end next
         → HasFailedToWrite j Gives Promises source sink start after before end
     failed_to_write next is_next end front = record {
       number = number;
@@ -178,24 +178,24 @@ module _ {R W : Type 0} (j : Judging) (Gives Promises : List ℕ → List ℕ �
 
     -- This record is rejected, or cannot be read.
     abbrev pub Told : Refused → Type 0
-    Told because = Says j to.bytes stop number because
+    Told because = RefusalHolds j to.bytes stop number because
         × ((n : ℕ) → because ≡ Record n Cut → stop ≡ Some End)
 
     refused_for : (because : Refused) → because ≢ Memory → Told because → (end : W)
         → HasFlushedAll sink.out sink.unflushed sink.failures writer end
         → Answer end (Err because)
-    refused_for WriteFault other told end done =
-        absurd (untold WriteFault number told.0.fault refl (λ e. absurd (let same = e in cc))
-        told.0.tells)
-    refused_for Memory other told end done = absurd (other refl)
-    refused_for because other told end done = record {
+    refused_for WriteFault other reported end done =
+        absurd (untold WriteFault number reported.0.fault refl (λ e. absurd (let same = e in cc))
+        reported.0.tells)
+    refused_for Memory other reported end done = absurd (other refl)
+    refused_for because other reported end done = record {
       text = text;
       refuses = record {
         number = number;
         stop = stop;
         to = to;
-        refuses = told.0;
-        cut = told.1;
+        refuses = reported.0;
+        cut = reported.1;
       };
       written = flushed end done;
     }
@@ -203,17 +203,17 @@ module _ {R W : Type 0} (j : Judging) (Gives Promises : List ℕ → List ℕ �
     pub once_flushed : (because : Refused) → because ≢ Memory → Told because → (end : W)
         (result : Result (Unit {0}) Refused) → Flushes sink writer end (Err because) result
         → Answer end result
-    once_flushed because other told end result (inl done) =
-        subst (Answer end) (sym done.0) (refused_for because other told end done.1)
-    once_flushed because other told end result (inr failed) =
+    once_flushed because other reported end result (inl done) =
+        subst (Answer end) (sym done.0) (refused_for because other reported end done.1)
+    once_flushed because other reported end result (inr failed) =
         subst (Answer end) (sym failed.0) (failed_to_flush end failed.1)
 
     pub refused : (because : Refused) → Told because → (end : W)
         (result : Result (Unit {0}) Refused) → AnswersRefusal sink writer end because result
         → Answer end result
-    refused Memory told end result (is, same) =
+    refused Memory reported end result (is, same) =
         subst (Answer end) (sym is)
-        (subst (HasGivenUp j Gives Promises source sink start after before) (sym same)
+        (subst (RanOutOfMemory j Gives Promises source sink start after before) (sym same)
         given_up_at)
-    refused because told end result given =
-        once_flushed because (λ same. absurd (let e = same in cc)) told end result given
+    refused because reported end result given =
+        once_flushed because (λ same. absurd (let e = same in cc)) reported end result given

@@ -6,20 +6,20 @@ use Rattle.std.proofs.Common.{Err, refl, sym, ◌∙◌, ap, subst, arith, lengt
 use Rattle.std.specs.Prelude.{is_some}
 use Rattle.dap_device.specs.declared.device.Sink.{Ghosts as Sink}
 use Rattle.dap_device.specs.declared.device.Source.{Ghosts as Source}
-use Rattle.dap_device.specs.Pieces.{HasComeSoFar}
-use Rattle.dap_device.specs.Reading.{HasCome, HasLength}
+use Rattle.dap_device.specs.Pieces.{HasReadSoFar}
+use Rattle.dap_device.specs.Reading.{HasReadInput, HasLength}
 use Rattle.dap_device.specs.declared.reading.Stop.{Stop}
 use Rattle.dap_device.specs.declared.reading.Stop.TheVariants.{End, Full, Failed}
-use Rattle.dap_items.specs.Items.{Items}
+use Rattle.dap_items.specs.Grammar.{Grammar}
 use Rattle.dap_recording.specs.declared.record_fault.RecordCause.{RecordCause}
 use Rattle.dap_recording.specs.declared.record_fault.RecordCause.TheVariants.{Cut}
 use Rattle.dap_input.specs.Engine.{Answers, FailsToRead, ReadsNoneOrAll, RefusesInput}
-use Rattle.dap_input.specs.InputSteps.{AcceptsAll, RefusesOne, Says}
+use Rattle.dap_input.specs.InputSteps.{AcceptsAll, RefusesOne, RefusalHolds}
 use Rattle.dap_input.specs.Inputs.{Fault, Input, IsRefusedAt, EndsAt, refused, read_fault}
-use Rattle.dap_input.specs.Judging.{Judging}
+use Rattle.dap_input.specs.Validation.{Validation}
 use Rattle.dap_input.specs.ReadTo.{has_failed, so_far}
 use Rattle.dap_input.specs.RecordSteps.{IsAtStart, IsWithin, ReadsNext, ReadsRest}
-use Rattle.dap_input.specs.Refusals.{IsRefused, RefusesHeld, Tells}
+use Rattle.dap_input.specs.Refusals.{IsRefused, RejectsPayload, RefusalMatches}
 use Rattle.dap_input.specs.declared.records.Records.{Records}
 use Rattle.dap_input.specs.declared.refused.Refused.{Refused}
 use Rattle.dap_input.specs.declared.refused.Refused.TheVariants.{Record, ReadFault, WriteFault}
@@ -30,25 +30,26 @@ use Rattle.dap_input.proofs.InputSteps as steps
 use Rattle.dap_input.proofs.Refusals.{refused_as, refused_in, untold}
 
 -- These bytes were received, and the records before the next one are validated as these values.
-pub record Going {I R : Type 0} (j : Judging) (stands : I → List ℕ → Type 0) (source : Source R)
+pub record Going {I R : Type 0} (j : Validation) (represents : I → List ℕ → Type 0)
+    (source : Source R)
     (start reader : R) (records : Records I)
     (values : List j.Value) : Type 0 where
   pub bytes : List ℕ
-  pub came : HasComeSoFar source start reader bytes None
-  pub behind : StandsBehind j stands bytes records values
+  pub came : HasReadSoFar source start reader bytes None
+  pub behind : StandsBehind j represents bytes records values
 
-module _ {I A R : Type 0} (j : Judging) (g : Items A RecordCause) (held_of : A → j.Held)
-    (facts : ReadsAs j g held_of) (stands : I → List ℕ → Type 0) (source : Source R) where
-  pub at_start : (reader : R) (records : Records I) → IsAtStart stands j.input records
-      → Going j stands source reader reader records []
+module _ {I A R : Type 0} (j : Validation) (g : Grammar A RecordCause) (held_of : A → j.Payload)
+    (facts : ReadsAs j g held_of) (represents : I → List ℕ → Type 0) (source : Source R) where
+  pub at_start : (reader : R) (records : Records I) → IsAtStart represents j.input records
+      → Going j represents source reader reader records []
   at_start reader records start = record {
     bytes = [];
     came = nothing_came source reader;
-    behind = none_read j stands records facts.accepted start;
+    behind = none_read j represents records facts.accepted start;
   }
 
   module _ (start reader : R) (records : Records I) (values : List j.Value)
-      (was : Going j stands source start reader records values) where
+      (was : Going j represents source start reader records values) where
     taken_within : length was.bytes ≤ j.input
     taken_within = let taken = was.behind.taken in let limit = was.behind.limit_is in let within =
         was.behind.between.within in omega (arith, taken, limit, within)
@@ -80,21 +81,21 @@ module _ {I A R : Type 0} (j : Judging) (g : Items A RecordCause) (held_of : A �
 
     module _ (new : Records I) (after : R) where
       abbrev pub Reads : Result (Option A) Refused → Type 0
-      Reads answer = ReadsNext g stands source records new reader after answer
+      Reads outcome = ReadsNext g represents source records new reader after outcome
 
       abbrev Refuses : Refused → Type 0
       Refuses because = RefusesOne j source start after new because
 
-      refuses : (answer : Result (Option A) Refused) (read : Reads answer) (because : Refused)
-          → Says j (was.bytes ++ read.more) read.stop records.number because
+      refuses : (outcome : Result (Option A) Refused) (read : Reads outcome) (because : Refused)
+          → RefusalHolds j (was.bytes ++ read.more) read.stop records.number because
           × ((n : ℕ) → because ≡ Record n Cut → read.stop ≡ Some End) → Refuses because
-      refuses answer read because told = record {
+      refuses outcome read because reported = record {
         bytes = was.bytes ++ read.more;
         stop = read.stop;
         came = came_on source start reader after was.bytes read.more read.stop was.came
             read.came;
-        within = steps.within j g held_of facts stands source was.bytes records values
-            was.behind new reader after answer read;
+        within = steps.within j g held_of facts represents source was.bytes records values
+            was.behind new reader after outcome read;
         over = read.over;
         taken = λ same.
             let is = read.taken same in
@@ -102,52 +103,52 @@ module _ {I A R : Type 0} (j : Judging) (g : Items A RecordCause) (held_of : A �
             omega (arith, is, taken, length-append was.bytes read.more);
         limit_is = read.limit_is ∙ was.behind.limit_is;
         number = records.number;
-        says = told.0;
-        cut = told.1;
+        says = reported.0;
+        cut = reported.1;
       }
 
       -- No record was received.
       pub refuses_read : (because : Refused) → Reads (Err because) → Refuses because
       refuses_read because read =
           refuses (Err because) read because
-          (steps.refused_read j g held_of facts stands source was.bytes records values
+          (steps.refused_read j g held_of facts represents source was.bytes records values
           was.behind new reader after because read)
 
       pub accepts_all : Reads (Ok None) → AcceptsAll j source start after values
       accepts_all read =
-          let end = steps.none_left j g held_of facts stands source was.bytes records
+          let end = steps.none_left j g held_of facts represents source was.bytes records
           values was.behind new reader after read in
           record {
             whole = was.bytes ++ read.more;
-            came = subst (HasComeSoFar source start after (was.bytes ++ read.more))
+            came = subst (HasReadSoFar source start after (was.bytes ++ read.more))
                 end.0
                 (came_on source start reader after was.bytes read.more read.stop
                 was.came read.came);
             within = subst (IsWithin (length (was.bytes ++ read.more)) j.input) end.0
-                (steps.within j g held_of facts stands source was.bytes records values
+                (steps.within j g held_of facts represents source was.bytes records values
                 was.behind new reader after (Ok None) read);
             accepted = end.1;
           }
 
       -- A record was received.
       pub refuses_held : (whole : A) → Reads (Ok (Some whole)) → (because : Refused)
-          → RefusesHeld (j.Objects values (held_of whole)) records.number because
+          → RejectsPayload (j.Rejects values (held_of whole)) records.number because
           → Refuses because
       refuses_held whole read because h =
           refuses (Ok (Some whole)) read because
-          (steps.refused_held j g held_of facts stands source was.bytes records values
+          (steps.refused_held j g held_of facts represents source was.bytes records values
           was.behind new reader after whole read because h)
 
       pub on : (whole : A) → Reads (Ok (Some whole)) → (value : j.Value)
           → j.IsNext values (held_of whole) value
-          → Going j stands source start after new (values ++ value ∷ [])
+          → Going j represents source start after new (values ++ value ∷ [])
       on whole read value is_next = record {
         bytes = was.bytes ++ read.more;
-        came = subst (HasComeSoFar source start after (was.bytes ++ read.more))
+        came = subst (HasReadSoFar source start after (was.bytes ++ read.more))
             read.finds.0
             (came_on source start reader after was.bytes read.more read.stop was.came
             read.came);
-        behind = steps.gone_on j g held_of facts stands source was.bytes records values
+        behind = steps.gone_on j g held_of facts represents source was.bytes records values
             was.behind new reader after whole read value is_next;
       }
 
@@ -155,28 +156,29 @@ module _ {I A R : Type 0} (j : Judging) (g : Items A RecordCause) (held_of : A �
           → (new.pieces.limit - new.pieces.taken) + length new.pieces.unread
           < (records.pieces.limit - records.pieces.taken) + length records.pieces.unread
       fewer_left whole read =
-          steps.shorter j g held_of facts stands source was.bytes records values
+          steps.shorter j g held_of facts represents source was.bytes records values
           was.behind new reader after whole read
 
 -- ---- what the engine returns
 
 -- The source has stopped, and the received bytes are rejected.
-pub record RefusesRead {R : Type 0} (j : Judging) (source : Source R) (old new : R)
+pub record RefusesRead {R : Type 0} (j : Validation) (source : Source R) (old new : R)
     (because : Refused) : Type 0 where
   pub bytes : List ℕ
   pub stop : Stop
-  pub came : HasComeSoFar source old new bytes (Some stop)
+  pub came : HasReadSoFar source old new bytes (Some stop)
   pub within : IsWithin (length bytes) j.input (Some stop)
   pub number : ℕ
-  pub says : Says j bytes (Some stop) number because
+  pub says : RefusalHolds j bytes (Some stop) number because
   pub cut : (n : ℕ) → because ≡ Record n Cut → stop ≡ End
 
-module _ {A R : Type 0} (j : Judging) (g : Items A RecordCause) (held_of : A → j.Held)
+module _ {A R : Type 0} (j : Validation) (g : Grammar A RecordCause) (held_of : A → j.Payload)
     (facts : ReadsAs j g held_of) (source : Source R) where
   -- A rejected prefix remains rejected when the rest is read.
   stays_said : (bytes more : List ℕ) (stop : Stop) (number : ℕ) (because : Refused)
-      → ((n : ℕ) → because ≡ Record n Cut → None ≡ Some End) → Says j bytes None number because
-      → Says j (bytes ++ more) (Some stop) number because
+      → ((n : ℕ) → because ≡ Record n Cut → None ≡ Some End)
+      → RefusalHolds j bytes None number because
+      → RefusalHolds j (bytes ++ more) (Some stop) number because
   stays_said bytes more stop number Memory ended said = tt
   stays_said bytes more stop number because ended said =
       refused_in j facts.records facts.judged facts.accepted bytes number because
@@ -195,12 +197,12 @@ module _ {A R : Type 0} (j : Judging) (g : Items A RecordCause) (held_of : A →
         record {
           bytes = one.bytes;
           stop = stop;
-          came = subst (λ r. HasComeSoFar source old r one.bytes (Some stop))
-              (sym same) (subst (HasComeSoFar source old mid one.bytes) is one.came);
+          came = subst (λ r. HasReadSoFar source old r one.bytes (Some stop))
+              (sym same) (subst (HasReadSoFar source old mid one.bytes) is one.came);
           within = subst (IsWithin (length one.bytes) j.input) is one.within;
           number = one.number;
-          says = subst (λ s. Says j one.bytes s one.number because) is one.says;
-          cut = λ n told. let e : Some stop ≡ Some End = sym is ∙ one.cut n told in cc;
+          says = subst (λ s. RefusalHolds j one.bytes s one.number because) is one.says;
+          cut = λ n reported. let e : Some stop ≡ Some End = sym is ∙ one.cut n reported in cc;
         }
 
     -- Otherwise the rest of the input is read.
@@ -216,15 +218,15 @@ module _ {A R : Type 0} (j : Judging) (g : Items A RecordCause) (held_of : A →
           bytes = one.bytes ++ more.more;
           stop = more.stop;
           came = came_on source old mid new one.bytes more.more (Some more.stop)
-              (subst (HasComeSoFar source old mid one.bytes) is one.came) more.came;
+              (subst (HasReadSoFar source old mid one.bytes) is one.came) more.came;
           within = subst (λ n. IsWithin n j.input (Some more.stop)) all_taken
               (subst (λ n. IsWithin (records.pieces.taken + length more.more) n (Some more.stop))
               limit more.within);
           number = one.number;
           says = stays_said one.bytes more.more more.stop one.number because
-              (λ n told. sym is ∙ one.cut n told)
-              (subst (λ s. Says j one.bytes s one.number because) is one.says);
-          cut = λ n told. absurd (let e : None ≡ Some End = sym is ∙ one.cut n told in cc);
+              (λ n reported. sym is ∙ one.cut n reported)
+              (subst (λ s. RefusalHolds j one.bytes s one.number because) is one.says);
+          cut = λ n reported. absurd (let e : None ≡ Some End = sym is ∙ one.cut n reported in cc);
         }
 
     pub drained : RefusesRead j source old new because
@@ -236,11 +238,11 @@ module _ {A R : Type 0} (j : Judging) (g : Items A RecordCause) (held_of : A →
         by_stop (Some stop) is = at_stop stop is
 
 -- The bytes produce this text: that of the values that they are accepted as.
-abbrev pub Gives : (j : Judging) → (List j.Value → List ℕ) → List ℕ → List ℕ → Type 0
+abbrev pub Gives : (j : Validation) → (List j.Value → List ℕ) → List ℕ → List ℕ → Type 0
 Gives j text bytes written = (values : List j.Value) × j.IsAccepted bytes values
     × (written ≡ text values)
 
-module _ {R : Type 0} (j : Judging) (source : Source R)
+module _ {R : Type 0} (j : Validation) (source : Source R)
     (text : List j.Value → List ℕ) (old new : R) where
   module _ (bytes : List ℕ) where
     has_length : (stop : Stop) → IsWithin (length bytes) j.input (Some stop)
@@ -249,9 +251,9 @@ module _ {R : Type 0} (j : Judging) (source : Source R)
     has_length Full within = within
     has_length Failed within = within
 
-    has_come : (stop : Stop) → HasComeSoFar source old new bytes (Some stop)
+    has_come : (stop : Stop) → HasReadSoFar source old new bytes (Some stop)
         → IsWithin (length bytes) j.input (Some stop)
-        → HasCome source old new j.input bytes stop
+        → HasReadInput source old new j.input bytes stop
     has_come stop came within =
         record {
           came = came.came;
@@ -261,7 +263,7 @@ module _ {R : Type 0} (j : Judging) (source : Source R)
         }
 
   module _ (bytes : List ℕ) (stop : Stop)
-      (came : HasComeSoFar source old new bytes (Some stop))
+      (came : HasReadSoFar source old new bytes (Some stop))
       (within : IsWithin (length bytes) j.input (Some stop)) (number : ℕ) where
     abbrev There : Input
     There = so_far bytes (Some stop)
@@ -278,26 +280,28 @@ module _ {R : Type 0} (j : Judging) (source : Source R)
     failed_stop Full is = absurd (let e : false ≡ true = is in cc)
     failed_stop Failed is = refl
 
-    fails : (fault : Fault) → Tells ReadFault number fault → IsRefusedAt j There number fault
+    fails : (fault : Fault) → RefusalMatches ReadFault number fault
+        → IsRefusedAt j There number fault
         → FailsToRead source j.input (Gives j text) (IsRefused j) old new
     fails (refused why) tells is = absurd (let e = tells in cc)
     fails read_fault tells is =
         let failed = failed_stop stop is.0 in
         record {
           bytes = bytes;
-          came = subst (HasCome source old new j.input bytes) failed
+          came = subst (HasReadInput source old new j.input bytes) failed
               (has_come bytes stop came within);
           not_refused = ends_there is.1;
         }
 
     refuses_there : (because : Refused) → because ≢ ReadFault → (fault : Fault)
-        → Tells because number fault → IsRefusedAt j There number fault → IsRefused j bytes because
+        → RefusalMatches because number fault → IsRefusedAt j There number fault
+        → IsRefused j bytes because
     refuses_there because other (refused why) tells is =
         refused_as j bytes because number why tells is.0
     refuses_there because other read_fault tells is = absurd (other tells)
 
     refuses_input : (because : Refused) → because ≢ ReadFault → (fault : Fault)
-        → Tells because number fault → IsRefusedAt j There number fault
+        → RefusalMatches because number fault → IsRefusedAt j There number fault
         → ((n : ℕ) → because ≡ Record n Cut → stop ≡ End)
         → RefusesInput source j.input (IsRefused j) old new because
     refuses_input because other fault tells is cut = record {

@@ -10,14 +10,14 @@ use Rattle.dap_device.specs.declared.reading.Stop.TheVariants.{End, Failed}
 use Rattle.dap_input.specs.declared.refused.Refused.{Refused}
 use Rattle.dap_input.specs.declared.refused.Refused.TheVariants.{Record, ReadFault, WriteFault}
 use Rattle.dap_input.specs.declared.refused.Refused.TheVariants.{Memory}
-use Rattle.dap_device.specs.Reading.{HasCome}
-use Rattle.dap_device.specs.Written.{AllSent, FrontWritten}
+use Rattle.dap_device.specs.Reading.{HasReadInput}
+use Rattle.dap_device.specs.Written.{AllSent, PrefixWritten}
 
 -- An engine over a reader, by the bytes and failures that the reader reports.
 module _ {R : Type 0} (source : Source R) (input : ℕ) where
   -- These bytes were received from the reader, and it stopped for this reason.
   abbrev pub Came : R → R → List ℕ → Stop → Type 0
-  Came old new bytes stop = HasCome source old new input bytes stop
+  Came old new bytes stop = HasReadInput source old new input bytes stop
 
   -- Nothing of the input was read; or it was read up to its end, to a byte beyond the limit, or to
   -- a failure of the reader.
@@ -62,7 +62,7 @@ module _ {R W : Type 0} (source : Source R) (sink : Sink W)
   pub record HasNotWritten (old new : R) (before after : W) : Type 0 where
     pub text : List ℕ
     pub accepts : Accepts source input Gives old new text
-    pub written : FrontWritten sink before after text
+    pub written : PrefixWritten sink before after text
 
   -- With every other result, nothing was written.
   abbrev pub Answers : {U : Type 0} → R → R → W → W → Result U Refused → Type 0

@@ -1,7 +1,7 @@
 -- An input as it was received, for any kind of record: where it is rejected, and what comes before
 -- a record. Source: own.
 use Rattle.std.specs.Prelude.{◌≡◌, ◌≢◌, ◌⊎◌, ℕ, ◌+◌, Bool, true, false, List, ◌++◌, length}
-use Rattle.dap_input.specs.Judging.{Judging, Reason, cut, IsFirstRefusal}
+use Rattle.dap_input.specs.Validation.{Validation, Reason, cut, IsFirstRefusal}
 
 -- An input as it was received: its bytes, and whether its reader failed after them.
 pub record Input : Type 0 where
@@ -14,7 +14,7 @@ pub data Fault : Type 0 where
   refused : Reason → Fault
   read_fault : Fault
 
-module _ (j : Judging) where
+module _ (j : Validation) where
   -- The bytes end before this record or inside it, and those before contain no error.
   abbrev pub EndsAt : List ℕ → ℕ → Type 0
   EndsAt bytes number = IsFirstRefusal j bytes number cut

@@ -2,7 +2,7 @@ pub mod Engine
 pub mod InputSteps
 pub mod Inputs
 pub mod ItemReading
-pub mod Judging
+pub mod Validation
 pub mod Limits
 pub mod ReadTo
 pub mod RecordSteps

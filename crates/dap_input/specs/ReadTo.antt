@@ -3,14 +3,14 @@ use Rattle.std.specs.Prelude.{◌≡◌, ◌⊎◌, ℕ, ◌+◌, ◌≤◌, Boo
 use Rattle.std.specs.Prelude.{Option, Some, None}
 use Rattle.dap_device.specs.declared.reading.Stop.{Stop}
 use Rattle.dap_device.specs.declared.reading.Stop.TheVariants.{End, Failed}
-use Rattle.dap_items.specs.Items.{IsItem, Shows}
+use Rattle.dap_items.specs.Grammar.{IsItem, FailsAt}
 use Rattle.dap_recording.specs.declared.record_fault.RecordCause.{RecordCause}
 use Rattle.dap_input.specs.Inputs.{AcceptedBefore, EndsAt, Input}
-use Rattle.dap_input.specs.Judging.{Judging}
+use Rattle.dap_input.specs.Validation.{Validation}
 
 -- No more was read than this record required: without at most the last 65,536 bytes, the received
 -- bytes end before it or inside it, and contain no error.
-pub record IsReadTo (j : Judging) (bytes : List ℕ) (number : ℕ) : Type 0 where
+pub record IsReadTo (j : Validation) (bytes : List ℕ) (number : ℕ) : Type 0 where
   pub before : List ℕ
   pub last : List ℕ
   pub split : bytes ≡ before ++ last
@@ -35,10 +35,10 @@ IsOf bytes stop input = (more : List ℕ) × (input.bytes ≡ bytes ++ more)
 
 -- At most 65,536 bytes were read beyond this record if it is complete, and beyond the byte that
 -- proves an error of it. The records before it are accepted.
-pub record IsBounded (j : Judging) (bytes : List ℕ) (number : ℕ) : Type 0 where
+pub record IsBounded (j : Validation) (bytes : List ℕ) (number : ℕ) : Type 0 where
   pub past_record : (before : AcceptedBefore j (so_far bytes None) number) (whole more : List ℕ)
-      (held : j.Held) → before.rest ≡ whole ++ more → IsItem j.records whole held
+      (held : j.Payload) → before.rest ≡ whole ++ more → IsItem j.records whole held
       → length bytes ≤ length before.front + length whole + 65536
   pub past_fault : (before : AcceptedBefore j (so_far bytes None) number) (cause : RecordCause)
-      (place : ℕ) → Shows j.records before.rest cause place
+      (place : ℕ) → FailsAt j.records before.rest cause place
       → length bytes ≤ length before.front + place + 65536

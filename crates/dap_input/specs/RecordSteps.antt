@@ -2,10 +2,10 @@
 use Rattle.std.specs.Prelude.{◌≡◌, ◌≢◌, ◌⊎◌, ℕ, ◌+◌, ◌<◌, ◌≤◌, false, List, [], ◌∷◌, ◌++◌, length}
 use Rattle.std.specs.Prelude.{Option, Some, None, is_some, Result, Ok, Err}
 use Rattle.dap_device.specs.declared.device.Source.{Ghosts as Source}
-use Rattle.dap_device.specs.Pieces.{HasComeSoFar}
+use Rattle.dap_device.specs.Pieces.{HasReadSoFar}
 use Rattle.dap_device.specs.declared.reading.Stop.{Stop}
 use Rattle.dap_device.specs.declared.reading.Stop.TheVariants.{End, Full, Failed}
-use Rattle.dap_items.specs.Items.{Items, IsItem, Shows}
+use Rattle.dap_items.specs.Grammar.{Grammar, IsItem, FailsAt}
 use Rattle.dap_recording.specs.declared.record_fault.RecordCause.{RecordCause}
 use Rattle.dap_recording.specs.declared.record_fault.RecordCause.TheVariants.{Cut}
 use Rattle.dap_recording.specs.declared.record_fault.RecordCause.TheVariants.{Memory as NoMemory}
@@ -16,16 +16,17 @@ use Rattle.dap_input.specs.declared.refused.Refused.TheVariants.{Memory}
 
 -- The reader is between two records, no more has been read than allowed, and the source has not
 -- stopped.
-pub record StandsBetween {I : Type 0} (stands : I → List ℕ → Type 0) (records : Records I) : Type 0
+pub record IsBetweenRecords {I : Type 0} (represents : I → List ℕ → Type 0) (records : Records I)
+    : Type 0
   where
-    pub reads : stands records.reader []
+    pub reads : represents records.reader []
     pub within : records.pieces.taken ≤ records.pieces.limit
     pub goes_on : records.is_over ≡ false
 
 -- Nothing of the input has been read, and at most `limit` bytes may be read.
-pub record IsAtStart {I : Type 0} (stands : I → List ℕ → Type 0) (limit : ℕ)
+pub record IsAtStart {I : Type 0} (represents : I → List ℕ → Type 0) (limit : ℕ)
     (records : Records I) : Type 0 where
-  pub between : StandsBetween stands records
+  pub between : IsBetweenRecords represents records
   pub pieces : records.pieces ≡ record { unread = []; taken = 0; limit = limit }
   pub number : records.number ≡ 1
 
@@ -34,7 +35,7 @@ abbrev pub IsWithin : ℕ → ℕ → Option Stop → Type 0
 IsWithin taken limit (Some Full) = taken ≡ limit + 1
 IsWithin taken limit stop = taken ≤ limit
 
-module _ {A : Type 0} (g : Items A RecordCause) where
+module _ {A : Type 0} (g : Grammar A RecordCause) where
   -- The bytes received after the buffered ones, except for the last chunk, neither complete the
   -- record nor prove an error.
   abbrev pub IsNeeded : List ℕ → List ℕ → Type 0
@@ -50,13 +51,13 @@ module _ {A : Type 0} (g : Items A RecordCause) where
     pub more_is : more ≡ earlier ++ byte ∷ []
     pub is_open : g.IsOpen (held ++ earlier)
 
-module _ {I A : Type 0} (g : Items A RecordCause) (stands : I → List ℕ → Type 0) where
+module _ {I A : Type 0} (g : Grammar A RecordCause) (represents : I → List ℕ → Type 0) where
   -- A complete record was received, and the unread bytes come after it.
   pub record HasWhole (old new : Records I) (bytes : List ℕ) (whole : A) : Type 0 where
     pub front : List ℕ
     pub split : bytes ≡ front ++ new.pieces.unread
     pub is_record : IsItem g front whole
-    pub between : StandsBetween stands new
+    pub between : IsBetweenRecords represents new
     pub number_is : new.number ≡ old.number + 1
 
   -- The result for the next record, if these bytes were received, of which `more` came last.
@@ -69,7 +70,7 @@ module _ {I A : Type 0} (g : Items A RecordCause) (stands : I → List ℕ → T
       × (bytes ≢ []) × g.IsOpen bytes
   Finds old new bytes more stop (Err (Record n NoMemory)) = ⊥
   Finds old new bytes more stop (Err (Record n why)) = (n ≡ old.number) × (stop ≡ None)
-      × ((place : ℕ) × Shows g bytes why place)
+      × ((place : ℕ) × FailsAt g bytes why place)
   Finds old new bytes more stop (Err (InputTooLong n)) = (n ≡ old.number) × (stop ≡ Some Full)
       × IsTooLong g old.pieces.unread more
   Finds old new bytes more stop (Err ReadFault) = (stop ≡ Some Failed) × g.IsOpen bytes
@@ -80,32 +81,32 @@ module _ {I A : Type 0} (g : Items A RecordCause) (stands : I → List ℕ → T
     -- The next record was read, after those before: these bytes were received, no more than
     -- required, with this result.
     pub record ReadsNext (old new : Records I) (before after : R)
-        (answer : Result (Option A) Refused) : Type 0 where
+        (outcome : Result (Option A) Refused) : Type 0 where
       pub more : List ℕ
       pub stop : Option Stop
-      pub came : HasComeSoFar source before after more stop
+      pub came : HasReadSoFar source before after more stop
       pub needed : IsNeeded g old.pieces.unread more
       pub within : IsWithin (old.pieces.taken + length more) old.pieces.limit stop
       pub taken : stop ≡ None → new.pieces.taken ≡ old.pieces.taken + length more
       pub limit_is : new.pieces.limit ≡ old.pieces.limit
       pub over : new.is_over ≡ is_some stop
-      pub finds : Finds old new (old.pieces.unread ++ more) more stop answer
+      pub finds : Finds old new (old.pieces.unread ++ more) more stop outcome
 
 -- The result if no more bytes are received and the reader represents these bytes of the next
 -- record.
 abbrev pub Stops : {I A : Type 0} → (I → List ℕ → Type 0) → Records I → Stop
     → Result (Option A) Refused → Type 0
-Stops stands records Full answer = answer ≡ Err (InputTooLong records.number)
-Stops stands records Failed answer = answer ≡ Err ReadFault
-Stops stands records End answer =
-    (held : List ℕ) → stands records.reader held
-    → ((held ≡ []) × (answer ≡ Ok None))
-    ⊎ ((held ≢ []) × (answer ≡ Err (Record records.number Cut)))
+Stops represents records Full outcome = outcome ≡ Err (InputTooLong records.number)
+Stops represents records Failed outcome = outcome ≡ Err ReadFault
+Stops represents records End outcome =
+    (held : List ℕ) → represents records.reader held
+    → ((held ≡ []) × (outcome ≡ Ok None))
+    ⊎ ((held ≢ []) × (outcome ≡ Err (Record records.number Cut)))
 
 -- The rest of the input was received, up to a byte beyond the limit.
 pub record ReadsRest {I R : Type 0} (source : Source R) (old : Records I)
     (before after : R) : Type 0 where
   pub more : List ℕ
   pub stop : Stop
-  pub came : HasComeSoFar source before after more (Some stop)
+  pub came : HasReadSoFar source before after more (Some stop)
   pub within : IsWithin (old.pieces.taken + length more) old.pieces.limit (Some stop)

@@ -4,9 +4,10 @@ use Rattle.dap_message.specs.Message.{no_reading, fraction, faulty as profile_fa
 use Rattle.dap_recording.specs.declared.record_fault.RecordCause.TheVariants.{Cut}
 use Rattle.dap_recording.specs.declared.record_fault.RecordCause.TheVariants.{Memory as NoMemory}
 use Rattle.dap_input.specs.Inputs.{Input, Fault, refused, read_fault, IsRefusedAt}
-use Rattle.dap_input.specs.Judging.{Judging, Objection, Reason, faulty, input_too_long, cut}
-use Rattle.dap_input.specs.Judging.{objected, no_message, broken, too_many_ids, grew}
-use Rattle.dap_input.specs.Judging.{IsFirstRefusal}
+use Rattle.dap_input.specs.Validation.{Validation, ContentError, Reason, faulty, input_too_long}
+use Rattle.dap_input.specs.Validation.{cut}
+use Rattle.dap_input.specs.Validation.{objected, no_message, broken, too_many_ids, grew}
+use Rattle.dap_input.specs.Validation.{IsFirstRefusal}
 use Rattle.dap_input.specs.declared.refused.Refused.{Refused}
 use Rattle.dap_input.specs.declared.refused.Refused.TheVariants.{InputTooLong, Record, Json}
 use Rattle.dap_input.specs.declared.refused.Refused.TheVariants.{Fraction, Message, Rule}
@@ -30,32 +31,32 @@ reason_of (Grew n) = Some (n, objected grew)
 reason_of because = None
 
 -- The rejection is that of this record, for this reason or failure.
-abbrev pub Tells : Refused → ℕ → Fault → Type 0
-Tells because number (refused why) = reason_of because ≡ Some (number, why)
-Tells because number read_fault = because ≡ ReadFault
+abbrev pub RefusalMatches : Refused → ℕ → Fault → Type 0
+RefusalMatches because number (refused why) = reason_of because ≡ Some (number, why)
+RefusalMatches because number read_fault = because ≡ ReadFault
 
 -- The content of a complete record is rejected for this.
-abbrev pub IsObjected : (Objection → Type 0) → Reason → Type 0
-IsObjected Objects (objected why) = Objects why
-IsObjected Objects why = ⊥
+abbrev pub IsObjected : (ContentError → Type 0) → Reason → Type 0
+IsObjected Rejects (objected why) = Rejects why
+IsObjected Rejects why = ⊥
 
 -- Record n is rejected for its content, which has these objections. An allocation failure states
 -- nothing.
-abbrev pub RefusesHeld : (Objection → Type 0) → ℕ → Refused → Type 0
-RefusesHeld Objects n Memory = Unit {0}
-RefusesHeld Objects n because =
-    MatchOption (reason_of because) ⊥ (λ told. (told.0 ≡ n) × IsObjected Objects told.1)
+abbrev pub RejectsPayload : (ContentError → Type 0) → ℕ → Refused → Type 0
+RejectsPayload Rejects n Memory = Unit {0}
+RejectsPayload Rejects n because =
+    MatchOption (reason_of because) ⊥ (λ reported. (reported.0 ≡ n) × IsObjected Rejects reported.1)
 
-module _ (j : Judging) where
+module _ (j : Validation) where
   -- This is the first rejection of the input.
   abbrev pub IsRefused : List ℕ → Refused → Type 0
   IsRefused whole because =
-      MatchOption (reason_of because) ⊥ (λ told. IsFirstRefusal j whole told.0 told.1)
+      MatchOption (reason_of because) ⊥ (λ reported. IsFirstRefusal j whole reported.0 reported.1)
 
   -- The input is rejected at this record, and the rejection reports it.
   pub record RefusesAt (input : Input) (number : ℕ) (because : Refused) : Type 0 where
     pub fault : Fault
-    pub tells : Tells because number fault
+    pub tells : RefusalMatches because number fault
     pub is_refused : IsRefusedAt j input number fault
 
   -- An input is either accepted as one list of values or has exactly one rejection.

@@ -7,12 +7,12 @@ use Rattle.std.specs.Io.KnownBytes.{Appends}
 use Rattle.dap_device.specs.declared.device.Source.{Ghosts as Source}
 use Rattle.dap_device.specs.declared.device.Sink.{Ghosts as Sink}
 use Rattle.dap_device.specs.Device.{AwaitFlush, HasFlushedAll, HasTakenNothing}
-use Rattle.dap_device.specs.Pieces.{HasComeSoFar}
+use Rattle.dap_device.specs.Pieces.{HasReadSoFar}
 use Rattle.dap_device.specs.Written.{AllSent, AllWritten}
 use Rattle.dap_device.specs.declared.reading.Stop.{Stop}
 use Rattle.dap_device.specs.declared.reading.Stop.TheVariants.{End}
 use Rattle.dap_recording.specs.declared.record_fault.RecordCause.TheVariants.{Cut}
-use Rattle.dap_input.specs.Judging.{Judging}
+use Rattle.dap_input.specs.Validation.{Validation}
 use Rattle.dap_input.specs.declared.refused.Refused.{Refused}
 use Rattle.dap_input.specs.declared.refused.Refused.TheVariants.{Record, WriteFault, Memory}
 use Rattle.dap_input.specs.Inputs.{AcceptedBefore}
@@ -21,13 +21,13 @@ use Rattle.dap_input.specs.ReadTo.{IsReadTo, so_far}
 use Rattle.dap_input.specs.Refusals.{RefusesAt}
 
 -- An engine over a reader, by the bytes and counts that the reader reports.
-module _ {R : Type 0} (j : Judging) (Gives : List ℕ → List ℕ → Type 0) (source : Source R) where
+module _ {R : Type 0} (j : Validation) (Gives : List ℕ → List ℕ → Type 0) (source : Source R) where
   -- These bytes were received, no more than this record required. The records before it are
   -- accepted and have this text.
   pub record HasComeTo (old new : R) (stop : Option Stop) (number : ℕ) (text : List ℕ) : Type 0
     where
       pub bytes : List ℕ
-      pub came : HasComeSoFar source old new bytes stop
+      pub came : HasReadSoFar source old new bytes stop
       pub read_to : IsReadTo j bytes number
       pub before : AcceptedBefore j (so_far bytes stop) number
       pub gives : Gives before.front text
@@ -42,7 +42,7 @@ module _ {R : Type 0} (j : Judging) (Gives : List ℕ → List ℕ → Type 0) (
     pub cut : (n : ℕ) → refused ≡ Record n Cut → stop ≡ Some End
 
 -- An engine over a reader and a writer, which writes the text of the validated records.
-module _ {R W : Type 0} (j : Judging) (Gives Promises : List ℕ → List ℕ → Type 0)
+module _ {R W : Type 0} (j : Validation) (Gives Promises : List ℕ → List ℕ → Type 0)
     (source : Source R) (sink : Sink W) where
   -- The input is accepted, all of its text was written and flushed, and neither device failed.
   pub record HasStreamed (old new : R) (before after : W) : Type 0 where
@@ -58,7 +58,7 @@ module _ {R W : Type 0} (j : Judging) (Gives Promises : List ℕ → List ℕ �
     pub written : AllSent sink before after text
 
   -- The text of some leading records was written, without a flush after it.
-  pub record HasGivenUp (old new : R) (before after : W) : Type 0 where
+  pub record RanOutOfMemory (old new : R) (before after : W) : Type 0 where
     pub number : ℕ
     pub stop : Option Stop
     pub text : List ℕ
@@ -68,7 +68,7 @@ module _ {R W : Type 0} (j : Judging) (Gives Promises : List ℕ → List ℕ �
   -- The engine stopped before it read the record of this number. The text of every record before it
   -- was written, except perhaps that of the last one, for which an allocation failed.
   pub record HasGivenUpAt (next : ℕ) (old new : R) (before after : W) : Type 0 where
-    pub given_up : HasGivenUp old new before after
+    pub given_up : RanOutOfMemory old new before after
     pub none_lost : next ≤ given_up.number + 1
 
   -- the text to write for the record that the engine has reached: nothing, or the text of one more
@@ -96,13 +96,13 @@ module _ {R W : Type 0} (j : Judging) (Gives Promises : List ℕ → List ℕ �
   abbrev pub Streams : {U : Type 0} → R → R → W → W → Result U Refused → Type 0
   Streams old new before after (Ok done) = HasStreamed old new before after
   Streams old new before after (Err WriteFault) = HasFailedToWrite old new before after
-  Streams old new before after (Err Memory) = HasGivenUp old new before after
+  Streams old new before after (Err Memory) = RanOutOfMemory old new before after
   Streams old new before after (Err refused) = HasRefused old new before after refused
 
 -- The result is returned after the writer was flushed, or the writer failed.
 abbrev pub Flushes : {W U : Type 0} → Sink W → W → W → Result U Refused → Result U Refused → Type 0
-Flushes sink before after answer given =
-    ((given ≡ answer) × HasFlushedAll sink.out sink.unflushed sink.failures before after)
+Flushes sink before after outcome given =
+    ((given ≡ outcome) × HasFlushedAll sink.out sink.unflushed sink.failures before after)
     ⊎ ((given ≡ Err WriteFault)
     × HasTakenNothing sink.out sink.unflushed sink.failures before after)
 

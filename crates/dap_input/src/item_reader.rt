@@ -1,7 +1,7 @@
 //! Reads the items of an input while its bytes are received.
 ghost use Rattle.std.specs.Prelude.{◌≡◌, ◌<◌, ◌≤◌, ◌↔◌, ◌++◌, ℕ, List, [], length, IfErr, IfOk};
 ghost use Rattle.std.specs.Prelude.{IsErrOf, IsOk, IsTrue};
-ghost use Rattle.dap_items.specs.Items.{HasItem, Items};
+ghost use Rattle.dap_items.specs.Grammar.{HasItem, Grammar};
 ghost use Rattle.dap_frame.specs.declared.limits.FrameLimits.{FrameLimits};
 ghost use Rattle.dap_recording.specs.declared.record_fault.RecordCause.{RecordCause};
 
@@ -28,10 +28,10 @@ pub trait ItemReader: Drop {
     type Item: Drop;
 
     /// The grammar of the items under limits.
-    ghost items: { FrameLimits → Items Self.Item RecordCause };
+    ghost items: { FrameLimits → Grammar Self.Item RecordCause };
 
     /// The reader, made with these limits, represents these bytes of an incomplete item.
-    ghost stands: { FrameLimits → Self → List ℕ → Type 0 };
+    ghost represents: { FrameLimits → Self → List ℕ → Type 0 };
 
     /// Under these limits, these bytes of an item need memory: a byte of a content has arrived.
     ghost takes_memory: { FrameLimits → List ℕ → Type 0 };
@@ -49,23 +49,23 @@ pub trait ItemReader: Drop {
     ///   may be repeated with the same chunk.
     /// - Any error except `Cut`: the bytes so far prove it.
     fn feed(&mut self, piece: &[u8]) -> Result<FedItem<Self::Item>, RecordCause>
-        ensures gives { (limits : FrameLimits) (bytes : List ℕ) → stands limits self.old bytes
-            → GivesItem (items limits) (stands limits) bytes piece.now result self.new }
+        ensures gives { (limits : FrameLimits) (bytes : List ℕ) → represents limits self.old bytes
+            → GivesItem (items limits) (represents limits) bytes piece.now result self.new }
         ensures used { IfOk result (λ fed. fed.used ≤ length piece.now) }
         ensures progress { IfOk result (λ fed. 0 < length piece.now → 0 < fed.used) }
 
         // The state after an allocation failure, and what was to be allocated.
         ensures memory { IsErrOf result RecordCause.Memory → self.new ≡ self.old }
         ensures memory_for_content { IsErrOf result RecordCause.Memory → (limits : FrameLimits)
-            (bytes : List ℕ) → stands limits self.old bytes
+            (bytes : List ℕ) → represents limits self.old bytes
             → takes_memory limits (bytes ++ piece.now) }
         ensures memory_for_bytes { IsErrOf result RecordCause.Memory → (limits : FrameLimits)
-            (bytes : List ℕ) → stands limits self.old bytes → 0 < length piece.now };
+            (bytes : List ℕ) → represents limits self.old bytes → 0 < length piece.now };
 
     /// Returns whether the chunk starts with a complete item. The result does not depend on the
     /// bytes that the reader represents. Does not allocate.
     fn has_item(&self, piece: &[u8]) -> bool
-        ensures { (limits : FrameLimits) (bytes : List ℕ) → stands limits self.now bytes
+        ensures { (limits : FrameLimits) (bytes : List ℕ) → represents limits self.now bytes
             → IsTrue result → HasItem (items limits) piece.now };
 
     /// Keeps the buffer of an item that is no longer used, for later items. Changes nothing else.
@@ -79,13 +79,13 @@ pub trait ItemReader: Drop {
     ///
     /// - `Cut`: the input ends inside an item.
     fn finish(&self) -> Result<(), RecordCause>
-        ensures ok { (limits : FrameLimits) (bytes : List ℕ) → stands limits self.now bytes
+        ensures ok { (limits : FrameLimits) (bytes : List ℕ) → represents limits self.now bytes
             → (IsOk result ↔ (bytes ≡ [])) }
-        ensures cut { (limits : FrameLimits) (bytes : List ℕ) → stands limits self.now bytes
+        ensures cut { (limits : FrameLimits) (bytes : List ℕ) → represents limits self.now bytes
             → IfErr result (λ cause. cause ≡ RecordCause.Cut) };
 
     ghost is_open: { (limits : FrameLimits) (reader : Self) (bytes : List ℕ)
-        → stands limits reader bytes → (items limits).IsOpen bytes };
+        → represents limits reader bytes → (items limits).IsOpen bytes };
 }
 
 impl ItemReader for Framer {
@@ -93,16 +93,16 @@ impl ItemReader for Framer {
 
     ghost use Rattle.std.proofs.Common.{subst};
     ghost use Rattle.dap_frame.specs.Frame.{HasContentByte};
-    ghost use Rattle.dap_input.specs.ItemReading.{StandsForFrame, frame_items};
+    ghost use Rattle.dap_input.specs.ItemReading.{RepresentsFrame, frame_items};
 
     ghost items = { frame_items };
 
-    ghost stands = { StandsForFrame };
+    ghost represents = { RepresentsFrame };
 
     ghost takes_memory = { HasContentByte };
 
-    ghost is_open = { λ limits framer bytes stands.
-        subst (λ l. (frame_items l).IsOpen bytes) stands.0 stands.1.is_open };
+    ghost is_open = { λ limits framer bytes represents.
+        subst (λ l. (frame_items l).IsOpen bytes) represents.0 represents.1.is_open };
 
     fn feed(&mut self, piece: &[u8]) -> Result<FedItem<Content>, RecordCause> {
         match Framer::feed(self, piece) {
@@ -140,19 +140,19 @@ impl ItemReader for RecordReader {
     type Item = Record;
 
     ghost use Rattle.std.proofs.Common.{subst};
-    ghost use Rattle.dap_recording.proofs.RecordSteps.{stands_open};
+    ghost use Rattle.dap_recording.proofs.RecordSteps.{represented_is_incomplete};
     ghost use Rattle.dap_recording.specs.RecordReading.{HasMarkedContent};
-    ghost use Rattle.dap_input.specs.ItemReading.{StandsForRecord, record_items};
+    ghost use Rattle.dap_input.specs.ItemReading.{RepresentsRecord, record_items};
 
     ghost items = { record_items };
 
-    ghost stands = { StandsForRecord };
+    ghost represents = { RepresentsRecord };
 
     ghost takes_memory = { HasMarkedContent };
 
-    ghost is_open = { λ limits reader bytes stands.
-        subst (λ l. (record_items l).IsOpen bytes) stands.0
-        (stands_open reader stands.1.0 bytes stands.1.1) };
+    ghost is_open = { λ limits reader bytes represents.
+        subst (λ l. (record_items l).IsOpen bytes) represents.0
+        (represented_is_incomplete reader represents.1.0 bytes represents.1.1) };
 
     fn feed(&mut self, piece: &[u8]) -> Result<FedItem<Record>, RecordCause> {
         match RecordReader::feed(self, piece) {

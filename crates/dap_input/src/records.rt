@@ -1,7 +1,7 @@
 //! Reads the records of an input one by one.
 ghost use Rattle.std.specs.Prelude.{◌≡◌, ◌+◌, ◌-◌, ◌<◌, ◌≤◌, ◌^◌, [], IfOk, IsTrue, true};
 ghost use Rattle.std.specs.Prelude.{false};
-ghost use Rattle.dap_items.specs.Items.{HasItem};
+ghost use Rattle.dap_items.specs.Grammar.{HasItem};
 ghost use Rattle.dap_frame.specs.declared.limits.FrameLimits.{FrameLimits};
 
 use crate::item_reader::ItemReader;
@@ -24,14 +24,14 @@ pub struct Records<I> {
 
 impl<I: ItemReader> Records<I> {
     ghost use Rattle.dap_input.specs.RecordSteps.{IsAtStart, ReadsNext, ReadsRest};
-    ghost use Rattle.dap_input.specs.RecordSteps.{StandsBetween, Stops};
+    ghost use Rattle.dap_input.specs.RecordSteps.{IsBetweenRecords, Stops};
 
     /// Returns the records of an input of which nothing has been read, for a reader that has read
     /// nothing. At most `limit` bytes are read.
     pub fn new(alloc: Global, reader: I, limit: u64) -> Result<Records<I>, AllocError>
         requires { limit ≤ 2 ^ 62 }
-        ensures { (limits : FrameLimits) → I.stands limits reader []
-            → IfOk result (λ records. IsAtStart (I.stands limits) limit records) }
+        ensures { (limits : FrameLimits) → I.represents limits reader []
+            → IfOk result (λ records. IsAtStart (I.represents limits) limit records) }
     {
         Ok(Records {
             pieces: Pieces::new(alloc, limit)?,
@@ -54,8 +54,8 @@ impl<I: ItemReader> Records<I> {
         requires given { R.given reader.old + (self.old.pieces.limit - self.old.pieces.taken)
             < 2 ^ 63 }
         requires failures { R.failures reader.old < 2 ^ 63 }
-        ensures { (limits : FrameLimits) → StandsBetween (I.stands limits) self.old
-            → ReadsNext (I.items limits) (I.stands limits) R.Source self.old
+        ensures { (limits : FrameLimits) → IsBetweenRecords (I.represents limits) self.old
+            → ReadsNext (I.items limits) (I.represents limits) R.Source self.old
             self.new reader.old reader.new result }
     {
         loop {
@@ -81,7 +81,7 @@ impl<I: ItemReader> Records<I> {
     /// Returns whether the next record is complete in the buffered bytes, so that
     /// [`next`](Records::next) reads nothing from the source. Does not allocate.
     pub fn has_next(&self) -> bool
-        ensures { (limits : FrameLimits) → StandsBetween (I.stands limits) self.now
+        ensures { (limits : FrameLimits) → IsBetweenRecords (I.represents limits) self.now
             → IsTrue result → HasItem (I.items limits) self.now.pieces.unread }
     {
         self.reader.has_item(self.pieces.unread())
@@ -97,7 +97,7 @@ impl<I: ItemReader> Records<I> {
 
     /// Returns the result of `next` when no more bytes are received.
     fn stopped(&self, stop: Stop) -> Result<Option<I::Item>, Refused>
-        ensures { (limits : FrameLimits) → Stops (I.stands limits) self.now stop result }
+        ensures { (limits : FrameLimits) → Stops (I.represents limits) self.now stop result }
     {
         match stop {
             Stop::Full => Err(Refused::InputTooLong(self.number)),

@@ -7,22 +7,22 @@ use Rattle.std.proofs.lemmas.List.{append_assoc, append-nil, length-append, leng
 use Rattle.std.proofs.lemmas.List.{take-append-le, take-append-drop}
 use Rattle.std.proofs.lemmas.Bool.{cases_lt}
 use Rattle.std.proofs.Math.Seq.{drop-cons}
-use Rattle.dap_items.specs.Items.{Items, IsItem, IsGrammar, NoEmptyItem, HasItem, Shows}
+use Rattle.dap_items.specs.Grammar.{Grammar, IsItem, IsGrammar, NoEmptyItem, HasItem, FailsAt}
 use Rattle.dap_items.proofs.Fronts.{shorter_front}
 
 -- the statement for every byte string
-abbrev pub Outcome : {Value Fault : Type 0} → Items Value Fault → List ℕ → Type 0
+abbrev pub Outcome : {Value Fault : Type 0} → Grammar Value Fault → List ℕ → Type 0
 Outcome {Value = Value} {Fault = Fault} g bytes = HasItem g bytes
-    ⊎ (((fault : Fault) × (i : ℕ) × Shows g bytes fault i) ⊎ g.IsOpen bytes)
+    ⊎ (((fault : Fault) × (i : ℕ) × FailsAt g bytes fault i) ⊎ g.IsOpen bytes)
 
-module _ {Value Fault : Type 0} {g : Items Value Fault} where
-  pub shown_within : (bytes : List ℕ) (fault : Fault) (i : ℕ) → Shows g bytes fault i
+module _ {Value Fault : Type 0} {g : Grammar Value Fault} where
+  pub shown_within : (bytes : List ℕ) (fault : Fault) (i : ℕ) → FailsAt g bytes fault i
       → i ≤ length bytes
   shown_within bytes fault i shows =
       omega (arith, shows.place, ap length shows.bytes_are, length-append shows.front shows.more)
 
-  pub fault_stays : (bytes more : List ℕ) (fault : Fault) (i : ℕ) → Shows g bytes fault i
-      → Shows g (bytes ++ more) fault i
+  pub fault_stays : (bytes more : List ℕ) (fault : Fault) (i : ℕ) → FailsAt g bytes fault i
+      → FailsAt g (bytes ++ more) fault i
   fault_stays bytes more fault i shows = record {
     front = shows.front;
     more = shows.more ++ more;
@@ -31,8 +31,9 @@ module _ {Value Fault : Type 0} {g : Items Value Fault} where
     place = shows.place;
   }
 
-  pub fault_early : (bytes more : List ℕ) (fault : Fault) (i : ℕ) → Shows g (bytes ++ more) fault i
-      → i ≤ length bytes → Shows g bytes fault i
+  pub fault_early : (bytes more : List ℕ) (fault : Fault) (i : ℕ)
+      → FailsAt g (bytes ++ more) fault i
+      → i ≤ length bytes → FailsAt g bytes fault i
   fault_early bytes more fault i shows within =
       let front : take i bytes ≡ shows.front =
       sym (take-append-le i bytes more within) ∙ ap (take i) shows.bytes_are
@@ -56,21 +57,22 @@ module _ {Value Fault : Type 0} {g : Items Value Fault} where
   }
 
 -- The byte after incomplete bytes that proves an error, and the incomplete bytes before it.
-pub record IsShownByByte {Value Fault : Type 0} (g : Items Value Fault) (bytes more : List ℕ)
+pub record IsShownByByte {Value Fault : Type 0} (g : Grammar Value Fault) (bytes more : List ℕ)
     (fault : Fault) (i : ℕ) : Type 0 where
   pub front : List ℕ
   pub byte : ℕ
   pub behind : List ℕ
   pub split : more ≡ front ++ byte ∷ behind
   pub is_open : g.IsOpen (bytes ++ front)
-  pub shows : Shows g ((bytes ++ front) ++ byte ∷ []) fault i
+  pub shows : FailsAt g ((bytes ++ front) ++ byte ∷ []) fault i
 
-module _ {Value Fault : Type 0} {g : Items Value Fault} (is : IsGrammar g) where
+module _ {Value Fault : Type 0} {g : Grammar Value Fault} (is : IsGrammar g) where
   pub one_item : (f h y z : List ℕ) (v w : Value) → f ++ y ≡ h ++ z → IsItem g f v → IsItem g h w
       → (f ≡ h) × (v ≡ w)
   one_item f h y z v w e p q = let one = is.one_end f h y z (Ok v) (Ok w) e p q in (one.0, cc)
 
-  pub one_fault : (bytes : List ℕ) (f h : Fault) (i j : ℕ) → Shows g bytes f i → Shows g bytes h j
+  pub one_fault : (bytes : List ℕ) (f h : Fault) (i j : ℕ) → FailsAt g bytes f i
+      → FailsAt g bytes h j
       → (f ≡ h) × (i ≡ j)
   one_fault bytes f h i j p q =
       let one = is.one_end p.front q.front p.more q.more (Err f) (Err h) (sym p.bytes_are
@@ -78,7 +80,7 @@ module _ {Value Fault : Type 0} {g : Items Value Fault} (is : IsGrammar g) where
       (cc, p.place ∙ ap length one.0 ∙ sym q.place)
 
   pub item_not_faulty : (item more : List ℕ) (value : Value) (fault : Fault) (i : ℕ)
-      → IsItem g item value → Shows g (item ++ more) fault i → ⊥
+      → IsItem g item value → FailsAt g (item ++ more) fault i → ⊥
   item_not_faulty item more value fault i p q =
       let one = is.one_end item q.front more q.more (Ok value) (Err fault) q.bytes_are p q.ends in
       cc
@@ -88,7 +90,7 @@ module _ {Value Fault : Type 0} {g : Items Value Fault} (is : IsGrammar g) where
   item_not_open item more value = is.end_not_open item more (Ok value)
 
   pub open_not_faulty : (bytes : List ℕ) (fault : Fault) (i : ℕ) → g.IsOpen bytes
-      → Shows g bytes fault i → ⊥
+      → FailsAt g bytes fault i → ⊥
   open_not_faulty bytes fault i is_open shows =
       is.end_not_open shows.front shows.more (Err fault) shows.ends
       (subst g.IsOpen shows.bytes_are is_open)
@@ -126,7 +128,7 @@ module _ {Value Fault : Type 0} {g : Items Value Fault} (is : IsGrammar g) where
   pub one_more : (bytes : List ℕ) (byte : ℕ) → g.IsOpen bytes
       → let more : List ℕ = bytes ++ byte ∷ [] in
       ((value : Value) × IsItem g more value)
-      ⊎ (((fault : Fault) × (i : ℕ) × Shows g more fault i) ⊎ g.IsOpen more)
+      ⊎ (((fault : Fault) × (i : ℕ) × FailsAt g more fault i) ⊎ g.IsOpen more)
   one_more bytes byte is_open =
       elim (some_outcome (bytes ++ byte ∷ [])) [
         | inl has ↦ inl
@@ -154,15 +156,15 @@ module _ {Value Fault : Type 0} {g : Items Value Fault} (is : IsGrammar g) where
   open_has_no_item rest is_open has =
       item_not_open has.item has.more has.value has.is_item (subst g.IsOpen has.bytes_are is_open)
 
-  pub faulty_has_no_item : (rest : List ℕ) (fault : Fault) (i : ℕ) → Shows g rest fault i
+  pub faulty_has_no_item : (rest : List ℕ) (fault : Fault) (i : ℕ) → FailsAt g rest fault i
       → HasItem g rest → ⊥
   faulty_has_no_item rest fault i shows has =
       item_not_faulty has.item has.more has.value fault i has.is_item
-      (subst (λ xs. Shows g xs fault i) has.bytes_are shows)
+      (subst (λ xs. FailsAt g xs fault i) has.bytes_are shows)
 
   -- an error is proved by a byte after the bytes that were incomplete, which is one of the bytes
   pub shown_later : (bytes more : List ℕ) (fault : Fault) (i : ℕ) → g.IsOpen bytes
-      → Shows g (bytes ++ more) fault i → length bytes < i
+      → FailsAt g (bytes ++ more) fault i → length bytes < i
   shown_later bytes more fault i is_open shows =
       elim (cases_lt (length bytes) i) [
         | inl later ↦ later
@@ -172,7 +174,7 @@ module _ {Value Fault : Type 0} {g : Items Value Fault} (is : IsGrammar g) where
 
   -- the bytes before it were incomplete
   pub open_before : (bytes more : List ℕ) (fault : Fault) (i : ℕ) → length bytes < i
-      → Shows g (bytes ++ more) fault i → g.IsOpen bytes
+      → FailsAt g (bytes ++ more) fault i → g.IsOpen bytes
   open_before bytes more fault i later shows =
       elim (is.some_end bytes) [
         | inl has ↦
@@ -192,7 +194,7 @@ module _ {Value Fault : Type 0} {g : Items Value Fault} (is : IsGrammar g) where
       ]
 
   pub shown_by_byte : (bytes more : List ℕ) (fault : Fault) (i : ℕ) → g.IsOpen bytes
-      → Shows g (bytes ++ more) fault i → IsShownByByte g bytes more fault i
+      → FailsAt g (bytes ++ more) fault i → IsShownByByte g bytes more fault i
   shown_by_byte bytes more fault i is_open shows =
       let later = shown_later bytes more fault i is_open shows in
       let n : ℕ = i - 1 - length bytes in
@@ -205,8 +207,8 @@ module _ {Value Fault : Type 0} {g : Items Value Fault} (is : IsGrammar g) where
       let split : more ≡ take n more ++ byte ∷ behind =
       sym (take-append-drop n more)
       ∙ ap (λ xs. take n more ++ xs) (drop-cons more n 0 inside) in
-      let shown : Shows g (front ++ byte ∷ behind) fault i =
-      subst (λ xs. Shows g xs fault i) (ap (λ xs. bytes ++ xs) split
+      let shown : FailsAt g (front ++ byte ∷ behind) fault i =
+      subst (λ xs. FailsAt g xs fault i) (ap (λ xs. bytes ++ xs) split
       ∙ sym (append_assoc bytes (take n more) (byte ∷ behind))) shows in
       let at : i ≡ length front + 1 =
       omega (
@@ -222,7 +224,7 @@ module _ {Value Fault : Type 0} {g : Items Value Fault} (is : IsGrammar g) where
         split = split;
         is_open = open_before front (byte ∷ behind) fault i (omega arith) shown;
         shows = fault_early (front ++ byte ∷ []) behind fault i
-            (subst (λ xs. Shows g xs fault i) (sym (append_assoc front (byte ∷ []) behind)) shown)
+            (subst (λ xs. FailsAt g xs fault i) (sym (append_assoc front (byte ∷ []) behind)) shown)
             (omega (arith, at, length-append front (byte ∷ [])));
       }
 
@@ -247,15 +249,15 @@ module _ {Value Fault : Type 0} {g : Items Value Fault} (is : IsGrammar g) where
 
 -- The conditions for reading items: they have a grammar, and the empty byte string is incomplete.
 -- Each item and each error then has at least one byte.
-pub record IsReadable {Value Fault : Type 0} (g : Items Value Fault) : Type 0 where
+pub record IsReadable {Value Fault : Type 0} (g : Grammar Value Fault) : Type 0 where
   pub grammar : IsGrammar g
   pub open_none : g.IsOpen []
 
-module _ {Value Fault : Type 0} {g : Items Value Fault} (is : IsReadable g) where
+module _ {Value Fault : Type 0} {g : Grammar Value Fault} (is : IsReadable g) where
   pub not_empty : NoEmptyItem g
   not_empty value item = item_not_open is.grammar [] [] value item is.open_none
 
-  pub shown_inside : (bytes : List ℕ) (fault : Fault) (i : ℕ) → Shows g bytes fault i
+  pub shown_inside : (bytes : List ℕ) (fault : Fault) (i : ℕ) → FailsAt g bytes fault i
       → (0 < i) × (i ≤ length bytes)
   shown_inside bytes fault i shows =
       (shown_later is.grammar [] bytes fault i is.open_none shows, shown_within bytes fault i shows)

@@ -2,16 +2,16 @@
 use Rattle.std.proofs.Common.{◌≡◌, ◌⊎◌, ℕ, zero, suc, ◌<◌, ◌≤◌, inl, inr, List, [], ◌∷◌, ◌++◌}
 use Rattle.std.proofs.Common.{length, refl, sym, ap, ◌∙◌, subst, arith}
 use Rattle.std.proofs.lemmas.List.{append_assoc, append-nil, append_cancel_left, length-append}
-use Rattle.dap_items.specs.Items.{Items, IsItem, IsGrammar, NoEmptyItem, HasItem, AreItems}
-use Rattle.dap_items.specs.Items.{IsStream, Shows}
+use Rattle.dap_items.specs.Grammar.{Grammar, IsItem, IsGrammar, NoEmptyItem, HasItem, ParsesAs}
+use Rattle.dap_items.specs.Grammar.{IsStream, FailsAt}
 use Rattle.dap_items.proofs.Ends.{one_item, item_not_open, fault_stays, some_outcome}
 use Rattle.dap_items.proofs.Ends.{open_has_no_item, faulty_has_no_item}
 
-module _ {Value Fault : Type 0} (g : Items Value Fault) where
+module _ {Value Fault : Type 0} (g : Grammar Value Fault) where
   -- the concatenation of two lists of items
-  pub items_append : (x y : List ℕ) (vs ws : List Value) → AreItems g x vs → AreItems g y ws
-      → AreItems g (x ++ y) (vs ++ ws)
-  items_append x y [] ws none more = subst (λ xs. AreItems g (xs ++ y) ws) (sym none) more
+  pub items_append : (x y : List ℕ) (vs ws : List Value) → ParsesAs g x vs → ParsesAs g y ws
+      → ParsesAs g (x ++ y) (vs ++ ws)
+  items_append x y [] ws none more = subst (λ xs. ParsesAs g (xs ++ y) ws) (sym none) more
   items_append x y (v ∷ vs) ws (item, xs, is, e, all) more = (
     item,
     xs ++ y,
@@ -22,7 +22,7 @@ module _ {Value Fault : Type 0} (g : Items Value Fault) where
   )
 
   pub one_item_alone : (item : List ℕ) (value : Value) → IsItem g item value
-      → AreItems g item (value ∷ [])
+      → ParsesAs g item (value ∷ [])
   one_item_alone item value is = (item, [], is, sym (append-nil item), refl)
 
   -- an item followed by a stream
@@ -45,17 +45,17 @@ module _ {Value Fault : Type 0} (g : Items Value Fault) where
 
 -- The items at the start of some bytes continue other items there, which leave the rest `r`: after
 -- the items `between`, the rest is `s`.
-pub record GoesOn {Value Fault : Type 0} (g : Items Value Fault) (r s : List ℕ)
+pub record GoesOn {Value Fault : Type 0} (g : Grammar Value Fault) (r s : List ℕ)
     (vs ws : List Value) : Type 0 where
   pub later : List Value
   pub between : List ℕ
   pub values_are : ws ≡ vs ++ later
-  pub items : AreItems g between later
+  pub items : ParsesAs g between later
   pub rest_is : r ≡ between ++ s
 
-module _ {Value Fault : Type 0} {g : Items Value Fault} (is : IsGrammar g) where
+module _ {Value Fault : Type 0} {g : Grammar Value Fault} (is : IsGrammar g) where
   -- for two lists of items at the start of the same bytes, one list continues the other
-  pub two_lists : (x y r s : List ℕ) (vs ws : List Value) → AreItems g x vs → AreItems g y ws
+  pub two_lists : (x y r s : List ℕ) (vs ws : List Value) → ParsesAs g x vs → ParsesAs g y ws
       → x ++ r ≡ y ++ s → GoesOn g r s vs ws ⊎ GoesOn g s r ws vs
   two_lists x y r s [] ws p q e =
       inl (record {
@@ -102,7 +102,7 @@ module _ {Value Fault : Type 0} {g : Items Value Fault} (is : IsGrammar g) where
 
   -- a rest that does not start with an item is not continued
   no_later : (r s between : List ℕ) (vs ws later : List Value) → ws ≡ vs ++ later
-      → AreItems g between later → r ≡ between ++ s → (HasItem g r → ⊥) → (vs ≡ ws) × (r ≡ s)
+      → ParsesAs g between later → r ≡ between ++ s → (HasItem g r → ⊥) → (vs ≡ ws) × (r ≡ s)
   no_later r s between vs ws [] values none rest no_item =
       (sym (values ∙ append-nil vs), rest ∙ ap (λ xs. xs ++ s) none)
   no_later r s between vs ws (v ∷ later) values (item, more, is_item, e, items) rest no_item =
@@ -127,7 +127,7 @@ module _ {Value Fault : Type 0} {g : Items Value Fault} (is : IsGrammar g) where
       ]
 
   -- bytes that start with items are not incomplete
-  pub begun_not_open : (x y : List ℕ) (v : Value) (vs : List Value) → AreItems g x (v ∷ vs)
+  pub begun_not_open : (x y : List ℕ) (v : Value) (vs : List Value) → ParsesAs g x (v ∷ vs)
       → g.IsOpen (x ++ y) → ⊥
   begun_not_open x y v vs (item, more, is_item, e, items) is_open =
       item_not_open is item (more ++ y) v is_item
@@ -136,13 +136,13 @@ module _ {Value Fault : Type 0} {g : Items Value Fault} (is : IsGrammar g) where
   -- items, and a rest that proves an error together with the bytes after it, are a stream, whatever
   -- bytes follow
   pub faulty_stream : (whole front rest piece left : List ℕ) (values : List Value) (fault : Fault)
-      (i : ℕ) → AreItems g front values
-      → whole ≡ front ++ (rest ++ (piece ++ left)) → Shows g (rest ++ piece) fault i
-      → (behind : List ℕ) × IsStream g whole values behind × Shows g behind fault i
+      (i : ℕ) → ParsesAs g front values
+      → whole ≡ front ++ (rest ++ (piece ++ left)) → FailsAt g (rest ++ piece) fault i
+      → (behind : List ℕ) × IsStream g whole values behind × FailsAt g behind fault i
   faulty_stream whole front rest piece left values fault i items e shown =
       let behind : List ℕ = rest ++ (piece ++ left) in
-      let shows : Shows g behind fault i =
-      subst (λ xs. Shows g xs fault i) (append_assoc rest piece left)
+      let shows : FailsAt g behind fault i =
+      subst (λ xs. FailsAt g xs fault i) (append_assoc rest piece left)
       (fault_stays (rest ++ piece) left fault i shown) in (
         behind,
         record {
@@ -194,12 +194,12 @@ module _ {Value Fault : Type 0} {g : Items Value Fault} (is : IsGrammar g) where
     some_stream bytes = stream_of (length bytes) bytes (omega arith)
 
     -- bytes are items with at most one list of values
-    pub one_list : (bytes : List ℕ) (vs ws : List Value) → AreItems g bytes vs → AreItems g bytes ws
+    pub one_list : (bytes : List ℕ) (vs ws : List Value) → ParsesAs g bytes vs → ParsesAs g bytes ws
         → vs ≡ ws
     one_list bytes vs ws p q =
         (one_stream bytes vs ws [] [] (all_items bytes vs p) (all_items bytes ws q)).0
       where
-        all_items : (bytes : List ℕ) (vs : List Value) → AreItems g bytes vs
+        all_items : (bytes : List ℕ) (vs : List Value) → ParsesAs g bytes vs
             → IsStream g bytes vs []
         all_items bytes vs items =
             record {
@@ -210,7 +210,7 @@ module _ {Value Fault : Type 0} {g : Items Value Fault} (is : IsGrammar g) where
             }
 
     -- the number of items is at most the number of bytes
-    pub few_items : (bytes : List ℕ) (values : List Value) → AreItems g bytes values
+    pub few_items : (bytes : List ℕ) (values : List Value) → ParsesAs g bytes values
         → length values ≤ length bytes
     few_items bytes [] none = omega arith
     few_items bytes (value ∷ values) (item, more, is_item, e, items) =

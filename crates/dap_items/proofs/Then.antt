@@ -4,15 +4,16 @@ use Rattle.std.proofs.Common.{Result, Ok, Err, refl, sym, ap, ◌∙◌, subst, 
 use Rattle.std.proofs.lemmas.List.{append_assoc, append-nil, append_cancel_left, length-append}
 use Rattle.std.proofs.lemmas.List.{length-take-le, take-append-drop, nil_from_length}
 use Rattle.std.proofs.lemmas.Bool.{cases_lt}
-use Rattle.dap_items.specs.Items.{Items, IsItem, HasEnd, IsGrammar, Shows}
-use Rattle.dap_items.specs.Then.{in_first, in_second, first_open, second_open, and_then, EndsAs}
-use Rattle.dap_items.specs.Then.{faults_as, until, a_byte, so_many}
+use Rattle.dap_items.specs.Grammar.{Grammar, IsItem, HasEnd, IsGrammar, FailsAt}
+use Rattle.dap_items.specs.Combinators.{in_first, in_second, first_open, second_open, and_then}
+use Rattle.dap_items.specs.Combinators.{EndsAs}
+use Rattle.dap_items.specs.Combinators.{map_fault, until, one_byte, take_bytes}
 use Rattle.dap_items.proofs.Ends.{IsReadable}
 use Rattle.dap_items.proofs.Fronts.{same_front, shorter_front}
 
-module _ {A B E F : Type 0} {g : Items A E} {h : A → Items B F} (of_first : E
+module _ {A B E F : Type 0} {g : Grammar A E} {h : A → Grammar B F} (of_first : E
     → F) (is : IsGrammar g) (are : (a : A) → IsGrammar (h a)) where
-  abbrev both : Items B F
+  abbrev both : Grammar B F
   both = and_then g h of_first
 
   -- the same bytes do not start with both an item and an error
@@ -89,37 +90,37 @@ module _ {A B E F : Type 0} {g : Items A E} {h : A → Items B F} (of_first : E
   }
 
 -- an end, with its error mapped
-abbrev told : {A E F : Type 0} → (E → F) → Result A E → Result A F
-told of_fault (Ok value) = Ok value
-told of_fault (Err fault) = Err (of_fault fault)
+abbrev reported : {A E F : Type 0} → (E → F) → Result A E → Result A F
+reported of_fault (Ok value) = Ok value
+reported of_fault (Err fault) = Err (of_fault fault)
 
-module _ {A E F : Type 0} (of_fault : E → F) (g : Items A E) where
+module _ {A E F : Type 0} (of_fault : E → F) (g : Grammar A E) where
   ends_told : (bytes : List ℕ) (result : Result A E) → g.Ends bytes result
-      → EndsAs of_fault g bytes (told of_fault result)
+      → EndsAs of_fault g bytes (reported of_fault result)
   ends_told bytes (Ok value) p = p
   ends_told bytes (Err fault) p = (fault, refl, p)
 
   own_end : (bytes : List ℕ) (result : Result A F) → EndsAs of_fault g bytes result
-      → (own : Result A E) × g.Ends bytes own × (result ≡ told of_fault own)
+      → (own : Result A E) × g.Ends bytes own × (result ≡ reported of_fault own)
   own_end bytes (Ok value) p = (Ok value, p, refl)
   own_end bytes (Err fault) (own, is, p) = (Err own, p, ap (λ f. Err f) is)
 
   -- Items that can be read can also be read with their errors mapped.
-  pub faults_as_readable : IsReadable g → IsReadable (faults_as of_fault g)
+  pub faults_as_readable : IsReadable g → IsReadable (map_fault of_fault g)
   faults_as_readable is = record {
     grammar = record {
       one_end = λ f o y z r s e p q.
           let here = own_end f r p in
           let there = own_end o s q in
           let one = is.grammar.one_end f o y z here.0 there.0 e here.1 there.1 in
-          (one.0, here.2 ∙ ap (told of_fault) one.1 ∙ sym there.2);
+          (one.0, here.2 ∙ ap (reported of_fault) one.1 ∙ sym there.2);
       end_not_open = λ f y r p q. let own =
           own_end f r p in is.grammar.end_not_open f y own.0 own.1 q;
       some_end = λ bytes. elim (is.grammar.some_end bytes) [
         | inl has ↦ inl (record {
           front = has.front;
           more = has.more;
-          result = told of_fault has.result;
+          result = reported of_fault has.result;
           bytes_are = has.bytes_are;
           ends = ends_told has.front has.result has.ends;
         })
@@ -129,8 +130,8 @@ module _ {A E F : Type 0} (of_fault : E → F) (g : Items A E) where
     open_none = is.open_none;
   }
 
-  pub shows_as : (bytes : List ℕ) (fault : E) (i : ℕ) → Shows g bytes fault i
-      → Shows (faults_as of_fault g) bytes (of_fault fault) i
+  pub shows_as : (bytes : List ℕ) (fault : E) (i : ℕ) → FailsAt g bytes fault i
+      → FailsAt (map_fault of_fault g) bytes (of_fault fault) i
   shows_as bytes fault i shows =
       record {
         front = shows.front;
@@ -154,7 +155,7 @@ module _ {A F : Type 0} (IsFront : List ℕ → Type 0) (Says : List ℕ → ℕ
         → IsFront (front ++ byte ∷ []) ⊎ ((a : Result A F) × Says front byte a)
 
   module _ (on : GoesOn) where
-    abbrev ended : Items A F
+    abbrev ended : Grammar A F
     ended = until IsFront Says
 
     not_shorter : (t u y z : List ℕ) (b c : ℕ) (a : Result A F) → t ++ b ∷ y ≡ u ++ c ∷ z
@@ -168,13 +169,13 @@ module _ {A F : Type 0} (IsFront : List ℕ → Type 0) (Says : List ℕ → ℕ
 
     same_until : (f o y z : List ℕ) (r s : Result A F) → f ++ y ≡ o ++ z → ended.Ends f r
         → ended.Ends o s → (f ≡ o) × (r ≡ s)
-    same_until f o y z r s e (t, b, p, is_t, says) (u, c, q, is_u, told) =
+    same_until f o y z r s e (t, b, p, is_t, says) (u, c, q, is_u, reported) =
         let same : t ++ b ∷ y ≡ u ++ c ∷ z =
         cc (append_assoc t (b ∷ []) y, append_assoc u (c ∷ []) z) in
         elim (cases_lt (length t) (length u)) [
           | inl short ↦ absurd (not_shorter t u y z b c r same says is_u short)
           | inr long ↦ elim (cases_lt (length u) (length t)) [
-            | inl short ↦ absurd (not_shorter u t z y c b s (sym same) told is_t short)
+            | inl short ↦ absurd (not_shorter u t z y c b s (sym same) reported is_t short)
             | inr as_long ↦ (let front : t
                 ≡ u = same_front t u (b ∷ y) (c ∷ z) same (omega arith) in
                 let last : b ∷ y ≡ c ∷ z =
@@ -183,7 +184,7 @@ module _ {A F : Type 0} (IsFront : List ℕ → Type 0) (Says : List ℕ → ℕ
                 let byte : b ≡ c = cc in (
                   cc,
                   on.one u c r s
-                      (subst (λ x. Says x c r) front (subst (λ x. Says t x r) byte says)) told,
+                      (subst (λ x. Says x c r) front (subst (λ x. Says t x r) byte says)) reported,
                 ))
           ]
         ]
@@ -216,7 +217,7 @@ module _ {A F : Type 0} (IsFront : List ℕ → Type 0) (Says : List ℕ → ℕ
 
 pub byte_grammar : {A F : Type 0} (Says : ℕ → Result A F → Type 0)
     → ((byte : ℕ) (a b : Result A F) → Says byte a → Says byte b → a ≡ b)
-    → ((byte : ℕ) → (a : Result A F) × Says byte a) → IsGrammar (a_byte Says)
+    → ((byte : ℕ) → (a : Result A F) × Says byte a) → IsGrammar (one_byte Says)
 byte_grammar Says one some = until_grammar (λ front. front ≡ []) (λ front. Says) (record {
   none = refl;
   front = λ front more none. nil_from_length front
@@ -228,7 +229,7 @@ byte_grammar Says one some = until_grammar (λ front. front ≡ []) (λ front. S
 })
 
 pub so_many_grammar : {A F : Type 0} (value : List ℕ → A) (n : ℕ)
-    → IsGrammar (so_many {F = F} value n)
+    → IsGrammar (take_bytes {F = F} value n)
 so_many_grammar value n = record {
   one_end = λ f o y z r s e p q. let one =
       same_front f o y z e (p.1 ∙ sym q.1) in (one, p.0 ∙ ap (λ xs. Ok (value xs)) one ∙ sym q.0);

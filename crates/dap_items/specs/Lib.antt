@@ -1,3 +1,3 @@
-pub mod Items
+pub mod Grammar
 pub mod Feeding
-pub mod Then
+pub mod Combinators

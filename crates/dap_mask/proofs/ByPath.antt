@@ -20,8 +20,8 @@ use Rattle.dap_profile.specs.declared.profile.Kind.{Kind}
 use Rattle.dap_profile.specs.declared.profile.Kind.TheVariants.{Request, Response, Event}
 use Rattle.dap_message.proofs.Edits.{Alike, by_bool}
 use Rattle.dap_message.proofs.RowMarks.{text-top, one_step}
-use Rattle.dap_message.proofs.OneMarking.{told}
-use Rattle.dap_mask.specs.Rules.{Rule, change_text, of_verb, takes_parts, has_name, speaks_of}
+use Rattle.dap_message.proofs.OneMarking.{reported}
+use Rattle.dap_mask.specs.Rules.{Rule, change_text, of_verb, takes_parts, has_name, rule_applies}
 use Rattle.dap_mask.specs.Rules.{is_event_of}
 use Rattle.dap_mask.specs.Rules.{is_dropped, is_telling, is_telling_place, are_safe}
 use Rattle.dap_mask.specs.Masked.{is_below, left_at, left_by, left, IsMasked, AgreeBut, is_apart}
@@ -87,22 +87,22 @@ event-edit v ps (n ∷ ns) d h =
     ap₂ (λ a b. a || b) (name-edit v ps Event n d h) (event-edit v ps ns d h)
 
 spoken-edit : (v : Verb) (ps : List PlaceStep) (q : Rule) (d : Doc) → is_telling_place ps ≡ false
-    → speaks_of q (edit ps (of_verb v) d) ≡ speaks_of q d
+    → rule_applies q (edit ps (of_verb v) d) ≡ rule_applies q d
 spoken-edit v ps q d h = ap₂ (λ a b. a && b) (kind-edit v ps q.kind d h)
     (name-edit v ps q.kind q.name d h)
 
 pub spoken-mask_by : (r q : Rule) (d : Doc) → is_telling_place r.place ≡ false
-    → speaks_of q (mask_by r d) ≡ speaks_of q d
-spoken-mask_by r q d h = go (speaks_of r d)
+    → rule_applies q (mask_by r d) ≡ rule_applies q d
+spoken-mask_by r q d h = go (rule_applies r d)
   where
-    go : (b : Bool) → speaks_of q (cond b (edit r.place (of_verb r.verb) d) d) ≡ speaks_of q d
+    go : (b : Bool) → rule_applies q (cond b (edit r.place (of_verb r.verb) d) d) ≡ rule_applies q d
     go true = spoken-edit r.verb r.place q d h
     go false = refl
 
 dropped-mask_by : (r : Rule) (ns : List (Option (List ℕ))) (d : Doc) → is_telling_place r.place
     ≡ false
     → is_dropped ns (mask_by r d) ≡ is_dropped ns d
-dropped-mask_by r ns d h = go (speaks_of r d)
+dropped-mask_by r ns d h = go (rule_applies r d)
   where
     go : (b : Bool) → is_dropped ns (cond b (edit r.place (of_verb r.verb) d) d) ≡ is_dropped ns d
     go true = ap₂ (λ a b. a && b) (kind-edit r.verb r.place Event d h) (event-edit r.verb r.place ns
@@ -118,7 +118,7 @@ pub rest_safe : (r : Rule) (rs : List Rule) → are_safe (r ∷ rs) ≡ true →
 rest_safe r rs h = and_right (not (is_telling_place r.place)) (are_safe rs) h
 
 pub spoken-masked : (rs : List Rule) (q : Rule) (d : Doc) → are_safe rs ≡ true
-    → speaks_of q (masked rs d) ≡ speaks_of q d
+    → rule_applies q (masked rs d) ≡ rule_applies q d
 spoken-masked [] q d h = refl
 spoken-masked (r ∷ rs) q d h = spoken-masked rs q (mask_by r d) (rest_safe r rs h)
     ∙ spoken-mask_by r q d (first_safe r rs h)
@@ -131,7 +131,7 @@ dropped-masked (r ∷ rs) ns d h = dropped-masked rs ns (mask_by r d) (rest_safe
 
 -- ---- the values after rules, for documents to which the same rules apply
 
-pub left-same : (rs : List Rule) (d e : Doc) → ((q : Rule) → speaks_of q e ≡ speaks_of q d)
+pub left-same : (rs : List Rule) (d e : Doc) → ((q : Rule) → rule_applies q e ≡ rule_applies q d)
     → (p : List Step) (o : Option Doc) → left rs e p o ≡ left rs d p o
 left-same [] d e h p o = refl
 left-same (r ∷ rs) d e h p o =
@@ -155,7 +155,7 @@ top-left_at v ps p o = go (fits_place ps p) (is_below ps p && takes_parts v)
 
 top-left_by : (r : Rule) (d : Doc) (p : List Step) (o : Option Doc)
     → option_map top (left_by r d p o) ≡ left_by r d p (option_map top o)
-top-left_by r d p o = go (speaks_of r d)
+top-left_by r d p o = go (rule_applies r d)
   where
     go : (b : Bool) → option_map top (cond b (left_at r.verb r.place p o) o)
         ≡ cond b (left_at r.verb r.place p (option_map top o)) (option_map top o)
@@ -174,7 +174,7 @@ left-alike rs d p a b h = top-left rs d p a ∙ ap (left rs d p) h ∙ sym (top-
 
 at-mask_by : (r : Rule) (d : Doc) (p : List Step)
     → Alike (at p (mask_by r d)) (left_by r d p (at p d))
-at-mask_by r d p = go (speaks_of r d)
+at-mask_by r d p = go (rule_applies r d)
   where
     go : (b : Bool) → Alike (at p (cond b (edit r.place (of_verb r.verb) d) d))
         (cond b (left_at r.verb r.place p (at p d)) (at p d))
@@ -200,7 +200,7 @@ masked_by_path rs d h p = at-masked rs d h p
 left_apart : (rs : List Rule) (d : Doc) (p : List Step) (o : Option Doc) → is_apart rs d p ≡ true
     → left rs d p o ≡ o
 left_apart [] d p o h = refl
-left_apart (r ∷ rs) d p o h = go (left_apart rs d p o) (speaks_of r d) (fits_place r.place p)
+left_apart (r ∷ rs) d p o h = go (left_apart rs d p o) (rule_applies r d) (fits_place r.place p)
     (is_below r.place p && takes_parts r.verb) h
   where
     go : (is_apart rs d p ≡ true → left rs d p o ≡ o) → (a b c : Bool)
@@ -216,7 +216,7 @@ pub keeps_others : (rs : List Rule) (d : Doc) (p : List Step) → are_safe rs �
 keeps_others rs d p h a = at-masked rs d h p ∙ ap (option_map top) (left_apart rs d p (at p d) a)
 
 pub left_by-none : (r : Rule) (d : Doc) (p : List Step) → left_by r d p None ≡ None
-left_by-none r d p = go None (speaks_of r d) (left-none r.verb r.place p) refl
+left_by-none r d p = go None (rule_applies r d) (left-none r.verb r.place p) refl
   where
     go : (o : Option Doc) (a : Bool) → left_at r.verb r.place p None ≡ None → o ≡ None
         → cond a (left_at r.verb r.place p None) o ≡ None
@@ -341,7 +341,7 @@ ordered-edit v (each ∷ ps) = ordered-items (edit ps (of_verb v)) (ordered-edit
 pub ordered-masked : (rs : List Rule) (d : Doc) → is_ordered d ≡ true → is_ordered (masked rs d)
     ≡ true
 ordered-masked [] d h = h
-ordered-masked (r ∷ rs) d h = ordered-masked rs (mask_by r d) (go (speaks_of r d))
+ordered-masked (r ∷ rs) d h = ordered-masked rs (mask_by r d) (go (rule_applies r d))
   where
     go : (b : Bool) → is_ordered (cond b (edit r.place (of_verb r.verb) d) d) ≡ true
     go true = ordered-edit r.verb r.place d h
@@ -354,7 +354,7 @@ some_top d e h = cc
 
 pub same_paths : (d e : Doc) → is_ordered d ≡ true → ((p : List Step) → Alike (at p e) (at p d)) → e
     ≡ d
-same_paths d e o h = told d e o h (some_top e d (h []))
+same_paths d e o h = reported d e o h (some_top e d (h []))
 
 pub one_masked : (rs : List Rule) (d e : Doc) → are_safe rs ≡ true → is_ordered d ≡ true
     → IsMasked rs d e → e ≡ masked rs d

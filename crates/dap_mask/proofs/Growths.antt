@@ -7,7 +7,7 @@ use Rattle.std.proofs.lemmas.List.{length_push}
 use Rattle.std.specs.Str.{is_utf8}
 use Rattle.dap_mask.specs.Mask.{Mask, no_rules, rule_count, with_rule, Statement, change, leave_out}
 use Rattle.dap_mask.specs.Mask.{swap, Line, nothing, rule, bad}
-use Rattle.dap_mask.specs.RuleText.{line_said, statement_at, told}
+use Rattle.dap_mask.specs.RuleText.{line_said, statement_at, reported}
 use Rattle.dap_mask.specs.RulesFile.{cause_against, outcome_unless, outcome_of, line_outcome}
 use Rattle.dap_mask.specs.RulesFile.{outcome_then, rules_from, last_line, rules_said}
 use Rattle.dap_mask.specs.Runs.{has_class, is_blank, front, behind, lines_of, is_end}
@@ -19,14 +19,14 @@ use Rattle.dap_mask.proofs.Lines.{lines_behind, lines_then}
 
 -- ---- a line with a rule or an error
 
-told_something : (o : Option Statement) → told o ≡ nothing → ⊥
+told_something : (o : Option Statement) → reported o ≡ nothing → ⊥
 told_something None h = cc
 told_something (Some st) h = cc
 
 pub says_something : (l : List ℕ) → is_end l ≡ false → line_said l ≢ nothing
 says_something l e h =
     told_something (statement_at (behind is_blank l))
-    (sym (ap (λ b. cond b nothing (told (statement_at (behind is_blank l)))) e) ∙ h)
+    (sym (ap (λ b. cond b nothing (reported (statement_at (behind is_blank l)))) e) ∙ h)
 
 -- ---- the number of rules
 

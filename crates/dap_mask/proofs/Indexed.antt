@@ -20,7 +20,8 @@ use Rattle.dap_mask.specs.Index.{positions_from, positions, rules_at, masked_by,
 use Rattle.dap_mask.specs.Index.{NamePlaces, kept_for, AreRight, AsksNot, HasAsked, AddsName}
 use Rattle.dap_mask.specs.Index.{IsIndex}
 use Rattle.dap_mask.specs.Masked.{mask_by, masked}
-use Rattle.dap_mask.specs.Rules.{Rule, rule_of, rules_of, has_name, speaks_of, same_kind, are_safe}
+use Rattle.dap_mask.specs.Rules.{Rule, rule_of, rules_of, has_name, rule_applies, same_kind}
+use Rattle.dap_mask.specs.Rules.{are_safe}
 use Rattle.dap_mask.specs.Rules.{is_telling_place}
 use Rattle.dap_mask.specs.declared.index.KindRules.{KindRules}
 use Rattle.dap_mask.specs.declared.rules.MaskRule.{MaskRule}
@@ -186,10 +187,10 @@ not_both : (a b : Bool) → a ≡ false → (a && b) ≡ false
 not_both a b h = rw h refl
 
 spoken-may : (d : Doc) (k : Kind) (r : Rule) → told_kind d ≡ Some k
-    → speaks_of r d ≡ may_speak k (told_name k d) r
+    → rule_applies r d ≡ may_speak k (told_name k d) r
 spoken-may d k r h = by_bool (is_of_kind r.kind d) is_kind is_other
   where
-    is_kind : is_of_kind r.kind d ≡ true → speaks_of r d ≡ may_speak k (told_name k d) r
+    is_kind : is_of_kind r.kind d ≡ true → rule_applies r d ≡ may_speak k (told_name k d) r
     is_kind p =
         let kinds = kind_alike r.kind k d p (told_true k d h) in
         ap₂ (λ a b. a && b) (p ∙ sym kinds.0)
@@ -200,7 +201,7 @@ spoken-may d k r h = by_bool (is_of_kind r.kind d) is_kind is_other
         absurd (true≢false (sym (told_true k d h)
         ∙ ap (λ j. is_of_kind j d) (sym (same_is r.kind k s)) ∙ p))
 
-    is_other : is_of_kind r.kind d ≡ false → speaks_of r d ≡ may_speak k (told_name k d) r
+    is_other : is_of_kind r.kind d ≡ false → rule_applies r d ≡ may_speak k (told_name k d) r
     is_other p =
         not_both (is_of_kind r.kind d) (has_name r.kind r.name d) p
         ∙ sym (not_both (same_kind r.kind k) (asks_for r.name (told_name k d))
@@ -208,19 +209,19 @@ spoken-may d k r h = by_bool (is_of_kind r.kind d) is_kind is_other
 
 -- ---- masking by the rules that may apply
 
-unspoken : (r : Rule) (d : Doc) → speaks_of r d ≡ false → mask_by r d ≡ d
+unspoken : (r : Rule) (d : Doc) → rule_applies r d ≡ false → mask_by r d ≡ d
 unspoken r d h = rw h refl
 
-unmasked : (rs : List Rule) (d : Doc) → ((r : Rule) → speaks_of r d ≡ false) → masked rs d ≡ d
+unmasked : (rs : List Rule) (d : Doc) → ((r : Rule) → rule_applies r d ≡ false) → masked rs d ≡ d
 unmasked [] d h = refl
 unmasked (r ∷ rs) d h = ap (masked rs) (unspoken r d (h r)) ∙ unmasked rs d h
 
 abbrev FiltersTo : (Rule → Bool) → List Rule → Type 0
-FiltersTo p rs = (d : Doc) → ((r : Rule) → speaks_of r d ≡ p r) → masked (filter p rs) d
+FiltersTo p rs = (d : Doc) → ((r : Rule) → rule_applies r d ≡ p r) → masked (filter p rs) d
     ≡ masked rs d
 
 filter_step : (p : Rule → Bool) (r : Rule) (rs : List Rule) (d : Doc) (b : Bool)
-    → is_telling_place r.place ≡ false → ((q : Rule) → speaks_of q d ≡ p q) → p r ≡ b
+    → is_telling_place r.place ≡ false → ((q : Rule) → rule_applies q d ≡ p q) → p r ≡ b
     → FiltersTo p rs → masked (cond b (r ∷ filter p rs) (filter p rs)) d ≡ masked rs (mask_by r d)
 filter_step p r rs d true t h e later =
     later (mask_by r d) (λ q. spoken-mask_by r q d t ∙ h q)

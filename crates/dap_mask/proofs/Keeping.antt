@@ -15,7 +15,7 @@ use Rattle.dap_tree.specs.Doc.{change_items, has_id, items_have_id, members_have
 use Rattle.dap_tree.proofs.Booleans.{and_left, and_right, and_both}
 use Rattle.dap_profile.specs.PlaceSteps.{PlaceStep, named, each}
 use Rattle.dap_message.specs.Marks.{edit}
-use Rattle.dap_mask.specs.Rules.{Rule, change_text, of_verb, speaks_of}
+use Rattle.dap_mask.specs.Rules.{Rule, change_text, of_verb, rule_applies}
 use Rattle.dap_mask.specs.Masked.{mask_by, masked}
 use Rattle.dap_mask.specs.Texts.{digits, hex}
 use Rattle.dap_texts.specs.Long.{long}
@@ -178,7 +178,7 @@ edit_keeps T f h (each ∷ ps) = list_keeps T (edit ps f) (edit_keeps T f h ps)
 masked_keeps : (T : Test) → ((v : Verb) → Keeps T.doc (of_verb v)) → (rs : List Rule)
     → Keeps T.doc (masked rs)
 masked_keeps T h [] d g = g
-masked_keeps T h (r ∷ rs) d g = masked_keeps T h rs (mask_by r d) (go (speaks_of r d))
+masked_keeps T h (r ∷ rs) d g = masked_keeps T h rs (mask_by r d) (go (rule_applies r d))
   where
     go : (b : Bool) → T.doc (cond b (edit r.place (of_verb r.verb) d) d) ≡ true
     go true = edit_keeps T (of_verb r.verb) (h r.verb) r.place d g
@@ -259,7 +259,8 @@ utf8_verb Uuid d g = utf8_text uuid uuid_utf8 d g
 
 masked_shallow : (rs : List Rule) → Shallow (masked rs)
 masked_shallow [] d = omega arith
-masked_shallow (r ∷ rs) d = let a = masked_shallow rs (mask_by r d) in let b = go (speaks_of r d) in
+masked_shallow (r ∷ rs) d = let a = masked_shallow rs (mask_by r d) in let b = go
+    (rule_applies r d) in
     omega (arith, a, b)
   where
     go : (b : Bool) → depth (cond b (edit r.place (of_verb r.verb) d) d) ≤ depth d

@@ -7,10 +7,10 @@ use Rattle.dap_tree.specs.Path.{Step, at}
 use Rattle.dap_tree.proofs.Booleans.{and_left, and_right, and_both, or_left, or_right}
 use Rattle.dap_message.specs.Places.{fits_place}
 use Rattle.dap_profile.specs.ProfileRows.{ProfileRow}
-use Rattle.dap_message.specs.Rows.{is_asked, is_text, is_of_kind, name_key}
+use Rattle.dap_message.specs.Rows.{row_applies, is_text, is_of_kind, name_key}
 use Rattle.dap_message.specs.Rows.{may_have_body}
 use Rattle.dap_profile.specs.declared.profile.Kind.{Kind}
-use Rattle.dap_mask.specs.Rules.{Rule, of_verb, takes_parts, has_name, speaks_of}
+use Rattle.dap_mask.specs.Rules.{Rule, of_verb, takes_parts, has_name, rule_applies}
 use Rattle.dap_mask.specs.Rules.{are_safe}
 use Rattle.dap_mask.specs.Masked.{is_below, left_by, left, masked}
 use Rattle.dap_mask.specs.Ids.{meets, takes_id, leave_row, takes_id_of}
@@ -24,8 +24,8 @@ use Rattle.dap_mask.proofs.ByPath.{left_nothing, at-masked, none_from}
 use Rattle.dap_mask.proofs.Settled.{fits_same, kind_alike, name_alike}
 
 -- if a rule and a row both apply to a document, they may apply to the same message
-both_meet : (r : Rule) (k : Option Kind) (n : Option (List ℕ)) (d : Doc) → speaks_of r d ≡ true
-    → is_asked k n d ≡ true → meets r k n ≡ true
+both_meet : (r : Rule) (k : Option Kind) (n : Option (List ℕ)) (d : Doc) → rule_applies r d ≡ true
+    → row_applies k n d ≡ true → meets r k n ≡ true
 both_meet r None n d h g = refl
 both_meet r (Some k) None d h g =
     let kinds = kind_alike r.kind k d (and_left (is_of_kind r.kind d) (has_name r.kind r.name d) h)
@@ -46,15 +46,16 @@ both_meet r (Some k) (Some n) d h g =
 -- a rule that does not take the id of a row keeps the id, or removes it with a value that contains
 -- it
 one_left : (r : Rule) (row : ProfileRow) (d : Doc) (p : List Step) (o : Option Doc) → takes_id r row
-    ≡ false → wants_id row.want ≡ true → is_asked row.kind row.name d ≡ true
+    ≡ false → wants_id row.want ≡ true → row_applies row.kind row.name d ≡ true
     → fits_place row.place p ≡ true
     → (left_by r d p o ≡ o) ⊎ (left_by r d p o ≡ None)
 one_left r row d p o free wants asked fits =
-    go (speaks_of r d) (fits_place r.place p) (is_below r.place p && takes_parts r.verb)
+    go (rule_applies r d) (fits_place r.place p) (is_below r.place p && takes_parts r.verb)
     (λ s f. true≢false (sym (and_both _ _ wants (and_both _ _ (fits_same r.place row.place p f fits)
     (both_meet r row.kind row.name d s asked))) ∙ free)) refl refl
   where
-    go : (a b c : Bool) → (speaks_of r d ≡ true → fits_place r.place p ≡ true → ⊥) → speaks_of r d
+    go : (a b c : Bool) → (rule_applies r d ≡ true → fits_place r.place p ≡ true → ⊥)
+        → rule_applies r d
         ≡ a → fits_place r.place p ≡ b
         → (cond a (cond b (option_map (of_verb r.verb) o) (cond c None o)) o ≡ o)
         ⊎ (cond a (cond b (option_map (of_verb r.verb) o) (cond c None o)) o ≡ None)
@@ -68,7 +69,7 @@ not_true true h = cc
 not_true false h = refl
 
 leaves_row : (rules : List Rule) (d : Doc) (p : List Step) (o : Option Doc) (row : ProfileRow)
-    → leave_row rules row ≡ true → wants_id row.want ≡ true → is_asked row.kind row.name d ≡ true
+    → leave_row rules row ≡ true → wants_id row.want ≡ true → row_applies row.kind row.name d ≡ true
     → fits_place row.place p ≡ true
     → (left rules d p o ≡ o) ⊎ (left rules d p o ≡ None)
 leaves_row [] d p o row h wants asked fits = inl refl
@@ -106,7 +107,7 @@ leave_row_of (r ∷ rs) row h among =
 
 pub leaves_ids : (rules : List Rule) (d : Doc) (p : List Step) (o : Option Doc) (row : ProfileRow)
     → leave_ids rules ≡ true → Contains profile row → wants_id row.want ≡ true
-    → is_asked row.kind row.name d ≡ true → fits_place row.place p ≡ true
+    → row_applies row.kind row.name d ≡ true → fits_place row.place p ≡ true
     → (left rules d p o ≡ o) ⊎ (left rules d p o ≡ None)
 leaves_ids rules d p o row h among wants asked fits =
     leaves_row rules d p o row (leave_row_of rules row h among) wants asked fits

@@ -25,7 +25,7 @@ use Rattle.dap_mask.specs.Loose.{loose, loose_items, loose_members, IsReadLoosel
 use Rattle.dap_mask.specs.Mask.{Mask}
 use Rattle.dap_mask.specs.Masked.{masked}
 use Rattle.dap_mask.specs.Promises.{IsMaskedAs}
-use Rattle.dap_mask.specs.Rules.{Rule, are_safe, are_settled}
+use Rattle.dap_mask.specs.Rules.{Rule, are_safe, are_idempotent}
 use Rattle.dap_mask.specs.Ids.{leave_ids}
 use Rattle.dap_mask.proofs.ByPath.{masked_by_path, one_masked, keeps_others, none_new}
 use Rattle.dap_mask.proofs.ByPath.{ordered-masked, agree_from_equal, equal_from_agree}
@@ -157,7 +157,7 @@ left_is_read mask bytes e (d, read, (kept, is, sound)) =
 -- ---- all guarantees
 
 pub content_masked : (rules : List Rule) (bytes : List ℕ) (d : Doc) → are_safe rules ≡ true
-    → are_settled rules ≡ true → leave_ids rules ≡ true → IsReadLoosely bytes d
+    → are_idempotent rules ≡ true → leave_ids rules ≡ true → IsReadLoosely bytes d
     → IsMaskedAs rules d (masked rules d)
 content_masked rules bytes d safe settled leave read =
     let ordered = loosely_ordered bytes d read in

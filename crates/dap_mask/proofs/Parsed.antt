@@ -19,7 +19,7 @@ use Rattle.dap_mask.specs.RuleText.{quoted_at, plain_at, name_at, this_name, any
 use Rattle.dap_mask.specs.RuleText.{member_step, next_step, step_then, steps_from, place_at}
 use Rattle.dap_mask.specs.RuleText.{verb_named, kind_named, Head, name_behind, kind_then, head_at}
 use Rattle.dap_mask.specs.RuleText.{placed, place_behind, change_at, leave_out_at, half_at}
-use Rattle.dap_mask.specs.RuleText.{swap_with, swap_at, statement_at, told, line_said}
+use Rattle.dap_mask.specs.RuleText.{swap_with, swap_at, statement_at, reported, line_said}
 use Rattle.dap_mask.specs.Rules.{Rule, same_kind}
 use Rattle.dap_mask.specs.Runs.{is_blank, is_plain, front, behind, gap, is_end}
 use Rattle.dap_mask.specs.Swaps.{Half, SwapRule}
@@ -423,7 +423,7 @@ rule_bad : (st : Statement) → rule st ≡ bad → ⊥
 rule_bad st h = cc
 
 abbrev line_if : Bool → Option Statement → Line
-line_if over o = cond over nothing (told o)
+line_if over o = cond over nothing (reported o)
 
 line_is : (l : List ℕ) (over : Bool) (o : Option Statement) → is_end l ≡ over
     → statement_at (behind is_blank l) ≡ o → Says l (line_if over o)

@@ -18,7 +18,7 @@ use Rattle.dap_mask.specs.RuleText.{member_step, next_step, step_then, steps_fro
 use Rattle.dap_mask.specs.RuleText.{verb_named, kind_named, Head}
 use Rattle.dap_mask.specs.RuleText.{name_behind, kind_then, head_at, placed, place_behind}
 use Rattle.dap_mask.specs.RuleText.{change_at, leave_out_at, half_at, swap_with, swap_at}
-use Rattle.dap_mask.specs.RuleText.{statement_at, told, line_said}
+use Rattle.dap_mask.specs.RuleText.{statement_at, reported, line_said}
 use Rattle.dap_mask.specs.Rules.{Rule, same_kind}
 use Rattle.dap_mask.specs.Runs.{is_blank, is_plain, behind, gap, is_over, is_end}
 use Rattle.dap_mask.specs.Swaps.{Half, SwapRule}
@@ -324,10 +324,10 @@ statement_by w s =
     (option_and_then (λ v. change_at v s) (verb_named w)))
 
 abbrev line_by : List ℕ → Line
-line_by s = cond (is_over s) nothing (told (statement_at s))
+line_by s = cond (is_over s) nothing (reported (statement_at s))
 
 abbrev unless_over : List ℕ → Bool → Line
-unless_over s over = cond over nothing (told (statement_at s))
+unless_over s over = cond over nothing (reported (statement_at s))
 
 not_over : (w s : List ℕ) → begins_with is_plain w ≡ true → is_over (w ++ s) ≡ false
 not_over [] s b = absurd (true≢false (sym b))
@@ -342,7 +342,7 @@ words_read l w ws st (blanks, rest, is, a, on) b all h =
     let stops = words_stop is_plain ws rest plain_no_end on in
     ap line_by (ap (behind is_blank) is ∙ behind_run is_blank blanks (w ++ rest) a opens)
     ∙ ap (unless_over (w ++ rest)) (not_over w rest b)
-    ∙ ap told (ap₂ statement_by (front_run is_plain w rest all stops)
+    ∙ ap reported (ap₂ statement_by (front_run is_plain w rest all stops)
     (behind_run is_plain w rest all stops) ∙ h)
 
 verb_read : (v : Verb) (s : List ℕ) → statement_by (verb_word v) s ≡ change_at v s

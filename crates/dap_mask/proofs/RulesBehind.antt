@@ -7,7 +7,8 @@ use Rattle.std.specs.declared.alloc.Global.{Global}
 use Rattle.dap_tree.proofs.Booleans.{and_left, and_right, and_both, or_left, or_right, or_both}
 use Rattle.dap_mask.specs.Ids.{takes_profile_id, leave_ids}
 use Rattle.dap_mask.specs.Mask.{Mask, change, rule_count}
-use Rattle.dap_mask.specs.Rules.{Rule, rule_of, rules_of, is_telling_place, are_safe, are_settled}
+use Rattle.dap_mask.specs.Rules.{Rule, rule_of, rules_of, is_telling_place, are_safe}
+use Rattle.dap_mask.specs.Rules.{are_idempotent}
 use Rattle.dap_mask.specs.Rules.{clash, clashes_with, is_clashed_with, is_among}
 use Rattle.dap_mask.specs.RulesFile.{clash_cause, cause_of_pair, change_cause, cause_against}
 use Rattle.dap_mask.specs.declared.rules.MaskRule.{MaskRule}
@@ -61,15 +62,15 @@ clash_more q r (t ∷ ts) h g =
     or_both _ _ (or_left (clash q t) (clashes_with q ts) h)
     (clash_more q r ts (or_right (clash q t) (clashes_with q ts) h) g)
 
-pub settled_more : (rs : List Rule) (r : Rule) → are_settled rs ≡ true
-    → is_clashed_with rs r ≡ false → are_settled (rs ++ r ∷ []) ≡ true
+pub settled_more : (rs : List Rule) (r : Rule) → are_idempotent rs ≡ true
+    → is_clashed_with rs r ≡ false → are_idempotent (rs ++ r ∷ []) ≡ true
 settled_more [] r h g = refl
 settled_more (q ∷ rs) r h g =
     let earlier = not_true (clashes_with q rs)
-    (and_left (not (clashes_with q rs)) (are_settled rs) h) in
+    (and_left (not (clashes_with q rs)) (are_idempotent rs) h) in
     let apart = or_left (clash q r) (is_clashed_with rs r) g in
     and_both _ _ (ap not (clash_more q r rs earlier apart))
-    (settled_more rs r (and_right (not (clashes_with q rs)) (are_settled rs) h)
+    (settled_more rs r (and_right (not (clashes_with q rs)) (are_idempotent rs) h)
     (or_right (clash q r) (is_clashed_with rs r) g))
 
 -- ---- a rule that has no error

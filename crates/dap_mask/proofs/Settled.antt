@@ -13,8 +13,8 @@ use Rattle.dap_message.specs.Rows.{is_text, is_of_kind, name_key, type_name}
 use Rattle.dap_profile.specs.declared.profile.Kind.{Kind}
 use Rattle.dap_profile.specs.declared.profile.Kind.TheVariants.{Request, Response, Event}
 use Rattle.dap_mask.specs.Rules.{Rule, blank, change_text, of_verb, takes_parts, has_name}
-use Rattle.dap_mask.specs.Rules.{speaks_of, same_place, same_kind, share_name, unsettles}
-use Rattle.dap_mask.specs.Rules.{clash, clashes_with, are_safe, are_settled}
+use Rattle.dap_mask.specs.Rules.{rule_applies, same_place, same_kind, share_name, unsettles}
+use Rattle.dap_mask.specs.Rules.{clash, clashes_with, are_safe, are_idempotent}
 use Rattle.dap_mask.specs.Masked.{is_below, left_by, left, masked}
 use Rattle.dap_mask.specs.Texts.{digits, hex}
 use Rattle.dap_texts.specs.Long.{long}
@@ -192,8 +192,8 @@ name_alike k None (Some m) d h g = refl
 name_alike k (Some n) None d h g = refl
 name_alike k (Some n) (Some m) d h g = text_alike n m (get (name_key k) d) h g
 
-does_not_unsettle : (r t : Rule) (d : Doc) (p : List Step) → clash r t ≡ false → speaks_of r d
-    ≡ true → speaks_of t d ≡ true → fits_place r.place p ≡ true → fits_place t.place p ≡ true
+does_not_unsettle : (r t : Rule) (d : Doc) (p : List Step) → clash r t ≡ false → rule_applies r d
+    ≡ true → rule_applies t d ≡ true → fits_place r.place p ≡ true → fits_place t.place p ≡ true
     → unsettles r.verb t.verb ≡ false
 does_not_unsettle r t d p h rs ts rp tp =
     let kinds = kind_alike r.kind t.kind d (and_left (is_of_kind r.kind d)
@@ -242,14 +242,14 @@ stays_by v w true false false true true f o h k = refl
 
 by_twice : (r : Rule) (d : Doc) (p : List Step) (o : Option Doc) → left_by r d p (left_by r d p o)
     ≡ left_by r d p o
-by_twice r d p o = twice_by r.verb (speaks_of r d) (fits_place r.place p) (is_below r.place p
+by_twice r d p o = twice_by r.verb (rule_applies r d) (fits_place r.place p) (is_below r.place p
     && takes_parts r.verb) o
 
 by_stays : (r t : Rule) (d : Doc) (p : List Step) (o : Option Doc) → clash r t ≡ false
     → left_by r d p o ≡ o → left_by r d p (left_by t d p o) ≡ left_by t d p o
 by_stays r t d p o h k =
-    stays_by r.verb t.verb (speaks_of r d) (fits_place r.place p) (is_below r.place p
-    && takes_parts r.verb) (speaks_of t d) (fits_place t.place p) (is_below t.place p
+    stays_by r.verb t.verb (rule_applies r d) (fits_place r.place p) (is_below r.place p
+    && takes_parts r.verb) (rule_applies t d) (fits_place t.place p) (is_below t.place p
     && takes_parts t.verb) o
     (does_not_unsettle r t d p h) k
 
@@ -265,15 +265,16 @@ not_true : (b : Bool) → not b ≡ true → b ≡ false
 not_true true h = cc
 not_true false h = refl
 
-left_twice : (rs : List Rule) (d : Doc) (p : List Step) (o : Option Doc) → are_settled rs ≡ true
+left_twice : (rs : List Rule) (d : Doc) (p : List Step) (o : Option Doc) → are_idempotent rs ≡ true
     → left rs d p (left rs d p o) ≡ left rs d p o
 left_twice [] d p o h = refl
 left_twice (r ∷ rs) d p o h =
     ap (left rs d p) (left_stays r rs d p (left_by r d p o) (not_true (clashes_with r rs)
-    (and_left (not (clashes_with r rs)) (are_settled rs) h)) (by_twice r d p o))
-    ∙ left_twice rs d p (left_by r d p o) (and_right (not (clashes_with r rs)) (are_settled rs) h)
+    (and_left (not (clashes_with r rs)) (are_idempotent rs) h)) (by_twice r d p o))
+    ∙ left_twice rs d p (left_by r d p o)
+    (and_right (not (clashes_with r rs)) (are_idempotent rs) h)
 
-pub masked_once : (rs : List Rule) (d : Doc) → are_safe rs ≡ true → are_settled rs ≡ true
+pub masked_once : (rs : List Rule) (d : Doc) → are_safe rs ≡ true → are_idempotent rs ≡ true
     → is_ordered d ≡ true → masked rs (masked rs d) ≡ masked rs d
 masked_once rs d safe settled o =
     let m = masked rs d in

@@ -7,7 +7,7 @@ use Rattle.dap_message.specs.Marks.{top}
 use Rattle.dap_message.specs.Places.{fits_place}
 use Rattle.dap_profile.specs.Profile.{profile, wants_id}
 use Rattle.dap_profile.specs.ProfileRows.{ProfileRow}
-use Rattle.dap_message.specs.Rows.{is_asked}
+use Rattle.dap_message.specs.Rows.{row_applies}
 use Rattle.dap_profile.specs.declared.profile.Kind.{Kind}
 use Rattle.dap_mask.specs.Rules.{Rule, same_place, same_kind, share_name}
 use Rattle.dap_mask.specs.Masked.{left}
@@ -45,12 +45,12 @@ leave_ids (r ∷ rs) = not (takes_profile_id r) && leave_ids rs
 abbrev pub LeavesIds : Type 0
 LeavesIds = (rules : List Rule) (d : Doc) (p : List Step) (o : Option Doc) (row : ProfileRow)
     → leave_ids rules ≡ true → Contains profile row → wants_id row.want ≡ true
-    → is_asked row.kind row.name d ≡ true → fits_place row.place p ≡ true
+    → row_applies row.kind row.name d ≡ true → fits_place row.place p ≡ true
     → (left rules d p o ≡ o) ⊎ (left rules d p o ≡ None)
 
 -- The value at the path of each id of the profile is the same in e as in d, or e has no value
 -- there.
 unfoldable pub KeepsIds : Doc → Doc → Type 0
 KeepsIds d e = (p : List Step) (row : ProfileRow) → Contains profile row → wants_id row.want ≡ true
-    → is_asked row.kind row.name d ≡ true → fits_place row.place p ≡ true
+    → row_applies row.kind row.name d ≡ true → fits_place row.place p ≡ true
     → (option_map top (at p e) ≡ option_map top (at p d)) ⊎ (at p e ≡ None)

@@ -3,7 +3,7 @@ use Rattle.std.specs.Prelude.{◌≡◌, ◌↔◌, ℕ, true, List, Option, Non
 use Rattle.dap_tree.specs.Doc.{Doc, is_ordered, is_sound, all_utf8}
 use Rattle.dap_tree.specs.Path.{Step, at}
 use Rattle.dap_message.specs.Marks.{top}
-use Rattle.dap_mask.specs.Rules.{Rule, are_safe, are_settled, is_dropped}
+use Rattle.dap_mask.specs.Rules.{Rule, are_safe, are_idempotent, is_dropped}
 use Rattle.dap_mask.specs.Masked.{IsMasked, AgreeBut, is_apart, masked}
 use Rattle.dap_mask.specs.Texts.{AreDigitsOf, IsHexOf, digits, hex}
 
@@ -38,7 +38,7 @@ DropsAlike = (rules : List Rule) (names : List (Option (List ℕ))) (d : Doc) �
 
 -- Masking a masked document again does not change it, if its members are in order.
 abbrev pub MaskedOnce : Type 0
-MaskedOnce = (rules : List Rule) (d : Doc) → are_safe rules ≡ true → are_settled rules ≡ true
+MaskedOnce = (rules : List Rule) (d : Doc) → are_safe rules ≡ true → are_idempotent rules ≡ true
     → is_ordered d ≡ true → masked rules (masked rules d) ≡ masked rules d
 
 -- ---- equal if and only if equal elsewhere

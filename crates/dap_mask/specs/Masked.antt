@@ -6,7 +6,7 @@ use Rattle.dap_tree.specs.Path.{Step, name, place, at}
 use Rattle.dap_profile.specs.PlaceSteps.{PlaceStep, named, each}
 use Rattle.dap_message.specs.Places.{fits_place}
 use Rattle.dap_message.specs.Marks.{top, edit}
-use Rattle.dap_mask.specs.Rules.{Rule, of_verb, takes_parts, speaks_of}
+use Rattle.dap_mask.specs.Rules.{Rule, of_verb, takes_parts, rule_applies}
 use Rattle.dap_mask.specs.declared.rules.Verb.{Verb}
 
 -- ---- path by path
@@ -27,7 +27,7 @@ left_at v ps p o = cond (fits_place ps p) (option_map (of_verb v) o)
 
 -- The value at a path of the document d after a rule.
 abbrev pub left_by : Rule → Doc → List Step → Option Doc → Option Doc
-left_by r d p o = cond (speaks_of r d) (left_at r.verb r.place p o) o
+left_by r d p o = cond (rule_applies r d) (left_at r.verb r.place p o) o
 
 -- The value at this path after the rules, applied in order.
 abbrev pub left : List Rule → Doc → List Step → Option Doc → Option Doc
@@ -52,7 +52,7 @@ AgreeBut rules d e = (p : List Step) → option_map top (left rules d p (at p d)
 abbrev pub is_apart : List Rule → Doc → List Step → Bool
 is_apart [] d p = true
 is_apart (r ∷ rs) d p =
-    cond (speaks_of r d) (cond (fits_place r.place p) false (cond (is_below r.place p
+    cond (rule_applies r d) (cond (fits_place r.place p) false (cond (is_below r.place p
     && takes_parts r.verb) false (is_apart rs d p))) (is_apart rs d p)
 
 -- At each path that the rules do not affect, the masked document e has the same value as d.
@@ -67,7 +67,7 @@ HasNoNewPath d e = (p : List Step) → at p d ≡ None → at p e ≡ None
 -- ---- as a function on documents
 
 abbrev pub mask_by : Rule → Doc → Doc
-mask_by r d = cond (speaks_of r d) (edit r.place (of_verb r.verb) d) d
+mask_by r d = cond (rule_applies r d) (edit r.place (of_verb r.verb) d) d
 
 -- The document after the rules, applied in order.
 abbrev pub masked : List Rule → Doc → Doc

@@ -149,10 +149,10 @@ statement_at s =
     (cond (bytes_eq (front is_plain s) (codes "swap")) (swap_at (behind is_plain s))
     (option_and_then (λ v. change_at v (behind is_plain s)) (verb_named (front is_plain s))))
 
-abbrev pub told : Option Statement → Line
-told None = bad
-told (Some st) = rule st
+abbrev pub reported : Option Statement → Line
+reported None = bad
+reported (Some st) = rule st
 
 -- The meaning of a line: a rule, nothing, or neither.
 abbrev pub line_said : List ℕ → Line
-line_said l = cond (is_end l) nothing (told (statement_at (behind is_blank l)))
+line_said l = cond (is_end l) nothing (reported (statement_at (behind is_blank l)))

@@ -86,8 +86,8 @@ has_name k (Some n) d = is_text n (get (name_key k) d)
 
 -- The rule applies to the message, by its JSON only (own): an object with the `type` of the rule
 -- and, if the rule has a name, with this `command` or `event`.
-abbrev pub speaks_of : Rule → Doc → Bool
-speaks_of r d = is_of_kind r.kind d && has_name r.kind r.name d
+abbrev pub rule_applies : Rule → Doc → Bool
+rule_applies r d = is_of_kind r.kind d && has_name r.kind r.name d
 
 -- The event has one of these names. `None` is any name.
 abbrev pub is_event_of : List (Option (List ℕ)) → Doc → Bool
@@ -187,9 +187,9 @@ clashes_with r [] = false
 clashes_with r (t ∷ ts) = clash r t || clashes_with r ts
 
 -- No rule clashes with a later one.
-abbrev pub are_settled : List Rule → Bool
-are_settled [] = true
-are_settled (r ∷ rs) = not (clashes_with r rs) && are_settled rs
+abbrev pub are_idempotent : List Rule → Bool
+are_idempotent [] = true
+are_idempotent (r ∷ rs) = not (clashes_with r rs) && are_idempotent rs
 
 -- One of these rules clashes with the later one.
 abbrev pub is_clashed_with : List Rule → Rule → Bool

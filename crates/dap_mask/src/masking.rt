@@ -12,7 +12,7 @@ ghost use Rattle.dap_mask.specs.KeptRules.{changes_of, dropped_of};
 ghost use Rattle.dap_mask.specs.Masked.{mask_by, masked, IsMasked, AgreeBut, KeepsElsewhere};
 ghost use Rattle.dap_mask.specs.Masked.{HasNoNewPath};
 ghost use Rattle.dap_mask.specs.Rules.{rule_of, rules_of, place_of, of_verb, blank, has_name};
-ghost use Rattle.dap_mask.specs.Rules.{speaks_of, is_event_of, is_dropped};
+ghost use Rattle.dap_mask.specs.Rules.{rule_applies, is_event_of, is_dropped};
 
 use crate::mask_rules::MaskRules;
 use crate::meets::text_of;
@@ -133,7 +133,7 @@ fn is_event_of(tree: &Tree, names: &[Option<String>]) -> bool
 fn mask_by(tree: &mut Tree, rule: &MaskRule)
     ensures { view tree.new ≡ mask_by (rule_of rule.now) (view tree.old) }
 {
-    if speaks_of(rule, tree) {
+    if rule_applies(rule, tree) {
         mask_path(tree, &rule.place, rule.verb);
     }
 }
@@ -175,8 +175,8 @@ fn name_key(kind: Kind) -> &'static str
     }
 }
 
-fn speaks_of(rule: &MaskRule, tree: &Tree) -> bool
-    ensures { result ≡ speaks_of (rule_of rule.now) (view tree.now) }
+fn rule_applies(rule: &MaskRule, tree: &Tree) -> bool
+    ensures { result ≡ rule_applies (rule_of rule.now) (view tree.now) }
 {
     is_of_kind(tree, rule.kind) && has_name(tree, rule.kind, text_of(&rule.name))
 }

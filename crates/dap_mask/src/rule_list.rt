@@ -3,7 +3,7 @@ ghost use Rattle.std.specs.Prelude.{◌≡◌, ◌≢◌, ◌≤◌, true, None,
 ghost use Rattle.std.specs.Prelude.{IfOk, IfErr, OnOk, length, string_bytes, ◌+◌, vec_len};
 ghost use Rattle.std.specs.Str.{is_utf8};
 ghost use Rattle.dap_mask.specs.Ids.{leave_ids};
-ghost use Rattle.dap_mask.specs.Rules.{rule_of, rules_of, are_safe, are_settled};
+ghost use Rattle.dap_mask.specs.Rules.{rule_of, rules_of, are_safe, are_idempotent};
 ghost use Rattle.dap_mask.specs.RulesFile.{is_name_among, change_cause, last_line};
 
 use crate::fault::{RulesCause, RulesFault};
@@ -34,7 +34,7 @@ pub(crate) struct RuleList {
     swaps: Vec<SwapRule>,
     ghost few: { vec_len changes + vec_len dropped + vec_len swaps ≤ 1000 },
     ghost safe: { are_safe (rules_of changes.items) ≡ true },
-    ghost settled: { are_settled (rules_of changes.items) ≡ true },
+    ghost settled: { are_idempotent (rules_of changes.items) ≡ true },
     ghost leave: { leave_ids (rules_of changes.items) ≡ true },
 }
 

@@ -11,16 +11,16 @@ use Rattle.dap_recording.specs.Recording.{record_text}
 use Rattle.dap_input.specs.declared.limits.Limits.{Limits}
 use Rattle.dap_input.specs.declared.refused.Refused.{Refused}
 use Rattle.dap_input.specs.declared.refused.Refused.TheVariants.{Fraction, Grew, Memory}
-use Rattle.dap_input.specs.Refusals.{RefusesHeld}
-use Rattle.dap_normal.specs.Accepting.{Held, Fits, text}
+use Rattle.dap_input.specs.Refusals.{RejectsPayload}
+use Rattle.dap_normal.specs.Accepting.{Payload, Fits, text}
 use Rattle.dap_rename.proofs.Lists.{each-append, each_right}
 use Rattle.dap_mask.specs.Loose.{IsLeftOf, LeavesFraction}
 use Rattle.dap_mask.specs.Mask.{Mask}
-use Rattle.dap_mask_input.specs.Masking.{AreWhole, Objects, left_of, masked_text}
+use Rattle.dap_mask_input.specs.Masking.{AreWhole, Rejects, left_of, masked_text}
 use Rattle.dap_mask_input.specs.MaskingSteps.{Masked, Writes}
 use Rattle.dap_mask_input.proofs.LeftLists.{left-append, left_none, left_one, masked_text-append}
 
-module _ (limits : Limits) (mask : Mask) (messages : List Sent) (held : Held) (n written : ℕ)
+module _ (limits : Limits) (mask : Mask) (messages : List Sent) (held : Payload) (n written : ℕ)
     (fits : Fits limits (left_of mask messages))
     (count : written ≡ length (masked_text mask messages)) where
   -- An event that the rules drop.
@@ -47,7 +47,7 @@ module _ (limits : Limits) (mask : Mask) (messages : List Sent) (held : Held) (n
 
   -- A number that is not an integer of 64 bits remains after masking.
   pub fraction_left : LeavesFraction mask held.1
-      → RefusesHeld (Objects limits mask messages held) n (Fraction n)
+      → RejectsPayload (Rejects limits mask messages held) n (Fraction n)
   fraction_left (d, read, (stays, not_sound)) =
       let m : Sent = record { side = held.0; doc = d } in (
         refl,
@@ -100,13 +100,13 @@ module _ (limits : Limits) (mask : Mask) (messages : List Sent) (held : Held) (n
 
     not_written : (because : Refused) (old new : List ℕ)
         → Writes limits held.0 e n written old new (Err because)
-        → RefusesHeld (Objects limits mask messages held) n because
-    not_written (Grew k) old new told = (
-      told.0,
-      (message, (refl, is.1), whole, grown told.1),
+        → RejectsPayload (Rejects limits mask messages held) n because
+    not_written (Grew k) old new reported = (
+      reported.0,
+      (message, (refl, is.1), whole, grown reported.1),
     )
-    not_written Memory old new told = tt
-    not_written because old new told = absurd told
+    not_written Memory old new reported = tt
+    not_written because old new reported = absurd reported
 
     written_on : (old new : List ℕ) (after : ℕ)
         → Writes limits held.0 e n written old new (Ok after)

@@ -14,7 +14,7 @@ use Rattle.dap_recording.proofs.RecordsWritten.{written_is_record}
 use Rattle.dap_input.specs.declared.limits.Limits.{Limits}
 use Rattle.dap_input.specs.Limits.{AreSound}
 use Rattle.dap_input.proofs.Outcomes.{one_list}
-use Rattle.dap_normal.specs.Accepting.{Held, Fits, text, AreMessages as AreTypedMessages}
+use Rattle.dap_normal.specs.Accepting.{Payload, Fits, text, AreMessages as AreTypedMessages}
 use Rattle.dap_rename.specs.declared.mode.Mode.{Mode}
 use Rattle.dap_normal.specs.Normalising.{Normalises}
 use Rattle.dap_normal.proofs.NormalFormLaws.{equal_texts_tell}
@@ -22,7 +22,7 @@ use Rattle.dap_mask.specs.Ids.{leave_ids}
 use Rattle.dap_mask.specs.Loose.{IsReadLoosely}
 use Rattle.dap_mask.specs.Mask.{Mask}
 use Rattle.dap_mask.specs.Masked.{masked}
-use Rattle.dap_mask.specs.Rules.{are_safe, are_settled, is_dropped}
+use Rattle.dap_mask.specs.Rules.{are_safe, are_idempotent, is_dropped}
 use Rattle.dap_mask.proofs.ByPath.{dropped-masked, agree_from_equal, equal_from_agree}
 use Rattle.dap_mask.proofs.LooseReading.{content_masked, left_is_read, loosely_ordered}
 use Rattle.dap_mask.proofs.LooseReading.{one_loose_reading}
@@ -40,7 +40,7 @@ use Rattle.dap_mask_input.proofs.MaskingFacts.{accepted_facts, value_laws}
 abbrev IsSomeRead : Sent → Type 0
 IsSomeRead m = (content : List ℕ) × IsReadLoosely content m.doc
 
-all_read : (records : List Held) (messages : List Sent) → AreMessages records messages
+all_read : (records : List Payload) (messages : List Sent) → AreMessages records messages
     → AllByRecursion IsSomeRead messages
 all_read [] [] read = tt
 all_read [] (m ∷ messages) read = absurd read
@@ -58,12 +58,12 @@ kept_read mask (m ∷ messages) read =
     by_bool (is_kept mask m) (λ yes. rw yes (read.0, kept_read mask messages read.1))
     (λ no. rw no (kept_read mask messages read.1))
 
-abbrev contents_of : List Sent → List Held
+abbrev contents_of : List Sent → List Payload
 contents_of [] = []
 contents_of (m ∷ ms) = (m.side, text_of m.doc) ∷ contents_of ms
 
 module _ (mask : Mask) (safe : are_safe mask.changes ≡ true)
-    (settled : are_settled mask.changes ≡ true) where
+    (settled : are_idempotent mask.changes ≡ true) where
   -- ---- masking masked messages
 
   kept_again : (m : Sent) → is_kept mask (mask_message mask m) ≡ is_kept mask m
@@ -135,7 +135,7 @@ module _ (mask : Mask) (safe : are_safe mask.changes ≡ true)
       ))
 
 -- A message typed from a content is typed from the document that is read from that content.
-typed_as : (records : List Held) (ms ts : List Sent) → AreMessages records ms
+typed_as : (records : List Payload) (ms ts : List Sent) → AreMessages records ms
     → AreTypedMessages records ts → AllZip IsTypedAs ms ts
 typed_as [] [] [] read typed = tt
 typed_as [] [] (t ∷ ts) read typed = absurd typed
@@ -168,7 +168,7 @@ module _ (limits : Limits) (sound : AreSound limits) where
   )
 
   module _ (mask : Mask) (safe : are_safe mask.changes ≡ true)
-      (settled : are_settled mask.changes ≡ true) where
+      (settled : are_idempotent mask.changes ≡ true) where
     -- ---- masked output masks to itself
 
     left_accepted : (bytes : List ℕ) (messages : List Sent) → IsAccepted limits mask bytes messages

@@ -7,20 +7,20 @@ use Rattle.dap_recording.proofs.Records.{readable}
 use Rattle.dap_recording.specs.Recording.{IsRecording}
 use Rattle.dap_input.specs.ItemReading.{record_items}
 use Rattle.dap_input.specs.declared.limits.Limits.{Limits}
-use Rattle.dap_input.specs.Judging.{Objection, no_message, broken, too_many_ids, grew}
+use Rattle.dap_input.specs.Validation.{ContentError, no_message, broken, too_many_ids, grew}
 use Rattle.dap_input.proofs.InputLoop.{ReadsAs}
 use Rattle.dap_input.proofs.Runs.{Run, run_within, ValueLaws, ValueFacts, AcceptedFacts}
-use Rattle.dap_normal.specs.Accepting.{Held, Fits}
-use Rattle.dap_normal.specs.JudgingSteps.{held_of}
+use Rattle.dap_normal.specs.Accepting.{Payload, Fits}
+use Rattle.dap_normal.specs.JudgingSteps.{payload_of}
 use Rattle.dap_normal.proofs.NormalTexts.{fits_front, fits_or_not}
 use Rattle.dap_mask.specs.Mask.{Mask}
 use Rattle.dap_mask.proofs.LooseReading.{one_loose_reading, some_loose_reading}
-use Rattle.dap_mask_input.specs.Masking.{AreMessages, AreWhole, IsMessage, IsNext, Objects, left_of}
+use Rattle.dap_mask_input.specs.Masking.{AreMessages, AreWhole, IsMessage, IsNext, Rejects, left_of}
 use Rattle.dap_mask_input.specs.Masking.{masking}
 use Rattle.dap_mask_input.proofs.LeftLists.{left-append, whole_both, whole_front, whole_or_not}
 use Rattle.dap_mask_input.proofs.LeftLists.{whole_rest}
 
-pub message_once : (held : Held) (m n : Sent) → IsMessage held m → IsMessage held n → m ≡ n
+pub message_once : (held : Payload) (m n : Sent) → IsMessage held m → IsMessage held n → m ≡ n
 message_once held m n one two =
     ap₂ (λ s d. record { side = s; doc = d }) (one.0 ∙ sym two.0)
     (one_loose_reading held.1 m.doc n.doc one.1 two.1)
@@ -28,17 +28,17 @@ message_once held m n one two =
 module _ (limits : Limits) (mask : Mask) where
   -- ---- at most one outcome
 
-  whole_of_other : (held : Held) (m n : Sent) → IsMessage held m → IsMessage held n
+  whole_of_other : (held : Payload) (m n : Sent) → IsMessage held m → IsMessage held n
       → AreWhole (left_of mask (m ∷ [])) → AreWhole (left_of mask (n ∷ []))
   whole_of_other held m n one two whole =
       subst (λ k. AreWhole (left_of mask (k ∷ []))) (message_once held m n one two) whole
 
-  unread : (held : Held) (m : Sent) → IsMessage held m
-      → Objects limits mask [] held (no_message no_reading) → ⊥
+  unread : (held : Payload) (m : Sent) → IsMessage held m
+      → Rejects limits mask [] held (no_message no_reading) → ⊥
   unread held m is none = none is.1.0 is.1.1
 
-  one_objection : (before : List Sent) (held : Held) (why because : Objection)
-      → Objects limits mask before held why → Objects limits mask before held because
+  one_objection : (before : List Sent) (held : Payload) (why because : ContentError)
+      → Rejects limits mask before held why → Rejects limits mask before held because
       → why ≡ because
   one_objection before held (no_message no_reading) (no_message no_reading) one two = refl
   one_objection before held (no_message no_reading) (no_message fraction) one two =
@@ -60,8 +60,8 @@ module _ (limits : Limits) (mask : Mask) where
   one_objection before held too_many_ids because one two = absurd one
   one_objection before held why because one two = absurd two
 
-  next_not_objected : (before : List Sent) (held : Held) (m : Sent) (why : Objection)
-      → IsNext limits mask before held m → Objects limits mask before held why → ⊥
+  next_not_objected : (before : List Sent) (held : Payload) (m : Sent) (why : ContentError)
+      → IsNext limits mask before held m → Rejects limits mask before held why → ⊥
   next_not_objected before held m (no_message no_reading) next objects =
       unread held m next.is_message objects
   next_not_objected before held m (no_message fraction) next objects =
@@ -80,10 +80,10 @@ module _ (limits : Limits) (mask : Mask) where
 
   -- ---- some outcome
 
-  module _ (before : List Sent) (held : Held) where
+  module _ (before : List Sent) (held : Payload) where
     abbrev Judgement : Type 0
     Judgement = ((m : Sent) × IsNext limits mask before held m)
-        ⊎ ((why : Objection) × Objects limits mask before held why)
+        ⊎ ((why : ContentError) × Rejects limits mask before held why)
 
     judge_length : (m : Sent) → IsMessage held m → AreWhole (left_of mask (m ∷ []))
         → Fits limits (left_of mask (before ++ m ∷ []))
@@ -118,7 +118,7 @@ module _ (limits : Limits) (mask : Mask) where
       fits_front limits (left_of mask messages) (left_of mask others)
       (subst (Fits limits) (left-append mask messages others) fits)
 
-  run_of : (before messages : List Sent) (used : ℕ) (bytes : List ℕ) (records : List Held)
+  run_of : (before messages : List Sent) (used : ℕ) (bytes : List ℕ) (records : List Payload)
       → IsRecording limits.frame bytes records → AreMessages records messages
       → AreWhole (left_of mask messages) → Fits limits (left_of mask (before ++ messages))
       → used + length bytes ≤ limits.input → Run (masking limits mask) before used bytes messages
@@ -152,7 +152,7 @@ module _ (limits : Limits) (mask : Mask) where
   -- The records of a run contain its messages, and the masked messages can be written.
   records_of : (before messages : List Sent) (used : ℕ) (bytes : List ℕ)
       → Run (masking limits mask) before used bytes messages
-      → (records : List Held) × IsRecording limits.frame bytes records
+      → (records : List Payload) × IsRecording limits.frame bytes records
       × AreMessages records messages × AreWhole (left_of mask messages)
   unfolding Run
   records_of before [] used bytes run = ([], run, tt, tt)
@@ -196,7 +196,7 @@ module _ (limits : Limits) (mask : Mask) where
   }
 
   -- A reader of records returns the records that are masked.
-  pub reads_records : ReadsAs (masking limits mask) (record_items limits.frame) held_of
+  pub reads_records : ReadsAs (masking limits mask) (record_items limits.frame) payload_of
   reads_records = record {
     records = readable limits.frame;
     judged = value_laws;

@@ -4,15 +4,16 @@ use Rattle.std.proofs.Common.{Option, Some, None, Result, Ok, Err, refl, sym, �
 use Rattle.std.proofs.Common.{length}
 use Rattle.dap_device.specs.declared.device.Source.{Ghosts as Source}
 use Rattle.dap_device.specs.declared.device.Sink.{Ghosts as Sink}
-use Rattle.dap_device.specs.Written.{AllWritten, FrontWritten}
+use Rattle.dap_device.specs.Written.{AllWritten, PrefixWritten}
 use Rattle.dap_device.proofs.Sending.{all_then_all}
 use Rattle.dap_message.specs.Message.{Sent}
 use Rattle.dap_recording.specs.RecordReading.{RecordReading}
 use Rattle.dap_recording.specs.declared.record.Record.{Record as WholeRecord}
-use Rattle.dap_input.specs.ItemReading.{StandsForRecord, record_items}
+use Rattle.dap_input.specs.ItemReading.{RepresentsRecord, record_items}
 use Rattle.dap_input.specs.Limits.{AreSound}
 use Rattle.dap_input.specs.RecordSteps.{IsAtStart, ReadsNext}
-use Rattle.dap_input.specs.Streaming.{AnswersRefusal, HasFailedToWrite, HasGivenUp, HasGivenUpAt}
+use Rattle.dap_input.specs.Streaming.{AnswersRefusal, HasFailedToWrite, RanOutOfMemory}
+use Rattle.dap_input.specs.Streaming.{HasGivenUpAt}
 use Rattle.dap_input.specs.Streaming.{Streams}
 use Rattle.dap_input.specs.declared.limits.Limits.{Limits}
 use Rattle.dap_input.specs.declared.records.Records.{Records}
@@ -25,7 +26,7 @@ use Rattle.dap_input.proofs.Streams as streams
 use Rattle.dap_input.proofs.WholeInputs.{Going as Judged}
 use Rattle.dap_input.proofs.WholeInputs as inputs
 use Rattle.dap_normal.specs.Accepting.{Fits}
-use Rattle.dap_normal.specs.JudgingSteps.{held_of}
+use Rattle.dap_normal.specs.JudgingSteps.{payload_of}
 use Rattle.dap_normal.specs.Streaming.{Answers, Ends}
 use Rattle.dap_mask.specs.KeptRules.{mask_of}
 use Rattle.dap_mask.specs.Mask.{Mask}
@@ -45,7 +46,7 @@ pub record Going {R W : Type 0} (limits : Limits) (mask : Mask) (source : Source
     (start reader : R) (before writer : W) (records : Records RecordReading) (written : ℕ)
     (waiting : List ℕ) : Type 0 where
   pub values : List Sent
-  pub judged : Judged (masking limits mask) (StandsForRecord limits.frame) source start reader
+  pub judged : Judged (masking limits mask) (RepresentsRecord limits.frame) source start reader
       records values
   pub fits : Fits limits (left_of mask values)
   pub count : written ≡ length (masked_text mask values)
@@ -68,9 +69,9 @@ module _ {R W : Type 0} (rules : MaskRules) (limits : Limits) (sound : AreSound 
   promised = masked_to limits sound mask rules.list.safe rules.list.settled rules.list.leave
 
   abbrev pub Answer : R → W → Result (Unit {0}) Refused → Type 0
-  Answer after end answer =
+  Answer after end outcome =
       Streams (masking limits mask) (Masks limits mask) (IsMaskedTo limits mask) source sink start
-      after before end answer
+      after before end outcome
 
   abbrev pub Fails : R → W → Type 0
   Fails after end =
@@ -78,10 +79,10 @@ module _ {R W : Type 0} (rules : MaskRules) (limits : Limits) (sound : AreSound 
       sink start after before end
 
   -- Nothing has been read or written.
-  pub given_up : HasGivenUp (masking limits mask) (Masks limits mask) (IsMaskedTo limits mask)
+  pub given_up : RanOutOfMemory (masking limits mask) (Masks limits mask) (IsMaskedTo limits mask)
       source sink start start before before
-  given_up = streams.given_up (masking limits mask) (record_items limits.frame) held_of
-      (reads_records limits mask) (StandsForRecord limits.frame) (masked_text mask)
+  given_up = streams.given_up (masking limits mask) (record_items limits.frame) payload_of
+      (reads_records limits mask) (RepresentsRecord limits.frame) (masked_text mask)
       (Masks limits mask) (IsMaskedTo limits mask) (masks limits mask) promised refl source sink
       start before
 
@@ -90,11 +91,11 @@ module _ {R W : Type 0} (rules : MaskRules) (limits : Limits) (sound : AreSound 
       Going limits mask source sink start reader before writer records written waiting
 
   pub none_read : (records : Records RecordReading)
-      → IsAtStart (StandsForRecord limits.frame) limits.input records
+      → IsAtStart (RepresentsRecord limits.frame) limits.input records
       → Goes start before records 0 []
   none_read records is =
-      let judged = inputs.at_start (masking limits mask) (record_items limits.frame) held_of
-      (reads_records limits mask) (StandsForRecord limits.frame) source start records is in
+      let judged = inputs.at_start (masking limits mask) (record_items limits.frame) payload_of
+      (reads_records limits mask) (RepresentsRecord limits.frame) source start records is in
       record {
         values = [];
         judged = judged;
@@ -109,7 +110,7 @@ module _ {R W : Type 0} (rules : MaskRules) (limits : Limits) (sound : AreSound 
       (waiting : List ℕ) (was : Goes reader writer records written waiting) where
     -- All buffered output was written.
     all_out : (mid : W) → AllWritten sink writer mid waiting
-        → Streaming (masking limits mask) (StandsForRecord limits.frame) (masked_text mask) source
+        → Streaming (masking limits mask) (RepresentsRecord limits.frame) (masked_text mask) source
         sink start reader before mid records was.values
     all_out mid all = record {
       going = was.judged;
@@ -119,20 +120,20 @@ module _ {R W : Type 0} (rules : MaskRules) (limits : Limits) (sound : AreSound 
 
     module _ (new : Records RecordReading) (after : R) where
       abbrev pub Reads : Result (Option WholeRecord) Refused → Type 0
-      Reads answer = ReadsNext (record_items limits.frame) (StandsForRecord limits.frame) source
-          records new reader after answer
+      Reads outcome = ReadsNext (record_items limits.frame) (RepresentsRecord limits.frame) source
+          records new reader after outcome
 
       -- The buffered output was not written completely, and no record is to be written after it.
-      failed : (answer : Result (Option WholeRecord) Refused) → Reads answer → (end : W)
-          → FrontWritten sink writer end waiting → Fails after end
-      failed answer read end front =
+      failed : (outcome : Result (Option WholeRecord) Refused) → Reads outcome → (end : W)
+          → PrefixWritten sink writer end waiting → Fails after end
+      failed outcome read end front =
           failed_inside source sink limits mask start after before writer end
           (was.judged.bytes ++ read.more) was.sent waiting read.stop
           (came_on source start reader after was.judged.bytes read.more read.stop was.judged.came
           read.came)
           was.went_out front
           (stops_before source limits mask start reader records was.values was.judged was.sent
-          waiting was.waits new after answer read front.count front.within)
+          waiting was.waits new after outcome read front.count front.within)
 
       answered : (mid end : W) (because : Refused) (result : Result (Unit {0}) Refused)
           → Answers sink mid end (Err because) result → AnswersRefusal sink mid end because result
@@ -143,8 +144,8 @@ module _ {R W : Type 0} (rules : MaskRules) (limits : Limits) (sound : AreSound 
           (result : Result (Unit {0}) Refused)
           → Ends sink waiting writer end (Err because) result → Answer after end result
       not_read because read end result (inl (mid, all, given)) =
-          streams.not_read (masking limits mask) (record_items limits.frame) held_of
-          (reads_records limits mask) (StandsForRecord limits.frame) (masked_text mask)
+          streams.not_read (masking limits mask) (record_items limits.frame) payload_of
+          (reads_records limits mask) (RepresentsRecord limits.frame) (masked_text mask)
           (Masks limits mask) (IsMaskedTo limits mask) (masks limits mask) promised refl source sink
           start before reader mid records was.values (all_out mid all) new after because read end
           result (answered mid end because result given)
@@ -159,8 +160,8 @@ module _ {R W : Type 0} (rules : MaskRules) (limits : Limits) (sound : AreSound 
           (result : Result (Unit {0}) Refused)
           → Ends sink waiting writer end (Err because) result → result ≡ Err Memory → GivesUp end
       not_read_gives_up because read end result (inl (mid, all, given)) memory =
-          streams.not_read_gives_up (masking limits mask) (record_items limits.frame) held_of
-          (reads_records limits mask) (StandsForRecord limits.frame) (masked_text mask)
+          streams.not_read_gives_up (masking limits mask) (record_items limits.frame) payload_of
+          (reads_records limits mask) (RepresentsRecord limits.frame) (masked_text mask)
           (Masks limits mask) (IsMaskedTo limits mask) (masks limits mask) promised refl source sink
           start before reader mid records was.values (all_out mid all) new after because read end
           result (answered mid end because result given) memory
@@ -170,8 +171,8 @@ module _ {R W : Type 0} (rules : MaskRules) (limits : Limits) (sound : AreSound 
       pub all_masked : Reads (Ok None) → (end : W) (result : Result (Unit {0}) Refused)
           → Ends sink waiting writer end (Ok tt) result → Answer after end result
       all_masked read end result (inl (mid, all, given)) =
-          streams.streamed (masking limits mask) (record_items limits.frame) held_of
-          (reads_records limits mask) (StandsForRecord limits.frame) (masked_text mask)
+          streams.streamed (masking limits mask) (record_items limits.frame) payload_of
+          (reads_records limits mask) (RepresentsRecord limits.frame) (masked_text mask)
           (Masks limits mask) (IsMaskedTo limits mask) (masks limits mask) promised refl source sink
           start before reader mid records was.values (all_out mid all) new after read end result
           given
@@ -181,17 +182,17 @@ module _ {R W : Type 0} (rules : MaskRules) (limits : Limits) (sound : AreSound 
       module _ (whole : WholeRecord) (read : Reads (Ok (Some whole))) where
         pub fewer : (new.pieces.limit - new.pieces.taken) + length new.pieces.unread
             < (records.pieces.limit - records.pieces.taken) + length records.pieces.unread
-        fewer = inputs.fewer_left (masking limits mask) (record_items limits.frame) held_of
-            (reads_records limits mask) (StandsForRecord limits.frame) source start reader records
+        fewer = inputs.fewer_left (masking limits mask) (record_items limits.frame) payload_of
+            (reads_records limits mask) (RepresentsRecord limits.frame) source start reader records
             was.values was.judged new after whole read
 
         pub not_masked : (because : Refused) (longer : List ℕ)
-            → Masked limits mask was.values (held_of whole) records.number waiting longer
+            → Masked limits mask was.values (payload_of whole) records.number waiting longer
             (Err because) → (end : W) (result : Result (Unit {0}) Refused)
             → Ends sink waiting writer end (Err because) result → Answer after end result
         not_masked because longer is end result (inl (mid, all, given)) =
-            streams.not_taken (masking limits mask) (record_items limits.frame) held_of
-            (reads_records limits mask) (StandsForRecord limits.frame) (masked_text mask)
+            streams.not_taken (masking limits mask) (record_items limits.frame) payload_of
+            (reads_records limits mask) (RepresentsRecord limits.frame) (masked_text mask)
             (Masks limits mask) (IsMaskedTo limits mask) (masks limits mask) promised refl source
             sink start before reader mid records was.values (all_out mid all) new after whole read
             because is end result (answered mid end because result given)
@@ -202,8 +203,8 @@ module _ {R W : Type 0} (rules : MaskRules) (limits : Limits) (sound : AreSound 
             (result : Result (Unit {0}) Refused)
             → Ends sink waiting writer end (Err because) result → result ≡ Err Memory → GivesUp end
         not_masked_gives_up because end result (inl (mid, all, given)) memory =
-            streams.not_taken_gives_up (masking limits mask) (record_items limits.frame) held_of
-            (reads_records limits mask) (StandsForRecord limits.frame) (masked_text mask)
+            streams.not_taken_gives_up (masking limits mask) (record_items limits.frame) payload_of
+            (reads_records limits mask) (RepresentsRecord limits.frame) (masked_text mask)
             (Masks limits mask) (IsMaskedTo limits mask) (masks limits mask) promised refl source
             sink start before reader mid records was.values (all_out mid all) new after whole read
             because end result (answered mid end because result given) memory
@@ -212,9 +213,9 @@ module _ {R W : Type 0} (rules : MaskRules) (limits : Limits) (sound : AreSound 
 
         -- The masked record was appended to the buffered output.
         module _ (next : ℕ) (longer : List ℕ)
-            (is : Masked limits mask was.values (held_of whole) records.number waiting longer
+            (is : Masked limits mask was.values (payload_of whole) records.number waiting longer
             (Ok next)) where
-          abbrev judged_next : Judged (masking limits mask) (StandsForRecord limits.frame) source
+          abbrev judged_next : Judged (masking limits mask) (RepresentsRecord limits.frame) source
               start after new (was.values ++ is.message ∷ [])
           judged_next = on source limits mask start reader records was.values was.judged was.sent
               waiting was.waits new after whole read next longer is
@@ -247,7 +248,7 @@ module _ {R W : Type 0} (rules : MaskRules) (limits : Limits) (sound : AreSound 
                 waiting was.waits new after whole read next longer is has;
           }
 
-          pub failed_to_write : (end : W) → FrontWritten sink writer end longer → Fails after end
+          pub failed_to_write : (end : W) → PrefixWritten sink writer end longer → Fails after end
           failed_to_write end front =
               failed_inside source sink limits mask start after before writer end
               (was.judged.bytes ++ read.more) was.sent longer read.stop

@@ -10,11 +10,11 @@ use Rattle.std.specs.Io.KnownBytes.{Appends}
 use Rattle.dap_device.specs.declared.device.Source.{Ghosts as Source}
 use Rattle.dap_device.specs.declared.device.Sink.{Ghosts as Sink}
 use Rattle.dap_device.specs.Device.{AwaitFlush}
-use Rattle.dap_device.specs.Pieces.{HasComeSoFar}
-use Rattle.dap_device.specs.Written.{AllWritten, FrontWritten}
+use Rattle.dap_device.specs.Pieces.{HasReadSoFar}
+use Rattle.dap_device.specs.Written.{AllWritten, PrefixWritten}
 use Rattle.dap_device.specs.declared.reading.Stop.{Stop}
 use Rattle.dap_device.proofs.Sending.{some_of_both}
-use Rattle.dap_items.specs.Items.{HasItem}
+use Rattle.dap_items.specs.Grammar.{HasItem}
 use Rattle.dap_items.proofs.Ends.{item_not_open}
 use Rattle.dap_message.specs.Message.{Sent}
 use Rattle.dap_recording.proofs.Records.{readable}
@@ -22,7 +22,7 @@ use Rattle.dap_recording.specs.Recording.{IsOpenRecord}
 use Rattle.dap_recording.specs.RecordReading.{RecordReading}
 use Rattle.dap_recording.specs.declared.record.Record.{Record as WholeRecord}
 use Rattle.dap_input.specs.Inputs.{AcceptedBefore}
-use Rattle.dap_input.specs.ItemReading.{StandsForRecord, record_items}
+use Rattle.dap_input.specs.ItemReading.{RepresentsRecord, record_items}
 use Rattle.dap_input.specs.ReadTo.{IsReadTo, so_far}
 use Rattle.dap_input.specs.RecordSteps.{IsNeeded, ReadsNext}
 use Rattle.dap_input.specs.Streaming.{HasFailedToWrite}
@@ -33,7 +33,7 @@ use Rattle.dap_input.proofs.Coming.{came_on}
 use Rattle.dap_input.proofs.InputLoop.{StandsBehind, read_later}
 use Rattle.dap_input.proofs.InputSteps as steps
 use Rattle.dap_input.proofs.WholeInputs.{Going as Judged}
-use Rattle.dap_normal.specs.JudgingSteps.{held_of}
+use Rattle.dap_normal.specs.JudgingSteps.{payload_of}
 use Rattle.dap_mask.specs.Mask.{Mask}
 use Rattle.dap_mask_input.specs.Masking.{IsAccepted, masked_text, masking}
 use Rattle.dap_mask_input.specs.MaskedRecordings.{IsMaskedTo, Masks}
@@ -78,7 +78,7 @@ module _ (limits : Limits) (mask : Mask) where
 
 module _ {R : Type 0} (source : Source R) (limits : Limits) (mask : Mask) (start reader : R)
     (records : Records RecordReading) (values : List Sent)
-    (was : Judged (masking limits mask) (StandsForRecord limits.frame) source start reader records
+    (was : Judged (masking limits mask) (RepresentsRecord limits.frame) source start reader records
     values) where
   before_behind : (more : List ℕ)
       → AreBefore limits mask (was.bytes ++ more) records.number (masked_text mask values)
@@ -125,15 +125,16 @@ module _ {R : Type 0} (source : Source R) (limits : Limits) (mask : Mask) (start
       (waits : Waiting limits mask records was.bytes (masked_text mask values) sent waiting)
       (new : Records RecordReading) (after : R) where
     abbrev Reads : Result (Option WholeRecord) Refused → Type 0
-    Reads answer = ReadsNext (record_items limits.frame) (StandsForRecord limits.frame) source
-        records new reader after answer
+    Reads outcome = ReadsNext (record_items limits.frame) (RepresentsRecord limits.frame) source
+        records new reader after outcome
 
-    module _ (answer : Result (Option WholeRecord) Refused) (read : Reads answer) where
+    module _ (outcome : Result (Option WholeRecord) Refused) (read : Reads outcome) where
       -- No more was read than the next record requires.
       pub read_to : IsReadTo (masking limits mask) (was.bytes ++ read.more) records.number
-      read_to = steps.read_to (masking limits mask) (record_items limits.frame) held_of
-          (reads_records limits mask) (StandsForRecord limits.frame) source was.bytes records values
-          was.behind new reader after answer read
+      read_to = steps.read_to (masking limits mask) (record_items limits.frame) payload_of
+          (reads_records limits mask) (RepresentsRecord limits.frame) source was.bytes records
+          values
+          was.behind new reader after outcome read
 
       -- A record that is buffered requires no read.
       no_more : IsAtHand limits mask records → read.more ≡ []
@@ -144,7 +145,7 @@ module _ {R : Type 0} (source : Source R) (limits : Limits) (mask : Mask) (start
           none_of (inl none) = none
           none_of (inr some) =
               absurd (item_not_open (readable limits.frame).grammar has.item (has.more ++ some.0)
-              (held_of has.value) has.is_item
+              (payload_of has.value) has.is_item
               (subst (λ bytes. IsOpenRecord limits.frame bytes)
               (ap (λ bytes. bytes ++ some.0) has.bytes_are
               ∙ append_assoc has.item has.more some.0) some.5))
@@ -179,22 +180,23 @@ module _ {R : Type 0} (source : Source R) (limits : Limits) (mask : Mask) (start
     -- The next record produces output.
     module _ (whole : WholeRecord) (read : Reads (Ok (Some whole))) (written : ℕ)
         (longer : List ℕ)
-        (is : Masked limits mask values (held_of whole) records.number waiting longer (Ok written))
+        (is : Masked limits mask values (payload_of whole) records.number waiting longer
+        (Ok written))
       where
         abbrev pub next_values : List Sent
         next_values = values ++ is.message ∷ []
 
-        pub behind : StandsBehind (masking limits mask) (StandsForRecord limits.frame)
+        pub behind : StandsBehind (masking limits mask) (RepresentsRecord limits.frame)
             (was.bytes ++ read.more) new next_values
-        behind = steps.gone_on (masking limits mask) (record_items limits.frame) held_of
-            (reads_records limits mask) (StandsForRecord limits.frame) source was.bytes records
+        behind = steps.gone_on (masking limits mask) (record_items limits.frame) payload_of
+            (reads_records limits mask) (RepresentsRecord limits.frame) source was.bytes records
             values was.behind new reader after whole read is.message is.is_next
 
-        abbrev pub on : Judged (masking limits mask) (StandsForRecord limits.frame) source start
+        abbrev pub on : Judged (masking limits mask) (RepresentsRecord limits.frame) source start
             after new next_values
         on = record {
           bytes = was.bytes ++ read.more;
-          came = subst (HasComeSoFar source start after (was.bytes ++ read.more)) read.finds.0
+          came = subst (HasReadSoFar source start after (was.bytes ++ read.more)) read.finds.0
               (came_on source start reader after was.bytes read.more read.stop was.came read.came);
           behind = behind;
         }
@@ -277,9 +279,9 @@ module _ {R : Type 0} (source : Source R) (limits : Limits) (mask : Mask) (start
 
 module _ {R W : Type 0} (source : Source R) (sink : Sink W) (limits : Limits) (mask : Mask)
     (start after : R) (before writer end : W) (bytes sent waiting : List ℕ) (stop : Option Stop)
-    (came : HasComeSoFar source start after bytes stop)
+    (came : HasReadSoFar source start after bytes stop)
     (written : AllWritten sink before writer sent)
-    (front : FrontWritten sink writer end waiting) where
+    (front : PrefixWritten sink writer end waiting) where
   accepted_before : (number : ℕ) (given : List ℕ) → AreBefore limits mask bytes number given
       → AcceptedBefore (masking limits mask) (so_far bytes stop) number
   accepted_before number given are = record {

@@ -11,16 +11,16 @@ use Rattle.dap_mask.specs.Mask.{Mask}
 use Rattle.dap_mask.specs.Masked.{masked}
 use Rattle.dap_mask.specs.Rules.{is_dropped}
 use Rattle.dap_input.specs.declared.limits.Limits.{Limits}
-use Rattle.dap_input.specs.Judging.{Judging, Objection, no_message, grew}
-use Rattle.dap_normal.specs.Accepting.{Held, Fits, text}
+use Rattle.dap_input.specs.Validation.{Validation, ContentError, no_message, grew}
+use Rattle.dap_normal.specs.Accepting.{Payload, Fits, text}
 
 -- The content of the record is JSON, and `message` is the message that its side sent. A number that
 -- is not an integer of 64 bits is read as out of range.
-abbrev pub IsMessage : Held → Sent → Type 0
+abbrev pub IsMessage : Payload → Sent → Type 0
 IsMessage held message = (message.side ≡ held.0) × IsReadLoosely held.1 message.doc
 
 -- The records contain these messages, in order.
-abbrev pub AreMessages : List Held → List Sent → Type 0
+abbrev pub AreMessages : List Payload → List Sent → Type 0
 AreMessages [] [] = Unit {0}
 AreMessages [] (message ∷ messages) = ⊥
 AreMessages (held ∷ records) [] = ⊥
@@ -61,14 +61,14 @@ AreWhole messages = AllByRecursion (λ message. is_sound message.doc ≡ true) m
 pub record IsAccepted (limits : Limits) (mask : Mask) (bytes : List ℕ)
     (messages : List Sent) : Type 0 where
   pub short : length bytes ≤ limits.input
-  pub records : List Held
+  pub records : List Payload
   pub recording : IsRecording limits.frame bytes records
   pub read : AreMessages records messages
   pub whole : AreWhole (left_of mask messages)
   pub fits : Fits limits (left_of mask messages)
 
 -- The message in the record `held` is accepted after these messages.
-pub record IsNext (limits : Limits) (mask : Mask) (before : List Sent) (held : Held)
+pub record IsNext (limits : Limits) (mask : Mask) (before : List Sent) (held : Payload)
     (message : Sent) : Type 0 where
   pub is_message : IsMessage held message
   pub whole : AreWhole (left_of mask (message ∷ []))
@@ -76,23 +76,23 @@ pub record IsNext (limits : Limits) (mask : Mask) (before : List Sent) (held : H
 
 -- After these messages, the record `held` is rejected for this reason. The reasons are checked in
 -- this order.
-abbrev pub Objects : Limits → Mask → List Sent → Held → Objection → Type 0
-Objects limits mask before held (no_message no_reading) = HasNoReading held.1
-Objects limits mask before held (no_message fraction) =
+abbrev pub Rejects : Limits → Mask → List Sent → Payload → ContentError → Type 0
+Rejects limits mask before held (no_message no_reading) = HasNoReading held.1
+Rejects limits mask before held (no_message fraction) =
     (message : Sent) × IsMessage held message × (AreWhole (left_of mask (message ∷ [])) → ⊥)
-Objects limits mask before held grew =
+Rejects limits mask before held grew =
     (message : Sent) × IsMessage held message × AreWhole (left_of mask (message ∷ []))
     × (Fits limits (left_of mask (before ++ message ∷ [])) → ⊥)
-Objects limits mask before held why = ⊥
+Rejects limits mask before held why = ⊥
 
 -- Recordings as `mask` checks them.
-abbrev pub masking : Limits → Mask → Judging
+abbrev pub masking : Limits → Mask → Validation
 masking limits mask = record {
-  Held = Held;
+  Payload = Payload;
   Value = Sent;
   input = limits.input;
   records = records limits.frame;
   IsNext = IsNext limits mask;
-  Objects = Objects limits mask;
+  Rejects = Rejects limits mask;
   IsAccepted = IsAccepted limits mask;
 }

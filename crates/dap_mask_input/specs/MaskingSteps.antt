@@ -7,16 +7,16 @@ use Rattle.dap_tree.specs.declared.side.Side.{Side}
 use Rattle.dap_message.specs.Message.{Sent}
 use Rattle.dap_recording.specs.Recording.{record_text}
 use Rattle.dap_mask.specs.Mask.{Mask}
-use Rattle.dap_input.specs.Refusals.{RefusesHeld}
+use Rattle.dap_input.specs.Refusals.{RejectsPayload}
 use Rattle.dap_input.specs.declared.limits.Limits.{Limits}
 use Rattle.dap_input.specs.declared.refused.Refused.{Refused}
 use Rattle.dap_input.specs.declared.refused.Refused.TheVariants.{Grew, Memory}
-use Rattle.dap_normal.specs.Accepting.{Held}
-use Rattle.dap_mask_input.specs.Masking.{IsNext, Objects, masked_text}
+use Rattle.dap_normal.specs.Accepting.{Payload}
+use Rattle.dap_mask_input.specs.Masking.{IsNext, Rejects, masked_text}
 
 -- After these messages, the record `held` is accepted, and its masked record is appended to the
 -- output buffer. The masked text of all messages then has `after` bytes.
-pub record IsTaken (limits : Limits) (mask : Mask) (messages : List Sent) (held : Held)
+pub record IsTaken (limits : Limits) (mask : Mask) (messages : List Sent) (held : Payload)
     (old new : List ℕ) (after : ℕ) : Type 0 where
   pub message : Sent
   pub is_next : IsNext limits mask messages held message
@@ -26,12 +26,12 @@ pub record IsTaken (limits : Limits) (mask : Mask) (messages : List Sent) (held 
   pub count : after ≡ length (masked_text mask (messages ++ message ∷ []))
 
 -- Outcome for record n: it is accepted or rejected.
-abbrev pub Masked : Limits → Mask → List Sent → Held → ℕ → List ℕ → List ℕ → Result ℕ Refused
+abbrev pub Masked : Limits → Mask → List Sent → Payload → ℕ → List ℕ → List ℕ → Result ℕ Refused
     → Type 0
 Masked limits mask messages held n old new (Ok after) =
     IsTaken limits mask messages held old new after
 Masked limits mask messages held n old new (Err because) =
-    RefusesHeld (Objects limits mask messages held) n because
+    RejectsPayload (Rejects limits mask messages held) n because
 
 -- The record of a document is appended to an output that has `written` bytes so far, or exceeds a
 -- limit.

@@ -4,12 +4,12 @@ ghost use Rattle.dap_tree.specs.Doc.{is_sound};
 ghost use Rattle.dap_tree.specs.View.{view};
 ghost use Rattle.dap_message.specs.Message.{Sent};
 ghost use Rattle.dap_mask.specs.KeptRules.{mask_of};
-ghost use Rattle.dap_input.specs.ItemReading.{StandsForRecord};
+ghost use Rattle.dap_input.specs.ItemReading.{RepresentsRecord};
 ghost use Rattle.dap_input.specs.Limits.{AreSound};
 ghost use Rattle.dap_input.specs.RecordSteps.{IsAtStart};
 ghost use Rattle.dap_input.specs.Streaming.{Flushes, HasGivenUpAt, Streams};
 ghost use Rattle.dap_normal.specs.Accepting.{Fits};
-ghost use Rattle.dap_normal.specs.JudgingSteps.{held_of};
+ghost use Rattle.dap_normal.specs.JudgingSteps.{payload_of};
 ghost use Rattle.dap_normal.specs.Streaming.{Ends};
 ghost use Rattle.dap_mask_input.specs.Masking.{left_of, masked_text, masking};
 ghost use Rattle.dap_mask_input.specs.MaskedRecordings.{IsMaskedTo, Masks};
@@ -88,7 +88,7 @@ fn append_masked(
     requires short { written ≤ limits.input }
     ensures masked { (messages : List Sent) → Fits limits (left_of (mask_of rules.now) messages)
         → written ≡ length (masked_text (mask_of rules.now) messages)
-        → Masked limits (mask_of rules.now) messages (held_of whole.now) number out.old.items
+        → Masked limits (mask_of rules.now) messages (payload_of whole.now) number out.old.items
         out.new.items result }
     ensures kept { OnErr result (out.new.items ≡ out.old.items) }
 {
@@ -113,27 +113,27 @@ fn append_masked(
 }
 
 /// Flushes the writer and returns `answer`, or `WriteFault` if the flush fails.
-fn flushed<W: Sink>(writer: &mut W, answer: Result<(), Refused>) -> Result<(), Refused>
+fn flushed<W: Sink>(writer: &mut W, outcome: Result<(), Refused>) -> Result<(), Refused>
     requires { W.failures writer.old < 2 ^ 63 }
-    ensures { Flushes W.Sink writer.old writer.new answer result }
+    ensures { Flushes W.Sink writer.old writer.new outcome result }
 {
     match writer.flush() {
-        Ok(()) => answer,
+        Ok(()) => outcome,
         Err(_) => Err(Refused::WriteFault),
     }
 }
 
 /// Writes the buffered output and returns `answer`. Flushes first, unless `answer` is `Memory`.
-fn ended<W: Sink>(writer: &mut W, text: &[u8], answer: Result<(), Refused>) -> Result<(), Refused>
+fn ended<W: Sink>(writer: &mut W, text: &[u8], outcome: Result<(), Refused>) -> Result<(), Refused>
     requires { W.failures writer.old < 2 ^ 62 }
-    ensures { Ends W.Sink text.now writer.old writer.new answer result }
+    ensures { Ends W.Sink text.now writer.old writer.new outcome result }
 {
     if write_all(writer, text).is_err() {
         return Err(Refused::WriteFault);
     }
-    match answer {
+    match outcome {
         Err(Refused::Memory) => Err(Refused::Memory),
-        _ => flushed(writer, answer),
+        _ => flushed(writer, outcome),
     }
 }
 
@@ -148,11 +148,12 @@ fn mask_records<R: Source, W: Sink>(
     limits: Limits,
 ) -> Result<(), Refused>
     requires limits { AreSound limits }
-    requires start { IsAtStart (StandsForRecord limits.frame) limits.input records.old }
+    requires start { IsAtStart (RepresentsRecord limits.frame) limits.input records.old }
     requires given { R.given reader.old < 2 ^ 62 }
     requires read_failures { R.failures reader.old < 2 ^ 62 }
     requires write_failures { W.failures writer.old < 2 ^ 62 }
-    ensures answer { Streams (masking limits (mask_of rules.now)) (Masks limits (mask_of rules.now))
+    ensures outcome { Streams (masking limits (mask_of rules.now)) (Masks limits (mask_of
+        rules.now))
         (IsMaskedTo limits (mask_of rules.now)) R.Source W.Sink reader.old reader.new
         writer.old writer.new result }
 
@@ -227,7 +228,8 @@ pub fn mask<R: Source, W: Sink>(
     // the records before it is written and flushed. If an allocation fails, nothing is flushed
     // after it. If the writer fails, a prefix of the output is written. `ReadFault` and
     // `WriteFault` are returned if and only if the reader or the writer failed.
-    ensures answer { Streams (masking limits (mask_of rules.now)) (Masks limits (mask_of rules.now))
+    ensures outcome { Streams (masking limits (mask_of rules.now)) (Masks limits (mask_of
+        rules.now))
         (IsMaskedTo limits (mask_of rules.now)) R.Source W.Sink reader.old reader.new
         writer.old writer.new result }
 

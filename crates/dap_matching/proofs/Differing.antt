@@ -6,8 +6,8 @@ use Rattle.dap_input.specs.declared.limits.Limits.{Limits}
 use Rattle.dap_compare.specs.declared.verdict.CompareRefused.{CompareRefused}
 use Rattle.dap_compare.specs.declared.verdict.CompareRefused.TheVariants.{Input, Memory}
 use Rattle.dap_matching.specs.Matching.{AreAccepted, DiffersAll, FindsDifferences}
-use Rattle.dap_matching.specs.declared.answer.AllDifferences.{AllDifferences}
-use Rattle.dap_matching.specs.declared.answer.AllDifferences.TheVariants.{Same, Differ}
+use Rattle.dap_matching.specs.declared.outcome.AllDifferences.{AllDifferences}
+use Rattle.dap_matching.specs.declared.outcome.AllDifferences.TheVariants.{Same, Differ}
 
 -- Two texts that are read apart are not equal.
 pub apart_texts : (shown_a shown_b text_a text_b : List ℕ) → shown_a ≡ text_a → shown_b ≡ text_b

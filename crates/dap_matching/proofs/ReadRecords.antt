@@ -38,7 +38,7 @@ module _ {T R : Type 0} {numbers : T → List ℤ} {table_limit : T → ℕ} (so
       accepts = end.accepted;
       normal = was.going.normal;
       is_normal = normal_before limits mode was.going.bytes records was.going.messages
-          was.going.normal was.going.stands;
+          was.going.normal was.going.represents;
       text_is = was.text_is;
     };
   }

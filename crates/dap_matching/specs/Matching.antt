@@ -11,8 +11,8 @@ use Rattle.dap_compare.specs.declared.verdict.CompareRefused.{CompareRefused}
 use Rattle.dap_compare.specs.declared.verdict.CompareRefused.TheVariants.{Input, Memory}
 use Rattle.dap_compare.specs.declared.verdict.Which.{Which}
 use Rattle.dap_compare.specs.declared.verdict.Which.TheVariants.{A, B}
-use Rattle.dap_matching.specs.declared.answer.AllDifferences.{AllDifferences}
-use Rattle.dap_matching.specs.declared.answer.AllDifferences.TheVariants.{Same, Differ}
+use Rattle.dap_matching.specs.declared.outcome.AllDifferences.{AllDifferences}
+use Rattle.dap_matching.specs.declared.outcome.AllDifferences.TheVariants.{Same, Differ}
 
 -- An input, by what its reader tells of its bytes and its failures.
 module _ {R : Type 0} (source : Source R) (limits : Limits) (mode : Mode) (old new : R) where

@@ -10,7 +10,7 @@ use Rattle.dap_runs.specs.TextsByRules.{memory}
 use Rattle.dap_runs.specs.declared.files.OpenFault.{OpenFault}
 use Rattle.dap_runs.specs.declared.rules_files.RulesOpenFault.{RulesOpenFault}
 use Rattle.dap_runs.specs.declared.rules_texts.RuledPairRun.{RuledPairRun}
-use Rattle.dap_matching.specs.Run.{AllIsTold}
+use Rattle.dap_matching.specs.Run.{AllIsReported}
 
 -- `opened` and `opened_rules` say to which input and to which file of rules a name leads, and
 -- `unopened` and `unopened_rules` why it leads to none.
@@ -23,5 +23,6 @@ module _ {I J W E : Type 0} (opened : List ℕ → I → Type 0)
   abbrev pub AreDiffedWholeByRules : RuledPairRun I → Type 0
   AreDiffedWholeByRules run = RunsTexts opened unopened opened_rules unopened_rules source
       rules_source errors limits mode rules a b before after silent spoken
-      (λ old_a new_a old_b new_b. AllIsTold memory memory sink errors limits mode old_a new_a old_b
+      (λ old_a new_a old_b new_b. AllIsReported memory memory sink errors limits mode old_a new_a
+      old_b
       new_b before after silent spoken run.status) run.status run.stop

@@ -5,10 +5,10 @@ use Rattle.dap_device.specs.declared.device.Source.{Ghosts as Source}
 use Rattle.dap_device.specs.declared.device.Sink.{Ghosts as Sink}
 use Rattle.dap_rename.specs.declared.mode.Mode.{Mode}
 use Rattle.dap_input.specs.declared.limits.Limits.{Limits}
-use Rattle.dap_runs.specs.ComparingRun.{ComparisonIsTold, same_line}
+use Rattle.dap_runs.specs.ComparingRun.{ComparisonIsReported, same_line}
 use Rattle.dap_matching.specs.Matching.{DiffersAll}
-use Rattle.dap_matching.specs.declared.answer.AllDifferences.{AllDifferences}
-use Rattle.dap_matching.specs.declared.answer.AllDifferences.TheVariants.{Same, Differ}
+use Rattle.dap_matching.specs.declared.outcome.AllDifferences.{AllDifferences}
+use Rattle.dap_matching.specs.declared.outcome.AllDifferences.TheVariants.{Same, Differ}
 
 -- The output of the program: the line `same`, or the lines of the differences.
 abbrev pub all_text : AllDifferences → List ℕ
@@ -21,11 +21,12 @@ all_status Same = 0
 all_status (Differ lines) = 1
 
 -- The result for the two readers is printed, or the refusal of one is reported.
-pub record AllIsTold {R S W E : Type 0} (source_a : Source R) (source_b : Source S)
+pub record AllIsReported {R S W E : Type 0} (source_a : Source R) (source_b : Source S)
     (sink : Sink W) (errors : Sink E) (limits : Limits) (mode : Mode) (old_a new_a : R) (old_b new_b
     : S)
     (before after : W) (silent spoken : E) (status : ℕ) : Type 0 where
-  pub answer : Result AllDifferences CompareRefused
-  pub differs : DiffersAll source_a source_b limits mode old_a new_a old_b new_b answer
-  pub tells : ComparisonIsTold sink errors all_text all_status answer before after silent spoken
+  pub outcome : Result AllDifferences CompareRefused
+  pub differs : DiffersAll source_a source_b limits mode old_a new_a old_b new_b outcome
+  pub tells : ComparisonIsReported sink errors all_text all_status outcome before after silent
+      spoken
       status

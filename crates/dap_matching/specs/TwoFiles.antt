@@ -8,7 +8,7 @@ use Rattle.dap_rename.specs.declared.mode.Mode.{Mode}
 use Rattle.dap_runs.specs.TwoInputs.{RunsFiles}
 use Rattle.dap_runs.specs.declared.files.OpenFault.{OpenFault}
 use Rattle.dap_runs.specs.declared.two_inputs.TwoFilesRun.{TwoFilesRun}
-use Rattle.dap_matching.specs.Run.{AllIsTold}
+use Rattle.dap_matching.specs.Run.{AllIsReported}
 
 -- All differences of the recordings of the two files are printed. `opened` says to which input a
 -- name leads, and `unopened` why it leads to none.
@@ -17,5 +17,6 @@ abbrev pub FilesAreDiffedWhole : {I W E : Type 0} → (List ℕ → I → Type 0
     → W → W → E → E → TwoFilesRun I → Type 0
 FilesAreDiffedWhole opened unopened source sink errors limits mode a b before after silent spoken
     run = RunsFiles opened unopened a b errors before after silent spoken
-    (λ old_a new_a old_b new_b. AllIsTold source source sink errors limits mode old_a new_a old_b
+    (λ old_a new_a old_b new_b. AllIsReported source source sink errors limits mode old_a new_a
+    old_b
     new_b before after silent spoken run.status) run.status run.inputs

@@ -4,8 +4,8 @@ ghost use Rattle.dap_input.specs.Limits.{AreSound};
 ghost use Rattle.dap_normal.specs.NameTables.{AreReady};
 ghost use Rattle.dap_matching.specs.Matching.{DiffersAll, FindsDifferences};
 
-use crate::answer::AllDifferences;
 use crate::entry::Recording;
+use crate::outcome::AllDifferences;
 use crate::reading::read_recording;
 use crate::report::report_lines;
 use dap_compare::{CompareRefused, Which};
@@ -62,7 +62,7 @@ pub fn diff_all<A: Source, B: Source>(
     requires failures_b { B.failures reader_b.old < 2 ^ 62 }
 
     // `Same` is returned exactly for two accepted recordings with one normal form.
-    ensures answer { DiffersAll A.Source B.Source limits mode reader_a.old reader_a.new
+    ensures outcome { DiffersAll A.Source B.Source limits mode reader_a.old reader_a.new
         reader_b.old reader_b.new result }
 
     // At most one byte past the limit is taken of each input.
@@ -104,7 +104,7 @@ pub fn diff_all_with<A: Source, B: Source, T: NameTable + Drop>(
     requires failures_b { B.failures reader_b.old < 2 ^ 62 }
 
     // The clauses of `diff_all`, whatever the tables are.
-    ensures answer { DiffersAll A.Source B.Source limits mode reader_a.old reader_a.new
+    ensures outcome { DiffersAll A.Source B.Source limits mode reader_a.old reader_a.new
         reader_b.old reader_b.new result }
     ensures taken_a { A.given reader_a.new ≤ A.given reader_a.old + limits.input + 1 }
     ensures taken_b { B.given reader_b.new ≤ B.given reader_b.old + limits.input + 1 }

@@ -1,13 +1,13 @@
 //! Two recordings matched record by record, and the lines that report all their differences.
 #![tactic(auto)]
 
-mod answer;
 mod diffing;
 mod entry;
 mod ids;
 mod lines;
 mod matching;
 mod numbering;
+mod outcome;
 mod reading;
 mod report;
 mod rows;
@@ -15,10 +15,10 @@ mod ruled_pair;
 mod run;
 mod two_files;
 
-pub use answer::AllDifferences;
 pub use diffing::{diff_all, diff_all_with};
 pub use entry::{Entry, Recording};
 pub use matching::match_records;
+pub use outcome::AllDifferences;
 pub use reading::read_recording;
 pub use ruled_pair::diff_all_by_rules;
 pub use run::{run_diff_all, run_diff_all_with};

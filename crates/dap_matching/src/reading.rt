@@ -5,9 +5,9 @@ ghost use Rattle.dap_diff.specs.Texts.{IsRecordOf, IsRecordText};
 ghost use Rattle.dap_input.specs.Limits.{AreSound};
 ghost use Rattle.dap_message.specs.Message.{Sent, doc_of};
 ghost use Rattle.dap_normal.specs.Accepting.{IsMessage};
-ghost use Rattle.dap_normal.specs.JudgingSteps.{held_of};
+ghost use Rattle.dap_normal.specs.JudgingSteps.{payload_of};
 ghost use Rattle.dap_normal.specs.NameTables.{AreReady};
-ghost use Rattle.dap_normal.specs.NormalSteps.{StandsBefore};
+ghost use Rattle.dap_normal.specs.NormalSteps.{RepresentsBefore};
 ghost use Rattle.dap_tree.specs.Doc.{is_sound};
 ghost use Rattle.dap_tree.specs.Ids.{without_ids};
 ghost use Rattle.dap_tree.specs.View.{view};
@@ -53,7 +53,7 @@ fn record_in(alloc: Global, text: &[u8], limits: Limits) -> Result<Record, Alloc
     requires sound { AreSound limits }
     requires is_record { IsRecordText limits text.now }
     ensures { IfOk result (λ whole. (message : Sent) → IsRecordOf limits text.now message
-        → IsMessage (held_of whole) message) }
+        → IsMessage (payload_of whole) message) }
 {
     let mut reader = RecordReader::new(alloc, limits.frame);
     match reader.feed(text) {
@@ -140,11 +140,11 @@ fn read_records<R: Source, T: NameTable + Drop>(
     recording: &mut Recording,
 ) -> Result<(), CompareRefused>
     requires limits { AreSound limits }
-    requires stands { StandsBefore T.numbers T.limit limits mode [] records.old [] [] }
+    requires represents { RepresentsBefore T.numbers T.limit limits mode [] records.old [] [] }
     requires empty { recording.old.text.items ≡ [] }
     requires given { R.given reader.old < 2 ^ 62 }
     requires failures { R.failures reader.old < 2 ^ 62 }
-    ensures answer { Reads R.Source limits mode reader.old reader.new which
+    ensures outcome { Reads R.Source limits mode reader.old reader.new which
         recording.new.text.items result }
     ensures taken { R.given reader.new ≤ R.given reader.old + limits.input + 1 }
 {
@@ -182,7 +182,7 @@ pub fn read_recording<R: Source, T: NameTable + Drop>(
     requires empty { recording.old.text.items ≡ [] }
     requires given { R.given reader.old < 2 ^ 62 }
     requires failures { R.failures reader.old < 2 ^ 62 }
-    ensures answer { Reads R.Source limits mode reader.old reader.new which
+    ensures outcome { Reads R.Source limits mode reader.old reader.new which
         recording.new.text.items result }
     ensures taken { R.given reader.new ≤ R.given reader.old + limits.input + 1 }
 {

@@ -3,10 +3,10 @@ ghost use Rattle.std.specs.Prelude.{◌≡◌, ◌+◌, ◌<◌, ◌≤◌, ◌^
 ghost use Rattle.dap_device.specs.Written.{HasSentAll};
 ghost use Rattle.dap_input.specs.Limits.{AreSound};
 ghost use Rattle.dap_normal.specs.NameTables.{AreReady};
-ghost use Rattle.dap_matching.specs.Run.{AllIsTold, all_status, all_text};
+ghost use Rattle.dap_matching.specs.Run.{AllIsReported, all_status, all_text};
 
-use crate::answer::AllDifferences;
 use crate::diffing::diff_all_with;
+use crate::outcome::AllDifferences;
 use dap_device::{DeviceFault, Sink, Source, write_and_flush};
 use dap_input::{Limits, Refused};
 use dap_normal::index_tables;
@@ -62,7 +62,8 @@ pub fn run_diff_all<A: Source, B: Source, W: Sink, E: Sink>(
 
     // The lines are written and flushed, or the refusal or the failed writer is reported; the
     // status is the one for that.
-    ensures told { AllIsTold A.Source B.Source W.Sink E.Sink limits mode reader_a.old reader_a.new
+    ensures reported { AllIsReported A.Source B.Source W.Sink E.Sink limits mode reader_a.old
+        reader_a.new
         reader_b.old reader_b.new writer.old writer.new errors.old errors.new result }
 
     // At most one byte past the limit is taken of each input.
@@ -106,7 +107,8 @@ pub fn run_diff_all_with<A: Source, B: Source, W: Sink, E: Sink, T: NameTable + 
     requires error_failures { E.failures errors.old < 2 ^ 62 }
 
     // The clauses of `run_diff_all`, whatever the tables are.
-    ensures told { AllIsTold A.Source B.Source W.Sink E.Sink limits mode reader_a.old reader_a.new
+    ensures reported { AllIsReported A.Source B.Source W.Sink E.Sink limits mode reader_a.old
+        reader_a.new
         reader_b.old reader_b.new writer.old writer.new errors.old errors.new result }
     ensures taken_a { A.given reader_a.new ≤ A.given reader_a.old + limits.input + 1 }
     ensures taken_b { B.given reader_b.new ≤ B.given reader_b.old + limits.input + 1 }

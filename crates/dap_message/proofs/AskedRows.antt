@@ -9,14 +9,15 @@ use Rattle.std.proofs.Common.{bytes_eq, codes, is_some, true≢false, drop, leng
 use Rattle.std.proofs.lemmas.List.{at_drop_more}
 use Rattle.std.specs.List.{filter, flat_map}
 use Rattle.std.specs.Option.{option_or, option_map_or}
-use Rattle.dap_profile.specs.Stretches.{same_kind, asks, rows_asked}
+use Rattle.dap_profile.specs.RowRanges.{same_kind, asks, rows_asked}
 use Rattle.dap_profile.specs.Profile.{profile}
 use Rattle.dap_profile.specs.ProfileRows.{ProfileRow}
 use Rattle.dap_profile.specs.declared.profile.Kind.{Kind}
 use Rattle.dap_profile.specs.declared.profile.Kind.TheVariants.{Request, Response, Event}
-use Rattle.dap_message.specs.AskedRows.{asked_rows, kind_typed, kind_told, name_told, fault_by}
+use Rattle.dap_message.specs.AskedRows.{asked_rows, kind_typed, kind_of_tree, name_of_tree}
+use Rattle.dap_message.specs.AskedRows.{fault_by}
 use Rattle.dap_message.specs.AskedRows.{first_by, mark_by, marks_by}
-use Rattle.dap_message.specs.Capabilities.{tells_capabilities, filled}
+use Rattle.dap_message.specs.Capabilities.{carries_capabilities, filled}
 use Rattle.dap_message.specs.Envelope.{text_value}
 use Rattle.dap_message.specs.Faults.{broken_by_rows}
 use Rattle.dap_message.specs.Faults.{fault, row_broken, has_kind}
@@ -24,7 +25,8 @@ use Rattle.dap_message.specs.Marks.{mark_by_rows}
 use Rattle.dap_message.specs.Marks.{sort_of, marked, edit, mark_row, mark_rows, mark}
 use Rattle.dap_message.specs.Message.{Refuses}
 use Rattle.dap_message.specs.Places.{is_object}
-use Rattle.dap_message.specs.Rows.{first_fault, is_asked, is_of_kind, is_text, type_name, name_key}
+use Rattle.dap_message.specs.Rows.{first_fault, row_applies, is_of_kind, is_text, type_name}
+use Rattle.dap_message.specs.Rows.{name_key}
 use Rattle.dap_message.specs.Rows.{may_have_body}
 use Rattle.dap_message.specs.declared.fault.MessageFault.{MessageFault}
 use Rattle.dap_message.specs.declared.fault.MessageFault.TheVariants.{NotObject, UnknownType}
@@ -38,11 +40,11 @@ use Rattle.dap_message.proofs.RowMarks.{asked-mark_row}
 -- ---- errors and marks by the rows that apply
 
 first-asked : (rs : List ProfileRow) (d : Doc)
-    → first_fault rs d ≡ first_by (filter (λ r. is_asked r.kind r.name d) rs) d
+    → first_fault rs d ≡ first_by (filter (λ r. row_applies r.kind r.name d) rs) d
 first-asked [] d = refl
 first-asked (r ∷ rs) d =
-    ap (option_or (cond (is_asked r.kind r.name d) (fault_by r d) None)) (first-asked rs d)
-    ∙ go (is_asked r.kind r.name d) (filter (λ r. is_asked r.kind r.name d) rs)
+    ap (option_or (cond (row_applies r.kind r.name d) (fault_by r d) None)) (first-asked rs d)
+    ∙ go (row_applies r.kind r.name d) (filter (λ r. row_applies r.kind r.name d) rs)
   where
     go : (b : Bool) (rest : List ProfileRow)
         → option_or (cond b (fault_by r d) None) (first_by rest d)
@@ -55,16 +57,16 @@ unfolding broken_by_rows asked_rows
 broken-asked d = first-asked profile d
 
 marks-asked : (rs : List ProfileRow) (side : Side) (d e : Doc) → AskedAlike d e
-    → mark_rows rs side e ≡ marks_by (filter (λ r. is_asked r.kind r.name d) rs) side e
+    → mark_rows rs side e ≡ marks_by (filter (λ r. row_applies r.kind r.name d) rs) side e
 marks-asked [] side d e h = refl
 marks-asked (r ∷ rs) side d e h =
-    let rest = filter (λ (r : ProfileRow). is_asked r.kind r.name d) rs in
+    let rest = filter (λ (r : ProfileRow). row_applies r.kind r.name d) rs in
     marks-asked rs side d (mark_row r side e) (λ k n. asked-mark_row r side k n e ∙ h k n)
     ∙ ap (λ b. marks_by rest side
     (option_map_or (λ s. cond b (edit r.place (marked s) e) e) (sort_of side r.want) e))
     (h r.kind r.name)
-    ∙ ap (marks_by rest side) (within (sort_of side r.want) (is_asked r.kind r.name d))
-    ∙ go (is_asked r.kind r.name d) rest
+    ∙ ap (marks_by rest side) (within (sort_of side r.want) (row_applies r.kind r.name d))
+    ∙ go (row_applies r.kind r.name d) rest
   where
     within : (o : Option Sort) (b : Bool)
         → option_map_or (λ s. cond b (edit r.place (marked s) e) e) o e
@@ -96,48 +98,48 @@ text-value w (Some (list ds)) = refl
 text-value w (Some (object ms)) = refl
 text-value w (Some (id s z)) = refl
 
-abbrev told : Bool → Bool → Bool → Option Kind
-told a b c = cond a (Some Request) (cond b (Some Response) (cond c (Some Event) None))
+abbrev reported : Bool → Bool → Bool → Option Kind
+reported a b c = cond a (Some Request) (cond b (Some Response) (cond c (Some Event) None))
 
-told-first : (a b c : Bool) → a ≡ option_map_or (same_kind Request) (told a b c) false
-told-first true b c = refl
-told-first false true c = refl
-told-first false false true = refl
-told-first false false false = refl
+reported-first : (a b c : Bool) → a ≡ option_map_or (same_kind Request) (reported a b c) false
+reported-first true b c = refl
+reported-first false true c = refl
+reported-first false false true = refl
+reported-first false false false = refl
 
-told-second : (a b c : Bool) → (a ≡ true → b ≡ false)
-    → b ≡ option_map_or (same_kind Response) (told a b c) false
-told-second true b c h = h refl
-told-second false true c h = refl
-told-second false false true h = refl
-told-second false false false h = refl
+reported-second : (a b c : Bool) → (a ≡ true → b ≡ false)
+    → b ≡ option_map_or (same_kind Response) (reported a b c) false
+reported-second true b c h = h refl
+reported-second false true c h = refl
+reported-second false false true h = refl
+reported-second false false false h = refl
 
-told-third : (a b c : Bool) → (a ≡ true → c ≡ false) → (b ≡ true → c ≡ false)
-    → c ≡ option_map_or (same_kind Event) (told a b c) false
-told-third true b c h g = h refl
-told-third false true c h g = g refl
-told-third false false true h g = refl
-told-third false false false h g = refl
+reported-third : (a b c : Bool) → (a ≡ true → c ≡ false) → (b ≡ true → c ≡ false)
+    → c ≡ option_map_or (same_kind Event) (reported a b c) false
+reported-third true b c h g = h refl
+reported-third false true c h g = g refl
+reported-third false false true h g = refl
+reported-third false false false h g = refl
 
 -- a document has at most one kind
 kind-typed : (k : Kind) (s : List ℕ)
     → bytes_eq (type_name k) s ≡ option_map_or (same_kind k) (kind_typed s) false
 kind-typed Request s =
-    told-first (bytes_eq (type_name Request) s) (bytes_eq (type_name Response) s)
+    reported-first (bytes_eq (type_name Request) s) (bytes_eq (type_name Response) s)
     (bytes_eq (type_name Event) s)
 kind-typed Response s =
-    told-second (bytes_eq (type_name Request) s) (bytes_eq (type_name Response) s)
+    reported-second (bytes_eq (type_name Request) s) (bytes_eq (type_name Response) s)
     (bytes_eq (type_name Event) s)
     (other_word (type_name Response) (type_name Request) (Some (text s)) refl)
 kind-typed Event s =
-    told-third (bytes_eq (type_name Request) s) (bytes_eq (type_name Response) s)
+    reported-third (bytes_eq (type_name Request) s) (bytes_eq (type_name Response) s)
     (bytes_eq (type_name Event) s)
     (other_word (type_name Event) (type_name Request) (Some (text s)) refl)
     (other_word (type_name Event) (type_name Response) (Some (text s)) refl)
 
-pub kind-told : (k : Kind) (d : Doc)
-    → is_of_kind k d ≡ option_map_or (same_kind k) (kind_told d) false
-kind-told k d =
+pub kind-reported : (k : Kind) (d : Doc)
+    → is_of_kind k d ≡ option_map_or (same_kind k) (kind_of_tree d) false
+kind-reported k d =
     text-value (type_name k) (get (codes "type") d) ∙ go (text_value (get (codes "type") d))
   where
     go : (o : Option (List ℕ))
@@ -148,11 +150,11 @@ kind-told k d =
 
 -- the name that decides which rows apply, if the document has a kind
 abbrev pub any_name : Option Kind → Doc → Option (List ℕ)
-any_name k d = option_map_or (λ j. name_told j d) k None
+any_name k d = option_map_or (λ j. name_of_tree j d) k None
 
-asked-told : (r : ProfileRow) (d : Doc)
-    → is_asked r.kind r.name d ≡ asks (kind_told d) (any_name (kind_told d) d) r
-asked-told r d = go r.kind r.name
+asked-reported : (r : ProfileRow) (d : Doc)
+    → row_applies r.kind r.name d ≡ asks (kind_of_tree d) (any_name (kind_of_tree d) d) r
+asked-reported r d = go r.kind r.name
   where
     -- the value is this string, and there may be a body
     worded : (w : List ℕ) (o : Option Doc) (b : Bool)
@@ -183,7 +185,7 @@ asked-told r d = go r.kind r.name
     kinded Event (Some Response) n m h = refl
 
     pulled : (w : List ℕ) (o : Option Kind)
-        → option_map_or (λ j. option_map_or (bytes_eq w) (name_told j d) false) o false
+        → option_map_or (λ j. option_map_or (bytes_eq w) (name_of_tree j d) false) o false
         ≡ option_map_or (bytes_eq w) (any_name o d) false
     pulled w None = refl
     pulled w (Some j) = refl
@@ -196,30 +198,34 @@ asked-told r d = go r.kind r.name
     always true = refl
     always false = refl
 
-    go : (k : Option Kind) (n : Option (List ℕ)) → is_asked k n d
-        ≡ option_map_or (λ j. option_map_or (same_kind j) (kind_told d) false
-        && option_map_or (λ m. option_map_or (bytes_eq m) (any_name (kind_told d) d) false) n
+    go : (k : Option Kind) (n : Option (List ℕ)) → row_applies k n d
+        ≡ option_map_or (λ j. option_map_or (same_kind j) (kind_of_tree d) false
+        && option_map_or (λ m. option_map_or (bytes_eq m) (any_name (kind_of_tree d) d) false) n
         true) k true
     go None n = refl
-    go (Some k) None = kind-told k d ∙ always (option_map_or (same_kind k) (kind_told d) false)
+    go (Some k) None = kind-reported k d
+        ∙ always (option_map_or (same_kind k) (kind_of_tree d) false)
     go (Some k) (Some w) =
         grouped (is_of_kind k d) (is_text w (get (name_key k) d)) (may_have_body k d)
-        ∙ ap (λ b. b && (is_text w (get (name_key k) d) && may_have_body k d)) (kind-told k d)
-        ∙ kinded k (kind_told d) (is_text w (get (name_key k) d) && may_have_body k d)
-        (λ j. option_map_or (bytes_eq w) (name_told j d) false)
+        ∙ ap (λ b. b && (is_text w (get (name_key k) d) && may_have_body k d)) (kind-reported k d)
+        ∙ kinded k (kind_of_tree d) (is_text w (get (name_key k) d) && may_have_body k d)
+        (λ j. option_map_or (bytes_eq w) (name_of_tree j d) false)
         (worded w (get (name_key k) d) (may_have_body k d))
-        ∙ ap (λ b. option_map_or (same_kind k) (kind_told d) false && b) (pulled w (kind_told d))
+        ∙ ap (λ b. option_map_or (same_kind k) (kind_of_tree d) false && b)
+        (pulled w (kind_of_tree d))
 
 filter-same : (f g : ProfileRow → Bool) (rs : List ProfileRow) → ((r : ProfileRow) → f r ≡ g r)
     → filter f rs ≡ filter g rs
 filter-same f g [] h = refl
 filter-same f g (r ∷ rs) h = ap₂ (λ b xs. cond b (r ∷ xs) xs) (h r) (filter-same f g rs h)
 
-pub asked-rows : (d : Doc) → asked_rows d ≡ rows_asked (kind_told d) (any_name (kind_told d) d)
+pub asked-rows : (d : Doc) → asked_rows d
+    ≡ rows_asked (kind_of_tree d) (any_name (kind_of_tree d) d)
 unfolding asked_rows rows_asked
 asked-rows d =
-    filter-same (λ r. is_asked r.kind r.name d) (asks (kind_told d) (any_name (kind_told d) d))
-    profile (λ r. asked-told r d)
+    filter-same (λ r. row_applies r.kind r.name d)
+    (asks (kind_of_tree d) (any_name (kind_of_tree d) d))
+    profile (λ r. asked-reported r d)
 
 -- ---- range by range
 
@@ -244,12 +250,12 @@ first-drop f xs i x d lt =
     ∙ first_by-append (f (get_or xs i x)) (flat_map f (drop (i + 1) xs)) d
 
 -- the error of the first remaining range is the error; if it has no error, the other ranges decide
-pub first-told : {X : Type 0} (f : X
+pub first-reported : {X : Type 0} (f : X
     → List ProfileRow) (xs : List X) (i : ℕ) (x : X) (d : Doc) (o : Option MessageFault)
     → i < length xs
     → o ≡ first_by (f (get_or xs i x)) d → is_some o ≡ true
     → first_by (flat_map f (drop i xs)) d ≡ o
-first-told f xs i x d o lt e h =
+first-reported f xs i x d o lt e h =
     first-drop f xs i x d lt
     ∙ ap (λ p. option_or p (first_by (flat_map f (drop (i + 1) xs)) d)) (sym e)
     ∙ go o (first_by (flat_map f (drop (i + 1) xs)) d) h
@@ -287,10 +293,10 @@ marks-drop f xs i x side d lt =
 
 -- ---- the error of a document
 
-kind-any : (d : Doc) → has_kind d ≡ is_some (kind_told d)
+kind-any : (d : Doc) → has_kind d ≡ is_some (kind_of_tree d)
 kind-any d =
-    ap₂ (λ a b. a || b) (ap₂ (λ a b. a || b) (kind-told Request d) (kind-told Response d))
-    (kind-told Event d) ∙ go (kind_told d)
+    ap₂ (λ a b. a || b) (ap₂ (λ a b. a || b) (kind-reported Request d) (kind-reported Response d))
+    (kind-reported Event d) ∙ go (kind_of_tree d)
   where
     go : (o : Option Kind)
         → ((option_map_or (same_kind Request) o false || option_map_or (same_kind Response) o false)
@@ -300,13 +306,13 @@ kind-any d =
     go (Some Response) = refl
     go (Some Event) = refl
 
-pub fault-kindless : (d : Doc) → is_object d ≡ true → kind_told d ≡ None
+pub fault-kindless : (d : Doc) → is_object d ≡ true → kind_of_tree d ≡ None
     → fault d ≡ Some UnknownType
 fault-kindless d h k =
     ap₂ (λ a b. cond a (cond b (row_broken d) (Some UnknownType)) (Some NotObject)) h (kind-any d
     ∙ ap is_some k)
 
-pub fault-asked : (d : Doc) (k : Kind) → is_object d ≡ true → kind_told d ≡ Some k
+pub fault-asked : (d : Doc) (k : Kind) → is_object d ≡ true → kind_of_tree d ≡ Some k
     → fault d ≡ first_by (asked_rows d) d
 fault-asked d k h e =
     ap₂ (λ a b. cond a (cond b (row_broken d) (Some UnknownType)) (Some NotObject)) h (kind-any d
@@ -324,7 +330,7 @@ refuses d Memory h = tt
 pub asked-filled : (side : Side) (d : Doc) → asked_rows (filled side d) ≡ asked_rows d
 unfolding asked_rows
 asked-filled side d =
-    filter-same (λ r. is_asked r.kind r.name (filled side d)) (λ r. is_asked r.kind r.name d)
+    filter-same (λ r. row_applies r.kind r.name (filled side d)) (λ r. row_applies r.kind r.name d)
     profile
     (λ r. asked-outside r.kind r.name d (filled side d)
-    (object-if (tells_capabilities side d) d, λ k h. get-filled k side d h))
+    (object-if (carries_capabilities side d) d, λ k h. get-filled k side d h))

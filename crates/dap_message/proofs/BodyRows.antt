@@ -14,7 +14,7 @@ use Rattle.dap_profile.specs.declared.profile.Kind.{Kind}
 use Rattle.dap_profile.specs.declared.profile.Kind.TheVariants.{Request, Response, Event}
 use Rattle.dap_profile.specs.declared.profile.Want.TheVariants.{Bool as WantBool, Object}
 use Rattle.dap_message.specs.Places.{is_object, parts_at}
-use Rattle.dap_message.specs.Rows.{is_asked, is_text, is_true, row_fault, first_fault, of_row}
+use Rattle.dap_message.specs.Rows.{row_applies, is_text, is_true, row_fault, first_fault, of_row}
 use Rattle.dap_message.specs.Rows.{broken_at, cause_against, first_cause}
 use Rattle.dap_message.specs.declared.broken_rows.Cause.{Cause}
 use Rattle.dap_message.specs.declared.fault.MessageFault.{MessageFault}
@@ -63,7 +63,7 @@ found-elsewhere (named k ∷ p ∷ ps) d e a h =
     ap (λ o. option_map_or (parts_at (p ∷ ps)) o []) (a.1 k (negated (bytes_eq k (codes "body")) h))
 
 pub asked-outside : (k : Option Kind) (n : Option (List ℕ)) (d e : Doc) → AlikeOutside d e
-    → is_asked k n e ≡ is_asked k n d
+    → row_applies k n e ≡ row_applies k n d
 asked-outside None n d e a = refl
 asked-outside (Some Request) None d e a = ap (is_text (codes "request")) (a.1 (codes "type") refl)
 asked-outside (Some Response) None d e a = ap (is_text (codes "response")) (a.1 (codes "type") refl)
@@ -115,7 +115,7 @@ no_second true false c h = refl
 no_second false b c h = refl
 
 abbrev pub Tells : Doc → Type 0
-Tells d = is_asked (Some Response) (Some (codes "initialize")) d ≡ true
+Tells d = row_applies (Some Response) (Some (codes "initialize")) d ≡ true
 
 response : (d : Doc) → Tells d → is_text (codes "response") (get (codes "type") d) ≡ true
 response d t =
@@ -130,7 +130,7 @@ initialize d t =
     (and_left _ (is_true (get (codes "success") d)) t)
 
 not_asked : (k : Option Kind) (n : Option (List ℕ)) (d : Doc) → Tells d → of_others k n ≡ true
-    → is_asked k n d ≡ false
+    → row_applies k n d ≡ false
 not_asked None n d t h = cc
 not_asked (Some Request) None d t h = cc
 not_asked (Some Response) None d t h = cc
@@ -160,7 +160,7 @@ calm_row : (r : ProfileRow) (d e : Doc) → AlikeOutside d e → Tells d → cal
 calm_row r d e a t c h =
     by_bool (elsewhere r.place)
     (λ x. fault-elsewhere r d e a x ∙ h)
-    (λ x. unasked (is_asked r.kind r.name e)
+    (λ x. unasked (row_applies r.kind r.name e)
     (option_map (of_row r.number) (broken_at r.place r.want r.needed e))
     (asked-outside r.kind r.name d e a
     ∙ not_asked r.kind r.name d t (second (elsewhere r.place) (of_others r.kind r.name) c x)))
@@ -292,10 +292,10 @@ capability_free : (n : ℕ) (k : List ℕ) (d e : Doc) (ns : Members) → Tells 
     → row_fault (capability_row n k) d ≡ None → row_fault (capability_row n k) e ≡ None
 capability_free n k d e ns t body good h =
     let o : broken_at (named (codes "body") ∷ named k ∷ []) WantBool false d ≡ None =
-    free_asked (is_asked (Some Response) (Some (codes "initialize")) d) n _ h t in
+    free_asked (row_applies (Some Response) (Some (codes "initialize")) d) n _ h t in
     let g : GoodBool (get_member k (false_members capabilities ns)) =
     good_false capabilities k ns (good k o) in
-    free_cond (is_asked (Some Response) (Some (codes "initialize")) e) n
+    free_cond (row_applies (Some Response) (Some (codes "initialize")) e) n
     (broken_at (named (codes "body") ∷ named k ∷ []) WantBool false e)
     (ap (λ x. first_cause
     (map (cause_against WantBool false) (option_map_or (parts_at (named k ∷ [])) x []))) body
@@ -316,14 +316,14 @@ capabilities_free n (k ∷ ks) d e ns t body good h =
 pub body_free : (d e : Doc) (ns : Members) → is_object e ≡ true
     → get (codes "body") e ≡ Some (object ns) → row_fault row_50 e ≡ None
 body_free d e ns ob body =
-    free_cond (is_asked (Some Response) (Some (codes "initialize")) e) 50
+    free_cond (row_applies (Some Response) (Some (codes "initialize")) e) 50
     (broken_at (named (codes "body") ∷ []) Object false e) (rw (ob, body) refl)
 
 pub body_was : (d : Doc) → Tells d → is_object d ≡ true → row_fault row_50 d ≡ None
     → cause_against Object false (get (codes "body") d) ≡ None
 body_was d t ob h =
     let o : broken_at (named (codes "body") ∷ []) Object false d ≡ None =
-    free_asked (is_asked (Some Response) (Some (codes "initialize")) d) 50 _ h t in
+    free_asked (row_applies (Some Response) (Some (codes "initialize")) d) 50 _ h t in
     let c : first_cause (cause_against Object false (get (codes "body") d) ∷ []) ≡ None =
     rw ob at o in
     one_cause (cause_against Object false (get (codes "body") d)) c

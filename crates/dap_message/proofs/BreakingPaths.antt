@@ -1,7 +1,7 @@
 -- Violations at a row's path, in terms of the paths of a document and of the list of values.
 use Rattle.dap_tree.specs.Doc.{Doc, null, boolean, whole, text, list, object, id, Items, no_items}
 use Rattle.dap_tree.specs.Doc.{item, get, get_member}
-use Rattle.dap_tree.specs.Path.{Step, name, place, get_item, StandsBefore, IsBefore}
+use Rattle.dap_tree.specs.Path.{Step, name, place, get_item, StepPrecedes, IsBefore}
 use Rattle.dap_tree.proofs.Booleans.{and_left, and_right, and_both}
 use Rattle.std.proofs.Common.{◌≡◌, ◌⊎◌, inl, inr, ⊎_elim, ℕ, zero, suc, ◌<◌, Bool, true, false}
 use Rattle.std.proofs.Common.{List, [], ◌∷◌, ◌++◌, map, flat_map, Option, Some, None}
@@ -187,7 +187,7 @@ last_first : (k : List ℕ) (q : List Step) → IsBefore q (name k ∷ [])
 last_first k [] before f = before
 last_first k (name l ∷ q) before f =
     ⊎_elim
-    (λ (lt : StandsBefore (name l) (name k)). not_below k l
+    (λ (lt : StepPrecedes (name l) (name k)). not_below k l
     (and_left (bytes_eq k l) (fits_place [] q) f) lt)
     (λ (later : (name l ≡ name k) × IsBefore q []). none_before q later.1) before
 last_first k (place i ∷ q) before f = cc
@@ -219,7 +219,7 @@ next_first k p ps d e path (name l ∷ q) o g before f s =
     let later : fits_place (p ∷ ps) q ≡ true =
     and_right (bytes_eq k l) (fits_place (p ∷ ps) q) f in
     let there : get l d ≡ Some e = ap (λ n. get n d) (sym (same_name k l here)) ∙ g in
-    ⊎_elim (λ (lt : StandsBefore (name l) (name k)). absurd (not_below k l here lt))
+    ⊎_elim (λ (lt : StepPrecedes (name l) (name k)). absurd (not_below k l here lt))
     (λ (below : (name l ≡ name k) × IsBefore q path). (
       q,
       below.1,

@@ -26,13 +26,14 @@ use Rattle.dap_profile.specs.declared.profile.Want.{Want}
 use Rattle.dap_profile.specs.declared.profile.Want.TheVariants.{Bool as WantBool, Text, OwnSeq}
 use Rattle.dap_profile.specs.declared.profile.Want.TheVariants.{OtherSeq}
 use Rattle.dap_message.specs.Places.{is_object, fits_place}
-use Rattle.dap_message.specs.Rows.{row_fault, first_fault, of_row, is_asked, is_of_kind, name_key}
+use Rattle.dap_message.specs.Rows.{row_fault, first_fault, of_row, row_applies, is_of_kind}
+use Rattle.dap_message.specs.Rows.{name_key}
 use Rattle.dap_message.specs.Rows.{type_name, is_text, has_type, cause_against, broken_at}
 use Rattle.dap_message.specs.Rows.{first_cause, is_null, is_id_number}
 use Rattle.dap_message.specs.Faults.{broken_by_rows}
 use Rattle.dap_message.specs.Faults.{fault, row_broken, has_kind}
 use Rattle.dap_message.specs.Capabilities.{filled, with_capabilities, default_to, is_given}
-use Rattle.dap_message.specs.Capabilities.{false_at, capabilities, tells_capabilities}
+use Rattle.dap_message.specs.Capabilities.{false_at, capabilities, carries_capabilities}
 use Rattle.dap_message.specs.Marks.{mark_by_rows}
 use Rattle.dap_message.specs.Marks.{made, made_by, marked, is_id_of, mark_rows, top, sort_of, mark}
 use Rattle.dap_message.specs.Envelope.{has_envelope, is_named, text_value, boolean_value, id_number}
@@ -90,7 +91,7 @@ get-filled_if q false d other = refl
 
 pub get-filled : (q : List ℕ) (side : Side) (d : Doc) → bytes_eq q (codes "body") ≡ false
     → get q (filled side d) ≡ get q d
-get-filled q side d h = get-filled_if q (tells_capabilities side d) d (apart q (codes "body") h)
+get-filled q side d h = get-filled_if q (carries_capabilities side d) d (apart q (codes "body") h)
 
 -- ---- properties of a member that marks do not change
 
@@ -108,7 +109,7 @@ module _ {X : Type 0} (F : Option Doc → X) (F-top : (o : Option Doc)
 made_by-text : (r : ProfileRow) (side : Side) (d : Doc) (p : List Step) (s : List ℕ)
     → made_by r side d p (text s) ≡ text s
 made_by-text r side d p s =
-    go (sort_of side r.want) (is_asked r.kind r.name d && fits_place r.place p)
+    go (sort_of side r.want) (row_applies r.kind r.name d && fits_place r.place p)
   where
     go : (o : Option Sort) (b : Bool)
         → option_map_or (λ t. cond b (marked t (text s)) (text s)) o (text s) ≡ text s
@@ -125,7 +126,7 @@ made-text (r ∷ rs) side d p s =
 made_by-boolean : (r : ProfileRow) (side : Side) (d : Doc) (p : List Step) (v : Bool)
     → made_by r side d p (boolean v) ≡ boolean v
 made_by-boolean r side d p v =
-    go (sort_of side r.want) (is_asked r.kind r.name d && fits_place r.place p)
+    go (sort_of side r.want) (row_applies r.kind r.name d && fits_place r.place p)
   where
     go : (o : Option Sort) (b : Bool)
         → option_map_or (λ t. cond b (marked t (boolean v)) (boolean v)) o (boolean v) ≡ boolean v
@@ -142,7 +143,7 @@ made-boolean (r ∷ rs) side d p v =
 made_by-id : (r : ProfileRow) (side : Side) (d : Doc) (p : List Step) (s : Sort) (z : ℤ)
     → made_by r side d p (id s z) ≡ id s z
 made_by-id r side d p s z =
-    go (sort_of side r.want) (is_asked r.kind r.name d && fits_place r.place p)
+    go (sort_of side r.want) (row_applies r.kind r.name d && fits_place r.place p)
   where
     go : (o : Option Sort) (b : Bool)
         → option_map_or (λ t. cond b (marked t (id s z)) (id s z)) o (id s z) ≡ id s z
@@ -227,7 +228,7 @@ judged_well w None h = cc
 judged_well w (Some e) h = (e, refl, has_it (has_type w e) (is_null e) h)
 
 pub row_free : (n : ℕ) (kd : Option Kind) (nm : Option (List ℕ)) (k : List ℕ) (w : Want) (d : Doc)
-    → is_object d ≡ true → is_asked kd nm d ≡ true
+    → is_object d ≡ true → row_applies kd nm d ≡ true
     → row_fault
     (record { number = n; kind = kd; name = nm; place = named k ∷ []; want = w; needed = true })
     d ≡ None → Stands w (get k d)
@@ -273,13 +274,14 @@ there-id : (rs : List ProfileRow) (side : Side) (d : Doc) (p : List Step) (s : S
 there-id rs side d p s z = ap (λ x. is_some (id_number (Some x))) (made-id rs side d p s z)
 
 made-first : (r : ProfileRow) (side : Side) (d : Doc) (p : List Step) (s : Sort) (n : ℤ)
-    → is_asked r.kind r.name d ≡ true → fits_place r.place p ≡ true
+    → row_applies r.kind r.name d ≡ true → fits_place r.place p ≡ true
     → sort_of side r.want ≡ Some s → is_id_of s n ≡ true → made_by r side d p (whole n) ≡ id s n
 made-first r side d p s n a f w i = rw (a, f, w, i) refl
 
 made-there : (i : ℕ) (rs : List ProfileRow) (r : ProfileRow) (side : Side) (d : Doc) (p : List Step)
     (s : Sort) (n : ℤ) → get_at i rs ≡ Some r
-    → is_asked r.kind r.name d ≡ true → fits_place r.place p ≡ true → sort_of side r.want ≡ Some s
+    → row_applies r.kind r.name d ≡ true → fits_place r.place p ≡ true → sort_of side r.want
+    ≡ Some s
     → is_id_of s n ≡ true → IsThere rs side d p (whole n)
 made-there i [] r side d p s n e a f w j = cc
 made-there zero (q ∷ rs) r side d p s n e a f w j =
@@ -288,7 +290,7 @@ made-there zero (q ∷ rs) r side d p s n e a f w j =
     ∙ made-first r side d p s n a f w j in
     ap (λ x. is_some (id_number (Some (made rs side d p x)))) first ∙ there-id rs side d p s n
 made-there (suc i) (q ∷ rs) r side d p s n e a f w j =
-    by_option (sort_of side q.want) (is_asked q.kind q.name d && fits_place q.place p) n
+    by_option (sort_of side q.want) (row_applies q.kind q.name d && fits_place q.place p) n
     (λ h. ap (λ x. is_some (id_number (Some (made rs side d p x)))) h
     ∙ made-there i rs r side d p s n e a f w j)
     (λ t h. ap (λ x. is_some (id_number (Some (made rs side d p x)))) h ∙ there-id rs side d p t n)

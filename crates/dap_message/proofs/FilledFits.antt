@@ -15,7 +15,7 @@ use Rattle.dap_message.specs.Faults.{broken_by_rows}
 use Rattle.dap_message.specs.Faults.{fault, row_broken, has_kind, Fits, FitsRows}
 use Rattle.dap_message.specs.declared.fault.MessageFault.TheVariants.{NotObject, UnknownType}
 use Rattle.dap_message.specs.Capabilities.{filled, with_capabilities, default_to, false_at}
-use Rattle.dap_message.specs.Capabilities.{false_members, capabilities, tells_capabilities}
+use Rattle.dap_message.specs.Capabilities.{false_members, capabilities, carries_capabilities}
 use Rattle.dap_message.proofs.Edits.{by_bool}
 use Rattle.dap_message.proofs.Envelopes.{get-filled, fault_free, fault_parts, rows_free}
 use Rattle.dap_message.proofs.BodyRows.{AlikeOutside, Tells, calm_rows, both_free, first-append}
@@ -143,8 +143,8 @@ fault-filled Adapter d h =
     let p = fault_parts (is_object d) (has_kind d) (row_broken d) UnknownType NotObject h in
     let e = filled Adapter d in
     let alike : AlikeOutside d e =
-    (object-if (tells_capabilities Adapter d) d, λ k n. get-filled k Adapter d n) in
-    by_bool (tells_capabilities Adapter d)
+    (object-if (carries_capabilities Adapter d) d, λ k n. get-filled k Adapter d n) in
+    by_bool (carries_capabilities Adapter d)
     (λ t. faultless e (alike.0 ∙ p.0) (kind-filled Adapter d ∙ p.1)
     (rows_broken e
     (rows_kept d e alike t p.0 (alike.0 ∙ p.0)

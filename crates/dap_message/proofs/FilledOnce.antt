@@ -19,10 +19,10 @@ use Rattle.std.specs.Cmp.Lexicographic.{slice_cmp}
 use Rattle.std.specs.Ordering.{match_ordering}
 use Rattle.dap_profile.specs.PlaceSteps.{PlaceStep, named, each}
 use Rattle.dap_profile.specs.ProfileRows.{ProfileRow}
-use Rattle.dap_message.specs.Rows.{is_asked, is_text, is_true}
+use Rattle.dap_message.specs.Rows.{row_applies, is_text, is_true}
 use Rattle.dap_message.specs.Capabilities.{filled, with_capabilities, default_to, default_member}
 use Rattle.dap_message.specs.Capabilities.{is_given, false_members, false_at, capabilities}
-use Rattle.dap_message.specs.Capabilities.{tells_capabilities}
+use Rattle.dap_message.specs.Capabilities.{carries_capabilities}
 use Rattle.dap_message.specs.Marks.{mark_by_rows}
 use Rattle.dap_message.specs.Marks.{marked, is_id_of, mark_rows, mark_row, edit, sort_of}
 use Rattle.dap_message.proofs.NameOrder.{itself, equal_at}
@@ -91,7 +91,7 @@ without-edit (each ∷ ps) s d = without-items (edit ps (marked s)) (λ e. witho
 
 without-mark_row : (r : ProfileRow) (side : Side) (d : Doc)
     → without_ids (mark_row r side d) ≡ without_ids d
-without-mark_row r side d = go (sort_of side r.want) (is_asked r.kind r.name d)
+without-mark_row r side d = go (sort_of side r.want) (row_applies r.kind r.name d)
   where
     go : (o : Option Sort) (b : Bool)
         → without_ids (option_map_or (λ s. cond b (edit r.place (marked s) d) d) o d)
@@ -124,7 +124,7 @@ unfolding mark_by_rows
 numbers-again rows side d h =
     without-mark rows side (filled side d)
     ∙ without_plain (filled side d)
-    (passes-filled plain_test (tells_capabilities side d) d refl refl (plain_parts d h))
+    (passes-filled plain_test (carries_capabilities side d) d refl refl (plain_parts d h))
 
 -- ---- capabilities that are filled in are given
 
@@ -250,7 +250,7 @@ unfolding with_capabilities
 capabilities-again d = twice (codes "body") capabilities (object no_members) d refl
 
 pub tells-again : (side : Side) (d : Doc)
-    → tells_capabilities side (filled side d) ≡ tells_capabilities side d
+    → carries_capabilities side (filled side d) ≡ carries_capabilities side d
 tells-again Client d = refl
 tells-again Adapter d =
     ap₂ (λ a b. a && b)
@@ -262,7 +262,7 @@ tells-again Adapter d =
 pub filled-again : (side : Side) (d : Doc) → filled side (filled side d) ≡ filled side d
 filled-again side d =
     ap (λ b. cond b (with_capabilities (filled side d)) (filled side d)) (tells-again side d)
-    ∙ go (tells_capabilities side d)
+    ∙ go (carries_capabilities side d)
   where
     go : (b : Bool)
         → cond b (with_capabilities (cond b (with_capabilities d) d))

@@ -20,11 +20,11 @@ use Rattle.std.specs.Ordering.{int_eq}
 use Rattle.dap_profile.specs.PlaceSteps.{PlaceStep, named, each}
 use Rattle.dap_profile.specs.Profile.{profile}
 use Rattle.dap_profile.specs.ProfileRows.{ProfileRow}
-use Rattle.dap_message.specs.Rows.{is_asked, is_id_number}
+use Rattle.dap_message.specs.Rows.{row_applies, is_id_number}
 use Rattle.dap_message.specs.Marks.{mark_by_rows}
 use Rattle.dap_message.specs.Marks.{is_id_of, marked, edit, mark_rows, mark_row, sort_of}
 use Rattle.dap_message.specs.Capabilities.{default_to, false_at, capabilities, with_capabilities}
-use Rattle.dap_message.specs.Capabilities.{filled, tells_capabilities}
+use Rattle.dap_message.specs.Capabilities.{filled, carries_capabilities}
 use Rattle.dap_message.specs.Numbers.{is_proper, are_proper, is_proper_number}
 use Rattle.dap_message.specs.Message.{message_of, message_by_rows}
 use Rattle.dap_message.proofs.Edits.{by_bool}
@@ -82,7 +82,7 @@ fits-edit (each ∷ ps) s n d h =
 
 fits-mark_row : (r : ProfileRow) (side : Side) (n : ℕ) (d : Doc) → Fits n d
     → Fits n (mark_row r side d)
-fits-mark_row r side n d h = go (sort_of side r.want) (is_asked r.kind r.name d)
+fits-mark_row r side n d h = go (sort_of side r.want) (row_applies r.kind r.name d)
   where
     go : (o : Option Sort) (b : Bool)
         → Fits n (option_map_or (λ s. cond b (edit r.place (marked s) d) d) o d)
@@ -139,7 +139,7 @@ unfolding mark_by_rows
 sound-message rows side d h =
     sym (fits_is 127 (mark_rows rows side (filled side d)))
     ∙ fits-mark rows side 127 (filled side d)
-    (fits-if (tells_capabilities side d) d (fits_is 127 d ∙ and_left (is_sound d) _ h))
+    (fits-if (carries_capabilities side d) d (fits_is 127 d ∙ and_left (is_sound d) _ h))
 
 -- ---- no reference 0 among the ids
 

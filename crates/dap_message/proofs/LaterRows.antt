@@ -35,7 +35,7 @@ use Rattle.dap_message.specs.Marks.{sort_of}
 use Rattle.dap_message.specs.Message.{message_of, message_by_rows, IsTyped, IsTypedByRows}
 use Rattle.dap_message.specs.Message.{IsTypedContent, IsTypedContentByRows}
 use Rattle.dap_message.specs.Numbers.{has_id_numbers}
-use Rattle.dap_message.specs.Rows.{is_asked}
+use Rattle.dap_message.specs.Rows.{row_applies}
 use Rattle.dap_message.proofs.Edits.{by_bool}
 use Rattle.dap_message.proofs.FilledFits.{first_fits}
 use Rattle.dap_message.proofs.FilledOnce.{numbers-again}
@@ -142,7 +142,7 @@ not_true false h = refl
 
 among-mark_row : (p : Sort → Bool) (r : ProfileRow) (side : Side) (d : Doc)
     → spares p side r ≡ true → among p (ids (mark_row r side d)) ≡ among p (ids d)
-among-mark_row p r side d h = go (sort_of side r.want) (is_asked r.kind r.name d) h
+among-mark_row p r side d h = go (sort_of side r.want) (row_applies r.kind r.name d) h
   where
     go : (o : Option Sort) (b : Bool) → option_map_or (λ s. not (p s)) o true ≡ true
         → among p (ids (option_map_or (λ s. cond b (edit r.place (marked s) d) d) o d))
@@ -408,10 +408,10 @@ zeroed-edit (each ∷ ps) s h d =
     zeroed-items (edit ps (marked s)) (λ e. zeroed-edit ps s h e) d
 
 asked-zeroed : (k : Option Kind) (n : Option (List ℕ)) (d : Doc)
-    → is_asked k n d ≡ is_asked k n (zeroed d)
+    → row_applies k n d ≡ row_applies k n (zeroed d)
 asked-zeroed k n d =
     sym (asked-shape skeleton skeleton_keeps d k n)
-    ∙ ap (is_asked k n) (sym (skeleton-zeroed d))
+    ∙ ap (row_applies k n) (sym (skeleton-zeroed d))
     ∙ asked-shape skeleton skeleton_keeps (zeroed d) k n
 
 twice_not : (b : Bool) → not (not b) ≡ true → b ≡ true
@@ -421,7 +421,7 @@ twice_not false h = cc
 zeroed-mark_row : (r : ProfileRow) (side : Side) (d : Doc) → spares is_first_sort side r ≡ true
     → zeroed (mark_row r side d) ≡ mark_row r side (zeroed d)
 zeroed-mark_row r side d h =
-    go (sort_of side r.want) (is_asked r.kind r.name d) h
+    go (sort_of side r.want) (row_applies r.kind r.name d) h
     ∙ ap (λ b. option_map_or (λ s. cond b (edit r.place (marked s) (zeroed d)) (zeroed d))
     (sort_of side r.want) (zeroed d)) (asked-zeroed r.kind r.name d)
   where

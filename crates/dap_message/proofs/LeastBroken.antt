@@ -11,7 +11,7 @@ use Rattle.dap_message.specs.Faults.{fault, Fits, has_kind, row_broken}
 use Rattle.dap_message.specs.FaultsByPath.{IsKept, BreaksFirst, IsLeastBroken, IsJudged}
 use Rattle.dap_message.specs.FaultsByPath.{AreNumbered}
 use Rattle.dap_message.specs.Places.{is_object}
-use Rattle.dap_message.specs.Rows.{is_asked, broken_at, of_row, row_fault, first_fault}
+use Rattle.dap_message.specs.Rows.{row_applies, broken_at, of_row, row_fault, first_fault}
 use Rattle.dap_message.specs.declared.broken_rows.Cause.{Cause}
 use Rattle.dap_message.specs.declared.broken_rows.Cause.TheVariants.{Missing, WrongType}
 use Rattle.dap_message.specs.declared.fault.MessageFault.{MessageFault}
@@ -28,7 +28,7 @@ use Rattle.dap_message.proofs.FilledFits.{faultless, rows_broken}
 abbrev broken : ProfileRow → Doc → Option Cause
 broken r d = broken_at r.place r.want r.needed d
 
-asked_fault : (r : ProfileRow) (d : Doc) → is_asked r.kind r.name d ≡ true
+asked_fault : (r : ProfileRow) (d : Doc) → row_applies r.kind r.name d ≡ true
     → row_fault r d ≡ option_map (of_row r.number) (broken r d)
 asked_fault r d asked =
     ap (λ b. cond b (option_map (of_row r.number) (broken r d)) None) asked
@@ -39,7 +39,7 @@ row_kept r d h p c at =
     (free_cause r.number (broken r d) (sym (asked_fault r d at.asked) ∙ h)) p at.found c at.place
     at.shows at.cause
 
-first_of_row : (r : ProfileRow) (d : Doc) (c : Cause) → is_asked r.kind r.name d ≡ true
+first_of_row : (r : ProfileRow) (d : Doc) (c : Cause) → row_applies r.kind r.name d ≡ true
     → FirstAt r.want r.needed r.place d c → BreaksFirst r d c
 first_of_row r d c asked at = record {
   path = at.path;
@@ -71,7 +71,7 @@ row_of_first r d c at = record {
 }
 
 cause_told : (r : ProfileRow) (d : Doc) (f : MessageFault) (o : Option Cause) → broken r d ≡ o
-    → is_asked r.kind r.name d ≡ true → option_map (of_row r.number) o ≡ Some f
+    → row_applies r.kind r.name d ≡ true → option_map (of_row r.number) o ≡ Some f
     → (c : Cause) × BreaksFirst r d c × (of_row r.number c ≡ f)
 cause_told r d f None is asked h = cc
 cause_told r d f (Some c) is asked h = (
@@ -83,7 +83,7 @@ cause_told r d f (Some c) is asked h = (
 row_broken_first : (r : ProfileRow) (d : Doc) (f : MessageFault) → row_fault r d ≡ Some f
     → (c : Cause) × BreaksFirst r d c × (of_row r.number c ≡ f)
 row_broken_first r d f h =
-    by_bool (is_asked r.kind r.name d)
+    by_bool (row_applies r.kind r.name d)
     (λ asked. cause_told r d f (broken r d) refl asked (sym (asked_fault r d asked) ∙ h))
     (λ other. absurd (no_cause (row_fault r d) f
     (ap (λ b. cond b (option_map (of_row r.number) (broken r d)) None) other) h))
@@ -119,7 +119,7 @@ number_at (q ∷ rs) n zero r h lt is =
     omega arith
 number_at (q ∷ rs) n (suc i) r h lt is =
     let later : map (λ s. s.number) rs ≡ numbers_from (n + 1) rs = cc in
-    let told : r.number ≡ i + (n + 1) = number_at rs (n + 1) i r later (omega arith) is in
+    let reported : r.number ≡ i + (n + 1) = number_at rs (n + 1) i r later (omega arith) is in
     omega arith
 
 profile_numbers : map (λ s. s.number) profile ≡ numbers_from 1 profile
@@ -150,7 +150,7 @@ record FirstRow (rs : List ProfileRow) (d : Doc) (f : MessageFault) : Type 0 whe
   row : ProfileRow
   inside : index < length rs
   is : get_or rs index row ≡ row
-  told : row_fault row d ≡ Some f
+  reported : row_fault row d ≡ Some f
   before : (i : ℕ) (r : ProfileRow) → i < index → get_or rs i r ≡ r → row_fault r d ≡ None
 
 before_more : (q : ProfileRow) (rs : List ProfileRow) (d : Doc) (n : ℕ) → row_fault q d ≡ None
@@ -169,7 +169,7 @@ more_rows q rs d f None r is h below =
       row = there.row;
       inside = omega (arith, there.inside);
       is = there.is;
-      told = there.told;
+      reported = there.reported;
       before = before_more q rs d there.index is there.before;
     }
 more_rows q rs d f (Some x) r is h below = record {
@@ -177,7 +177,7 @@ more_rows q rs d f (Some x) r is h below = record {
   row = q;
   inside = omega arith;
   is = refl;
-  told = is ∙ h;
+  reported = is ∙ h;
   before = λ i s lt g. absurd (omega arith);
 }
 
@@ -205,7 +205,7 @@ least_told : (d : Doc) (n : ℕ) (c : Cause) → first_fault profile d ≡ Some 
     → IsLeastBroken d n c
 least_told d n c h =
     let x = first_row profile d (of_row n c) h in
-    let y = row_broken_first x.row d (of_row n c) x.told in
+    let y = row_broken_first x.row d (of_row n c) x.reported in
     let number : x.row.number ≡ n = same_number x.row.number n y.0 c y.2 in
     let cause : y.0 ≡ c = same_cause x.row.number n y.0 c y.2 in
     let place : x.row.number ≡ x.index + 1 = are_numbered x.index x.row x.inside x.is in
@@ -227,22 +227,22 @@ told_among d n c l f h =
     let here : l.row.number ≡ i + 1 = are_numbered i l.row l.listed.1 l.listed.2 in
     let there : x.row.number ≡ x.index + 1 = are_numbered x.index x.row x.inside x.is in
     let number : l.row.number ≡ n = l.number in
-    let told : row_fault l.row d ≡ Some (of_row l.row.number c) = row_told l.row d c l.broken in
+    let reported : row_fault l.row d ≡ Some (of_row l.row.number c) = row_told l.row d c l.broken in
     ⊎_elim
     (λ (apart : x.index < i ⊎ i < x.index). ⊎_elim
     (λ (lt : x.index < i).
-    let y = row_broken_first x.row d f x.told in
+    let y = row_broken_first x.row d f x.reported in
     let below : x.row.number < n = omega arith in
     absurd (l.least x.row (x.index, x.inside, x.is) below y.1.path y.0 y.1.breaks))
     (λ (lt : i < x.index).
     absurd (no_cause (row_fault l.row d) (of_row l.row.number c)
-    (x.before i l.row lt l.listed.2) told)) apart)
+    (x.before i l.row lt l.listed.2) reported)) apart)
     (λ (same : x.index ≡ i).
     let row : x.row ≡ l.row =
     same_row profile i x.row l.row l.listed.1 (ap (λ k. get_or profile k x.row) (sym same) ∙ x.is)
     l.listed.2 in
     some_is f (of_row n c)
-    (sym x.told ∙ ap (λ r. row_fault r d) row ∙ told ∙ ap (λ m. Some (of_row m c)) number))
+    (sym x.reported ∙ ap (λ r. row_fault r d) row ∙ reported ∙ ap (λ m. Some (of_row m c)) number))
     (three x.index i)
 
 told_least_by : (d : Doc) (n : ℕ) (c : Cause) → IsLeastBroken d n c → (o : Option MessageFault)
@@ -284,7 +284,7 @@ kept_fault : (d : Doc) → ((r : ProfileRow) → Contains profile r → IsKept r
 kept_fault d kept None is = is
 kept_fault d kept (Some f) is =
     let x = first_row profile d f is in
-    let y = row_broken_first x.row d f x.told in
+    let y = row_broken_first x.row d f x.reported in
     absurd (kept x.row (x.index, x.inside, x.is) y.1.path y.0 y.1.breaks)
 
 pub fits_by_path : (d : Doc)
@@ -317,5 +317,5 @@ no_memory d h =
     no_memory_by (is_object d) (has_kind d) (row_broken d)
     (λ g.
     let x = first_row profile d Memory (sym (first_of_profile d) ∙ g) in
-    let y = row_broken_first x.row d Memory x.told in
+    let y = row_broken_first x.row d Memory x.reported in
     not_memory x.row.number y.0 y.2) h

@@ -20,7 +20,7 @@ use Rattle.dap_message.specs.Envelope.{text_value}
 use Rattle.dap_message.specs.Faults.{Fits, has_kind, row_broken}
 use Rattle.dap_message.specs.Message.{IsTyped, IsTypedContent}
 use Rattle.dap_message.specs.Places.{parts_at, is_object, list_of}
-use Rattle.dap_message.specs.Rows.{is_asked, is_id_number, cause_against, first_cause, broken_at}
+use Rattle.dap_message.specs.Rows.{row_applies, is_id_number, cause_against, first_cause, broken_at}
 use Rattle.dap_message.specs.Rows.{of_row, row_fault, first_fault}
 use Rattle.dap_message.specs.Views.{number_value, reference_value, frame_from, scope_from}
 use Rattle.dap_message.specs.Views.{variable_from, frame_of, scope_of, variable_of, frames_of}
@@ -71,9 +71,9 @@ module _ (h : Doc → Doc) (keeps : KeepsShape h) where
       ∙ list-shape inner in
       ap₂ (λ b o. cond b (unwrap_or o []) []) (asked-shape h keeps d (Some Response) (Some command))
       lists
-      ∙ ap (λ ds. cond (is_asked (Some Response) (Some command) d) ds [])
+      ∙ ap (λ ds. cond (row_applies (Some Response) (Some command) d) ds [])
       (or_none (option_and_then list_of inner))
-      ∙ if_asked (is_asked (Some Response) (Some command) d)
+      ∙ if_asked (row_applies (Some Response) (Some command) d)
       (unwrap_or (option_and_then list_of inner) [])
 
 -- ---- a view exists, whatever the numbers of the ids are
@@ -359,7 +359,7 @@ row_of_each n command name ps w =
     }
 
 each_well : (n : ℕ) (command name : List ℕ) (ps : List PlaceStep) (w : Want) (d : Doc)
-    → is_asked (Some Response) (Some command) d ≡ true
+    → row_applies (Some Response) (Some command) d ≡ true
     → row_fault (row_of_each n command name ps w) d ≡ None
     → AllWell ps w
     (unwrap_or (option_and_then list_of (option_and_then (get name) (get (codes "body") d))) [])
@@ -374,7 +374,7 @@ each_well n command name ps w d asked free =
 -- the elements of a message's array, with their ids as integers, have no violation if the row of
 -- the array is not violated
 listed_well : (n : ℕ) (command name : List ℕ) (ps : List PlaceStep) (w : Want) (m : Doc)
-    → is_asked (Some Response) (Some command) (without_ids m) ≡ true
+    → row_applies (Some Response) (Some command) (without_ids m) ≡ true
     → row_fault (row_of_each n command name ps w) (without_ids m) ≡ None
     → AllWell ps w (map without_ids (listed command name m))
 listed_well n command name ps w m asked free =
@@ -483,7 +483,8 @@ variables_there (d ∷ ds) o n v r =
 
 -- an array to which no row applies is empty
 none_listed : (p : Doc → Bool) (command name : List ℕ) (m : Doc)
-    → is_asked (Some Response) (Some command) m ≡ false → list_all p (listed command name m) ≡ true
+    → row_applies (Some Response) (Some command) m ≡ false → list_all p (listed command name m)
+    ≡ true
 none_listed p command name m h =
     ap (λ b. list_all p
     (cond b (unwrap_or (option_and_then list_of (option_and_then (get name) (get (codes "body") m)))
@@ -492,10 +493,10 @@ none_listed p command name m h =
 -- Each element of the array passes the test if the message with its ids as integers violates no
 -- row, provided that it does so if the row applies.
 all_listed : (p : Doc → Bool) (command name : List ℕ) (m : Doc)
-    → (is_asked (Some Response) (Some command) (without_ids m) ≡ true
+    → (row_applies (Some Response) (Some command) (without_ids m) ≡ true
     → list_all p (listed command name m) ≡ true) → list_all p (listed command name m) ≡ true
 all_listed p command name m asked =
-    by_bool (is_asked (Some Response) (Some command) (without_ids m)) asked
+    by_bool (row_applies (Some Response) (Some command) (without_ids m)) asked
     (λ no. none_listed p command name m
     (sym (asked-shape without_ids without_keeps m (Some Response) (Some command)) ∙ no))
 

@@ -51,23 +51,24 @@ some_top : (d e : Doc) → Some (top d) ≡ Some (top e) → top d ≡ top e
 some_top d e h = cc
 
 mutual
-  pub told : (d e : Doc) → is_ordered d ≡ true → ((p : List Step) → Alike (at p e) (at p d))
+  pub reported : (d e : Doc) → is_ordered d ≡ true → ((p : List Step) → Alike (at p e) (at p d))
       → top e ≡ top d → e ≡ d
-  told null null o h t = refl
-  told (boolean b) (boolean c) o h t = t
-  told (whole y) (whole z) o h t = t
-  told (text s) (text r) o h t = t
-  told (list ds) (list es) o h t = ap list (items_told ds es o (λ i p. h (place i ∷ p)) (cc))
-  told (object ms) (object os) o h t = ap object (members_told ms os o (λ k p. h (name k ∷ p)) (cc))
-  told (id s y) (id r z) o h t = t
-  told _ _ o h t = cc
+  reported null null o h t = refl
+  reported (boolean b) (boolean c) o h t = t
+  reported (whole y) (whole z) o h t = t
+  reported (text s) (text r) o h t = t
+  reported (list ds) (list es) o h t = ap list (items_told ds es o (λ i p. h (place i ∷ p)) (cc))
+  reported (object ms) (object os) o h t = ap object
+      (members_told ms os o (λ k p. h (name k ∷ p)) (cc))
+  reported (id s y) (id r z) o h t = t
+  reported _ _ o h t = cc
 
   items_told : (ds es : Items) → items_ordered ds ≡ true
       → ((i : ℕ) → AlikeBelow (get_item i es) (get_item i ds)) → items_top es ≡ items_top ds
       → es ≡ ds
   items_told no_items no_items o h t = refl
   items_told (item d ds) (item e es) o h t =
-      ap₂ item (told d e (and_left (is_ordered d) (items_ordered ds) o) (h 0)
+      ap₂ item (reported d e (and_left (is_ordered d) (items_ordered ds) o) (h 0)
       (some_top e d (h 0 [])))
       (items_told ds es (and_right (is_ordered d) (items_ordered ds) o) (λ i. h (suc i)) (cc))
   items_told _ _ o h t = cc
@@ -98,7 +99,7 @@ mutual
       (sym (skips q l e os (λ is. apart q k b (is ∙ same)))) ∙ h q p
       ∙ ap (λ r. option_map top (option_and_then (at p) r)) (skips q k d ms (apart q k b))) in
       ap₂ (λ n r. member n r os) same
-      (told d e (and_left (is_ordered d) (members_ordered ms) parts) first
+      (reported d e (and_left (is_ordered d) (members_ordered ms) parts) first
       (some_top e d (first [])))
       ∙ ap (member k d)
       (members_told ms os (and_right (is_ordered d) (members_ordered ms) parts) others rest)
@@ -111,4 +112,5 @@ unfolding IsMarked
 one_marked side d e ordered h =
     let alike : (p : List Step)
     → Alike (at p e) (at p (mark side d)) = λ p. h p ∙ sym (mark_is_marked side d p) in
-    told (mark side d) e (ordered-mark side d ordered) alike (some_top e (mark side d) (alike []))
+    reported (mark side d) e (ordered-mark side d ordered) alike
+    (some_top e (mark side d) (alike []))

@@ -15,11 +15,11 @@ use Rattle.dap_profile.specs.PlaceSteps.{PlaceStep, named, each}
 use Rattle.dap_profile.specs.ProfileRows.{ProfileRow}
 use Rattle.dap_message.specs.Capabilities.{is_given, default_member, default_to, false_members}
 use Rattle.dap_message.specs.Capabilities.{false_at, capabilities, with_capabilities}
-use Rattle.dap_message.specs.Capabilities.{tells_capabilities}
+use Rattle.dap_message.specs.Capabilities.{carries_capabilities}
 use Rattle.dap_message.specs.Marks.{mark_by_rows}
 use Rattle.dap_message.specs.Marks.{is_id_of, marked, edit, mark_row, mark_rows, sort_of}
 use Rattle.dap_message.specs.Message.{message_by_rows}
-use Rattle.dap_message.specs.Rows.{is_asked}
+use Rattle.dap_message.specs.Rows.{row_applies}
 use Rattle.dap_message.proofs.Edits.{by_bool}
 
 -- A test of members and items: by the test of each document in them, and by a test of each name and
@@ -237,7 +237,7 @@ module _ (t : DocTest) (takes : TakesIds t) where
 
   passes-mark_row : (r : ProfileRow) (side : Side) (d : Doc) → Passes t d
       → Passes t (mark_row r side d)
-  passes-mark_row r side d h = go (sort_of side r.want) (is_asked r.kind r.name d)
+  passes-mark_row r side d h = go (sort_of side r.want) (row_applies r.kind r.name d)
     where
       go : (o : Option Sort) (b : Bool)
           → Passes t (option_map_or (λ s. cond b (edit r.place (marked s) d) d) o d)
@@ -261,4 +261,4 @@ module _ (t : DocTest) (takes : TakesIds t) where
       → list_all t.parts.may_come capabilities ≡ true → Passes t d
       → Passes t (message_by_rows rows side d)
   passes-message rows side d n ns h =
-      passes-mark rows side _ (passes-filled t (tells_capabilities side d) d n ns h)
+      passes-mark rows side _ (passes-filled t (carries_capabilities side d) d n ns h)

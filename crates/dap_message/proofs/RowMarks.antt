@@ -12,7 +12,8 @@ use Rattle.dap_profile.specs.ProfileRows.{ProfileRow}
 use Rattle.dap_profile.specs.declared.profile.Kind.{Kind}
 use Rattle.dap_profile.specs.declared.profile.Kind.TheVariants.{Request, Response, Event}
 use Rattle.dap_message.specs.Places.{fits_place}
-use Rattle.dap_message.specs.Rows.{is_asked, is_text, is_true, may_have_body, name_key, type_name}
+use Rattle.dap_message.specs.Rows.{row_applies, is_text, is_true, may_have_body, name_key}
+use Rattle.dap_message.specs.Rows.{type_name}
 use Rattle.dap_message.specs.Marks.{mark_by_rows}
 use Rattle.dap_message.specs.Marks.{is_id_of, marked, top, edit, made, made_by, mark_rows, mark_row}
 use Rattle.dap_message.specs.Marks.{sort_of, IsMarked, mark}
@@ -108,7 +109,7 @@ well-edit ps s Response d = yes-edit ps s (codes "success") d
 well-edit ps s Event d = refl
 
 asked-edit : (ps : List PlaceStep) (s : Sort) (k : Option Kind) (n : Option (List ℕ)) (d : Doc)
-    → is_asked k n (edit ps (marked s) d) ≡ is_asked k n d
+    → row_applies k n (edit ps (marked s) d) ≡ row_applies k n d
 asked-edit ps s None n d = refl
 asked-edit ps s (Some k) None d = text-edit ps s (type_name k) (codes "type") d
 asked-edit ps s (Some k) (Some n) d =
@@ -117,20 +118,20 @@ asked-edit ps s (Some k) (Some n) d =
     (text-edit ps s n (name_key k) d)) (well-edit ps s k d)
 
 asked_one : (s : Sort) (ps : List PlaceStep) (b : Bool) (k : Option Kind) (n : Option (List ℕ))
-    (d : Doc) → is_asked k n (cond b (edit ps (marked s) d) d) ≡ is_asked k n d
+    (d : Doc) → row_applies k n (cond b (edit ps (marked s) d) d) ≡ row_applies k n d
 asked_one s ps true k n d = asked-edit ps s k n d
 asked_one s ps false k n d = refl
 
 pub asked-mark_row : (r : ProfileRow) (side : Side) (k : Option Kind) (n : Option (List ℕ))
-    (d : Doc) → is_asked k n (mark_row r side d) ≡ is_asked k n d
+    (d : Doc) → row_applies k n (mark_row r side d) ≡ row_applies k n d
 asked-mark_row r side k n d = go (sort_of side r.want)
   where
     go : (o : Option Sort)
-        → is_asked k n
-        (option_map_or (λ s. cond (is_asked r.kind r.name d) (edit r.place (marked s) d) d) o d)
-        ≡ is_asked k n d
+        → row_applies k n
+        (option_map_or (λ s. cond (row_applies r.kind r.name d) (edit r.place (marked s) d) d) o d)
+        ≡ row_applies k n d
     go None = refl
-    go (Some s) = asked_one s r.place (is_asked r.kind r.name d) k n d
+    go (Some s) = asked_one s r.place (row_applies r.kind r.name d) k n d
 
 -- ---- path by path
 
@@ -158,12 +159,12 @@ top-made_by r side d p x = go (sort_of side r.want)
   where
     go : (o : Option Sort)
         → top (option_map_or
-        (λ s. cond (is_asked r.kind r.name d && fits_place r.place p) (marked s x) x) o x)
+        (λ s. cond (row_applies r.kind r.name d && fits_place r.place p) (marked s x) x) o x)
         ≡ option_map_or
-        (λ s. cond (is_asked r.kind r.name d && fits_place r.place p) (marked s (top x))
+        (λ s. cond (row_applies r.kind r.name d && fits_place r.place p) (marked s (top x))
         (top x)) o (top x)
     go None = refl
-    go (Some s) = top-one (is_asked r.kind r.name d && fits_place r.place p) s x
+    go (Some s) = top-one (row_applies r.kind r.name d && fits_place r.place p) s x
 
 top-made : (rs : List ProfileRow) (side : Side) (d : Doc) (p : List Step) (x : Doc)
     → top (made rs side d p x) ≡ made rs side d p (top x)
@@ -182,7 +183,7 @@ made_alike f h a b e = option_top f h a ∙ ap (option_map f) e ∙ sym (option_
 
 -- the same rows apply to both documents
 made-asked : (rs : List ProfileRow) (side : Side) (d e : Doc)
-    → ((k : Option Kind) (n : Option (List ℕ)) → is_asked k n e ≡ is_asked k n d)
+    → ((k : Option Kind) (n : Option (List ℕ)) → row_applies k n e ≡ row_applies k n d)
     → (p : List Step) (x : Doc) → made rs side e p x ≡ made rs side d p x
 made-asked [] side d e h p x = refl
 made-asked (r ∷ rs) side d e h p x =
@@ -203,7 +204,7 @@ option_same f g h (Some x) = ap Some (h x)
 -- one row as an edit
 at-mark_row : (r : ProfileRow) (side : Side) (d : Doc) (p : List Step)
     → Alike (at p (mark_row r side d)) (option_map (made_by r side d p) (at p d))
-at-mark_row r side d p = go (sort_of side r.want) (is_asked r.kind r.name d)
+at-mark_row r side d p = go (sort_of side r.want) (row_applies r.kind r.name d)
   where
     either : (s : Sort) (b : Bool) (o : Option Doc)
         → cond b (option_map (marked s) o) o ≡ option_map (λ x. cond b (marked s x) x) o

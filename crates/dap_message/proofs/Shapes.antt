@@ -17,7 +17,8 @@ use Rattle.dap_profile.specs.declared.profile.Kind.{Kind}
 use Rattle.dap_profile.specs.declared.profile.Kind.TheVariants.{Request, Response, Event}
 use Rattle.dap_message.specs.Capabilities.{is_given}
 use Rattle.dap_message.specs.Places.{parts_at, is_object, list_of, elements}
-use Rattle.dap_message.specs.Rows.{is_text, is_true, is_asked, may_have_body, type_name, name_key}
+use Rattle.dap_message.specs.Rows.{is_text, is_true, row_applies, may_have_body, type_name}
+use Rattle.dap_message.specs.Rows.{name_key}
 use Rattle.dap_message.proofs.SortsApart.{AskedAlike}
 use Rattle.dap_message.proofs.MarkedPlaces.{IdNumbers, numbers_left, numbers_right}
 
@@ -219,7 +220,7 @@ pub asked_without : (m n : Doc) → skeleton n ≡ skeleton m
 asked_without m n same k o =
     asked-shape without_ids without_keeps n k o
     ∙ sym (asked-shape skeleton skeleton_keeps n k o)
-    ∙ ap (is_asked k o) same
+    ∙ ap (row_applies k o) same
     ∙ asked-shape skeleton skeleton_keeps m k o
     ∙ sym (asked-shape without_ids without_keeps m k o)
 

@@ -24,7 +24,7 @@ use Rattle.dap_profile.specs.declared.profile.Want.{Want}
 use Rattle.dap_profile.specs.declared.profile.Want.TheVariants.{OwnSeq}
 use Rattle.dap_profile.specs.declared.profile.Want.TheVariants.{OtherSeq}
 use Rattle.dap_message.specs.Marks.{sort_of, marked, edit, mark_row, mark_rows}
-use Rattle.dap_message.specs.Rows.{is_asked, is_of_kind, is_text, type_name, name_key}
+use Rattle.dap_message.specs.Rows.{row_applies, is_of_kind, is_text, type_name, name_key}
 use Rattle.dap_message.specs.Rows.{may_have_body}
 use Rattle.dap_message.proofs.RowMarks.{asked-mark_row}
 use Rattle.dap_message.proofs.MarkedPlaces.{Pending, done, mark_at, edits, meet, AgreeWith, Agree}
@@ -38,7 +38,7 @@ then_row (Some s) false ps es = es
 abbrev pub pending : List ProfileRow → Side → Doc → Pending
 pending [] side d = done
 pending (r ∷ rs) side d =
-    then_row (sort_of side r.want) (is_asked r.kind r.name d) r.place (pending rs side d)
+    then_row (sort_of side r.want) (row_applies r.kind r.name d) r.place (pending rs side d)
 
 edits-then_row : (o : Option Sort) (b : Bool) (ps : List PlaceStep) (es : Pending) (d : Doc)
     → edits (then_row o b ps es) d
@@ -49,7 +49,7 @@ edits-then_row (Some s) false ps es d = refl
 
 -- the same rows apply to d and e
 abbrev pub AskedAlike : Doc → Doc → Type 0
-AskedAlike d e = (k : Option Kind) (n : Option (List ℕ)) → is_asked k n e ≡ is_asked k n d
+AskedAlike d e = (k : Option Kind) (n : Option (List ℕ)) → row_applies k n e ≡ row_applies k n d
 
 pub mark_rows-edits : (rs : List ProfileRow) (side : Side) (d e : Doc) → AskedAlike d e
     → mark_rows rs side e ≡ edits (pending rs side d) e
@@ -59,7 +59,7 @@ mark_rows-edits (r ∷ rs) side d e h =
     ∙ ap (λ b. edits (pending rs side d)
     (option_map_or (λ s. cond b (edit r.place (marked s) e) e) (sort_of side r.want) e))
     (h r.kind r.name)
-    ∙ sym (edits-then_row (sort_of side r.want) (is_asked r.kind r.name d) r.place
+    ∙ sym (edits-then_row (sort_of side r.want) (row_applies r.kind r.name d) r.place
     (pending rs side d) e)
 
 -- ---- rows that apply to the same message
@@ -85,14 +85,14 @@ same_text v w (Some (text s)) h g =
     (bytes_eq-Decides v w).1 ((bytes_eq-Decides v s).0 h ∙ sym ((bytes_eq-Decides w s).0 g))
 same_text v w _ h g = cc
 
-asked_kind : (k : Kind) (n : Option (List ℕ)) (d : Doc) → is_asked (Some k) n d ≡ true
+asked_kind : (k : Kind) (n : Option (List ℕ)) (d : Doc) → row_applies (Some k) n d ≡ true
     → is_of_kind k d ≡ true
 asked_kind k None d h = h
 asked_kind k (Some n) d h =
     and_left (is_of_kind k d) (is_text n (get (name_key k) d))
     (and_left (is_of_kind k d && is_text n (get (name_key k) d)) (may_have_body k d) h)
 
-asked_name : (k : Kind) (n : List ℕ) (d : Doc) → is_asked (Some k) (Some n) d ≡ true
+asked_name : (k : Kind) (n : List ℕ) (d : Doc) → row_applies (Some k) (Some n) d ≡ true
     → is_text n (get (name_key k) d) ≡ true
 asked_name k n d h =
     and_right (is_of_kind k d) (is_text n (get (name_key k) d))
@@ -111,15 +111,15 @@ kinds_equal Response Response h = refl
 kinds_equal Event Event h = refl
 kinds_equal _ _ h = cc
 
-same_name : (k l : Kind) (n m : Option (List ℕ)) (d : Doc) → k ≡ l → is_asked (Some k) n d ≡ true
-    → is_asked (Some l) m d ≡ true → one_name n m ≡ true
+same_name : (k l : Kind) (n m : Option (List ℕ)) (d : Doc) → k ≡ l → row_applies (Some k) n d ≡ true
+    → row_applies (Some l) m d ≡ true → one_name n m ≡ true
 same_name k l (Some n) (Some m) d e h g =
     same_text n m (get (name_key k) d) (asked_name k n d h)
     (ap (λ j. is_text m (get (name_key j) d)) e ∙ asked_name l m d g)
 same_name k l _ _ d e h g = refl
 
 asked_both : (k : Option Kind) (n : Option (List ℕ)) (l : Option Kind) (m : Option (List ℕ))
-    (d : Doc) → is_asked k n d ≡ true → is_asked l m d ≡ true → both_asked k n l m ≡ true
+    (d : Doc) → row_applies k n d ≡ true → row_applies l m d ≡ true → both_asked k n l m ≡ true
 asked_both (Some k) n (Some l) m d h g =
     let kinds = same_kind k l d (asked_kind k n d h) (asked_kind l m d g) in
     and_both (one_kind k l) (one_name n m) kinds (same_name k l n m d (kinds_equal k l kinds) h g)
@@ -168,7 +168,7 @@ or_false false false h g = cc
 
 apart_sorts : (r q : ProfileRow) (side : Side) (d : Doc) (s t : Sort) → apart r q ≡ true
     → sort_of side r.want ≡ Some s → sort_of side q.want ≡ Some t
-    → is_asked r.kind r.name d ≡ true → is_asked q.kind q.name d ≡ true
+    → row_applies r.kind r.name d ≡ true → row_applies q.kind q.name d ≡ true
     → meet r.place q.place ≡ true → s ≡ t
 apart_sorts r q side d s t h rs qt ra qa m =
     let a = sort_from side r.want s rs in
@@ -184,8 +184,8 @@ apart_sorts r q side d s t h rs qt ra qa m =
     a.2 ∙ ap (from_side side) equal ∙ sym b.2
 
 agree_with_row : (r q : ProfileRow) (side : Side) (d : Doc) (s : Sort) (es : Pending)
-    → apart r q ≡ true → sort_of side r.want ≡ Some s → is_asked r.kind r.name d ≡ true
-    → (o : Option Sort) → sort_of side q.want ≡ o → (b : Bool) → is_asked q.kind q.name d ≡ b
+    → apart r q ≡ true → sort_of side r.want ≡ Some s → row_applies r.kind r.name d ≡ true
+    → (o : Option Sort) → sort_of side q.want ≡ o → (b : Bool) → row_applies q.kind q.name d ≡ b
     → AgreeWith s r.place es → AgreeWith s r.place (then_row o b q.place es)
 agree_with_row r q side d s es h rs ra None qt b qa rest = rest
 agree_with_row r q side d s es h rs ra (Some t) qt true qa rest =
@@ -193,17 +193,18 @@ agree_with_row r q side d s es h rs ra (Some t) qt true qa rest =
 agree_with_row r q side d s es h rs ra (Some t) qt false qa rest = rest
 
 agree_with_rows : (r : ProfileRow) (qs : List ProfileRow) (side : Side) (d : Doc) (s : Sort)
-    → list_all (apart r) qs ≡ true → sort_of side r.want ≡ Some s → is_asked r.kind r.name d ≡ true
+    → list_all (apart r) qs ≡ true → sort_of side r.want ≡ Some s → row_applies r.kind r.name d
+    ≡ true
     → AgreeWith s r.place (pending qs side d)
 agree_with_rows r [] side d s h rs ra = tt
 agree_with_rows r (q ∷ qs) side d s h rs ra =
     agree_with_row r q side d s (pending qs side d) (and_left (apart r q) (list_all (apart r) qs) h)
-    rs ra (sort_of side q.want) refl (is_asked q.kind q.name d) refl
+    rs ra (sort_of side q.want) refl (row_applies q.kind q.name d) refl
     (agree_with_rows r qs side d s (and_right (apart r q) (list_all (apart r) qs) h) rs ra)
 
 agree_row : (r : ProfileRow) (rs : List ProfileRow) (side : Side) (d : Doc)
     → list_all (apart r) rs ≡ true → (o : Option Sort) → sort_of side r.want ≡ o → (b : Bool)
-    → is_asked r.kind r.name d ≡ b
+    → row_applies r.kind r.name d ≡ b
     → Agree (pending rs side d) → Agree (then_row o b r.place (pending rs side d))
 agree_row r rs side d h None wants b asked rest = rest
 agree_row r rs side d h (Some s) wants true asked rest =
@@ -215,7 +216,7 @@ agree_pending : (rs : List ProfileRow) (side : Side) (d : Doc) → all_apart rs 
 agree_pending [] side d h = tt
 agree_pending (r ∷ rs) side d h =
     agree_row r rs side d (and_left (list_all (apart r) rs) (all_apart rs) h) (sort_of side r.want)
-    refl (is_asked r.kind r.name d) refl
+    refl (row_applies r.kind r.name d) refl
     (agree_pending rs side d (and_right (list_all (apart r) rs) (all_apart rs) h))
 
 -- the paths of these rows that expect different kinds never meet in one message

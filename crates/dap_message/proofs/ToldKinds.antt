@@ -5,14 +5,14 @@ use Rattle.dap_tree.specs.Doc.{Doc}
 use Rattle.dap_tree.specs.Ids.{with_ids}
 use Rattle.dap_tree.proofs.IdNumbers.{skeleton-with}
 use Rattle.dap_tree.specs.declared.side.Side.{Side}
-use Rattle.dap_profile.specs.Stretches.{same_kind as equals}
+use Rattle.dap_profile.specs.RowRanges.{same_kind as equals}
 use Rattle.dap_profile.specs.declared.profile.Kind.{Kind}
 use Rattle.dap_profile.specs.declared.profile.Kind.TheVariants.{Request, Response, Event}
-use Rattle.dap_message.specs.AskedRows.{kind_told}
+use Rattle.dap_message.specs.AskedRows.{kind_of_tree}
 use Rattle.dap_message.specs.Capabilities.{filled}
 use Rattle.dap_message.specs.Marks.{mark, mark_by_rows}
 use Rattle.dap_message.specs.Rows.{is_of_kind}
-use Rattle.dap_message.proofs.AskedRows.{kind-told}
+use Rattle.dap_message.proofs.AskedRows.{kind-reported}
 use Rattle.dap_message.proofs.Contents.{of_kind-skeleton}
 use Rattle.dap_message.proofs.Envelopes.{kind_there}
 
@@ -21,12 +21,12 @@ itself Request = refl
 itself Response = refl
 itself Event = refl
 
-pub kind-message : (side : Side) (d : Doc) (k : Kind) → kind_told d ≡ Some k
+pub kind-message : (side : Side) (d : Doc) (k : Kind) → kind_of_tree d ≡ Some k
     → is_of_kind k (mark side (filled side d)) ≡ true
 unfolding mark_by_rows
-kind-message side d k told =
+kind-message side d k reported =
     kind_there side d k
-    (kind-told k d ∙ ap (λ o. option_map_or (equals k) o false) told ∙ itself k)
+    (kind-reported k d ∙ ap (λ o. option_map_or (equals k) o false) reported ∙ itself k)
 
 pub kind-with : (k : Kind) (d : Doc) (ns : List ℤ) → is_of_kind k (with_ids d ns) ≡ is_of_kind k d
 kind-with k d ns =

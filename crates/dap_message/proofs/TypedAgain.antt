@@ -28,7 +28,7 @@ use Rattle.dap_profile.specs.declared.profile.Want.{Want}
 use Rattle.dap_profile.specs.declared.profile.Want.TheVariants.{Bool as WantBool, Whole, Text}
 use Rattle.dap_profile.specs.declared.profile.Want.TheVariants.{Object, List as WantList}
 use Rattle.dap_message.specs.Capabilities.{is_given, default_to, false_members, false_at}
-use Rattle.dap_message.specs.Capabilities.{capabilities, tells_capabilities, with_capabilities}
+use Rattle.dap_message.specs.Capabilities.{capabilities, carries_capabilities, with_capabilities}
 use Rattle.dap_message.specs.Capabilities.{filled}
 use Rattle.dap_message.specs.Faults.{fault, Fits, has_kind, row_broken}
 use Rattle.dap_message.specs.Marks.{mark_by_rows}
@@ -36,7 +36,7 @@ use Rattle.dap_message.specs.Marks.{is_id_of}
 use Rattle.dap_message.specs.Message.{message_of, message_by_rows, IsTyped}
 use Rattle.dap_message.specs.Numbers.{has_id_numbers}
 use Rattle.dap_message.specs.Places.{parts_at, is_object}
-use Rattle.dap_message.specs.Rows.{is_asked, is_id_number, cause_against, first_cause, broken_at}
+use Rattle.dap_message.specs.Rows.{row_applies, is_id_number, cause_against, first_cause, broken_at}
 use Rattle.dap_message.specs.Rows.{of_row, row_fault, first_fault}
 use Rattle.dap_message.specs.declared.broken_rows.Cause.{Cause}
 use Rattle.dap_message.specs.declared.fault.MessageFault.TheVariants.{NotObject, UnknownType}
@@ -181,7 +181,8 @@ row_cond n false true o p e f h = cc
 row_zeroed : (r : ProfileRow) (d : Doc) → row_fault r (without_ids d) ≡ None
     → row_fault r (zeroed d) ≡ None
 row_zeroed r d h =
-    row_cond r.number (is_asked r.kind r.name (without_ids d)) (is_asked r.kind r.name (zeroed d))
+    row_cond r.number (row_applies r.kind r.name (without_ids d))
+    (row_applies r.kind r.name (zeroed d))
     (broken_at r.place r.want r.needed (without_ids d))
     (broken_at r.place r.want r.needed (zeroed d))
     (sym (asked_zeroed d r.kind r.name)) (place_zeroed r d) h
@@ -189,7 +190,8 @@ row_zeroed r d h =
 row_numbered : (r : ProfileRow) (d : Doc) → IdNumbers (ids d) → row_fault r (zeroed d) ≡ None
     → row_fault r (without_ids d) ≡ None
 row_numbered r d fit h =
-    row_cond r.number (is_asked r.kind r.name (zeroed d)) (is_asked r.kind r.name (without_ids d))
+    row_cond r.number (row_applies r.kind r.name (zeroed d))
+    (row_applies r.kind r.name (without_ids d))
     (broken_at r.place r.want r.needed (zeroed d))
     (broken_at r.place r.want r.needed (without_ids d))
     (asked_zeroed d r.kind r.name) (place_numbered r d fit) h
@@ -380,14 +382,14 @@ filled_again rows Adapter d n plain fits same =
     let m = message_by_rows rows Adapter d in
     let alike = asked_without m n same in
     let numbers_of_m : without_ids m ≡ filled Adapter d = numbers-again rows Adapter d plain in
-    by_bool (tells_capabilities Adapter (without_ids n))
+    by_bool (carries_capabilities Adapter (without_ids n))
     (λ t.
-    let told : tells_capabilities Adapter d ≡ true =
-    sym (tells-again Adapter d) ∙ ap (tells_capabilities Adapter) (sym numbers_of_m)
+    let reported : carries_capabilities Adapter d ≡ true =
+    sym (tells-again Adapter d) ∙ ap (carries_capabilities Adapter) (sym numbers_of_m)
     ∙ sym (alike (Some Response) (Some (codes "initialize"))) ∙ t in
     let full : has_all capabilities (without_ids m) ≡ true =
-    ap (has_all capabilities) (numbers_of_m ∙ ap (λ b. cond b (with_capabilities d) d) told)
-    ∙ has_all-capabilities d fits told in
+    ap (has_all capabilities) (numbers_of_m ∙ ap (λ b. cond b (with_capabilities d) d) reported)
+    ∙ has_all-capabilities d fits reported in
     ap (λ b. cond b (with_capabilities (without_ids n)) (without_ids n)) t
     ∙ capabilities-noop (without_ids n) (has_all-again capabilities m n same full))
     (λ t. ap (λ b. cond b (with_capabilities (without_ids n)) (without_ids n)) t)

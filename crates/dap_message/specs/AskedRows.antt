@@ -12,12 +12,13 @@ use Rattle.dap_profile.specs.declared.profile.Kind.{Kind}
 use Rattle.dap_profile.specs.declared.profile.Kind.TheVariants.{Request, Response, Event}
 use Rattle.dap_message.specs.Envelope.{text_value}
 use Rattle.dap_message.specs.Marks.{sort_of, marked, edit}
-use Rattle.dap_message.specs.Rows.{is_asked, type_name, name_key, may_have_body, of_row, broken_at}
+use Rattle.dap_message.specs.Rows.{row_applies, type_name, name_key, may_have_body, of_row}
+use Rattle.dap_message.specs.Rows.{broken_at}
 use Rattle.dap_message.specs.declared.fault.MessageFault.{MessageFault}
 
 -- The rows that apply to the document, in order.
 unfoldable pub asked_rows : Doc → List ProfileRow
-asked_rows d = filter (λ r. is_asked r.kind r.name d) profile
+asked_rows d = filter (λ r. row_applies r.kind r.name d) profile
 
 -- ---- by kind and name
 
@@ -29,13 +30,13 @@ kind_typed s =
     (cond (bytes_eq (type_name Event) s) (Some Event) None))
 
 -- The kind of a document, if it has one.
-abbrev pub kind_told : Doc → Option Kind
-kind_told d = option_and_then kind_typed (text_value (get (codes "type") d))
+abbrev pub kind_of_tree : Doc → Option Kind
+kind_of_tree d = option_and_then kind_typed (text_value (get (codes "type") d))
 
 -- The name that decides which rows apply to a document of a kind, or `None` if it has no name or
 -- may not have a body.
-abbrev pub name_told : Kind → Doc → Option (List ℕ)
-name_told k d = cond (may_have_body k d) (text_value (get (name_key k) d)) None
+abbrev pub name_of_tree : Kind → Doc → Option (List ℕ)
+name_of_tree k d = cond (may_have_body k d) (text_value (get (name_key k) d)) None
 
 -- ---- the effect of rows that apply
 

@@ -5,7 +5,7 @@ use Rattle.dap_tree.specs.declared.side.Side.{Side}
 use Rattle.dap_tree.specs.declared.side.Side.TheVariants.{Client, Adapter}
 use Rattle.std.specs.Prelude.{ℕ, Bool, true, false, cond, List, [], ◌∷◌, Option, Some, None, codes}
 use Rattle.dap_profile.specs.declared.profile.Kind.TheVariants.{Response}
-use Rattle.dap_message.specs.Rows.{is_asked}
+use Rattle.dap_message.specs.Rows.{row_applies}
 
 -- There is a value other than null.
 abbrev pub is_given : Option Doc → Bool
@@ -35,9 +35,9 @@ false_at ks d = d
 -- An adapter reports its capabilities in its successful response to `initialize` (DAP
 -- specification). Its `capabilities` event contains only those that changed, so nothing is added to
 -- that event.
-abbrev pub tells_capabilities : Side → Doc → Bool
-tells_capabilities Client d = false
-tells_capabilities Adapter d = is_asked (Some Response) (Some (codes "initialize")) d
+abbrev pub carries_capabilities : Side → Doc → Bool
+carries_capabilities Client d = false
+carries_capabilities Adapter d = row_applies (Some Response) (Some (codes "initialize")) d
 
 -- The names of the boolean capabilities (DAP specification, Capabilities), in byte order.
 abbrev pub capabilities : List (List ℕ)
@@ -88,4 +88,4 @@ with_capabilities d =
 
 -- The document with the capabilities filled in that its side may omit.
 abbrev pub filled : Side → Doc → Doc
-filled side d = cond (tells_capabilities side d) (with_capabilities d) d
+filled side d = cond (carries_capabilities side d) (with_capabilities d) d

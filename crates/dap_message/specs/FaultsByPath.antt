@@ -7,7 +7,7 @@ use Rattle.dap_profile.specs.Profile.{profile}
 use Rattle.dap_profile.specs.ProfileRows.{ProfileRow}
 use Rattle.dap_message.specs.Faults.{has_kind}
 use Rattle.dap_message.specs.Places.{fits_place, is_object}
-use Rattle.dap_message.specs.Rows.{is_asked, cause_against}
+use Rattle.dap_message.specs.Rows.{row_applies, cause_against}
 use Rattle.dap_message.specs.declared.broken_rows.Cause.{Cause}
 
 -- The value at a path (own). It is `Some (Some e)` if the path leads to the document e, and
@@ -20,7 +20,7 @@ shown (s ∷ p) d = option_and_then (shown p) (step s d)
 -- The row is violated at the path for this cause: the row applies to the document, its path
 -- matches, and the value at the path is not as the row requires.
 pub record BreaksAt (r : ProfileRow) (d : Doc) (p : List Step) (c : Cause) : Type 0 where
-  pub asked : is_asked r.kind r.name d ≡ true
+  pub asked : row_applies r.kind r.name d ≡ true
   pub place : fits_place r.place p ≡ true
   pub found : Option Doc
   pub shows : shown p d ≡ Some found

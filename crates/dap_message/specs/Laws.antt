@@ -168,8 +168,8 @@ FirstContentTypedAgain = (side : Side) (bytes : List ℕ) (first m n : Doc)
 -- ---- properties that do not depend on the numbers
 
 -- The skeleton of a message determines its kind, its name and its success.
-abbrev pub SkeletonTells : Type 0
-SkeletonTells = (m n : Doc) → skeleton n ≡ skeleton m
+abbrev pub SkeletonIffSameButIds : Type 0
+SkeletonIffSameButIds = (m n : Doc) → skeleton n ≡ skeleton m
     → (kind_of n ≡ kind_of m) × (name_of n ≡ name_of m) × (success_of n ≡ success_of m)
 
 -- The i-th id has the i-th number.

@@ -16,4 +16,4 @@ pub mod Laws
 pub use Rattle.dap_profile.specs.PlaceSteps
 pub use Rattle.dap_profile.specs.Profile
 pub use Rattle.dap_profile.specs.ProfileRows
-pub use Rattle.dap_profile.specs.Stretches
+pub use Rattle.dap_profile.specs.RowRanges

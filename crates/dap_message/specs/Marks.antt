@@ -21,7 +21,7 @@ use Rattle.dap_profile.specs.declared.profile.Want.{Want}
 use Rattle.dap_profile.specs.declared.profile.Want.TheVariants.{OwnSeq, OtherSeq, Frame, Reference}
 use Rattle.dap_profile.specs.declared.profile.Want.TheVariants.{Thread, Breakpoint}
 use Rattle.dap_message.specs.Places.{fits_place}
-use Rattle.dap_message.specs.Rows.{is_asked, is_id_number}
+use Rattle.dap_message.specs.Rows.{row_applies, is_id_number}
 
 -- The kind of the id that is expected. Each side numbers its own messages (DAP specification,
 -- ProtocolMessage.seq), so `request_seq` belongs to the other side.
@@ -53,7 +53,7 @@ marked _ d = d
 -- an id, and its path matches p. Otherwise x is unchanged.
 abbrev pub made_by : ProfileRow → Side → Doc → List Step → Doc → Doc
 made_by r side d p x =
-    option_map_or (λ s. cond (is_asked r.kind r.name d && fits_place r.place p) (marked s x) x)
+    option_map_or (λ s. cond (row_applies r.kind r.name d && fits_place r.place p) (marked s x) x)
     (sort_of side r.want) x
 
 -- The value that all rows make of x, one after another.
@@ -93,7 +93,7 @@ edit (each ∷ ps) f d = change_items (edit ps f) d
 -- The document with the ids that a row defines.
 abbrev pub mark_row : ProfileRow → Side → Doc → Doc
 mark_row r side d =
-    option_map_or (λ s. cond (is_asked r.kind r.name d) (edit r.place (marked s) d) d)
+    option_map_or (λ s. cond (row_applies r.kind r.name d) (edit r.place (marked s) d) d)
     (sort_of side r.want) d
 
 -- The document with the ids that these rows define.

@@ -55,10 +55,11 @@ may_have_body Response d = is_true (get (codes "success") d)
 may_have_body Event d = true
 
 -- A row of this kind and name applies to the message (own); `None` means any kind or name.
-abbrev pub is_asked : Option Kind → Option (List ℕ) → Doc → Bool
-is_asked None n d = true
-is_asked (Some k) None d = is_of_kind k d
-is_asked (Some k) (Some n) d = is_of_kind k d && is_text n (get (name_key k) d) && may_have_body k d
+abbrev pub row_applies : Option Kind → Option (List ℕ) → Doc → Bool
+row_applies None n d = true
+row_applies (Some k) None d = is_of_kind k d
+row_applies (Some k) (Some n) d = is_of_kind k d && is_text n (get (name_key k) d) && may_have_body
+    k d
 
 -- ---- how a row is violated
 
@@ -107,7 +108,7 @@ of_row n WrongType = WrongTypeRow n
 -- The error of a message for one row: an error if the row applies to the message and is violated.
 abbrev pub row_fault : ProfileRow → Doc → Option MessageFault
 row_fault r d =
-    cond (is_asked r.kind r.name d)
+    cond (row_applies r.kind r.name d)
     (option_map (of_row r.number) (broken_at r.place r.want r.needed d)) None
 
 -- The error for the first violated row.

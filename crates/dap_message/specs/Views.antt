@@ -6,7 +6,7 @@ use Rattle.std.specs.List.{list_all}
 use Rattle.dap_profile.specs.declared.profile.Kind.TheVariants.{Response}
 use Rattle.dap_message.specs.Envelope.{text_value}
 use Rattle.dap_message.specs.Places.{list_of}
-use Rattle.dap_message.specs.Rows.{is_asked, is_id_number}
+use Rattle.dap_message.specs.Rows.{row_applies, is_id_number}
 
 -- The views of a stack frame, a scope and a variable (DAP specification, StackFrame, Scope and
 -- Variable).
@@ -72,7 +72,7 @@ variable_of d =
 -- elements for any other message.
 abbrev pub listed : List ℕ → List ℕ → Doc → List Doc
 listed command name d =
-    cond (is_asked (Some Response) (Some command) d)
+    cond (row_applies (Some Response) (Some command) d)
     (unwrap_or (option_and_then list_of (option_and_then (get name) (get (codes "body") d))) []) []
 
 -- The elements that are viewed as frames, scopes and variables (DAP specification,

@@ -24,7 +24,7 @@ pub trait AnyMessage {
     /// Returns the kind of the message. Does not allocate.
     fn kind(&self) -> Kind
         ensures same { result ≡ kind_of (sent self.now).doc }
-        ensures told { is_of_kind result (sent self.now).doc ≡ true };
+        ensures reported { is_of_kind result (sent self.now).doc ≡ true };
 
     /// Returns the command of a request or response, or the name of an event. Does not allocate.
     fn name(&self) -> &str

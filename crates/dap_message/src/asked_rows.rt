@@ -2,8 +2,8 @@
 ghost use Rattle.std.specs.Prelude.{◌≡◌, Some, option_map, codes};
 ghost use Rattle.dap_tree.specs.Doc.{get};
 ghost use Rattle.dap_tree.specs.View.{view};
-ghost use Rattle.dap_profile.specs.Stretches.{rows_in};
-ghost use Rattle.dap_message.specs.AskedRows.{asked_rows, kind_told, name_told};
+ghost use Rattle.dap_profile.specs.RowRanges.{rows_in};
+ghost use Rattle.dap_message.specs.AskedRows.{asked_rows, kind_of_tree, name_of_tree};
 ghost use Rattle.dap_message.specs.Rows.{is_text, is_true, is_of_kind};
 
 use crate::message::text_at;
@@ -40,14 +40,14 @@ pub(crate) fn is_of_kind(tree: &Tree, kind: Kind) -> bool
 
 /// Returns the rows that apply to a tree of this kind.
 pub(crate) fn asked_rows(tree: &Tree, kind: Kind) -> AskedRows
-    requires { kind_told (view tree.now) ≡ Some kind }
+    requires { kind_of_tree (view tree.now) ≡ Some kind }
     ensures { rows_in result ≡ asked_rows (view tree.now) }
 {
     rows_of(kind, name_of(tree, kind))
 }
 
 pub(crate) fn kind_of(tree: &Tree) -> Option<Kind>
-    ensures { result ≡ kind_told (view tree.now) }
+    ensures { result ≡ kind_of_tree (view tree.now) }
 {
     let name = text_at(tree, "type")?;
     if name == "request" {
@@ -63,7 +63,7 @@ pub(crate) fn kind_of(tree: &Tree) -> Option<Kind>
 
 /// Returns the name of the message, or `None` if it has no name or may not have a body.
 fn name_of(tree: &Tree, kind: Kind) -> Option<&str>
-    ensures { option_map (λ s. s.now) result ≡ name_told kind (view tree.now) }
+    ensures { option_map (λ s. s.now) result ≡ name_of_tree kind (view tree.now) }
 {
     match kind {
         Kind::Response if !has_succeeded(tree) => None,

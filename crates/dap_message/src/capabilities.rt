@@ -3,7 +3,7 @@ ghost use Rattle.std.specs.Prelude.{◌≡◌, true, IfOk, OnErr, map, codes, op
 ghost use Rattle.dap_tree.specs.Doc.{get_member, object, no_members, change_child};
 ghost use Rattle.dap_tree.specs.View.{view, members_view};
 ghost use Rattle.dap_message.specs.Capabilities.{is_given, default_member, default_to};
-ghost use Rattle.dap_message.specs.Capabilities.{false_members, false_at, tells_capabilities};
+ghost use Rattle.dap_message.specs.Capabilities.{false_members, false_at, carries_capabilities};
 ghost use Rattle.dap_message.specs.Capabilities.{with_capabilities, filled};
 
 use crate::asked_rows::{has_succeeded, has_text, is_of_kind};
@@ -52,17 +52,17 @@ static CAPABILITIES: [&str; 35] = [
 
 pub(crate) fn fill(tree: &mut Tree, side: Side, alloc: Global) -> Result<(), AllocError>
     ensures ok { IfOk result (λ _. view tree.new ≡ filled side (view tree.old)) }
-    ensures err { OnErr result (tells_capabilities side (view tree.old) ≡ true) }
+    ensures err { OnErr result (carries_capabilities side (view tree.old) ≡ true) }
 {
-    if tells_capabilities(tree, side) {
+    if carries_capabilities(tree, side) {
         add_capabilities(tree, alloc)
     } else {
         Ok(())
     }
 }
 
-fn tells_capabilities(tree: &Tree, side: Side) -> bool
-    ensures { result ≡ tells_capabilities side (view tree.now) }
+fn carries_capabilities(tree: &Tree, side: Side) -> bool
+    ensures { result ≡ carries_capabilities side (view tree.now) }
 {
     match side {
         Side::Client => false,

@@ -1,9 +1,9 @@
 //! The first error of a message.
 ghost use Rattle.std.specs.Prelude.{◌≡◌, Some, IfOk, IfErr, map};
 ghost use Rattle.dap_tree.specs.View.{view};
-ghost use Rattle.dap_profile.specs.Stretches.{rows_in};
+ghost use Rattle.dap_profile.specs.RowRanges.{rows_in};
 ghost use Rattle.dap_profile.specs.ProfileRows.{row_of};
-ghost use Rattle.dap_message.specs.AskedRows.{asked_rows, kind_told, fault_by, first_by};
+ghost use Rattle.dap_message.specs.AskedRows.{asked_rows, kind_of_tree, fault_by, first_by};
 ghost use Rattle.dap_message.specs.Faults.{fault};
 
 use crate::asked_rows::kind_of;
@@ -14,7 +14,7 @@ use dap_tree::Tree;
 
 /// Returns the kind of a message, or the error that is reported before any row is checked.
 pub(crate) fn message_kind(tree: &Tree) -> Result<Kind, MessageFault>
-    ensures kind { IfOk result (λ k. kind_told (view tree.now) ≡ Some k) }
+    ensures kind { IfOk result (λ k. kind_of_tree (view tree.now) ≡ Some k) }
     ensures rows { IfOk result
         (λ _. fault (view tree.now) ≡ first_by (asked_rows (view tree.now)) (view tree.now)) }
     ensures err { IfErr result (λ f. fault (view tree.now) ≡ Some f) }

@@ -3,7 +3,8 @@
 ghost use Rattle.dap_message.specs.Laws.{OneMessage, OneRefusal, TypedNotRefused, SomeMessage};
 ghost use Rattle.dap_message.specs.Laws.{TypedSide, TypedProper, TypedSound, TypedEnveloped};
 ghost use Rattle.dap_message.specs.Laws.{TypedOrdered, TypedUtf8, ContentWellFormed, TypedAgain};
-ghost use Rattle.dap_message.specs.Laws.{ContentTypedAgain, OwnContentTypedAgain, SkeletonTells};
+ghost use Rattle.dap_message.specs.Laws.{ContentTypedAgain, OwnContentTypedAgain};
+ghost use Rattle.dap_message.specs.Laws.{SkeletonIffSameButIds};
 ghost use Rattle.dap_message.specs.Laws.{RenumberedTyped, RenumberedContentTyped};
 ghost use Rattle.dap_message.specs.Laws.{SmallAreIdNumbers, Renumbers, MarkedByPath, OneMarked};
 ghost use Rattle.dap_message.specs.Laws.{FilledFits, ProfileNumbered, FitsByPath, FaultByPath};
@@ -62,7 +63,7 @@ pub fn typed_by_later_rows()
 /// States what a message and the same message with other numbers have in common, and which ids the
 /// latter has.
 pub fn renumbered_message()
-    ensures skeleton_tells { SkeletonTells }
+    ensures skeleton_tells { SkeletonIffSameButIds }
     ensures ids { Renumbers }
 {}
 

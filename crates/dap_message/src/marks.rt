@@ -2,7 +2,7 @@
 ghost use Rattle.std.specs.Prelude.{◌≡◌, map};
 ghost use Rattle.dap_tree.specs.Doc.{change_child, change_items, map_items};
 ghost use Rattle.dap_tree.specs.View.{view, items_view};
-ghost use Rattle.dap_profile.specs.Stretches.{rows_in};
+ghost use Rattle.dap_profile.specs.RowRanges.{rows_in};
 ghost use Rattle.dap_profile.specs.PlaceSteps.{steps_of};
 ghost use Rattle.dap_profile.specs.ProfileRows.{row_of};
 ghost use Rattle.dap_message.specs.AskedRows.{asked_rows, mark_by, marks_by};

@@ -51,7 +51,7 @@ impl Message {
     ghost use Rattle.dap_message.specs.Views.{listed_variables};
 
     pub(crate) fn new(side: Side, kind: Kind, tree: Tree) -> Message
-        requires told { is_of_kind kind (view tree) ≡ true }
+        requires reported { is_of_kind kind (view tree) ≡ true }
         requires sound { is_sound (view tree) ≡ true }
         requires proper { is_proper (view tree) ≡ true }
         requires enveloped { has_envelope (view tree) ≡ true }
@@ -72,7 +72,7 @@ impl Message {
     /// Returns the kind of the message.
     pub fn kind(&self) -> Kind
         ensures same { result ≡ kind_of (doc_of self.now) }
-        ensures told { is_of_kind result (doc_of self.now) ≡ true }
+        ensures reported { is_of_kind result (doc_of self.now) ≡ true }
     {
         self.kind
     }

@@ -2,7 +2,7 @@
 ghost use Rattle.std.specs.Prelude.{◌≡◌, true, IfOk, IfErr, IsErrOf};
 ghost use Rattle.dap_tree.specs.Doc.{is_plain};
 ghost use Rattle.dap_tree.specs.View.{view};
-ghost use Rattle.dap_message.specs.Capabilities.{tells_capabilities};
+ghost use Rattle.dap_message.specs.Capabilities.{carries_capabilities};
 ghost use Rattle.dap_message.specs.Faults.{Fits};
 ghost use Rattle.dap_message.specs.Message.{IsTypedAs, HasIdsByPath, Refuses};
 ghost use Rattle.dap_message.specs.declared.fault.MessageFault.{MessageFault};
@@ -39,7 +39,7 @@ pub fn typed(alloc: Global, side: Side, tree: Tree) -> Result<Message, MessageFa
     // Memory is allocated only for capabilities, after the tree is known to fit.
     ensures memory_fits { IsErrOf result MessageFault.Memory → Fits (view tree) }
     ensures memory_for_capabilities { IsErrOf result MessageFault.Memory
-        → tells_capabilities side (view tree) ≡ true }
+        → carries_capabilities side (view tree) ≡ true }
 {
     let kind = message_kind(&tree)?;
     let rows = asked_rows(&tree, kind);

@@ -17,8 +17,8 @@ use Rattle.dap_session.specs.declared.rule.Rule.{Rule}
 use Rattle.dap_session.specs.Rules.{KeepsRules, first_broken}
 use Rattle.dap_session.proofs.RulesOneByOne.{none_keep, keeps_push}
 use Rattle.dap_input.specs.declared.limits.Limits.{Limits}
-use Rattle.dap_input.specs.Judging.{Objection, no_message, broken, too_many_ids, grew}
-use Rattle.dap_normal.specs.Accepting.{Held, IsMessage, AreMessages, Objects, IsNext, accepting}
+use Rattle.dap_input.specs.Validation.{ContentError, no_message, broken, too_many_ids, grew}
+use Rattle.dap_normal.specs.Accepting.{Payload, IsMessage, AreMessages, Rejects, IsNext, accepting}
 use Rattle.dap_normal.specs.Accepting.{NormalFits, HasGrown, id_limit}
 use Rattle.dap_normal.proofs.NormalTexts.{few_or_many, few_not_many, fits_or_grew, fits_not_grown}
 use Rattle.dap_normal.proofs.NormalTexts.{normal, normal_fits, normal_fits_front, proper_push}
@@ -26,7 +26,7 @@ use Rattle.dap_input.proofs.Runs.{Run, run_within, ValueLaws, ValueFacts, Accept
 
 -- ---- the content of a record
 
-pub message_once : (held : Held) (m n : Sent) → IsMessage held m → IsMessage held n → m ≡ n
+pub message_once : (held : Payload) (m n : Sent) → IsMessage held m → IsMessage held n → m ≡ n
 message_once held m n one two =
     same_sent m n (one.0 ∙ sym two.0) (one_message held.0 held.1 m.doc n.doc one.1 two.1)
   where
@@ -34,10 +34,10 @@ message_once held m n one two =
     same_sent m n side doc = ap₂ (λ s d. record { side = s; doc = d }) side doc
 
 -- No id of a message is a variables reference of 0.
-pub message_proper : (held : Held) (m : Sent) → IsMessage held m → is_proper m.doc ≡ true
+pub message_proper : (held : Payload) (m : Sent) → IsMessage held m → is_proper m.doc ≡ true
 message_proper held m is = (content_well_formed held.0 held.1 m.doc is.1).proper
 
-pub messages_proper : (records : List Held) (messages : List Sent) → AreMessages records messages
+pub messages_proper : (records : List Payload) (messages : List Sent) → AreMessages records messages
     → AreProper messages
 messages_proper [] [] typed = tt
 messages_proper [] (m ∷ messages) typed = absurd typed
@@ -48,15 +48,15 @@ messages_proper (held ∷ records) (m ∷ messages) typed =
 module _ (limits : Limits) (mode : Mode) where
   -- ---- at most one outcome
 
-  broken_or_kept : (before : List Sent) (held : Held) (rule : Rule)
-      → Objects limits mode before held (broken rule) → (n : Sent) → IsMessage held n
+  broken_or_kept : (before : List Sent) (held : Payload) (rule : Rule)
+      → Rejects limits mode before held (broken rule) → (n : Sent) → IsMessage held n
       → first_broken before n ≡ None → ⊥
   broken_or_kept before held rule breaks n is keeps =
       let never : None ≡ Some rule =
       sym keeps ∙ ap (first_broken before) (message_once held n breaks.0 is breaks.1)
       ∙ breaks.2 in cc
 
-  many_or_few : (before : List Sent) (held : Held) → Objects limits mode before held too_many_ids
+  many_or_few : (before : List Sent) (held : Payload) → Rejects limits mode before held too_many_ids
       → (n : Sent) → IsMessage held n → HasFewIds (stop_in mode) (id_limit limits) (before ++ n
       ∷ []) → ⊥
   many_or_few before held many n is few =
@@ -64,8 +64,8 @@ module _ (limits : Limits) (mode : Mode) where
       (subst (λ k. HasTooManyIds (stop_in mode) (id_limit limits) (before ++ k ∷ []))
       (message_once held many.0 n many.1 is) many.3)
 
-  one_objection : (before : List Sent) (held : Held) (why because : Objection)
-      → Objects limits mode before held why → Objects limits mode before held because → why
+  one_objection : (before : List Sent) (held : Payload) (why because : ContentError)
+      → Rejects limits mode before held why → Rejects limits mode before held because → why
       ≡ because
   one_objection before held (no_message e) (no_message f) one two =
       ap no_message (one_refusal held.1 e f one two)
@@ -82,7 +82,7 @@ module _ (limits : Limits) (mode : Mode) where
     where
       broken_once : (m n : Sent) → m ≡ n → first_broken before m ≡ Some rule
           → first_broken before n ≡ Some other → rule ≡ other
-      broken_once m n same breaks also = let told : Some rule ≡ Some other =
+      broken_once m n same breaks also = let reported : Some rule ≡ Some other =
           sym breaks ∙ ap (first_broken before) same ∙ also in cc
   one_objection before held (broken rule) too_many_ids one two =
       absurd (broken_or_kept before held rule one two.0 two.1 two.2)
@@ -103,8 +103,8 @@ module _ (limits : Limits) (mode : Mode) where
       absurd (many_or_few before held two one.0 one.1 one.3)
   one_objection before held grew grew one two = refl
 
-  next_not_objected : (before : List Sent) (held : Held) (m : Sent) (why : Objection)
-      → IsNext limits mode before held m → Objects limits mode before held why → ⊥
+  next_not_objected : (before : List Sent) (held : Payload) (m : Sent) (why : ContentError)
+      → IsNext limits mode before held m → Rejects limits mode before held why → ⊥
   next_not_objected before held m (no_message e) next objects =
       typed_not_refused held.0 held.1 m.doc e next.is_message.1 objects
   next_not_objected before held m (broken rule) next objects =
@@ -134,10 +134,10 @@ module _ (limits : Limits) (mode : Mode) where
     run_proper (before ++ m ∷ []) messages (used + length front) more run,
   )
 
-  module _ (before : List Sent) (proper : AreProper before) (held : Held) where
+  module _ (before : List Sent) (proper : AreProper before) (held : Payload) where
     abbrev Judgement : Type 0
     Judgement = ((m : Sent) × IsNext limits mode before held m)
-        ⊎ ((why : Objection) × Objects limits mode before held why)
+        ⊎ ((why : ContentError) × Rejects limits mode before held why)
 
     judge_length : (m : Sent) → IsMessage held m → first_broken before m ≡ None
         → HasFewIds (stop_in mode) (id_limit limits) (before ++ m ∷ [])
@@ -183,7 +183,7 @@ module _ (limits : Limits) (mode : Mode) where
   abbrev Few : List Sent → Type 0
   Few messages = HasFewIds (stop_in mode) (id_limit limits) messages
 
-  run_of : (before messages : List Sent) (used : ℕ) (bytes : List ℕ) (records : List Held)
+  run_of : (before messages : List Sent) (used : ℕ) (bytes : List ℕ) (records : List Payload)
       → IsRecording limits.frame bytes records → AreMessages records messages
       → KeepsRules (before ++ messages) → Few (before ++ messages)
       → NormalFits limits mode (before ++ messages) → AreProper (before ++ messages)
@@ -224,7 +224,7 @@ module _ (limits : Limits) (mode : Mode) where
   -- the records of a run, whose contents are its messages
   records_of : (before messages : List Sent) (used : ℕ) (bytes : List ℕ)
       → Run (accepting limits mode) before used bytes messages
-      → (records : List Held) × IsRecording limits.frame bytes records
+      → (records : List Payload) × IsRecording limits.frame bytes records
       × AreMessages records messages
   unfolding Run
   records_of before [] used bytes run = ([], run, tt)

@@ -9,20 +9,21 @@ use Rattle.dap_message.specs.Message.{Sent}
 use Rattle.dap_rename.specs.Messages.{AreProper, HasFewIds, HasTooManyIds, IsNormal, IsRenamed}
 use Rattle.dap_rename.specs.Messages.{numbers_of_class}
 use Rattle.dap_rename.specs.Modes.{stop_in}
-use Rattle.dap_rename.specs.Names.{StandFor, limit_in}
+use Rattle.dap_rename.specs.Names.{Represents, limit_in}
 use Rattle.dap_rename.proofs.NormalForms.{normal_of_next}
 use Rattle.dap_rename.proofs.Stops.{mode_is_told}
 use Rattle.dap_rename.proofs.Lists.{each-append}
 use Rattle.dap_session.specs.Rules.{first_broken}
-use Rattle.dap_session.specs.Standing.{Stands}
+use Rattle.dap_session.specs.Representation.{Represents as SessionRepresents}
 use Rattle.dap_normal.specs.declared.judging.Judge.{Judge}
 use Rattle.dap_input.specs.declared.limits.Limits.{Limits}
 use Rattle.dap_input.specs.declared.refused.Refused.{Refused}
 use Rattle.dap_input.specs.declared.refused.Refused.TheVariants.{Grew, Memory}
-use Rattle.dap_input.specs.Judging.{grew, too_many_ids}
-use Rattle.dap_input.specs.Refusals.{RefusesHeld}
-use Rattle.dap_normal.specs.Accepting.{Held, Fits, IsMessage, IsNext, Objects, id_limit, text}
-use Rattle.dap_normal.specs.JudgingSteps.{IsTaken, StandsFor, Writes, judge_mode, record_of}
+use Rattle.dap_input.specs.Validation.{grew, too_many_ids}
+use Rattle.dap_input.specs.Refusals.{RejectsPayload}
+use Rattle.dap_normal.specs.Accepting.{Payload, Fits, IsMessage, IsNext, Rejects, id_limit, text}
+use Rattle.dap_normal.specs.JudgingSteps.{IsTaken, RepresentsMessages, Writes, judge_mode}
+use Rattle.dap_normal.specs.JudgingSteps.{record_of}
 use Rattle.dap_normal.proofs.AcceptingFacts.{message_proper}
 use Rattle.dap_normal.proofs.NormalTexts.{normal, normal_fits, proper_push, text-append}
 
@@ -33,12 +34,12 @@ text_push messages m =
 
 -- No message has been checked.
 pub none_stand : {T : Type 0} {numbers : T → List ℤ} {table_limit : T → ℕ} (judge : Judge T)
-    → Stands judge.session [] → StandFor numbers table_limit judge.names []
+    → SessionRepresents judge.session [] → Represents numbers table_limit judge.names []
     → ((s : Sort) → limit_in table_limit judge.names s ≡ judge.limits.ids) → judge.written ≡ 0
-    → StandsFor numbers table_limit judge [] []
-none_stand judge session stand limits written = record {
+    → RepresentsMessages numbers table_limit judge [] []
+none_stand judge session represents limits written = record {
   session = session;
-  names = stand;
+  names = represents;
   name_limits = limits;
   proper = tt;
   is_normal = normal (judge_mode judge) [] tt;
@@ -48,12 +49,12 @@ none_stand judge session stand limits written = record {
 
 module _ {T : Type 0} {numbers : T → List ℤ} {table_limit : T
     → ℕ} (old : Judge T) (messages names : List Sent)
-    (was : StandsFor numbers table_limit old messages names) (held : Held) (m : Sent)
+    (was : RepresentsMessages numbers table_limit old messages names) (held : Payload) (m : Sent)
     (is : IsMessage held m) (keeps : first_broken messages m ≡ None) where
   -- more ids than the tables accept
   pub objects_to_ids :
       HasTooManyIds (stop_in (judge_mode old)) (limit_in table_limit old.names) (messages ++ m
-      ∷ []) → Objects old.limits (judge_mode old) messages held too_many_ids
+      ∷ []) → Rejects old.limits (judge_mode old) messages held too_many_ids
   objects_to_ids many =
       let limit = was.name_limits many.of.0 in
       let more = many.many in
@@ -84,7 +85,7 @@ module _ {T : Type 0} {numbers : T → List ℤ} {table_limit : T
     -- the content or the text would exceed its limit
     pub objects_to_length : (old.limits.frame.content < length (text_of named.doc))
         ⊎ (old.limits.input < old.written + length (record_of named))
-        → Objects old.limits (judge_mode old) messages held grew
+        → Rejects old.limits (judge_mode old) messages held grew
     objects_to_length long = (
       m,
       is,
@@ -110,22 +111,23 @@ module _ {T : Type 0} {numbers : T → List ℤ} {table_limit : T
     -- the record of the renamed message is not written
     pub refused_to_write : (because : Refused) (n : ℕ) (before after : List ℕ)
         → Writes old.limits named n old.written before after (Err because)
-        → RefusesHeld (Objects old.limits (judge_mode old) messages held) n because
-    refused_to_write (Grew k) n before after told = (told.0, objects_to_length told.1)
-    refused_to_write Memory n before after told = tt
-    refused_to_write because n before after told = absurd told
+        → RejectsPayload (Rejects old.limits (judge_mode old) messages held) n because
+    refused_to_write (Grew k) n before after reported = (reported.0, objects_to_length reported.1)
+    refused_to_write Memory n before after reported = tt
+    refused_to_write because n before after reported = absurd reported
 
     -- the record is accepted
     pub taken : (new : Judge T) (before after : List ℕ)
         → length (text_of named.doc) ≤ old.limits.frame.content → after ≡ before ++ record_of named
         → new.written ≡ old.written + length (record_of named) → new.written ≤ old.limits.input
         → new.limits ≡ old.limits
-        → Stands new.session (messages ++ m ∷ [])
-        → StandFor numbers table_limit new.names (messages ++ m ∷ [])
+        → SessionRepresents new.session (messages ++ m ∷ [])
+        → Represents numbers table_limit new.names (messages ++ m ∷ [])
         → judge_mode new ≡ judge_mode old
         → ((s : Sort) → limit_in table_limit new.names s ≡ limit_in table_limit old.names s)
         → IsTaken numbers table_limit messages names held new before after
-    taken new before after content appended written short limits session stand mode name_limits =
+    taken new before after content appended written short limits session represents mode
+        name_limits =
         let fits : Fits old.limits (names ++ named ∷ []) = record {
           each = each-append (λ (n : Sent). length (text_of n.doc)
               ≤ old.limits.frame.content) names (named ∷ []) was.fits.each (content, tt);
@@ -145,9 +147,9 @@ module _ {T : Type 0} {numbers : T → List ℤ} {table_limit : T
                     (names ++ named ∷ []) proper next_normal fits;
               }));
           named = named;
-          stands = record {
+          represents = record {
             session = session;
-            names = stand;
+            names = represents;
             name_limits =
                 λ s. name_limits s ∙ was.name_limits s ∙ ap (λ (l : Limits). l.ids) (sym limits);
             proper = proper;

@@ -35,10 +35,10 @@ use Rattle.dap_session.proofs.SequenceNumbers.{typed_numbered}
 use Rattle.dap_session.proofs.RenamingKeepsRules.{keeps_renamed}
 use Rattle.dap_input.specs.declared.limits.Limits.{Limits}
 use Rattle.dap_input.specs.Limits.{AreSound}
-use Rattle.dap_normal.specs.Accepting.{Held, AreMessages, IsAccepted, accepting, id_limit, text}
+use Rattle.dap_normal.specs.Accepting.{Payload, AreMessages, IsAccepted, accepting, id_limit, text}
 use Rattle.dap_normal.specs.Normalising.{Normalises, IsCanonical, HasOneNormalForm}
 use Rattle.dap_normal.specs.Normalising.{NormalIsAccepted, AcceptedIsNormalised, OneNormalText}
-use Rattle.dap_normal.specs.Normalising.{NormalStandsStill, EqualTextsTell}
+use Rattle.dap_normal.specs.Normalising.{NormalisingIsIdempotent, EqualTextsIffSame}
 use Rattle.dap_normal.proofs.AcceptingFacts.{accepted_facts, messages_proper, value_laws}
 use Rattle.dap_normal.proofs.NormalTexts.{normal, normal_fits, one_normal}
 use Rattle.dap_input.proofs.Outcomes.{one_list}
@@ -91,10 +91,10 @@ renamed : (stop : Sent → ℕ) → IsToldBySkeleton stop → (r : List (Class �
     (ms ns : List Sent) → map message_skeleton ms ≡ map message_skeleton ns
     → AreRelated r (occurrences stop k ms) (occurrences stop k ns)
     → DifferInIds (Puts r) ms ns
-renamed stop told r k [] [] same h = tt
-renamed stop told r k [] (n ∷ ns) same h = absurd cc
-renamed stop told r k (m ∷ ms) [] same h = absurd cc
-renamed stop told r k (m ∷ ms) (n ∷ ns) same h =
+renamed stop reported r k [] [] same h = tt
+renamed stop reported r k [] (n ∷ ns) same h = absurd cc
+renamed stop reported r k (m ∷ ms) [] same h = absurd cc
+renamed stop reported r k (m ∷ ms) (n ∷ ns) same h =
     let xs : List (Class × ℤ) = map (occurrence k) (ids m.doc) in
     let ys : List (Class × ℤ) = map (occurrence k) (ids n.doc) in
     let more : List (Class × ℤ) = occurrences stop (k + stop m) ms in
@@ -108,12 +108,12 @@ renamed stop told r k (m ∷ ms) (n ∷ ns) same h =
         one_skeleton = docs_alike m n alike;
         related = related_ids r k (ids m.doc) (ids n.doc) (related_front r xs more ys rest count h);
       },
-      renamed stop told r (k + stop m) ms ns (tail_of same)
-          (subst (λ j. AreRelated r more (occurrences stop (k + j) ns)) (sym (told m n alike))
+      renamed stop reported r (k + stop m) ms ns (tail_of same)
+          (subst (λ j. AreRelated r more (occurrences stop (k + j) ns)) (sym (reported m n alike))
           (related_rest r xs more ys rest count h)),
     )
 
-numbered : (records : List Held) (ms : List Sent) → AreMessages records ms → All IsNumbered ms
+numbered : (records : List Payload) (ms : List Sent) → AreMessages records ms → All IsNumbered ms
 numbered [] [] typed k d small = absurd (omega (arith, small))
 numbered [] (m ∷ ms) typed k d small = absurd typed
 numbered (held ∷ records) [] typed k d small = absurd typed
@@ -123,7 +123,7 @@ numbered (held ∷ records) (m ∷ ms) typed zero d small =
 numbered (held ∷ records) (m ∷ ms) typed (suc k) d small =
     numbered records ms typed.1 k d (omega (arith, small))
 
-pub rules_kept : (mode : Mode) (records : List Held) (ms n : List Sent) → AreMessages records ms
+pub rules_kept : (mode : Mode) (records : List Payload) (ms n : List Sent) → AreMessages records ms
     → AreSame (stop_in mode) ms n → KeepsRules ms → KeepsRules n
 unfolding AreSame
 rules_kept mode records ms n typed (r, is, carries) =
@@ -132,13 +132,13 @@ rules_kept mode records ms n typed (r, is, carries) =
 
 -- ---- the records of a text
 
-unfoldable pub contents_of : List Sent → List Held
+unfoldable pub contents_of : List Sent → List Payload
 contents_of [] = []
 contents_of (m ∷ ms) = (m.side, text_of m.doc) ∷ contents_of ms
 
 -- Messages that differ from typed messages only in their ids, which are small, are the messages of
 -- their own texts.
-typed_again : (records : List Held) (ms n : List Sent) → AreMessages records ms
+typed_again : (records : List Payload) (ms n : List Sent) → AreMessages records ms
     → map message_skeleton ms ≡ map message_skeleton n
     → AllByRecursion (λ m. has_small_ids m.doc ≡ true) n → AreMessages (contents_of n) n
 unfolding contents_of
@@ -291,11 +291,11 @@ pub one_normal_text : OneNormalText
 one_normal_text limits mode sound bytes written other a b = one_text limits mode sound bytes written
     other a b
 
-pub normal_stands_still : NormalStandsStill
+pub normal_stands_still : NormalisingIsIdempotent
 normal_stands_still limits mode sound bytes written a = stands_still limits mode sound bytes written
     a
 
-pub equal_texts_tell : EqualTextsTell
+pub equal_texts_tell : EqualTextsIffSame
 equal_texts_tell limits mode sound bytes others written other a b = (
   equal_texts limits mode sound bytes others written other a b,
   same_texts limits mode sound bytes others written other a b,

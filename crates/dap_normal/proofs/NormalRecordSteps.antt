@@ -2,7 +2,7 @@
 use Rattle.std.proofs.Common.{◌≡◌, ℕ, ℤ, ◌+◌, ◌≤◌, List, [], ◌∷◌, ◌++◌, Option, Some, None, Result}
 use Rattle.std.proofs.Common.{Ok, Err, refl, ◌∙◌, ap, subst, inl, inr, length, arith, append_assoc}
 use Rattle.dap_device.specs.declared.device.Source.{Ghosts as Source}
-use Rattle.dap_device.specs.Pieces.{HasComeSoFar}
+use Rattle.dap_device.specs.Pieces.{HasReadSoFar}
 use Rattle.dap_device.specs.declared.reading.Stop.TheVariants.{End}
 use Rattle.dap_message.specs.Message.{Sent}
 use Rattle.dap_recording.specs.declared.record.Record.{Record as WholeRecord}
@@ -11,10 +11,10 @@ use Rattle.dap_recording.specs.declared.record_fault.RecordCause.TheVariants.{Cu
 use Rattle.dap_items.proofs.Ends.{item_not_open}
 use Rattle.dap_recording.specs.Recording.{IsOpenRecord}
 use Rattle.dap_recording.proofs.Records.{readable}
-use Rattle.dap_input.specs.InputSteps.{Says}
-use Rattle.dap_input.specs.ItemReading.{StandsForRecord, record_items}
+use Rattle.dap_input.specs.InputSteps.{RefusalHolds}
+use Rattle.dap_input.specs.ItemReading.{RepresentsRecord, record_items}
 use Rattle.dap_input.specs.RecordSteps.{Finds, IsAtStart, IsNeeded, ReadsNext}
-use Rattle.dap_input.specs.Refusals.{RefusesHeld}
+use Rattle.dap_input.specs.Refusals.{RejectsPayload}
 use Rattle.dap_rename.specs.declared.mode.Mode.{Mode}
 use Rattle.dap_input.specs.declared.limits.Limits.{Limits}
 use Rattle.dap_input.specs.declared.records.Records.{Records}
@@ -25,15 +25,17 @@ use Rattle.dap_input.proofs.InputLoop as loop
 use Rattle.dap_input.proofs.InputSteps as steps
 use Rattle.dap_normal.specs.declared.judging.Judge.{Judge}
 use Rattle.dap_normal.specs.declared.normal_records.NormalRecords.{NormalRecords}
-use Rattle.dap_normal.specs.Accepting.{Objects, IsNext, accepting}
-use Rattle.dap_normal.specs.JudgingSteps.{JudgesRecord, StandsFor, held_of, judge_limits}
+use Rattle.dap_normal.specs.Accepting.{Rejects, IsNext, accepting}
+use Rattle.dap_normal.specs.JudgingSteps.{JudgesRecord, RepresentsMessages, payload_of}
+use Rattle.dap_normal.specs.JudgingSteps.{judge_limits}
 use Rattle.dap_normal.specs.JudgingSteps.{judge_mode}
-use Rattle.dap_normal.specs.NormalSteps.{HasEnded, HasGone, HasStoppedAt, IsAtHand, StandsBefore}
+use Rattle.dap_normal.specs.NormalSteps.{HasEnded, HasAdvanced, HasStoppedAt, IsBuffered}
+use Rattle.dap_normal.specs.NormalSteps.{RepresentsBefore}
 use Rattle.dap_normal.proofs.AcceptingFacts.{accepted_facts, value_laws}
 
 -- A reader of records returns the records that are checked.
 reads_records : (limits : Limits) (mode : Mode) → ReadsAs (accepting limits mode) (record_items
-    limits.frame) held_of
+    limits.frame) payload_of
 reads_records limits mode = record {
   records = readable limits.frame;
   judged = value_laws limits mode;
@@ -47,12 +49,13 @@ reads_records limits mode = record {
 before_of : {T : Type 0} {numbers : T → List ℤ} {table_limit : T
     → ℕ} (limits : Limits) (mode : Mode) (bytes : List ℕ) (records : NormalRecords T)
     (messages normal : List Sent)
-    → StandsBehind (accepting limits mode) (StandsForRecord limits.frame) bytes records.records
+    → StandsBehind (accepting limits mode) (RepresentsRecord limits.frame) bytes records.records
     messages
-    → StandsFor numbers table_limit records.judge messages normal
+    → RepresentsMessages numbers table_limit records.judge messages normal
     → judge_limits records.judge ≡ limits → judge_mode records.judge ≡ mode
-    → StandsBefore numbers table_limit limits mode bytes records messages normal
-before_of limits mode bytes records messages normal behind stands judge_limits_are judge_mode_is =
+    → RepresentsBefore numbers table_limit limits mode bytes records messages normal
+before_of limits mode bytes records messages normal behind represents judge_limits_are
+    judge_mode_is =
     record {
       front = behind.front;
       accepted = behind.accepted;
@@ -63,7 +66,7 @@ before_of limits mode bytes records messages normal behind stands judge_limits_a
       number_is = behind.number_is;
       few = behind.few;
       read_to = behind.read_to;
-      stands = stands;
+      represents = represents;
       judge_limits_are = judge_limits_are;
       judge_mode_is = judge_mode_is;
     }
@@ -71,22 +74,22 @@ before_of limits mode bytes records messages normal behind stands judge_limits_a
 -- Nothing of the input has been read.
 pub none_read : {T : Type 0} {numbers : T → List ℤ} {table_limit : T
     → ℕ} (limits : Limits) (mode : Mode) (new : NormalRecords T)
-    → IsAtStart (StandsForRecord limits.frame) limits.input new.records
-    → StandsFor numbers table_limit new.judge [] [] → judge_limits new.judge ≡ limits
+    → IsAtStart (RepresentsRecord limits.frame) limits.input new.records
+    → RepresentsMessages numbers table_limit new.judge [] [] → judge_limits new.judge ≡ limits
     → judge_mode new.judge ≡ mode
-    → StandsBefore numbers table_limit limits mode [] new [] []
-none_read limits mode new start stands judge_limits_are judge_mode_is =
+    → RepresentsBefore numbers table_limit limits mode [] new [] []
+none_read limits mode new start represents judge_limits_are judge_mode_is =
     before_of limits mode [] new [] []
-    (loop.none_read (accepting limits mode) (StandsForRecord limits.frame) new.records
+    (loop.none_read (accepting limits mode) (RepresentsRecord limits.frame) new.records
     (accepted_facts limits mode) start)
-    stands judge_limits_are judge_mode_is
+    represents judge_limits_are judge_mode_is
 
 module _ {T R : Type 0} {numbers : T → List ℤ} {table_limit : T → ℕ} (source : Source R)
     (limits : Limits) (mode : Mode) (bytes : List ℕ) (old : NormalRecords T) (messages normal : List
     Sent)
-    (was : StandsBefore numbers table_limit limits mode bytes old messages normal)
+    (was : RepresentsBefore numbers table_limit limits mode bytes old messages normal)
     (new : Records RecordReading) (before after : R) where
-  behind : StandsBehind (accepting limits mode) (StandsForRecord limits.frame) bytes old.records
+  behind : StandsBehind (accepting limits mode) (RepresentsRecord limits.frame) bytes old.records
       messages
   behind = record {
     front = was.front;
@@ -101,53 +104,55 @@ module _ {T R : Type 0} {numbers : T → List ℤ} {table_limit : T → ℕ} (so
   }
 
   abbrev Reads : Result (Option WholeRecord) Refused → Type 0
-  Reads answer = ReadsNext (record_items limits.frame) (StandsForRecord limits.frame) source
-      old.records new before after answer
+  Reads outcome = ReadsNext (record_items limits.frame) (RepresentsRecord limits.frame) source
+      old.records new before after outcome
 
   -- the buffer for reading is that of `left`
-  stopped_for : (judge : Judge T) (left : NormalRecords T) (answer : Result (Option WholeRecord) Refused)
-      (read : Reads answer) (because : Refused)
-      → Says (accepting limits mode) (bytes ++ read.more) read.stop old.records.number because
+  stopped_for : (judge : Judge T) (left : NormalRecords T)
+      (outcome : Result (Option WholeRecord) Refused)
+      (read : Reads outcome) (because : Refused)
+      → RefusalHolds (accepting limits mode) (bytes ++ read.more) read.stop old.records.number
+      because
       × ((n : ℕ) → because ≡ Record n Cut → read.stop ≡ Some End)
       → (because ≡ Memory → new.number ≤ old.records.number + 1)
       → (because ≡ Memory → read.stop ≡ None)
       → HasStoppedAt numbers table_limit source limits mode bytes messages normal old record
       { records = new; judge = judge; scratch = left.scratch } before after because
-  stopped_for judge left answer read because told last goes_on = record {
+  stopped_for judge left outcome read because reported last goes_on = record {
     more = read.more;
     stop = read.stop;
     came = read.came;
-    within = steps.at_most (accepting limits mode) (record_items limits.frame) held_of
-        (reads_records limits mode) (StandsForRecord limits.frame) source bytes old.records
-        messages behind new before after answer read;
-    read_to = steps.read_to (accepting limits mode) (record_items limits.frame) held_of
-        (reads_records limits mode) (StandsForRecord limits.frame) source bytes old.records
-        messages behind new before after answer read;
-    says = told.0;
-    cut = told.1;
+    within = steps.at_most (accepting limits mode) (record_items limits.frame) payload_of
+        (reads_records limits mode) (RepresentsRecord limits.frame) source bytes old.records
+        messages behind new before after outcome read;
+    read_to = steps.read_to (accepting limits mode) (record_items limits.frame) payload_of
+        (reads_records limits mode) (RepresentsRecord limits.frame) source bytes old.records
+        messages behind new before after outcome read;
+    says = reported.0;
+    cut = reported.1;
     last = last;
     goes_on = goes_on;
   }
 
   -- if the record is buffered, nothing is read
-  pub nothing_more : (answer : Result (Option WholeRecord) Refused) (read : Reads answer)
-      → IsAtHand limits old → read.more ≡ []
-  nothing_more answer read has = none_of read.needed
+  pub nothing_more : (outcome : Result (Option WholeRecord) Refused) (read : Reads outcome)
+      → IsBuffered limits old → read.more ≡ []
+  nothing_more outcome read has = none_of read.needed
     where
       none_of : IsNeeded (record_items limits.frame) old.records.pieces.unread read.more
           → read.more ≡ []
       none_of (inl none) = none
       none_of (inr some) =
           absurd (item_not_open (readable limits.frame).grammar has.item (has.more ++ some.0)
-          (held_of has.value) has.is_item
+          (payload_of has.value) has.is_item
           (subst (λ bytes. IsOpenRecord limits.frame bytes)
           (ap (λ bytes. bytes ++ some.0) has.bytes_are
           ∙ append_assoc has.item has.more some.0) some.5))
 
-  pub nothing_given : (answer : Result (Option WholeRecord) Refused) → Reads answer
-      → IsAtHand limits old → source.given after ≡ source.given before
-  nothing_given answer read has =
-      let none = nothing_more answer read has in
+  pub nothing_given : (outcome : Result (Option WholeRecord) Refused) → Reads outcome
+      → IsBuffered limits old → source.given after ≡ source.given before
+  nothing_given outcome read has =
+      let none = nothing_more outcome read has in
       let counted = read.came.counted in
       omega (arith, counted, ap length none)
 
@@ -158,29 +163,29 @@ module _ {T R : Type 0} {numbers : T → List ℤ} {table_limit : T → ℕ} (so
       { records = new; judge = old.judge; scratch = old.scratch } before after because
   refused_read because read =
       stopped_for old.judge old (Err because) read because
-      (steps.refused_read (accepting limits mode) (record_items limits.frame) held_of
-      (reads_records limits mode) (StandsForRecord limits.frame) source bytes old.records
+      (steps.refused_read (accepting limits mode) (record_items limits.frame) payload_of
+      (reads_records limits mode) (RepresentsRecord limits.frame) source bytes old.records
       messages behind new before after because read)
       (λ is. let same = (subst (λ b. Finds (record_items limits.frame)
-      (StandsForRecord limits.frame) old.records new (old.records.pieces.unread ++ read.more)
+      (RepresentsRecord limits.frame) old.records new (old.records.pieces.unread ++ read.more)
       read.more read.stop (Err b)) is read.finds).1 in omega (arith, same))
       (λ is. (subst (λ b. Finds (record_items limits.frame)
-      (StandsForRecord limits.frame) old.records new (old.records.pieces.unread ++ read.more)
+      (RepresentsRecord limits.frame) old.records new (old.records.pieces.unread ++ read.more)
       read.more read.stop (Err b)) is read.finds).0)
 
   pub none_left : (text : List ℕ) → Reads (Ok None)
       → HasEnded numbers table_limit source limits mode bytes messages normal old record
       { records = new; judge = old.judge; scratch = old.scratch } before after text text
   none_left text read =
-      let end = steps.none_left (accepting limits mode) (record_items limits.frame) held_of
-      (reads_records limits mode) (StandsForRecord limits.frame) source bytes old.records
+      let end = steps.none_left (accepting limits mode) (record_items limits.frame) payload_of
+      (reads_records limits mode) (RepresentsRecord limits.frame) source bytes old.records
       messages behind new before after read in
       record {
         more = read.more;
-        came = subst (HasComeSoFar source before after read.more) end.0 read.came;
+        came = subst (HasReadSoFar source before after read.more) end.0 read.came;
         accepted = end.1;
-        read_to = steps.read_to (accepting limits mode) (record_items limits.frame) held_of
-            (reads_records limits mode) (StandsForRecord limits.frame) source bytes
+        read_to = steps.read_to (accepting limits mode) (record_items limits.frame) payload_of
+            (reads_records limits mode) (RepresentsRecord limits.frame) source bytes
             old.records messages behind new before after (Ok None) read;
         judge_is = refl;
         number_is = end.2;
@@ -192,60 +197,62 @@ module _ {T R : Type 0} {numbers : T → List ℤ} {table_limit : T → ℕ} (so
   module _ (whole : WholeRecord) (read : Reads (Ok (Some whole))) (judge : Judge T)
       (left : NormalRecords T) (text longer : List ℕ) where
     abbrev Judged : Result (Unit {0}) Refused → Type 0
-    Judged answer = (ms ns : List Sent) → StandsFor numbers table_limit old.judge ms ns
-        → JudgesRecord numbers table_limit ms ns (held_of whole) old.records.number old.judge judge
-        text longer answer
+    Judged outcome = (ms ns : List Sent) → RepresentsMessages numbers table_limit old.judge ms ns
+        → JudgesRecord numbers table_limit ms ns (payload_of whole) old.records.number old.judge
+        judge
+        text longer outcome
 
     pub refused_judge : (because : Refused) → Judged (Err because)
         → HasStoppedAt numbers table_limit source limits mode bytes messages normal old
         record { records = new; judge = judge; scratch = left.scratch } before after because
     refused_judge because judged =
         stopped_for judge left (Ok (Some whole)) read because
-        (steps.refused_held (accepting limits mode) (record_items limits.frame) held_of
-        (reads_records limits mode) (StandsForRecord limits.frame) source bytes old.records
+        (steps.refused_held (accepting limits mode) (record_items limits.frame) payload_of
+        (reads_records limits mode) (RepresentsRecord limits.frame) source bytes old.records
         messages behind new before after whole read because
-        (subst (λ l. RefusesHeld (Objects l mode messages (held_of whole)) old.records.number
+        (subst (λ l. RejectsPayload (Rejects l mode messages (payload_of whole)) old.records.number
         because)
         was.judge_limits_are
-        (subst (λ k. RefusesHeld (Objects (judge_limits old.judge) k messages (held_of whole))
-        old.records.number because) was.judge_mode_is (judged messages normal was.stands))))
+        (subst (λ k. RejectsPayload (Rejects (judge_limits old.judge) k messages (payload_of whole))
+        old.records.number because) was.judge_mode_is (judged messages normal was.represents))))
         (λ is. let number = read.finds.1.number_is in omega (arith, number))
         (λ is. read.finds.0)
 
     -- the record is accepted
     pub gone_on : judge_limits judge ≡ judge_limits old.judge
         → judge_mode judge ≡ judge_mode old.judge → Judged (Ok tt)
-        → HasGone numbers table_limit source limits mode bytes messages normal old record
+        → HasAdvanced numbers table_limit source limits mode bytes messages normal old record
         { records = new; judge = judge; scratch = left.scratch } before after text longer
     gone_on same_limits same_mode judged =
-        let added = judged messages normal was.stands in
+        let added = judged messages normal was.represents in
         let limits_are = same_limits ∙ was.judge_limits_are in
         let mode_is = same_mode ∙ was.judge_mode_is in
         let is_next =
-        subst (λ l. IsNext l mode messages (held_of whole) added.message) limits_are
-        (subst (λ k. IsNext (judge_limits judge) k messages (held_of whole) added.message) mode_is
+        subst (λ l. IsNext l mode messages (payload_of whole) added.message) limits_are
+        (subst (λ k. IsNext (judge_limits judge) k messages (payload_of whole) added.message)
+        mode_is
         added.is_next) in
-        let next = steps.gone_on (accepting limits mode) (record_items limits.frame) held_of
-        (reads_records limits mode) (StandsForRecord limits.frame) source bytes old.records
+        let next = steps.gone_on (accepting limits mode) (record_items limits.frame) payload_of
+        (reads_records limits mode) (RepresentsRecord limits.frame) source bytes old.records
         messages behind new before after whole read added.message is_next in
         record {
           more = read.more;
-          came = subst (HasComeSoFar source before after read.more) read.finds.0
+          came = subst (HasReadSoFar source before after read.more) read.finds.0
               read.came;
           message = added.message;
           named = added.named;
-          stands = before_of limits mode (bytes ++ read.more) record {
+          represents = before_of limits mode (bytes ++ read.more) record {
             records = new;
             judge = judge;
             scratch = left.scratch;
           }
-              (messages ++ added.message ∷ []) (normal ++ added.named ∷ []) next added.stands
+              (messages ++ added.message ∷ []) (normal ++ added.named ∷ []) next added.represents
               limits_are mode_is;
-          read_to = steps.read_to (accepting limits mode) (record_items limits.frame) held_of
-              (reads_records limits mode) (StandsForRecord limits.frame) source bytes
+          read_to = steps.read_to (accepting limits mode) (record_items limits.frame) payload_of
+              (reads_records limits mode) (RepresentsRecord limits.frame) source bytes
               old.records messages behind new before after (Ok (Some whole)) read;
-          shorter = steps.shorter (accepting limits mode) (record_items limits.frame) held_of
-              (reads_records limits mode) (StandsForRecord limits.frame) source bytes
+          shorter = steps.shorter (accepting limits mode) (record_items limits.frame) payload_of
+              (reads_records limits mode) (RepresentsRecord limits.frame) source bytes
               old.records messages behind new before after whole read;
           appended = added.appended;
         }

@@ -17,7 +17,7 @@ use Rattle.dap_message.proofs.LaterRows.{content_later, marked_in_two}
 use Rattle.dap_message.proofs.MarkedPlaces.{small_ids}
 use Rattle.dap_recording.proofs.Records.{record_grammar, readable}
 use Rattle.dap_rename.specs.Laws.{AreMixed}
-use Rattle.dap_rename.specs.Messages.{AreSame, IsNormal, in_whole, message_skeleton}
+use Rattle.dap_rename.specs.Messages.{AreSame, IsNormal, no_stop, message_skeleton}
 use Rattle.dap_rename.proofs.Lists.{head_of, tail_of}
 use Rattle.dap_rename.proofs.MixedSameness.{same_by_parts}
 use Rattle.dap_rename.proofs.NormalForms.{names_are_small, same_counts}
@@ -26,7 +26,8 @@ use Rattle.dap_rename.proofs.Sameness.{same_along, same_both_ways}
 use Rattle.dap_rename.specs.declared.mode.Mode.TheVariants.{Whole}
 use Rattle.dap_input.specs.declared.limits.Limits.{Limits}
 use Rattle.dap_input.specs.Limits.{AreSound}
-use Rattle.dap_normal.specs.Accepting.{Held, AreMessages, AreMessagesByRows, IsAccepted, id_limit}
+use Rattle.dap_normal.specs.Accepting.{Payload, AreMessages, AreMessagesByRows, IsAccepted}
+use Rattle.dap_normal.specs.Accepting.{id_limit}
 use Rattle.dap_normal.specs.Accepting.{text}
 use Rattle.dap_normal.specs.Normalising.{Normalises}
 use Rattle.dap_normal.specs.OldGoldenFiles.{IsOldGolden, OldGoldenFiles}
@@ -54,7 +55,7 @@ sent_alike m n side doc = ap₂ (λ s d. record { side = s; doc = d }) side doc
 
 -- Each message is typed from its own text, and its ids are mixed with those of the recording's
 -- messages (`IsMixed`).
-typed_later : (records : List Held) (first ns ms : List Sent)
+typed_later : (records : List Payload) (first ns ms : List Sent)
     → AreMessagesByRows first_rows records first → AreMessages records ms
     → map message_skeleton first ≡ map message_skeleton ns
     → AllByRecursion (λ n. has_small_ids n.doc ≡ true) ns
@@ -110,10 +111,10 @@ module _ (limits : Limits) (sound : AreSound limits) (old new : List ℕ)
       golden.accepted.typed
       (subst (λ rs. AreMessages rs golden.normalises.messages) (sym one_records) accepts.typed)
       golden.is_normal.0.2.0
-      (names_are_small in_whole (id_limit limits) golden.first golden.normal
+      (names_are_small no_stop (id_limit limits) golden.first golden.normal
       (λ s. let most = sound.ids in omega (arith, most)) golden.accepted.few golden.is_normal)
 
-  same : AreSame in_whole golden.normalises.messages (later golden.normal)
+  same : AreSame no_stop golden.normalises.messages (later golden.normal)
   unfolding IsNormal
   same =
       same_by_parts is_later_sort golden.first golden.normal golden.normalises.messages
@@ -121,11 +122,11 @@ module _ (limits : Limits) (sound : AreSound limits) (old new : List ℕ)
       (messages_proper accepts.records golden.normalises.messages accepts.typed)
       (messages_proper (contents_of golden.normal) (later golden.normal) typed_and_mixed.0)
 
-  still_normal : IsNormal in_whole (later golden.normal) golden.normalises.normal
+  still_normal : IsNormal no_stop (later golden.normal) golden.normalises.normal
   unfolding IsNormal
   still_normal = (
-    same_along in_whole (later golden.normal) golden.normalises.messages golden.normalises.normal
-        (same_both_ways in_whole golden.normalises.messages (later golden.normal) same)
+    same_along no_stop (later golden.normal) golden.normalises.messages golden.normalises.normal
+        (same_both_ways no_stop golden.normalises.messages (later golden.normal) same)
         golden.normalises.is_normal.0,
     golden.normalises.is_normal.1,
   )
@@ -141,7 +142,7 @@ module _ (limits : Limits) (sound : AreSound limits) (old new : List ℕ)
         typed = typed_and_mixed.0;
         rules = rules_kept Whole accepts.records golden.normalises.messages (later golden.normal)
             accepts.typed same accepts.rules;
-        few = λ c. let count = same_counts in_whole golden.normalises.messages
+        few = λ c. let count = same_counts no_stop golden.normalises.messages
             (later golden.normal) same c in let most = few c in omega (arith, count, most);
         fits = normal_fits limits Whole (later golden.normal) golden.normalises.normal
             (messages_proper (contents_of golden.normal) (later golden.normal) typed_and_mixed.0)

@@ -10,8 +10,8 @@ use Rattle.std.specs.Io.KnownBytes.{Appends}
 use Rattle.dap_device.specs.declared.device.Source.{Ghosts as Source}
 use Rattle.dap_device.specs.declared.device.Sink.{Ghosts as Sink}
 use Rattle.dap_device.specs.Device.{AwaitFlush}
-use Rattle.dap_device.specs.Pieces.{HasComeSoFar}
-use Rattle.dap_device.specs.Written.{AllWritten, FrontWritten}
+use Rattle.dap_device.specs.Pieces.{HasReadSoFar}
+use Rattle.dap_device.specs.Written.{AllWritten, PrefixWritten}
 use Rattle.dap_device.specs.declared.reading.Stop.{Stop}
 use Rattle.dap_device.proofs.Sending.{some_of_both}
 use Rattle.dap_message.specs.Message.{Sent}
@@ -21,7 +21,7 @@ use Rattle.dap_input.specs.declared.limits.Limits.{Limits}
 use Rattle.dap_normal.specs.declared.normal_records.NormalRecords.{NormalRecords}
 use Rattle.dap_normal.specs.Accepting.{IsAccepted, accepting, text}
 use Rattle.dap_normal.specs.JudgingSteps.{record_of}
-use Rattle.dap_normal.specs.NormalSteps.{HasGone, IsAtHand}
+use Rattle.dap_normal.specs.NormalSteps.{HasAdvanced, IsBuffered}
 use Rattle.dap_normal.specs.Normalising.{Normalises}
 use Rattle.dap_normal.specs.Streaming.{HasFailedToWrite}
 use Rattle.dap_normal.proofs.JudgedRecords.{text_push}
@@ -56,7 +56,7 @@ module _ (limits : Limits) (mode : Mode) where
       : Type 0 where
     pub text_is : given ≡ sent ++ waiting
     pub stops : (taken : ℕ) → taken ≤ length waiting → StopsIn bytes sent waiting taken
-    pub at_hand : (waiting ≡ []) ⊎ IsAtHand limits records
+    pub at_hand : (waiting ≡ []) ⊎ IsBuffered limits records
 
   -- bytes read no further than an earlier record requires are read no further than a later one
   -- requires
@@ -76,12 +76,12 @@ module _ (limits : Limits) (mode : Mode) where
 module _ {T R : Type 0} {numbers : T → List ℤ} {table_limit : T → ℕ} (source : Source R)
     (limits : Limits) (mode : Mode) (start reader : R) (records : NormalRecords T)
     (was : Going numbers table_limit source limits mode start reader records) where
-  given_by : Normalises limits mode was.stands.front (text was.normal)
+  given_by : Normalises limits mode was.represents.front (text was.normal)
   given_by = record {
     messages = was.messages;
-    accepts = was.stands.accepted;
+    accepts = was.represents.accepted;
     normal = was.normal;
-    is_normal = normal_before limits mode was.bytes records was.messages was.normal was.stands;
+    is_normal = normal_before limits mode was.bytes records was.messages was.normal was.represents;
     text_is = refl;
   }
 
@@ -89,23 +89,23 @@ module _ {T R : Type 0} {numbers : T → List ℤ} {table_limit : T → ℕ} (so
       → AreBefore limits mode (was.bytes ++ more) records.records.number (text was.normal)
   before_behind more = record {
     values = was.messages;
-    front = was.stands.front;
+    front = was.represents.front;
     rest = records.records.pieces.unread ++ more;
-    split = ap (λ t. t ++ more) was.stands.came
-        ∙ append_assoc was.stands.front records.records.pieces.unread more;
-    accepted = was.stands.accepted;
-    is_number = was.stands.number_is;
+    split = ap (λ t. t ++ more) was.represents.came
+        ∙ append_assoc was.represents.front records.records.pieces.unread more;
+    accepted = was.represents.accepted;
+    is_number = was.represents.number_is;
     gives = given_by;
   }
 
   before_next : AreBefore limits mode was.bytes records.records.number (text was.normal)
   before_next = record {
     values = was.messages;
-    front = was.stands.front;
+    front = was.represents.front;
     rest = records.records.pieces.unread;
-    split = was.stands.came;
-    accepted = was.stands.accepted;
-    is_number = was.stands.number_is;
+    split = was.represents.came;
+    accepted = was.represents.accepted;
+    is_number = was.represents.number_is;
     gives = given_by;
   }
 
@@ -118,7 +118,7 @@ module _ {T R : Type 0} {numbers : T → List ℤ} {table_limit : T → ℕ} (so
       given = text was.normal;
       before = before_next;
       read_to = later limits mode was.bytes (length was.messages) records.records.number
-          was.stands.read_to (let is = was.stands.number_is in omega (arith, is));
+          was.represents.read_to (let is = was.represents.number_is in omega (arith, is));
       next = [];
       is_next = inl refl;
       count = 0;
@@ -132,16 +132,16 @@ module _ {T R : Type 0} {numbers : T → List ℤ} {table_limit : T → ℕ} (so
       (waits : Waiting limits mode records was.bytes (text was.normal) sent waiting) where
     -- a buffered record requires no more bytes
     module _ (after : R) (more : List ℕ) (stop : Option Stop)
-        (came : HasComeSoFar source reader after more stop)
-        (same_given : IsAtHand limits records → source.given after ≡ source.given reader) where
-      no_more : IsAtHand limits records → more ≡ []
+        (came : HasReadSoFar source reader after more stop)
+        (same_given : IsBuffered limits records → source.given after ≡ source.given reader) where
+      no_more : IsBuffered limits records → more ≡ []
       no_more has =
           let counted = came.counted in
           let same = same_given has in
           nil_from_length more (omega (arith, counted, same))
 
       -- no more bytes were read
-      stops_still : IsAtHand limits records → (taken : ℕ) → taken ≤ length waiting
+      stops_still : IsBuffered limits records → (taken : ℕ) → taken ≤ length waiting
           → StopsIn limits mode (was.bytes ++ more) sent waiting taken
       stops_still has taken few =
           subst (λ bytes. StopsIn limits mode bytes sent waiting taken)
@@ -171,9 +171,9 @@ module _ {T R : Type 0} {numbers : T → List ℤ} {table_limit : T → ℕ} (so
 
     -- if it has one
     module _ (new : NormalRecords T) (after : R) (longer : List ℕ)
-        (gone : HasGone numbers table_limit source limits mode was.bytes was.messages was.normal
+        (gone : HasAdvanced numbers table_limit source limits mode was.bytes was.messages was.normal
         records new reader after waiting longer)
-        (same_given : IsAtHand limits records → source.given after ≡ source.given reader) where
+        (same_given : IsBuffered limits records → source.given after ≡ source.given reader) where
       added : text (was.normal ++ gone.named ∷ []) ≡ text was.normal ++ record_of gone.named
       added = text_push was.normal gone.named
 
@@ -200,20 +200,20 @@ module _ {T R : Type 0} {numbers : T → List ℤ} {table_limit : T → ℕ} (so
             next = record_of gone.named;
             is_next = inr (record {
               values = was.messages ++ gone.message ∷ [];
-              front = gone.stands.front;
+              front = gone.represents.front;
               rest = new.records.pieces.unread;
-              split = gone.stands.came;
-              accepted = gone.stands.accepted;
+              split = gone.represents.came;
+              accepted = gone.represents.accepted;
               is_number =
-                  (let is = was.stands.number_is in omega
+                  (let is = was.represents.number_is in omega
                   (arith, is, length_push was.messages gone.message));
               gives = record {
                 messages = was.messages ++ gone.message ∷ [];
-                accepts = gone.stands.accepted;
+                accepts = gone.represents.accepted;
                 normal = was.normal ++ gone.named ∷ [];
                 is_normal = normal_before limits mode (was.bytes ++ gone.more) new
                     (was.messages ++ gone.message ∷ []) (was.normal ++ gone.named ∷ [])
-                    gone.stands;
+                    gone.represents;
                 text_is = sym added;
               };
             });
@@ -230,7 +230,7 @@ module _ {T R : Type 0} {numbers : T → List ℤ} {table_limit : T → ℕ} (so
                 ∙ ap (λ t. t ++ take count (record_of gone.named)) (sym waits.text_is);
           }
 
-      stops_earlier : IsAtHand limits records → (taken : ℕ) → taken < length waiting
+      stops_earlier : IsBuffered limits records → (taken : ℕ) → taken < length waiting
           → StopsIn limits mode (was.bytes ++ gone.more) sent longer taken
       stops_earlier has taken early =
           let stop = stops_still after gone.more None gone.came same_given has taken
@@ -259,7 +259,7 @@ module _ {T R : Type 0} {numbers : T → List ℤ} {table_limit : T → ℕ} (so
           (λ has. stops_earlier has taken early) waits.at_hand)
           (λ past. stops_in_it taken past few) (cases_lt taken (length waiting))
 
-      pub waits_on : IsAtHand limits new
+      pub waits_on : IsBuffered limits new
           → Waiting limits mode new (was.bytes ++ gone.more) (text (was.normal ++ gone.named ∷ []))
           sent
           longer
@@ -270,9 +270,9 @@ module _ {T R : Type 0} {numbers : T → List ℤ} {table_limit : T → ℕ} (so
 module _ {R W : Type 0} (source : Source R) (sink : Sink W) (limits : Limits) (mode : Mode) (start
     after : R)
     (before writer end : W) (bytes sent waiting : List ℕ) (stop : Option Stop)
-    (came : HasComeSoFar source start after bytes stop)
+    (came : HasReadSoFar source start after bytes stop)
     (written : AllWritten sink before writer sent)
-    (front : FrontWritten sink writer end waiting) where
+    (front : PrefixWritten sink writer end waiting) where
   pub failed_inside : StopsIn limits mode bytes sent waiting front.count
       → HasFailedToWrite source sink limits mode start after before end
   failed_inside stops =

@@ -18,8 +18,8 @@ use Rattle.dap_input.proofs.Runs.{run_none}
 use Rattle.dap_normal.specs.Accepting.{IsAccepted, accepting, text}
 use Rattle.dap_normal.specs.Checking.{Checks}
 use Rattle.dap_input.specs.Engine.{Accepts}
-use Rattle.dap_normal.specs.JudgingSteps.{StandsFor}
-use Rattle.dap_normal.specs.NormalSteps.{HasEnded, HasGone, HasNext, HasStoppedAt}
+use Rattle.dap_normal.specs.JudgingSteps.{RepresentsMessages}
+use Rattle.dap_normal.specs.NormalSteps.{HasEnded, HasAdvanced, HasNext, HasStoppedAt}
 use Rattle.dap_normal.specs.Streaming.{HasComeTo}
 use Rattle.dap_normal.proofs.AcceptingFacts.{accepted_facts}
 use Rattle.dap_normal.proofs.NormalTexts.{normal}
@@ -30,13 +30,13 @@ module _ {T R : Type 0} {numbers : T → List ℤ} {table_limit : T → ℕ} (so
     (was : Going numbers table_limit source limits mode start reader records)
     (new : NormalRecords T) (after : R) where
   abbrev pub Next : List ℕ → List ℕ → Result Bool Refused → Type 0
-  Next before longer answer =
+  Next before longer outcome =
       HasNext numbers table_limit source limits mode was.bytes was.messages was.normal
-      records new reader after before longer answer
+      records new reader after before longer outcome
 
   -- whether a record was read
   pub gone : (some : Bool) (before longer : List ℕ) → Next before longer (Ok some) → some ≡ true
-      → HasGone numbers table_limit source limits mode was.bytes was.messages was.normal
+      → HasAdvanced numbers table_limit source limits mode was.bytes was.messages was.normal
       records new reader after before longer
   gone true before longer next is = next
   gone false before longer next is = absurd (true≢false (sym is))
@@ -76,13 +76,13 @@ module _ {T R : Type 0} {numbers : T → List ℤ} {table_limit : T → ℕ} (so
     module _ (before longer : List ℕ)
         (end : HasEnded numbers table_limit source limits mode was.bytes was.messages
         was.normal records new reader after before longer) where
-      judge_stands : StandsFor numbers table_limit new.judge was.messages was.normal
+      judge_stands : RepresentsMessages numbers table_limit new.judge was.messages was.normal
       judge_stands =
-          subst (λ judge. StandsFor numbers table_limit judge was.messages was.normal)
-          (sym end.judge_is) was.stands.stands
+          subst (λ judge. RepresentsMessages numbers table_limit judge was.messages was.normal)
+          (sym end.judge_is) was.represents.represents
 
       pub some_records : 0 < new.records.number
-      some_records = let is = was.stands.number_is in let same =
+      some_records = let is = was.represents.number_is in let same =
           end.number_is in omega (arith, is, same)
 
       accepts : Accepts source limits.input (IsAccepted limits mode) start after was.messages
@@ -97,9 +97,11 @@ module _ {T R : Type 0} {numbers : T → List ℤ} {table_limit : T → ℕ} (so
 
       abbrev pub Open : ℕ → ℕ → Type 0
       Open client adapter =
-          ((messages normal : List Sent) → StandsFor numbers table_limit new.judge messages normal
+          ((messages normal : List Sent)
+          → RepresentsMessages numbers table_limit new.judge messages normal
           → client ≡ open_requests Client messages)
-          × ((messages normal : List Sent) → StandsFor numbers table_limit new.judge messages normal
+          × ((messages normal : List Sent)
+          → RepresentsMessages numbers table_limit new.judge messages normal
           → adapter ≡ open_requests Adapter messages)
 
       module _ (client adapter : ℕ) (are_open : Open client adapter) where
@@ -111,7 +113,7 @@ module _ {T R : Type 0} {numbers : T → List ℤ} {table_limit : T → ℕ} (so
           messages = was.messages;
           accepts = accepts;
           counted = record {
-            records = (let is = was.stands.number_is in let same = end.number_is in omega
+            records = (let is = was.represents.number_is in let same = end.number_is in omega
                 (arith, is, same, count));
             client = client_is ∙ are_open.0 was.messages was.normal judge_stands;
             adapter = adapter_is ∙ are_open.1 was.messages was.normal judge_stands;

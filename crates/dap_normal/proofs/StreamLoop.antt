@@ -4,8 +4,8 @@ use Rattle.std.proofs.Common.{◌∷◌, ◌++◌, length, Option, Some, None, r
 use Rattle.std.proofs.Common.{append_assoc, length-append}
 use Rattle.std.proofs.lemmas.List.{length_push}
 use Rattle.dap_device.specs.declared.device.Source.{Ghosts as Source}
-use Rattle.dap_device.specs.Pieces.{HasComeSoFar}
-use Rattle.dap_device.specs.Reading.{HasCome}
+use Rattle.dap_device.specs.Pieces.{HasReadSoFar}
+use Rattle.dap_device.specs.Reading.{HasReadInput}
 use Rattle.dap_device.specs.declared.reading.Stop.{Stop}
 use Rattle.dap_device.specs.declared.reading.Stop.TheVariants.{End}
 use Rattle.dap_message.specs.Message.{Sent}
@@ -17,7 +17,8 @@ use Rattle.dap_normal.specs.declared.normal_records.NormalRecords.{NormalRecords
 use Rattle.dap_input.specs.declared.refused.Refused.{Refused}
 use Rattle.dap_normal.specs.Accepting.{accepting, text}
 use Rattle.dap_input.specs.Inputs.{AcceptedBefore, Input}
-use Rattle.dap_normal.specs.NormalSteps.{HasEnded, HasGone, HasNext, HasStoppedAt, StandsBefore}
+use Rattle.dap_normal.specs.NormalSteps.{HasEnded, HasAdvanced, HasNext, HasStoppedAt}
+use Rattle.dap_normal.specs.NormalSteps.{RepresentsBefore}
 use Rattle.dap_input.specs.ReadTo.{IsReadTo, so_far}
 use Rattle.dap_normal.specs.Streaming.{HasComeTo, RefusesNext}
 use Rattle.dap_input.specs.Refusals.{RefusesAt}
@@ -26,8 +27,8 @@ use Rattle.dap_input.proofs.Coming.{came_on, nothing_came}
 module _ {R : Type 0} (source : Source R) where
   -- A reader that reached its end delivered a complete input.
   pub whole_came : (start end : R) (limit : ℕ) (bytes : List ℕ)
-      → HasComeSoFar source start end bytes (Some End) → length bytes ≤ limit
-      → HasCome source start end limit bytes End
+      → HasReadSoFar source start end bytes (Some End) → length bytes ≤ limit
+      → HasReadInput source start end limit bytes End
   whole_came start end limit bytes came short =
       record {
         came = came.came;
@@ -40,33 +41,34 @@ module _ {R : Type 0} (source : Source R) where
 pub normal_before : {T : Type 0} {numbers : T → List ℤ} {table_limit : T
     → ℕ} (limits : Limits) (mode : Mode) (bytes : List ℕ) (records : NormalRecords T)
     (messages normal : List Sent)
-    → StandsBefore numbers table_limit limits mode bytes records messages normal
+    → RepresentsBefore numbers table_limit limits mode bytes records messages normal
     → IsNormal (stop_in mode) messages normal
-normal_before limits mode bytes records messages normal stands =
-    subst (λ k. IsNormal (stop_in k) messages normal) stands.judge_mode_is stands.stands.is_normal
+normal_before limits mode bytes records messages normal represents =
+    subst (λ k. IsNormal (stop_in k) messages normal) represents.judge_mode_is
+    represents.represents.is_normal
 
 module _ {T R : Type 0} (numbers : T → List ℤ) (table_limit : T → ℕ) (source : Source R)
     (limits : Limits) (mode : Mode) where
   -- These bytes were read, and the records before the next one are accepted.
   pub record Going (start reader : R) (records : NormalRecords T) : Type 0 where
     pub bytes : List ℕ
-    pub came : HasComeSoFar source start reader bytes None
+    pub came : HasReadSoFar source start reader bytes None
     pub messages : List Sent
     pub normal : List Sent
-    pub stands : StandsBefore numbers table_limit limits mode bytes records messages normal
+    pub represents : RepresentsBefore numbers table_limit limits mode bytes records messages normal
 
 module _ {T R : Type 0} {numbers : T → List ℤ} {table_limit : T → ℕ} (source : Source R)
     (limits : Limits) (mode : Mode) where
   abbrev pub at_start : (reader : R) (records : NormalRecords T)
-      → StandsBefore numbers table_limit limits mode [] records [] []
+      → RepresentsBefore numbers table_limit limits mode [] records [] []
       → Going numbers table_limit source limits mode reader reader records
-  at_start reader records stands =
+  at_start reader records represents =
       record {
         bytes = [];
         came = nothing_came source reader;
         messages = [];
         normal = [];
-        stands = stands;
+        represents = represents;
       }
 
   module _ (start reader : R) (records : NormalRecords T)
@@ -74,7 +76,7 @@ module _ {T R : Type 0} {numbers : T → List ℤ} {table_limit : T → ℕ} (so
     -- ---- one more record
 
     abbrev pub on : (new : NormalRecords T) (after : R) (before longer : List ℕ)
-        → HasGone numbers table_limit source limits mode was.bytes was.messages was.normal
+        → HasAdvanced numbers table_limit source limits mode was.bytes was.messages was.normal
         records new reader after before longer
         → Going numbers table_limit source limits mode start after new
     on new after before longer gone = record {
@@ -83,19 +85,19 @@ module _ {T R : Type 0} {numbers : T → List ℤ} {table_limit : T → ℕ} (so
           gone.came;
       messages = was.messages ++ gone.message ∷ [];
       normal = was.normal ++ gone.named ∷ [];
-      stands = gone.stands;
+      represents = gone.represents;
     }
 
     pub gone_taken : (new : NormalRecords T) (after : R) (before longer : List ℕ)
-        → HasGone numbers table_limit source limits mode was.bytes was.messages was.normal
+        → HasAdvanced numbers table_limit source limits mode was.bytes was.messages was.normal
         records new reader after before longer
         → source.given after ≤ source.given start + limits.input + 1
     gone_taken new after before longer gone =
         let so_many = was.came.counted in
         let behind = gone.came.counted in
-        let taken = gone.stands.taken in
-        let limit = gone.stands.limit_is in
-        let within = gone.stands.between.within in
+        let taken = gone.represents.taken in
+        let limit = gone.represents.limit_is in
+        let within = gone.represents.between.within in
         omega (arith, so_many, behind, taken, limit, within, length-append was.bytes gone.more)
 
     -- ---- an input of which this part was read
@@ -104,45 +106,45 @@ module _ {T R : Type 0} {numbers : T → List ℤ} {table_limit : T → ℕ} (so
         → AcceptedBefore (accepting limits mode) input records.records.number
     before_in input tail split = record {
       values = was.messages;
-      front = was.stands.front;
+      front = was.represents.front;
       rest = records.records.pieces.unread ++ tail;
-      split = split ∙ ap (λ t. t ++ tail) was.stands.came
-          ∙ append_assoc was.stands.front records.records.pieces.unread tail;
-      accepted = was.stands.accepted;
-      is_number = was.stands.number_is;
+      split = split ∙ ap (λ t. t ++ tail) was.represents.came
+          ∙ append_assoc was.represents.front records.records.pieces.unread tail;
+      accepted = was.represents.accepted;
+      is_number = was.represents.number_is;
     }
 
     abbrev pub next_in : (new : NormalRecords T) (after : R) (before longer : List ℕ)
-        (gone : HasGone numbers table_limit source limits mode was.bytes was.messages
+        (gone : HasAdvanced numbers table_limit source limits mode was.bytes was.messages
         was.normal records new reader after before longer)
         → (input : Input) (tail : List ℕ) → input.bytes ≡ (was.bytes ++ gone.more) ++ tail
         → AcceptedBefore (accepting limits mode) input (records.records.number + 1)
     next_in new after before longer gone input tail split = record {
       values = was.messages ++ gone.message ∷ [];
-      front = gone.stands.front;
+      front = gone.represents.front;
       rest = new.records.pieces.unread ++ tail;
-      split = split ∙ ap (λ t. t ++ tail) gone.stands.came
-          ∙ append_assoc gone.stands.front new.records.pieces.unread tail;
-      accepted = gone.stands.accepted;
+      split = split ∙ ap (λ t. t ++ tail) gone.represents.came
+          ∙ append_assoc gone.represents.front new.records.pieces.unread tail;
+      accepted = gone.represents.accepted;
       is_number =
-          (let is = was.stands.number_is in omega
+          (let is = was.represents.number_is in omega
           (arith, is, length_push was.messages gone.message));
     }
 
     -- ---- so far
 
     module _ (after : R) (more : List ℕ) (stop : Option Stop)
-        (came : HasComeSoFar source reader after more stop) where
+        (came : HasReadSoFar source reader after more stop) where
       abbrev pub records_before : AcceptedBefore (accepting limits mode)
           (so_far (was.bytes ++ more) stop) records.records.number
       records_before = record {
         values = was.messages;
-        front = was.stands.front;
+        front = was.represents.front;
         rest = records.records.pieces.unread ++ more;
-        split = ap (λ t. t ++ more) was.stands.came
-            ∙ append_assoc was.stands.front records.records.pieces.unread more;
-        accepted = was.stands.accepted;
-        is_number = was.stands.number_is;
+        split = ap (λ t. t ++ more) was.represents.came
+            ∙ append_assoc was.represents.front records.records.pieces.unread more;
+        accepted = was.represents.accepted;
+        is_number = was.represents.number_is;
       }
 
       abbrev pub come_to : IsReadTo (accepting limits mode) (was.bytes ++ more)
@@ -157,10 +159,10 @@ module _ {T R : Type 0} {numbers : T → List ℤ} {table_limit : T → ℕ} (so
         gives =
             record {
               messages = was.messages;
-              accepts = was.stands.accepted;
+              accepts = was.represents.accepted;
               normal = was.normal;
               is_normal = normal_before limits mode was.bytes records was.messages was.normal
-                  was.stands;
+                  was.represents;
               text_is = refl;
             };
       }
@@ -196,7 +198,7 @@ module _ {T R : Type 0} {numbers : T → List ℤ} {table_limit : T → ℕ} (so
     module _ (after : R) (new : NormalRecords T) (before longer : List ℕ)
         (ended : HasEnded numbers table_limit source limits mode was.bytes was.messages
         was.normal records new reader after before longer) where
-      pub all_came : HasCome source start after limits.input (was.bytes ++ ended.more) End
+      pub all_came : HasReadInput source start after limits.input (was.bytes ++ ended.more) End
       all_came = whole_came source start after limits.input (was.bytes ++ ended.more)
           (came_on source start reader after was.bytes ended.more (Some End) was.came
           ended.came) ended.accepted.short

@@ -3,8 +3,8 @@ use Rattle.std.proofs.Common.{◌≡◌, inl, inr, ℕ, ℤ, List, [], ◌++◌,
 use Rattle.std.proofs.Common.{Err, refl, sym, ◌∙◌, subst}
 use Rattle.dap_device.specs.declared.device.Source.{Ghosts as Source}
 use Rattle.dap_device.specs.declared.device.Sink.{Ghosts as Sink}
-use Rattle.dap_device.specs.Pieces.{HasComeSoFar, HasPaused}
-use Rattle.dap_device.specs.Written.{AllWritten, FrontWritten}
+use Rattle.dap_device.specs.Pieces.{HasReadSoFar, HasPaused}
+use Rattle.dap_device.specs.Written.{AllWritten, PrefixWritten}
 use Rattle.dap_device.specs.declared.reading.Stop.{Stop}
 use Rattle.dap_device.specs.declared.reading.Stop.TheVariants.{End}
 use Rattle.dap_device.proofs.Sending.{all_then_all}
@@ -20,9 +20,9 @@ use Rattle.dap_input.proofs.Runs.{run_none}
 use Rattle.dap_input.proofs.StreamEnds as ends
 use Rattle.dap_normal.specs.declared.normal_records.NormalRecords.{NormalRecords}
 use Rattle.dap_normal.specs.Accepting.{accepting, text}
-use Rattle.dap_normal.specs.NormalSteps.{HasEnded, HasStoppedAt, IsAtHand}
+use Rattle.dap_normal.specs.NormalSteps.{HasEnded, HasStoppedAt, IsBuffered}
 use Rattle.dap_normal.specs.Normalising.{IsCanonical, Normalises}
-use Rattle.dap_normal.specs.Streaming.{Answers, Ends, Flushes, HasFailedToWrite, HasGivenUp}
+use Rattle.dap_normal.specs.Streaming.{Answers, Ends, Flushes, HasFailedToWrite, RanOutOfMemory}
 use Rattle.dap_normal.specs.Streaming.{HasGivenUpAt, Streams}
 use Rattle.dap_normal.proofs.AcceptingFacts.{accepted_facts}
 use Rattle.dap_normal.proofs.NormalFormLaws.{canonical}
@@ -44,21 +44,21 @@ unfailed source limits mode start reader records was new after because stopped m
 
 -- If `Memory` is returned after the remaining output, an allocation failed at the record.
 pub memory_of : {W : Type 0} (sink : Sink W) (waiting : List ℕ) (writer end : W)
-    (because : Refused) (answer : Result (Unit {0}) Refused)
-    → Ends sink waiting writer end (Err because) answer → answer ≡ Err Memory → because ≡ Memory
-memory_of sink waiting writer end Memory answer ends memory = refl
-memory_of sink waiting writer end because answer (inl (mid, all, inl done)) memory =
+    (because : Refused) (outcome : Result (Unit {0}) Refused)
+    → Ends sink waiting writer end (Err because) outcome → outcome ≡ Err Memory → because ≡ Memory
+memory_of sink waiting writer end Memory outcome ends memory = refl
+memory_of sink waiting writer end because outcome (inl (mid, all, inl done)) memory =
     let e = sym done.0 ∙ memory in cc
-memory_of sink waiting writer end because answer (inl (mid, all, inr failed)) memory =
+memory_of sink waiting writer end because outcome (inl (mid, all, inr failed)) memory =
     let e = sym failed.0 ∙ memory in cc
-memory_of sink waiting writer end because answer (inr (front, is)) memory =
+memory_of sink waiting writer end because outcome (inr (front, is)) memory =
     let e = sym is ∙ memory in cc
 
 module _ {R W : Type 0} (source : Source R) (sink : Sink W) (limits : Limits) (mode : Mode) (start :
     R)
     (before : W) where
   -- Nothing has been read or written.
-  pub given_up : HasGivenUp source sink limits mode start start before before
+  pub given_up : RanOutOfMemory source sink limits mode start start before before
   given_up =
       let accepted =
       (accepted_facts limits mode).accepted_of_run [] [] (run_none (accepting limits mode) [] 0) in
@@ -81,13 +81,13 @@ module _ {R W : Type 0} (source : Source R) (sink : Sink W) (limits : Limits) (m
     -- ---- no more
 
     abbrev pub Answer : W → Result (Unit {0}) Refused → Type 0
-    Answer end answer = Streams source sink limits mode start after before end answer
+    Answer end outcome = Streams source sink limits mode start after before end outcome
 
     pub has_streamed : AreSound limits → (text_before longer : List ℕ)
         → HasEnded numbers table_limit source limits mode was.bytes was.messages
         was.normal records new reader after text_before longer
-        → (end : W) (answer : Result (Unit {0}) Refused)
-        → Flushes sink writer end (Ok tt) answer → Answer end answer
+        → (end : W) (outcome : Result (Unit {0}) Refused)
+        → Flushes sink writer end (Ok tt) outcome → Answer end outcome
     has_streamed sound text_before longer ended =
         ends.streamed (accepting limits mode) (Normalises limits mode) (IsCanonical limits mode)
         source sink start
@@ -103,7 +103,7 @@ module _ {R W : Type 0} (source : Source R) (sink : Sink W) (limits : Limits) (m
                 accepts = ended.accepted;
                 normal = was.normal;
                 is_normal = normal_before limits mode was.bytes records was.messages was.normal
-                    was.stands;
+                    was.represents;
                 text_is = refl;
               });
         })
@@ -118,16 +118,16 @@ module _ {R W : Type 0} (source : Source R) (sink : Sink W) (limits : Limits) (m
       (written : AllWritten sink before writer sent)
       (waits : Waiting limits mode records was.bytes (text was.normal) sent waiting)
       (new : NormalRecords T) (after : R)
-      (same_given : IsAtHand limits records → source.given after ≡ source.given reader) where
+      (same_given : IsBuffered limits records → source.given after ≡ source.given reader) where
     all_written : (mid : W) → AllWritten sink writer mid waiting
         → AllWritten sink before mid (text was.normal)
     all_written mid all =
         subst (AllWritten sink before mid) (sym waits.text_is)
         (all_then_all sink before writer mid sent waiting written all)
 
-    failed : (more : List ℕ) (stop : Option Stop) → HasComeSoFar source reader after more stop
+    failed : (more : List ℕ) (stop : Option Stop) → HasReadSoFar source reader after more stop
         → IsReadTo (accepting limits mode) (was.bytes ++ more) records.records.number → (end : W)
-        → FrontWritten sink writer end waiting
+        → PrefixWritten sink writer end waiting
         → HasFailedToWrite source sink limits mode start after before end
     failed more stop came read_to end front =
         failed_inside source sink limits mode start after before writer end (was.bytes ++ more) sent
@@ -139,62 +139,62 @@ module _ {R W : Type 0} (source : Source R) (sink : Sink W) (limits : Limits) (m
     pub all_streamed : AreSound limits → (text_before longer : List ℕ)
         → HasEnded numbers table_limit source limits mode was.bytes was.messages
         was.normal records new reader after text_before longer
-        → (end : W) (answer : Result (Unit {0}) Refused)
-        → Ends sink waiting writer end (Ok tt) answer
-        → Streams source sink limits mode start after before end answer
-    all_streamed sound text_before longer end_is end answer (inl (mid, all, given)) =
+        → (end : W) (outcome : Result (Unit {0}) Refused)
+        → Ends sink waiting writer end (Ok tt) outcome
+        → Streams source sink limits mode start after before end outcome
+    all_streamed sound text_before longer end_is end outcome (inl (mid, all, given)) =
         has_streamed source sink limits mode start before reader records was mid (all_written mid
         all)
-        new after sound text_before longer end_is end answer given
-    all_streamed sound text_before longer end_is end answer (inr (front, is)) =
+        new after sound text_before longer end_is end outcome given
+    all_streamed sound text_before longer end_is end outcome (inr (front, is)) =
         subst (Streams source sink limits mode start after before end) (sym is)
         (failed end_is.more (Some End) end_is.came end_is.read_to end front)
 
-    refused_at : (mid end : W) (because : Refused) (answer : Result (Unit {0}) Refused)
-        → Answers sink mid end (Err because) answer → AnswersRefusal sink mid end because answer
-    refused_at mid end Memory answer given = given
-    refused_at mid end because answer given = given
+    refused_at : (mid end : W) (because : Refused) (outcome : Result (Unit {0}) Refused)
+        → Answers sink mid end (Err because) outcome → AnswersRefusal sink mid end because outcome
+    refused_at mid end Memory outcome given = given
+    refused_at mid end because outcome given = given
 
     pub all_refused : (because : Refused)
         → HasStoppedAt numbers table_limit source limits mode was.bytes was.messages
         was.normal records new reader after because
-        → (end : W) (answer : Result (Unit {0}) Refused)
-        → Ends sink waiting writer end (Err because) answer
-        → Streams source sink limits mode start after before end answer
-    all_refused because stopped end answer (inl (mid, all, given)) =
+        → (end : W) (outcome : Result (Unit {0}) Refused)
+        → Ends sink waiting writer end (Err because) outcome
+        → Streams source sink limits mode start after before end outcome
+    all_refused because stopped end outcome (inl (mid, all, given)) =
         ends.refused (accepting limits mode) (Normalises limits mode) (IsCanonical limits mode)
         source sink start
         before after mid stopped.stop records.records.number (text was.normal)
         (refused_to source limits mode start reader records was after new because stopped)
-        (all_written mid all) because (stopped.says, stopped.cut) end answer
-        (refused_at mid end because answer given)
-    all_refused because stopped end answer (inr (front, is)) =
+        (all_written mid all) because (stopped.says, stopped.cut) end outcome
+        (refused_at mid end because outcome given)
+    all_refused because stopped end outcome (inr (front, is)) =
         subst (Streams source sink limits mode start after before end) (sym is)
         (failed stopped.more stopped.stop stopped.came stopped.read_to end front)
 
     pub all_given_up : (because : Refused)
         → HasStoppedAt numbers table_limit source limits mode was.bytes was.messages
         was.normal records new reader after because
-        → (end : W) (answer : Result (Unit {0}) Refused)
-        → Ends sink waiting writer end (Err because) answer → answer ≡ Err Memory
+        → (end : W) (outcome : Result (Unit {0}) Refused)
+        → Ends sink waiting writer end (Err because) outcome → outcome ≡ Err Memory
         → HasGivenUpAt source sink limits mode new.records.number start after before end
-    all_given_up because stopped end answer (inl (mid, all, given)) memory =
+    all_given_up because stopped end outcome (inl (mid, all, given)) memory =
         ends.gives_up (accepting limits mode) (Normalises limits mode) (IsCanonical limits mode)
         source sink start
         before after mid stopped.stop records.records.number (text was.normal)
         (refused_to source limits mode start reader records was after new because stopped)
-        (all_written mid all) because new.records.number stopped.last end answer
-        (refused_at mid end because answer given) memory
-    all_given_up because stopped end answer (inr (front, is)) memory =
+        (all_written mid all) because new.records.number stopped.last end outcome
+        (refused_at mid end because outcome given) memory
+    all_given_up because stopped end outcome (inr (front, is)) memory =
         absurd (let e = sym is ∙ memory in cc)
 
 -- If all records were read, no allocation failed.
 pub not_given_up : {W : Type 0} (sink : Sink W) (waiting : List ℕ) (writer end : W)
-    (answer : Result (Unit {0}) Refused) → Ends sink waiting writer end (Ok tt) answer
-    → answer ≡ Err Memory → ⊥
-not_given_up sink waiting writer end answer (inl (mid, all, inl done)) memory =
+    (outcome : Result (Unit {0}) Refused) → Ends sink waiting writer end (Ok tt) outcome
+    → outcome ≡ Err Memory → ⊥
+not_given_up sink waiting writer end outcome (inl (mid, all, inl done)) memory =
     let e = sym done.0 ∙ memory in cc
-not_given_up sink waiting writer end answer (inl (mid, all, inr failed)) memory =
+not_given_up sink waiting writer end outcome (inl (mid, all, inr failed)) memory =
     let e = sym failed.0 ∙ memory in cc
-not_given_up sink waiting writer end answer (inr (front, is)) memory =
+not_given_up sink waiting writer end outcome (inr (front, is)) memory =
     let e = sym is ∙ memory in cc

@@ -5,7 +5,7 @@ use Rattle.dap_items.proofs.Ends.{not_empty}
 use Rattle.dap_items.proofs.Streams as items
 use Rattle.dap_message.specs.Message.{Sent}
 use Rattle.dap_recording.proofs.Records.{record_grammar, readable}
-use Rattle.dap_rename.specs.Messages.{AreSame, IsNormal, in_whole}
+use Rattle.dap_rename.specs.Messages.{AreSame, IsNormal, no_stop}
 use Rattle.dap_rename.specs.Modes.{stop_in}
 use Rattle.dap_rename.specs.declared.mode.Mode.{Mode}
 use Rattle.dap_rename.specs.declared.mode.Mode.TheVariants.{Whole}
@@ -14,13 +14,13 @@ use Rattle.dap_rename.proofs.NormalForms.{same_counts}
 use Rattle.dap_rename.proofs.Sameness.{same_along, same_both_ways, same_is_proper}
 use Rattle.dap_input.specs.declared.limits.Limits.{Limits}
 use Rattle.dap_input.specs.Limits.{AreSound}
-use Rattle.dap_normal.specs.Accepting.{Held, AreMessages, IsAccepted, text}
+use Rattle.dap_normal.specs.Accepting.{Payload, AreMessages, IsAccepted, text}
 use Rattle.dap_normal.specs.Normalising.{Normalises, WholeTextIsNormalised}
 use Rattle.dap_normal.proofs.AcceptingFacts.{message_once}
 use Rattle.dap_normal.proofs.NormalFormLaws.{normal_is_accepted}
 use Rattle.dap_normal.proofs.NormalTexts.{normal_fits}
 
-one_messages : (records : List Held) (ms ns : List Sent) → AreMessages records ms
+one_messages : (records : List Payload) (ms ns : List Sent) → AreMessages records ms
     → AreMessages records ns → ms ≡ ns
 one_messages [] [] [] typed also = refl
 one_messages [] (m ∷ ms) ns typed also = absurd typed
@@ -46,7 +46,7 @@ module _ (limits : Limits) (mode : Mode) (sound : AreSound limits) (bytes whole 
   unfolding IsNormal
   same =
       same_in_each_mode mode b.messages a.normal
-      (subst (λ ms. AreSame in_whole ms a.normal) one a.is_normal.0)
+      (subst (λ ms. AreSame no_stop ms a.normal) one a.is_normal.0)
 
   still_normal : IsNormal (stop_in mode) a.normal b.normal
   unfolding IsNormal

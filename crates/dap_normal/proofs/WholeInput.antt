@@ -4,7 +4,7 @@ use Rattle.std.proofs.Common.{◌∙◌, ap, subst, arith, append-nil}
 use Rattle.std.proofs.lemmas.Bool.{true≢false}
 use Rattle.dap_device.specs.declared.device.Source.{Ghosts as Source}
 use Rattle.dap_device.specs.Memory.{GivenBytes}
-use Rattle.dap_device.specs.Pieces.{HasComeSoFar, HasPaused}
+use Rattle.dap_device.specs.Pieces.{HasReadSoFar, HasPaused}
 use Rattle.dap_device.specs.declared.reading.Stop.{Stop}
 use Rattle.dap_device.specs.declared.reading.Stop.TheVariants.{End, Full, Failed}
 use Rattle.dap_message.specs.Message.{Sent, IsTypedContent}
@@ -13,14 +13,14 @@ use Rattle.dap_input.specs.declared.limits.Limits.{Limits}
 use Rattle.dap_normal.specs.declared.normal_records.NormalRecords.{NormalRecords}
 use Rattle.dap_input.specs.declared.refused.Refused.{Refused}
 use Rattle.dap_input.specs.declared.refused.Refused.TheVariants.{Memory}
-use Rattle.dap_normal.specs.Accepting.{Held, IsAccepted, AreMessages, accepting, text}
+use Rattle.dap_normal.specs.Accepting.{Payload, IsAccepted, AreMessages, accepting, text}
 use Rattle.dap_input.specs.Inputs.{Input, Fault, IsRefusedAt, refused, read_fault}
 use Rattle.dap_input.specs.Limits.{AreSound}
 use Rattle.dap_normal.specs.Normalised.{AreTyped, HoldsSome}
 use Rattle.dap_normal.specs.Normalising.{IsCanonical, Normalises, RefusesBytes}
 use Rattle.dap_normal.specs.NormalSteps.{HasEnded, HasStoppedAt}
 use Rattle.dap_input.specs.ReadTo.{IsOf, so_far}
-use Rattle.dap_input.specs.Refusals.{IsRefused, RefusesAt, Tells}
+use Rattle.dap_input.specs.Refusals.{IsRefused, RefusesAt, RefusalMatches}
 use Rattle.dap_normal.proofs.AcceptingFacts.{accepted_facts, value_laws}
 use Rattle.dap_input.proofs.Refusals.{refused_as, refused_in}
 use Rattle.dap_recording.proofs.Records.{readable}
@@ -28,7 +28,7 @@ use Rattle.dap_normal.proofs.NormalFormLaws.{canonical}
 use Rattle.dap_input.proofs.Coming.{came_on}
 use Rattle.dap_normal.proofs.StreamLoop.{Going, normal_before}
 
-are_typed : (records : List Held) (messages : List Sent) → AreMessages records messages
+are_typed : (records : List Payload) (messages : List Sent) → AreMessages records messages
     → AreTyped messages
 are_typed [] [] typed = tt
 are_typed [] (m ∷ messages) typed = absurd typed
@@ -69,7 +69,7 @@ module _ (limits : Limits) (mode : Mode) (sound : AreSound limits) (bytes : List
       (after : GivenBytes) where
     -- The bytes read are a prefix of the input.
     split : (more : List ℕ) (stop : Option Stop)
-        → HasComeSoFar memory reader after more stop
+        → HasReadSoFar memory reader after more stop
         → bytes ≡ (was.bytes ++ more) ++ after.left
     split more stop came =
         (came_on memory start reader after was.bytes more stop was.came
@@ -88,7 +88,8 @@ module _ (limits : Limits) (mode : Mode) (sound : AreSound limits) (bytes : List
         messages = was.messages;
         accepts = subst (λ t. IsAccepted limits mode t was.messages) (sym whole) end.accepted;
         normal = was.normal;
-        is_normal = normal_before limits mode was.bytes records was.messages was.normal was.stands;
+        is_normal = normal_before limits mode was.bytes records was.messages was.normal
+            was.represents;
         text_is = refl;
       }
 
@@ -116,12 +117,12 @@ module _ (limits : Limits) (mode : Mode) (sound : AreSound limits) (bytes : List
       is_of (Some Full) split paused = (after.left, split)
       is_of (Some Failed) split paused = absurd (omega (arith, paused))
 
-      told : (fault : Fault) → Tells because records.records.number fault
+      reported : (fault : Fault) → RefusalMatches because records.records.number fault
           → IsRefusedAt (accepting limits mode) given_input records.records.number fault
           → IsRefused (accepting limits mode) bytes because
-      told (refused why) tells is =
+      reported (refused why) tells is =
           refused_as (accepting limits mode) bytes because records.records.number why tells is.0
-      told read_fault tells is = absurd (true≢false (sym is.0))
+      reported read_fault tells is = absurd (true≢false (sym is.0))
 
       refuses_input : RefusesAt (accepting limits mode) (so_far all stopped.stop)
           records.records.number
@@ -132,7 +133,7 @@ module _ (limits : Limits) (mode : Mode) (sound : AreSound limits) (bytes : List
           (accepted_facts limits mode) all records.records.number because given_input stopped.stop
           (is_of stopped.stop (split stopped.more stopped.stop stopped.came) stopped.came.paused)
           says stopped.cut in
-          told here.fault here.tells here.is_refused
+          reported here.fault here.tells here.is_refused
 
     pub refuses_bytes : (new : NormalRecords T) (because : Refused)
         → HasStoppedAt numbers table_limit memory limits mode was.bytes

@@ -15,37 +15,38 @@ use Rattle.dap_rename.specs.declared.mode.Mode.{Mode}
 use Rattle.dap_session.specs.Rules.{KeepsRules, first_broken}
 use Rattle.dap_input.specs.declared.limits.Limits.{Limits}
 use Rattle.dap_input.specs.Limits.{AreSound}
-use Rattle.dap_input.specs.Judging.{Judging, Objection, no_message, broken, too_many_ids, grew}
+use Rattle.dap_input.specs.Validation.{Validation, ContentError, no_message, broken, too_many_ids}
+use Rattle.dap_input.specs.Validation.{grew}
 use Rattle.dap_input.specs.ReadTo.{IsBounded, IsReadTo}
 use Rattle.dap_input.specs.Refusals.{HasOneOutcome, RefusalStays}
 
 -- the payload of a record: the side that sent it, and its content
-abbrev pub Held : Type 0
-Held = Side × List ℕ
+abbrev pub Payload : Type 0
+Payload = Side × List ℕ
 
 -- By these rows, the content of the record is that of this message from its side.
-abbrev pub IsMessageByRows : List ProfileRow → Held → Sent → Type 0
+abbrev pub IsMessageByRows : List ProfileRow → Payload → Sent → Type 0
 IsMessageByRows rows held message = (message.side ≡ held.0)
     × IsTypedContentByRows rows held.0 held.1 message.doc
 
 -- The same by the profile.
-abbrev pub IsMessage : Held → Sent → Type 0
+abbrev pub IsMessage : Payload → Sent → Type 0
 IsMessage = IsMessageByRows profile
 
 -- The content of the record is not a message, for this reason.
-abbrev pub HoldsNoMessage : Held → Objection → Type 0
+abbrev pub HoldsNoMessage : Payload → ContentError → Type 0
 HoldsNoMessage held (no_message why) = HasRefusal held.1 why
 HoldsNoMessage held why = ⊥
 
 -- The contents of the records are these messages, in order.
-abbrev pub AreMessagesByRows : List ProfileRow → List Held → List Sent → Type 0
+abbrev pub AreMessagesByRows : List ProfileRow → List Payload → List Sent → Type 0
 AreMessagesByRows rows [] [] = Unit {0}
 AreMessagesByRows rows [] (message ∷ messages) = ⊥
 AreMessagesByRows rows (held ∷ records) [] = ⊥
 AreMessagesByRows rows (held ∷ records) (message ∷ messages) = IsMessageByRows rows held message
     × AreMessagesByRows rows records messages
 
-abbrev pub AreMessages : List Held → List Sent → Type 0
+abbrev pub AreMessages : List Payload → List Sent → Type 0
 AreMessages = AreMessagesByRows profile
 
 -- The text of the messages (own): the records of their canonical contents.
@@ -81,7 +82,7 @@ pub record IsAcceptedByRows (rows : List ProfileRow) (limits : Limits) (mode : M
     ℕ)
     (messages : List Sent) : Type 0 where
   pub short : length bytes ≤ limits.input
-  pub records : List Held
+  pub records : List Payload
   pub recording : IsRecording limits.frame bytes records
   pub typed : AreMessagesByRows rows records messages
   pub rules : KeepsRules messages
@@ -93,7 +94,7 @@ abbrev pub IsAccepted : Limits → Mode → List ℕ → List Sent → Type 0
 IsAccepted = IsAcceptedByRows profile
 
 -- The message of the record is accepted after these messages.
-pub record IsNext (limits : Limits) (mode : Mode) (before : List Sent) (held : Held) (message :
+pub record IsNext (limits : Limits) (mode : Mode) (before : List Sent) (held : Payload) (message :
     Sent) : Type 0
   where
     pub is_message : IsMessage held message
@@ -103,27 +104,27 @@ pub record IsNext (limits : Limits) (mode : Mode) (before : List Sent) (held : H
 
 -- After these messages, the record is rejected for this reason. The reasons are checked in this
 -- order.
-abbrev pub Objects : Limits → Mode → List Sent → Held → Objection → Type 0
-Objects limits mode before held (no_message why) = HasRefusal held.1 why
-Objects limits mode before held (broken rule) = (message : Sent) × IsMessage held message
+abbrev pub Rejects : Limits → Mode → List Sent → Payload → ContentError → Type 0
+Rejects limits mode before held (no_message why) = HasRefusal held.1 why
+Rejects limits mode before held (broken rule) = (message : Sent) × IsMessage held message
     × (first_broken before message ≡ Some rule)
-Objects limits mode before held too_many_ids =
+Rejects limits mode before held too_many_ids =
     (message : Sent) × IsMessage held message × (first_broken before message ≡ None)
     × HasTooManyIds (stop_in mode) (id_limit limits) (before ++ message ∷ [])
-Objects limits mode before held grew =
+Rejects limits mode before held grew =
     (message : Sent) × IsMessage held message × (first_broken before message ≡ None)
     × HasFewIds (stop_in mode) (id_limit limits) (before ++ message ∷ [])
     × HasGrown limits mode (before ++ message ∷ [])
 
 -- the rules by which recordings are checked
-abbrev pub accepting : Limits → Mode → Judging
+abbrev pub accepting : Limits → Mode → Validation
 accepting limits mode = record {
-  Held = Held;
+  Payload = Payload;
   Value = Sent;
   input = limits.input;
   records = records limits.frame;
   IsNext = IsNext limits mode;
-  Objects = Objects limits mode;
+  Rejects = Rejects limits mode;
   IsAccepted = IsAccepted limits mode;
 }
 

@@ -42,14 +42,14 @@ module _ {R : Type 0} (source : Source R) (limits : Limits) (mode : Mode) (compl
 
   -- An allocation failed at this record. No more was read than the record requires, the reader did
   -- not fail, and the records before it are accepted.
-  abbrev pub HasGivenUp : R → R → Type 0
-  HasGivenUp old new = (number : ℕ) × (text : List ℕ)
+  abbrev pub RanOutOfMemory : R → R → Type 0
+  RanOutOfMemory old new = (number : ℕ) × (text : List ℕ)
       × HasComeTo source limits mode old new None number text
 
   abbrev pub Checks : R → R → Result Checked Refused → Type 0
   Checks old new (Ok checked) = HasChecked old new checked
   Checks old new (Err (Incomplete client adapter)) = IsIncomplete old new client adapter
   Checks old new (Err WriteFault) = ⊥
-  Checks old new (Err Memory) = HasGivenUp old new
+  Checks old new (Err Memory) = RanOutOfMemory old new
   Checks old new (Err refused) = (text : List ℕ)
       × RefusesNext source limits mode old new refused text

@@ -8,19 +8,19 @@ use Rattle.dap_recording.specs.Recording.{record_text}
 use Rattle.dap_recording.specs.declared.record.Record.{Record as WholeRecord}
 use Rattle.dap_rename.specs.Messages.{AreProper, IsNormal}
 use Rattle.dap_rename.specs.Modes.{stop_in}
-use Rattle.dap_rename.specs.Names.{StandFor, limit_in, mode_of}
+use Rattle.dap_rename.specs.Names.{Represents, limit_in, mode_of}
 use Rattle.dap_rename.specs.declared.mode.Mode.{Mode}
-use Rattle.dap_session.specs.Standing.{Stands}
+use Rattle.dap_session.specs.Representation.{Represents as SessionRepresents}
 use Rattle.dap_normal.specs.declared.judging.Judge.{Judge}
 use Rattle.dap_input.specs.declared.limits.Limits.{Limits}
 use Rattle.dap_input.specs.declared.refused.Refused.{Refused}
 use Rattle.dap_input.specs.declared.refused.Refused.TheVariants.{Grew, Memory}
-use Rattle.dap_input.specs.Refusals.{RefusesHeld}
-use Rattle.dap_normal.specs.Accepting.{Held, Fits, IsNext, Objects, text}
+use Rattle.dap_input.specs.Refusals.{RejectsPayload}
+use Rattle.dap_normal.specs.Accepting.{Payload, Fits, IsNext, Rejects, text}
 
 -- the payload of a record
-abbrev pub held_of : WholeRecord → Held
-held_of whole = (whole.side, whole.content)
+abbrev pub payload_of : WholeRecord → Payload
+payload_of whole = (whole.side, whole.content)
 
 abbrev pub judge_limits : {T : Type 0} → Judge T → Limits
 judge_limits judge = judge.limits
@@ -32,9 +32,9 @@ judge_mode judge = mode_of judge.names
 module _ {T : Type 0} (numbers : T → List ℤ) (table_limit : T → ℕ) where
   -- Abstraction relation: the state represents these messages, with this normal form. Its session
   -- and its canonical numbers represent them, and it knows the length of the text.
-  pub record StandsFor (judge : Judge T) (messages normal : List Sent) : Type 0 where
-    pub session : Stands judge.session messages
-    pub names : StandFor numbers table_limit judge.names messages
+  pub record RepresentsMessages (judge : Judge T) (messages normal : List Sent) : Type 0 where
+    pub session : SessionRepresents judge.session messages
+    pub names : Represents numbers table_limit judge.names messages
     pub name_limits : (s : Sort) → limit_in table_limit judge.names s ≡ judge.limits.ids
     pub proper : AreProper messages
     pub is_normal : IsNormal (stop_in (judge_mode judge)) messages normal
@@ -60,19 +60,21 @@ Writes limits message n written old new (Err _) = ⊥
 module _ {T : Type 0} (numbers : T → List ℤ) (table_limit : T → ℕ) where
   -- The message of the record is accepted after these messages, the new state represents it too,
   -- and the record of its normal form was appended.
-  pub record IsTaken (messages normal : List Sent) (held : Held) (judge : Judge T)
+  pub record IsTaken (messages normal : List Sent) (held : Payload) (judge : Judge T)
       (old new : List ℕ) : Type 0 where
     pub message : Sent
     pub is_next : IsNext judge.limits (judge_mode judge) messages held message
     pub named : Sent
-    pub stands : StandsFor numbers table_limit judge (messages ++ message ∷ []) (normal ++ named
+    pub represents : RepresentsMessages numbers table_limit judge (messages ++ message ∷ [])
+        (normal ++ named
         ∷ [])
     pub appended : new ≡ old ++ record_of named
 
   -- Record n with this payload is accepted or rejected.
-  abbrev pub JudgesRecord : List Sent → List Sent → Held → ℕ → Judge T → Judge T → List ℕ → List ℕ
+  abbrev pub JudgesRecord : List Sent → List Sent → Payload → ℕ → Judge T → Judge T → List ℕ
+      → List ℕ
       → Result (Unit {0}) Refused → Type 0
   JudgesRecord messages normal held n before after old new (Ok done) =
       IsTaken messages normal held after old new
   JudgesRecord messages normal held n before after old new (Err because) =
-      RefusesHeld (Objects before.limits (judge_mode before) messages held) n because
+      RejectsPayload (Rejects before.limits (judge_mode before) messages held) n because

@@ -68,8 +68,9 @@ OneNormalText = (limits : Limits) (mode : Mode) → AreSound limits → (bytes w
     → Normalises limits mode bytes written → Normalises limits mode bytes other → written ≡ other
 
 -- Normalising the output does not change it.
-abbrev pub NormalStandsStill : Type 0
-NormalStandsStill = (limits : Limits) (mode : Mode) → AreSound limits → (bytes written : List ℕ)
+abbrev pub NormalisingIsIdempotent : Type 0
+NormalisingIsIdempotent = (limits : Limits) (mode : Mode) → AreSound limits
+    → (bytes written : List ℕ)
     → Normalises limits mode bytes written → Normalises limits mode written written
 
 -- An output in the mode `Whole` normalises, in any mode, to the output of its recording in that
@@ -81,8 +82,8 @@ WholeTextIsNormalised = (limits : Limits) (mode : Mode) → AreSound limits
 
 -- Two accepted recordings have equal output if and only if some renaming maps the messages of the
 -- first to those of the second.
-abbrev pub EqualTextsTell : Type 0
-EqualTextsTell = (limits : Limits) (mode : Mode) → AreSound limits
+abbrev pub EqualTextsIffSame : Type 0
+EqualTextsIffSame = (limits : Limits) (mode : Mode) → AreSound limits
     → (bytes others written other : List ℕ) (a : Normalises limits mode bytes written)
     (b : Normalises limits mode others other) →
     (written ≡ other) ↔ AreSame (stop_in mode) a.messages b.messages

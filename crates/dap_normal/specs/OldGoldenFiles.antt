@@ -3,7 +3,7 @@
 use Rattle.std.specs.Prelude.{◌≡◌, ℕ, List}
 use Rattle.dap_profile.specs.Profile.{first_rows}
 use Rattle.dap_message.specs.Message.{Sent}
-use Rattle.dap_rename.specs.Messages.{IsNormal, in_whole}
+use Rattle.dap_rename.specs.Messages.{IsNormal, no_stop}
 use Rattle.dap_rename.specs.declared.mode.Mode.TheVariants.{Whole}
 use Rattle.dap_input.specs.declared.limits.Limits.{Limits}
 use Rattle.dap_input.specs.Limits.{AreSound}
@@ -17,7 +17,7 @@ pub record IsOldGolden (limits : Limits) (old new : List ℕ) : Type 0 where
   pub first : List Sent
   pub accepted : IsAcceptedByRows first_rows limits Whole recording first
   pub normal : List Sent
-  pub is_normal : IsNormal in_whole first normal
+  pub is_normal : IsNormal no_stop first normal
   pub old_is : old ≡ text normal
   pub normalises : Normalises limits Whole recording new
 

@@ -3,7 +3,7 @@
 use Rattle.std.specs.Prelude.{◌≡◌, ◌⊎◌, ℕ, List, Option, Result, Err}
 use Rattle.dap_device.specs.declared.device.Source.{Ghosts as Source}
 use Rattle.dap_device.specs.declared.device.Sink.{Ghosts as Sink}
-use Rattle.dap_device.specs.Written.{AllWritten, FrontWritten}
+use Rattle.dap_device.specs.Written.{AllWritten, PrefixWritten}
 use Rattle.dap_device.specs.declared.reading.Stop.{Stop}
 use Rattle.dap_input.specs.Streaming as engine
 use Rattle.dap_input.specs.declared.limits.Limits.{Limits}
@@ -22,9 +22,10 @@ module _ {R : Type 0} (source : Source R) (limits : Limits) (mode : Mode) where
   RefusesNext = engine.RefusesNext (accepting limits mode) (Normalises limits mode) source
 
 module _ {R W : Type 0} (source : Source R) (sink : Sink W) (limits : Limits) (mode : Mode) where
-  abbrev pub HasGivenUp : R → R → W → W → Type 0
-  HasGivenUp =
-      engine.HasGivenUp (accepting limits mode) (Normalises limits mode) (IsCanonical limits mode)
+  abbrev pub RanOutOfMemory : R → R → W → W → Type 0
+  RanOutOfMemory =
+      engine.RanOutOfMemory (accepting limits mode) (Normalises limits mode)
+      (IsCanonical limits mode)
       source sink
 
   -- an allocation failed before it read the record with this number
@@ -48,15 +49,15 @@ module _ {R W : Type 0} (source : Source R) (sink : Sink W) (limits : Limits) (m
 abbrev pub Answers : {W : Type 0} → Sink W → W → W → Result (Unit {0}) Refused
     → Result (Unit {0}) Refused → Type 0
 Answers sink before after (Err Memory) given = (given ≡ Err Memory) × (after ≡ before)
-Answers sink before after answer given = engine.Flushes sink before after answer given
+Answers sink before after outcome given = engine.Flushes sink before after outcome given
 
 -- The remaining output is written before the result is returned; or the writer fails, and
 -- `WriteFault` is returned.
 abbrev pub Ends : {W : Type 0} → Sink W → List ℕ → W → W → Result (Unit {0}) Refused
     → Result (Unit {0}) Refused → Type 0
-Ends {W} sink text before after answer given =
-    ((mid : W) × AllWritten sink before mid text × Answers sink mid after answer given)
-    ⊎ (FrontWritten sink before after text × (given ≡ Err WriteFault))
+Ends {W} sink text before after outcome given =
+    ((mid : W) × AllWritten sink before mid text × Answers sink mid after outcome given)
+    ⊎ (PrefixWritten sink before after text × (given ≡ Err WriteFault))
 
 abbrev pub Flushes : {W U : Type 0} → Sink W → W → W → Result U Refused → Result U Refused → Type 0
 Flushes = engine.Flushes

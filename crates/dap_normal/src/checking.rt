@@ -3,7 +3,7 @@ ghost use Rattle.std.specs.Prelude.{◌+◌, ◌<◌, ◌≤◌, ◌^◌, [], fa
 ghost use Rattle.dap_normal.specs.Checking.{Checks};
 ghost use Rattle.dap_input.specs.Limits.{AreSound};
 ghost use Rattle.dap_normal.specs.NameTables.{AreReady};
-ghost use Rattle.dap_normal.specs.NormalSteps.{StandsBefore};
+ghost use Rattle.dap_normal.specs.NormalSteps.{RepresentsBefore};
 
 use crate::checked::Checked;
 use crate::default_tables::index_tables;
@@ -44,7 +44,7 @@ pub fn check<R: Source>(
     // returned if and only if `complete` is true and a request has no response. `ReadFault` is
     // returned if and only if the reader failed. If an allocation failed, no more was read than
     // some record requires, and the records before it are accepted.
-    ensures answer { Checks R.Source limits mode complete reader.old reader.new result }
+    ensures outcome { Checks R.Source limits mode complete reader.old reader.new result }
 
     // It reads at most one byte beyond the limit.
     ensures taken { R.given reader.new ≤ R.given reader.old + limits.input + 1 }
@@ -73,7 +73,7 @@ pub fn check_with<R: Source, T: NameTable + Drop>(
     requires failures { R.failures reader.old < 2 ^ 62 }
 
     // The guarantees of `check`, for any tables.
-    ensures answer { Checks R.Source limits mode complete reader.old reader.new result }
+    ensures outcome { Checks R.Source limits mode complete reader.old reader.new result }
     ensures taken { R.given reader.new ≤ R.given reader.old + limits.input + 1 }
 {
     let checked = count_records(alloc, reader, limits, tables, mode)?;
@@ -95,7 +95,7 @@ fn count_records<R: Source, T: NameTable + Drop>(
     requires tables { AreReady T.numbers T.limit limits tables }
     requires given { R.given reader.old < 2 ^ 62 }
     requires failures { R.failures reader.old < 2 ^ 62 }
-    ensures answer { Checks R.Source limits mode false reader.old reader.new result }
+    ensures outcome { Checks R.Source limits mode false reader.old reader.new result }
     ensures taken { R.given reader.new ≤ R.given reader.old + limits.input + 1 }
 {
     let Ok(mut records) = NormalRecords::new(alloc, limits, tables, mode) else {
@@ -113,10 +113,10 @@ fn judge_records<R: Source, T: NameTable + Drop>(
     mode: Mode,
 ) -> Result<Checked, Refused>
     requires limits { AreSound limits }
-    requires stands { StandsBefore T.numbers T.limit limits mode [] records.old [] [] }
+    requires represents { RepresentsBefore T.numbers T.limit limits mode [] records.old [] [] }
     requires given { R.given reader.old < 2 ^ 62 }
     requires failures { R.failures reader.old < 2 ^ 62 }
-    ensures answer { Checks R.Source limits mode false reader.old reader.new result }
+    ensures outcome { Checks R.Source limits mode false reader.old reader.new result }
     ensures taken { R.given reader.new ≤ R.given reader.old + limits.input + 1 }
 {
     let mut text = Vec::new(alloc);

@@ -29,15 +29,20 @@ pub struct Judge<T> {
 }
 
 impl<T: NameTable + Drop> Judge<T> {
-    ghost use Rattle.dap_normal.specs.Accepting.{Held, IsMessage};
-    ghost use Rattle.dap_normal.specs.JudgingSteps.{JudgesRecord, StandsFor, held_of, judge_limits};
+    ghost use Rattle.dap_normal.specs.Accepting.{Payload, IsMessage};
+    ghost use Rattle.dap_normal.specs.JudgingSteps.{
+      JudgesRecord,
+      RepresentsMessages,
+      payload_of,
+      judge_limits,
+    };
     ghost use Rattle.dap_normal.specs.JudgingSteps.{judge_mode};
 
     /// Returns the state before the first record.
     pub fn new(alloc: Global, limits: Limits, tables: Tables<T>, mode: Mode) -> Judge<T>
         requires limits { AreSound limits }
         requires tables { AreReady T.numbers T.limit limits tables }
-        ensures stands { StandsFor T.numbers T.limit result [] [] }
+        ensures represents { RepresentsMessages T.numbers T.limit result [] [] }
         ensures limits { judge_limits result ≡ limits }
         ensures mode { judge_mode result ≡ mode }
     {
@@ -70,8 +75,8 @@ impl<T: NameTable + Drop> Judge<T> {
         out: &mut Vec<u8>,
     ) -> Result<(), Refused>
         ensures judges { (messages normal : List Sent)
-            → StandsFor T.numbers T.limit self.old messages normal
-            → JudgesRecord T.numbers T.limit messages normal (held_of whole.now) number self.old
+            → RepresentsMessages T.numbers T.limit self.old messages normal
+            → JudgesRecord T.numbers T.limit messages normal (payload_of whole.now) number self.old
             self.new out.old.items out.new.items result }
         ensures limits { judge_limits self.new ≡ judge_limits self.old }
         ensures mode { judge_mode self.new ≡ judge_mode self.old }
@@ -101,8 +106,9 @@ impl<T: NameTable + Drop> Judge<T> {
         message: M,
         out: &mut Vec<u8>,
     ) -> Result<(), Refused>
-        ensures judges { (messages normal : List Sent) (held : Held)
-            → StandsFor T.numbers T.limit self.old messages normal → IsMessage held (M.sent message)
+        ensures judges { (messages normal : List Sent) (held : Payload)
+            → RepresentsMessages T.numbers T.limit self.old messages normal
+            → IsMessage held (M.sent message)
             → JudgesRecord T.numbers T.limit messages normal held number self.old self.new
             out.old.items out.new.items result }
         ensures limits { judge_limits self.new ≡ judge_limits self.old }
@@ -139,7 +145,7 @@ impl<T: NameTable + Drop> Judge<T> {
     /// Returns the number of requests of that side that have no response.
     pub fn open(&self, side: Side) -> usize
         ensures { (messages normal : List Sent)
-            → StandsFor T.numbers T.limit self.now messages normal
+            → RepresentsMessages T.numbers T.limit self.now messages normal
             → result ≡ open_requests side messages }
     {
         self.session.open(side)

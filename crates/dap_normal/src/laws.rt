@@ -4,7 +4,7 @@ ghost use Rattle.dap_normal.specs.Accepting.{ReadingIsBounded, RecordingHasOneOu
 ghost use Rattle.dap_normal.specs.Accepting.{RecordingRefusalStays};
 ghost use Rattle.dap_normal.specs.Normalising.{HasOneNormalForm, NormalIsAccepted};
 ghost use Rattle.dap_normal.specs.Normalising.{AcceptedIsNormalised, OneNormalText};
-ghost use Rattle.dap_normal.specs.Normalising.{NormalStandsStill, EqualTextsTell};
+ghost use Rattle.dap_normal.specs.Normalising.{NormalisingIsIdempotent, EqualTextsIffSame};
 ghost use Rattle.dap_normal.specs.Normalising.{WholeTextIsNormalised};
 ghost use Rattle.dap_normal.specs.OldGoldenFiles.{OldGoldenFiles};
 
@@ -24,7 +24,7 @@ pub fn normal_form_stands()
     ensures accepted { NormalIsAccepted }
     ensures some_text { AcceptedIsNormalised }
     ensures one_text { OneNormalText }
-    ensures still { NormalStandsStill }
+    ensures still { NormalisingIsIdempotent }
 {}
 
 /// States that two accepted recordings have equal output if and only if one-to-one renamings map
@@ -33,7 +33,7 @@ pub fn normal_form_stands()
 /// thread ids, and breakpoint ids. With `Mode::PerStop`, frame ids and variables references have a
 /// renaming of their own for each stop.
 pub fn equal_texts_tell()
-    ensures { EqualTextsTell }
+    ensures { EqualTextsIffSame }
 {}
 
 /// States how an old golden file normalises in the mode `Whole`: one that was written by the first

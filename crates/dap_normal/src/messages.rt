@@ -3,10 +3,10 @@ ghost use Rattle.std.specs.Prelude.{◌≡◌, ◌≤◌, List, IfOk, IfErr, IfS
 ghost use Rattle.dap_tree.specs.Json.{text_of};
 ghost use Rattle.dap_flat_message.specs.FlatMessages.{flat_sent};
 ghost use Rattle.dap_message.specs.Message.{Sent, sent};
-ghost use Rattle.dap_normal.specs.Accepting.{HoldsNoMessage, IsMessage, Objects};
+ghost use Rattle.dap_normal.specs.Accepting.{HoldsNoMessage, IsMessage, Rejects};
 ghost use Rattle.dap_normal.specs.JudgingSteps.{Writes};
 ghost use Rattle.dap_input.specs.Limits.{AreSound};
-ghost use Rattle.dap_input.specs.Refusals.{RefusesHeld};
+ghost use Rattle.dap_input.specs.Refusals.{RejectsPayload};
 
 use dap_flat_message::{FlatFault, FlatMessage, read_flat_message};
 use dap_frame::FrameFault;
@@ -37,9 +37,9 @@ pub fn read_message(
 ) -> Result<Message, Refused>
     ensures ok { IfOk result (λ message. IsMessage (side, content.now) (sent message)) }
     ensures err { IfErr result (λ because. (limits : Limits) (mode : Mode) (messages : List Sent)
-        → RefusesHeld (Objects limits mode messages (side, content.now)) number because) }
+        → RejectsPayload (Rejects limits mode messages (side, content.now)) number because) }
     ensures only { IfErr result
-        (λ because. RefusesHeld (HoldsNoMessage (side, content.now)) number because) }
+        (λ because. RejectsPayload (HoldsNoMessage (side, content.now)) number because) }
 {
     let tree = match read_tree_with(alloc, content, scratch) {
         Ok(tree) => tree,
@@ -71,7 +71,7 @@ pub fn read_flat<'a>(
     ensures ok { IfOk result
         (λ found. IfSome found (λ message. IsMessage (side, content.now) (flat_sent message))) }
     ensures err { IfErr result (λ because. (limits : Limits) (mode : Mode) (messages : List Sent)
-        → RefusesHeld (Objects limits mode messages (side, content.now)) number because) }
+        → RejectsPayload (Rejects limits mode messages (side, content.now)) number because) }
 {
     let Ok(nodes) = Vec::with_capacity(alloc, content.len() / BYTES_A_NODE + 8) else {
         return Err(Refused::Memory);

@@ -4,7 +4,7 @@ ghost use Rattle.std.specs.Prelude.{OnErr};
 ghost use Rattle.dap_message.specs.Message.{Sent};
 ghost use Rattle.dap_rename.specs.Messages.{equal_places};
 ghost use Rattle.dap_rename.specs.Modes.{stop_in};
-ghost use Rattle.dap_rename.specs.Names.{HaveEqualCounts, StandFor, mode_of};
+ghost use Rattle.dap_rename.specs.Names.{HaveEqualCounts, Represents, mode_of};
 ghost use Rattle.dap_rename.specs.Pairs.{entries};
 ghost use Rattle.dap_rename.specs.Renaming.{pairs_of};
 ghost use Rattle.dap_session.specs.Rules.{open_requests};
@@ -30,8 +30,8 @@ pub struct NormalRecords<T> {
 }
 
 impl<T: NameTable + Drop> NormalRecords<T> {
-    ghost use Rattle.dap_normal.specs.JudgingSteps.{StandsFor as JudgeStandsFor};
-    ghost use Rattle.dap_normal.specs.NormalSteps.{HasNext, IsAtHand, StandsBefore};
+    ghost use Rattle.dap_normal.specs.JudgingSteps.{RepresentsMessages as JudgeStandsFor};
+    ghost use Rattle.dap_normal.specs.NormalSteps.{HasNext, IsBuffered, RepresentsBefore};
 
     /// Returns the records of an input before the first one is read.
     ///
@@ -46,8 +46,8 @@ impl<T: NameTable + Drop> NormalRecords<T> {
     ) -> Result<NormalRecords<T>, AllocError>
         requires limits { AreSound limits }
         requires tables { AreReady T.numbers T.limit limits tables }
-        ensures stands { IfOk result
-            (λ records. StandsBefore T.numbers T.limit limits mode [] records [] []) }
+        ensures represents { IfOk result
+            (λ records. RepresentsBefore T.numbers T.limit limits mode [] records [] []) }
     {
         let reader = RecordReader::new(alloc, limits.frame);
         Ok(NormalRecords {
@@ -78,8 +78,8 @@ impl<T: NameTable + Drop> NormalRecords<T> {
     pub fn has_next(&self) -> bool
         ensures { (limits : Limits) (mode : Mode) (bytes : List ℕ)
             (messages normal : List Sent)
-            → StandsBefore T.numbers T.limit limits mode bytes self.now messages normal
-            → IsTrue result → IsAtHand limits self.now }
+            → RepresentsBefore T.numbers T.limit limits mode bytes self.now messages normal
+            → IsTrue result → IsBuffered limits self.now }
     {
         self.records.has_next()
     }
@@ -107,7 +107,7 @@ impl<T: NameTable + Drop> NormalRecords<T> {
         requires failures { R.failures reader.old < 2 ^ 63 }
         ensures next { (limits : Limits) (mode : Mode) (bytes : List ℕ)
             (messages normal : List Sent)
-            → StandsBefore T.numbers T.limit limits mode bytes self.old messages normal
+            → RepresentsBefore T.numbers T.limit limits mode bytes self.old messages normal
             → HasNext T.numbers T.limit R.Source limits mode bytes messages normal
             self.old self.new reader.old reader.new text.old.items text.new.items result }
         ensures kept { OnErr result (text.new.items ≡ text.old.items) }
@@ -115,8 +115,8 @@ impl<T: NameTable + Drop> NormalRecords<T> {
         // If the record is buffered, nothing is read.
         ensures at_hand { (limits : Limits) (mode : Mode) (bytes : List ℕ)
             (messages normal : List Sent)
-            → StandsBefore T.numbers T.limit limits mode bytes self.old messages normal
-            → IsAtHand limits self.old → R.given reader.new ≡ R.given reader.old }
+            → RepresentsBefore T.numbers T.limit limits mode bytes self.old messages normal
+            → IsBuffered limits self.old → R.given reader.new ≡ R.given reader.old }
     {
         let number = self.records.number();
         let Some(whole) = self.records.next(reader)? else {
@@ -141,8 +141,8 @@ impl<T: NameTable + Drop> NormalRecords<T> {
     ) -> Result<Renaming, NameFault>
         requires { HaveEqualCounts T.numbers self.now.judge.names other.now.judge.names }
         ensures pairs { IfOk result (λ renaming. (messages others : List Sent)
-            → StandFor T.numbers T.limit self.now.judge.names messages
-            → StandFor T.numbers T.limit other.now.judge.names others
+            → Represents T.numbers T.limit self.now.judge.names messages
+            → Represents T.numbers T.limit other.now.judge.names others
             → entries (pairs_of renaming)
             ≡ equal_places (stop_in (mode_of self.now.judge.names)) messages others) }
         ensures memory { IfErr result (λ f. f ≡ NameFault.Memory) }

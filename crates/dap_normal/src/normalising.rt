@@ -2,7 +2,7 @@
 ghost use Rattle.std.specs.Prelude.{◌≡◌, ◌+◌, ◌<◌, ◌≤◌, ◌^◌, [], IfErr, IfOk, IsErrOf};
 ghost use Rattle.dap_input.specs.Limits.{AreSound};
 ghost use Rattle.dap_normal.specs.NameTables.{AreReady};
-ghost use Rattle.dap_normal.specs.NormalSteps.{StandsBefore};
+ghost use Rattle.dap_normal.specs.NormalSteps.{RepresentsBefore};
 ghost use Rattle.dap_normal.specs.Normalising.{IsCanonical, RefusesBytes};
 ghost use Rattle.dap_normal.specs.Streaming.{Ends, Flushes, HasGivenUpAt, Streams};
 
@@ -77,7 +77,7 @@ fn normal_text<T: NameTable + Drop>(
     mode: Mode,
 ) -> Result<Normalised, Refused>
     requires limits { AreSound limits }
-    requires stands { StandsBefore T.numbers T.limit limits mode [] records.old [] [] }
+    requires represents { RepresentsBefore T.numbers T.limit limits mode [] records.old [] [] }
     ensures ok { IfOk result (λ text. IsCanonical limits mode bytes.now text.bytes) }
     ensures err { IfErr result (λ refused. RefusesBytes limits mode bytes.now refused) }
     ensures mode { IfOk result (λ text. text.mode ≡ mode) }
@@ -89,28 +89,28 @@ fn normal_text<T: NameTable + Drop>(
 }
 
 /// Flushes the writer, then returns the given result, or `WriteFault` if the flush failed.
-fn flushed<W: Sink>(writer: &mut W, answer: Result<(), Refused>) -> Result<(), Refused>
+fn flushed<W: Sink>(writer: &mut W, outcome: Result<(), Refused>) -> Result<(), Refused>
     requires { W.failures writer.old < 2 ^ 63 }
-    ensures { Flushes W.Sink writer.old writer.new answer result }
+    ensures { Flushes W.Sink writer.old writer.new outcome result }
 {
     match writer.flush() {
-        Ok(()) => answer,
+        Ok(()) => outcome,
         Err(_) => Err(Refused::WriteFault),
     }
 }
 
 /// Writes the remaining output and flushes the writer, then returns the given result. Returns
 /// `WriteFault` if the writer failed. If the given result is `Memory`, does not flush.
-fn ended<W: Sink>(writer: &mut W, text: &[u8], answer: Result<(), Refused>) -> Result<(), Refused>
+fn ended<W: Sink>(writer: &mut W, text: &[u8], outcome: Result<(), Refused>) -> Result<(), Refused>
     requires { W.failures writer.old < 2 ^ 62 }
-    ensures { Ends W.Sink text.now writer.old writer.new answer result }
+    ensures { Ends W.Sink text.now writer.old writer.new outcome result }
 {
     if write_all(writer, text).is_err() {
         return Err(Refused::WriteFault);
     }
-    match answer {
+    match outcome {
         Err(Refused::Memory) => Err(Refused::Memory),
-        _ => flushed(writer, answer),
+        _ => flushed(writer, outcome),
     }
 }
 
@@ -145,7 +145,7 @@ pub fn normalise<R: Source, W: Sink>(
     // that of the records before it was. If an allocation fails, no flush follows. If the writer
     // fails, a prefix of the output was written. `ReadFault` and `WriteFault` are returned if and
     // only if the reader or the writer failed.
-    ensures answer { Streams R.Source W.Sink limits mode reader.old reader.new
+    ensures outcome { Streams R.Source W.Sink limits mode reader.old reader.new
         writer.old writer.new result }
 
     // If an allocation failed, the reader did not fail.
@@ -180,7 +180,7 @@ pub fn normalise_with<R: Source, W: Sink, T: NameTable + Drop>(
     requires write_failures { W.failures writer.old < 2 ^ 62 }
 
     // The guarantees of `normalise`, for any tables.
-    ensures answer { Streams R.Source W.Sink limits mode reader.old reader.new
+    ensures outcome { Streams R.Source W.Sink limits mode reader.old reader.new
         writer.old writer.new result }
     ensures memory { IsErrOf result Refused.Memory
         → R.failures reader.new ≡ R.failures reader.old }
@@ -203,11 +203,11 @@ fn write_records<R: Source, W: Sink, T: NameTable + Drop>(
     mode: Mode,
 ) -> Result<(), Refused>
     requires limits { AreSound limits }
-    requires stands { StandsBefore T.numbers T.limit limits mode [] records.old [] [] }
+    requires represents { RepresentsBefore T.numbers T.limit limits mode [] records.old [] [] }
     requires given { R.given reader.old < 2 ^ 62 }
     requires read_failures { R.failures reader.old < 2 ^ 62 }
     requires write_failures { W.failures writer.old < 2 ^ 62 }
-    ensures answer { Streams R.Source W.Sink limits mode reader.old reader.new
+    ensures outcome { Streams R.Source W.Sink limits mode reader.old reader.new
         writer.old writer.new result }
 
     // If an allocation failed, the output of every accepted record was written, except possibly

@@ -138,9 +138,9 @@ module _ {X Y C D : Type 0} (s : Answers X C) (t : Answers Y D) (Alike : X → Y
           let own = number_alike before x other u all a in
           (own.0, have.plain_in_order x u a plain, own.1)
       at [] [] d e zip (inr not_none) = absurd (not_none refl)
-      at [] (w ∷ bs) d e zip answer = absurd zip
-      at (z ∷ as') [] d e zip answer = absurd zip
-      at (z ∷ as') (w ∷ bs) d e zip answer =
+      at [] (w ∷ bs) d e zip outcome = absurd zip
+      at (z ∷ as') [] d e zip outcome = absurd zip
+      at (z ∷ as') (w ∷ bs) d e zip outcome =
           let one = first_is s.classes (λ y. s.answered_by y.item x) [] before z as' d in
           let two = first_is t.classes (λ v. t.answered_by v.item u) [] other w bs e in (
             zip.0.1.0,

@@ -79,7 +79,7 @@ module _ (plan : Plan) where
             (get_or-set_same old.written.items place true false
             (omega (
               arith,
-              wrote.stands.written_len,
+              wrote.represents.written_len,
               ap length wrote.written,
               length-set old.written.items place true,
             )))))

@@ -79,7 +79,7 @@ module _ (plan : Plan) where
 
   -- One place was considered, and nothing else changed.
   pub record Considered (links : Links) (old new : Progress) (place : ℕ) : Type 0 where
-    pub stands : Stands new
+    pub represents : Stands new
     pub written : new.written.items ≡ old.written.items
     pub released : new.released.items ≡ old.released.items
     pub kept : (rank : ℕ) → HasRank old.ready rank → HasRank new.ready rank
@@ -87,7 +87,7 @@ module _ (plan : Plan) where
 
   -- One place was released if it is of this group, and nothing else changed.
   pub record ReleasedPlace (links : Links) (old new : Progress) (group place : ℕ) : Type 0 where
-    pub stands : Stands new
+    pub represents : Stands new
     pub written : new.written.items ≡ old.written.items
     pub released : new.released.items ≡ slice_set old.released.items group (place + 1)
     pub listed : (other : ℕ) → other < place_count plan → IsListed links old other
@@ -95,7 +95,7 @@ module _ (plan : Plan) where
 
   -- Places of one group were released, and nothing else changed.
   pub record Released (links : Links) (old new : Progress) (group : ℕ) : Type 0 where
-    pub stands : Stands new
+    pub represents : Stands new
     pub written : new.written.items ≡ old.written.items
     pub others : (other : ℕ) → other ≢ group
         → slice_index new.released.items other ≡ slice_index old.released.items other
@@ -105,7 +105,7 @@ module _ (plan : Plan) where
 
   -- Places of all groups below `end` were released, and nothing else changed.
   pub record ReleasedBelow (links : Links) (old new : Progress) (end : ℕ) : Type 0 where
-    pub stands : Stands new
+    pub represents : Stands new
     pub written : new.written.items ≡ old.written.items
     pub done : (group : ℕ) → group < end → IsReleased new group
     pub listed : (place : ℕ) → place < place_count plan → IsListed links old place
@@ -113,7 +113,7 @@ module _ (plan : Plan) where
 
   -- The followers of the place were considered, and nothing else changed.
   pub record ConsideredFollowers (links : Links) (old new : Progress) (place : ℕ) : Type 0 where
-    pub stands : Stands new
+    pub represents : Stands new
     pub written : new.written.items ≡ old.written.items
     pub released : new.released.items ≡ old.released.items
     pub kept : (rank : ℕ) → HasRank old.ready rank → HasRank new.ready rank
@@ -121,7 +121,7 @@ module _ (plan : Plan) where
 
   -- The ready place with the smallest rank was written, and its rank was removed.
   pub record Wrote (old new : Progress) (place : ℕ) : Type 0 where
-    pub stands : Stands new
+    pub represents : Stands new
     pub rank : ℕ
     pub has_rank : place_at_rank plan rank ≡ place
     pub rank_max : rank < place_count plan
@@ -133,6 +133,6 @@ module _ (plan : Plan) where
 
   -- No place has been written or released.
   pub record StartsAt (p : Progress) : Type 0 where
-    pub stands : Stands p
+    pub represents : Stands p
     pub written : p.written.items ≡ replicate (place_count plan) false
     pub released : (group : ℕ) → slice_index p.released.items group ≡ 0

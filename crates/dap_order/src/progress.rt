@@ -71,7 +71,7 @@ impl Progress {
     fn consider(&mut self, plan: &Plan, links: &Links, place: usize) -> Result<(), AllocError>
         requires well_formed { IsWellFormed plan.now }
         requires links { AreLinks plan.now links.now }
-        requires stands { Stands plan.now self.old }
+        requires represents { Stands plan.now self.old }
         requires in_range { place < place_count plan.now }
         ensures { OnOk result (Considered plan.now links.now self.old self.new place) }
     {
@@ -90,7 +90,7 @@ impl Progress {
     /// Returns whether places of the group must still follow the place before this one.
     fn is_held(&self, plan: &Plan, group: usize, place: usize) -> bool
         requires well_formed { IsWellFormed plan.now }
-        requires stands { Stands plan.now self.now }
+        requires represents { Stands plan.now self.now }
         requires in_range { place ≤ place_count plan.now }
         requires group_in_range { group < length plan.now.blocks.items }
         ensures { result ≡ is_held plan.now self.now.written.items group place }
@@ -108,7 +108,7 @@ impl Progress {
     ) -> Result<(), AllocError>
         requires well_formed { IsWellFormed plan.now }
         requires links { AreLinks plan.now links.now }
-        requires stands { Stands plan.now self.old }
+        requires represents { Stands plan.now self.old }
         requires in_range { place < place_count plan.now }
         requires group_in_range { group < length plan.now.blocks.items }
         requires next { slice_index self.old.released.items group ≡ place }
@@ -126,7 +126,7 @@ impl Progress {
     fn release(&mut self, plan: &Plan, links: &Links, group: usize) -> Result<(), AllocError>
         requires well_formed { IsWellFormed plan.now }
         requires links { AreLinks plan.now links.now }
-        requires stands { Stands plan.now self.old }
+        requires represents { Stands plan.now self.old }
         requires in_range { group < length plan.now.blocks.items }
         ensures { OnOk result (Released plan.now links.now self.old self.new group) }
     {
@@ -143,7 +143,7 @@ impl Progress {
     pub(crate) fn release_all(&mut self, plan: &Plan, links: &Links) -> Result<(), AllocError>
         requires well_formed { IsWellFormed plan.now }
         requires links { AreLinks plan.now links.now }
-        requires stands { Stands plan.now self.old }
+        requires represents { Stands plan.now self.old }
         ensures { OnOk result (ReleasedBelow plan.now links.now self.old self.new
             (length plan.now.blocks.items)) }
     {
@@ -156,7 +156,7 @@ impl Progress {
     /// Writes the ready place with the smallest key, and returns it.
     pub(crate) fn write_next(&mut self, plan: &Plan) -> Option<usize>
         requires well_formed { IsWellFormed plan.now }
-        requires stands { Stands plan.now self.old }
+        requires represents { Stands plan.now self.old }
         ensures { MatchOption result (HasNoRank self.old.ready)
             (Wrote plan.now self.old self.new) }
     {
@@ -175,7 +175,7 @@ impl Progress {
     ) -> Result<(), AllocError>
         requires well_formed { IsWellFormed plan.now }
         requires links { AreLinks plan.now links.now }
-        requires stands { Stands plan.now self.old }
+        requires represents { Stands plan.now self.old }
         requires in_range { place < place_count plan.now }
         ensures { OnOk result (ConsideredFollowers plan.now links.now self.old self.new place) }
     {

@@ -15,7 +15,7 @@ use Rattle.dap_tree.specs.declared.sort.Sort.{Sort}
 use Rattle.dap_message.specs.Message.{Sent}
 use Rattle.dap_names.specs.Numbering.{add, add_all, numbers, table}
 use Rattle.dap_names.proofs.Additions.{add_all-append, any-add, by_bool, numbers-append}
-use Rattle.dap_rename.specs.Messages.{Class, HasFewIds, in_whole, numbers_of_class, occurrence}
+use Rattle.dap_rename.specs.Messages.{Class, HasFewIds, no_stop, numbers_of_class, occurrence}
 use Rattle.dap_rename.specs.Messages.{occurrences, same_class}
 use Rattle.dap_order.specs.Swaps.{Reordered, unmoved, swapped}
 
@@ -124,18 +124,18 @@ module _ (c : Class) where
   own m = numbers same_class c (map (occurrence 0) (ids m.doc))
 
   abbrev all : List Sent → List ℤ
-  all ms = numbers same_class c (occurrences in_whole 0 ms)
+  all ms = numbers same_class c (occurrences no_stop 0 ms)
 
   all-append : (ms ns : List Sent) → all (ms ++ ns) ≡ all ms ++ all ns
   all-append [] ns = refl
   all-append (m ∷ ms) ns =
       numbers-append same_class c (map (occurrence 0) (ids m.doc))
-      (occurrences in_whole 0 (ms ++ ns))
+      (occurrences no_stop 0 (ms ++ ns))
       ∙ ap (λ l. own m ++ l) (all-append ms ns)
       ∙ sym (append_assoc (own m) (all ms) (all ns))
       ∙ ap (λ l. l ++ all ns)
       (sym (numbers-append same_class c (map (occurrence 0) (ids m.doc))
-      (occurrences in_whole 0 ms)))
+      (occurrences no_stop 0 ms)))
 
   -- The distinct numbers of the class, with two neighbours separated.
   two_apart : (front back : List Sent) (x y : Sent)
@@ -146,16 +146,16 @@ module _ (c : Class) where
       ∙ add_all-append [] (all front) (all (x ∷ y ∷ back))
       ∙ ap (add_all (add_all [] (all front)))
       (numbers-append same_class c (map (occurrence 0) (ids x.doc))
-      (occurrences in_whole 0 (y ∷ back)))
+      (occurrences no_stop 0 (y ∷ back)))
       ∙ add_all-append (add_all [] (all front)) (own x) (all (y ∷ back))
       ∙ ap (add_all (add_all (add_all [] (all front)) (own x)))
       (numbers-append same_class c (map (occurrence 0) (ids y.doc))
-      (occurrences in_whole 0 back))
+      (occurrences no_stop 0 back))
       ∙ add_all-append (add_all (add_all [] (all front)) (own x)) (own y) (all back)
 
   swapped_count : (front back : List Sent) (x y : Sent)
-      → length (numbers_of_class in_whole c (front ++ y ∷ x ∷ back))
-      ≡ length (numbers_of_class in_whole c (front ++ x ∷ y ∷ back))
+      → length (numbers_of_class no_stop c (front ++ y ∷ x ∷ back))
+      ≡ length (numbers_of_class no_stop c (front ++ x ∷ y ∷ back))
   unfolding table
   swapped_count front back x y =
       let t = add_all [] (all front) in
@@ -170,17 +170,17 @@ module _ (c : Class) where
       ∙ ap length (sym (two_apart front back x y))
 
   reordered_count : (free : Sent → Sent → Bool) (ms ns : List Sent) → Reordered free ms ns
-      → length (numbers_of_class in_whole c ns) ≡ length (numbers_of_class in_whole c ms)
+      → length (numbers_of_class no_stop c ns) ≡ length (numbers_of_class no_stop c ms)
   reordered_count free ms ns unmoved = refl
   reordered_count free ms ns (swapped {ys = us} p one) =
-      ap (λ l. length (numbers_of_class in_whole c l)) one.after
+      ap (λ l. length (numbers_of_class no_stop c l)) one.after
       ∙ swapped_count one.front one.back one.x one.y
-      ∙ ap (λ l. length (numbers_of_class in_whole c l)) (sym one.before)
+      ∙ ap (λ l. length (numbers_of_class no_stop c l)) (sym one.before)
       ∙ reordered_count free ms us p
 
 -- Messages in another order have few ids too.
 pub reordered_few : (free : Sent → Sent → Bool) (limit : Sort → ℕ) (ms ns : List Sent)
-    → Reordered free ms ns → HasFewIds in_whole limit ms → HasFewIds in_whole limit ns
+    → Reordered free ms ns → HasFewIds no_stop limit ms → HasFewIds no_stop limit ns
 reordered_few free limit ms ns p few c =
     let count = reordered_count c free ms ns p in
     let most = few c in

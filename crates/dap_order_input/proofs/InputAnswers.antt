@@ -5,7 +5,7 @@ use Rattle.std.specs.Prelude.{IfErr, IfOk, Vec}
 use Rattle.std.specs.declared.alloc.Global.{Global}
 use Rattle.dap_device.specs.declared.device.Sink.{Ghosts as Sink}
 use Rattle.dap_device.specs.declared.device.Source.{Ghosts as Source}
-use Rattle.dap_device.specs.Reading.{HasCome}
+use Rattle.dap_device.specs.Reading.{HasReadInput}
 use Rattle.dap_device.specs.declared.reading.Stop.{Stop}
 use Rattle.dap_device.specs.declared.reading.Stop.TheVariants.{End, Full, Failed}
 use Rattle.dap_message.specs.Message.{Sent}
@@ -76,7 +76,7 @@ module _ (limits : Limits) (mode : Mode) (rules : List SwapRule) (bytes : List �
 
   module _ {R : Type 0} (source : Source R) (old new : R) where
     pub accepts : (result : Result (Vec ℕ Global) Refused) (stop : Stop)
-        → HasCome source old new limits.input bytes stop
+        → HasReadInput source old new limits.input bytes stop
         → IfOk result (λ written. Orders limits mode rules bytes written.items)
         → (written : Vec ℕ Global) → result_of_input result stop ≡ Ok written
         → Accepts source limits.input (Orders limits mode rules) old new written.items
@@ -102,7 +102,7 @@ module _ (limits : Limits) (mode : Mode) (rules : List SwapRule) (bytes : List �
           {U = Unit {0}} old new writer writer (Err because)
 
       -- The reader failed, and there is no other error.
-      reader_failed : HasCome source old new limits.input bytes Failed
+      reader_failed : HasReadInput source old new limits.input bytes Failed
           → ((written : List ℕ) × Orders limits mode rules bytes written)
           ⊎ ((n : ℕ) × IsNotOrdered limits mode rules bytes (Record n Cut)) → Returns ReadFault
       reader_failed came other = (
@@ -111,7 +111,8 @@ module _ (limits : Limits) (mode : Mode) (rules : List SwapRule) (bytes : List �
       )
 
       -- An error of the bytes. It is that they are incomplete only if the reader reached its end.
-      refuses : (because : Refused) (stop : Stop) → HasCome source old new limits.input bytes stop
+      refuses : (because : Refused) (stop : Stop)
+          → HasReadInput source old new limits.input bytes stop
           → RefusesToOrder limits mode rules bytes because
           → ((n : ℕ) → because ≡ Record n Cut → stop ≡ End) → Returns because
       refuses Memory stop came is cut = refl
@@ -131,7 +132,8 @@ module _ (limits : Limits) (mode : Mode) (rules : List SwapRule) (bytes : List �
       same_returns because other same is =
           let one : because ≡ other = cc in subst Returns one is
 
-      refused : (because : Refused) (stop : Stop) → HasCome source old new limits.input bytes stop
+      refused : (because : Refused) (stop : Stop)
+          → HasReadInput source old new limits.input bytes stop
           → RefusesToOrder limits mode rules bytes because → (other : Refused)
           → result_of_input (failure because) stop ≡ failure other → Returns other
       refused (Record n Cut) End came is other same =
@@ -145,7 +147,7 @@ module _ (limits : Limits) (mode : Mode) (rules : List SwapRule) (bytes : List �
           (refuses because stop came is (λ n e. absurd (let no = e in cc)))
 
       pub returns_error : (result : Result (Vec ℕ Global) Refused) (stop : Stop)
-          → HasCome source old new limits.input bytes stop
+          → HasReadInput source old new limits.input bytes stop
           → IfOk result (λ written. Orders limits mode rules bytes written.items)
           → IfErr result (RefusesToOrder limits mode rules bytes) → (because : Refused)
           → result_of_input result stop ≡ Err because → Returns because

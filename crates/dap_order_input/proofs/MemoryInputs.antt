@@ -4,8 +4,8 @@ use Rattle.std.proofs.Common.{◌∙◌, sym, ap, subst, arith, append-nil, true
 use Rattle.dap_device.specs.declared.reading.Stop.{Stop}
 use Rattle.dap_device.specs.declared.reading.Stop.TheVariants.{End, Full, Failed}
 use Rattle.dap_device.specs.Memory.{GivenBytes}
-use Rattle.dap_device.specs.Pieces.{HasComeSoFar}
-use Rattle.dap_device.specs.Reading.{HasCome}
+use Rattle.dap_device.specs.Pieces.{HasReadSoFar}
+use Rattle.dap_device.specs.Reading.{HasReadInput}
 use Rattle.dap_items.proofs.Ends.{IsReadable}
 use Rattle.dap_recording.proofs.Records.{readable}
 use Rattle.dap_rename.specs.declared.mode.Mode.{Mode}
@@ -13,9 +13,9 @@ use Rattle.dap_input.specs.declared.limits.Limits.{Limits}
 use Rattle.dap_input.specs.declared.refused.Refused.{Refused}
 use Rattle.dap_input.specs.declared.refused.Refused.TheVariants.{Incomplete, Memory, WriteFault}
 use Rattle.dap_input.specs.Inputs.{Fault, Input, IsRefusedAt, refused, read_fault}
-use Rattle.dap_input.specs.Judging.{Judging}
+use Rattle.dap_input.specs.Validation.{Validation}
 use Rattle.dap_input.specs.ReadTo.{IsOf}
-use Rattle.dap_input.specs.Refusals.{IsRefused, Tells}
+use Rattle.dap_input.specs.Refusals.{IsRefused, RefusalMatches}
 use Rattle.dap_input.specs.Streaming.{RefusesNext}
 use Rattle.dap_input.proofs.Refusals.{refused_as, refused_in}
 use Rattle.dap_input.proofs.Runs.{AcceptedFacts, ValueLaws}
@@ -32,8 +32,8 @@ abbrev pub all_of : List ℕ → Input
 all_of bytes = record { bytes = bytes; failed = false }
 
 -- A rejection of bytes whose reader did not fail.
-pub reported : (j : Judging) (bytes : List ℕ) (because : Refused) (number : ℕ) (fault : Fault)
-    → Tells because number fault → IsRefusedAt j (all_of bytes) number fault
+pub reported : (j : Validation) (bytes : List ℕ) (because : Refused) (number : ℕ) (fault : Fault)
+    → RefusalMatches because number fault → IsRefusedAt j (all_of bytes) number fault
     → IsRefused j bytes because
 reported j bytes because number (refused why) tells is =
     refused_as j bytes because number why tells is.0
@@ -41,13 +41,13 @@ reported j bytes because number read_fault tells is = absurd (true≢false (sym 
 
 module _ (old new : GivenBytes) where
   -- If the reader reached its end, all bytes were read.
-  pub all_came : (limit : ℕ) (bytes : List ℕ) → HasCome memory old new limit bytes End
+  pub all_came : (limit : ℕ) (bytes : List ℕ) → HasReadInput memory old new limit bytes End
       → bytes ≡ old.left
   all_came limit bytes come =
       sym (come.came ∙ ap (λ rest. bytes ++ rest) come.stopped.0 ∙ append-nil bytes)
 
   -- The bytes read are those of the input, or a prefix of them. The reader did not fail.
-  pub came_of : (bytes : List ℕ) (stop : Option Stop) → HasComeSoFar memory old new bytes stop
+  pub came_of : (bytes : List ℕ) (stop : Option Stop) → HasReadSoFar memory old new bytes stop
       → IsOf bytes stop (all_of old.left)
   came_of bytes None come = (new.left, come.came)
   came_of bytes (Some End) come =
@@ -55,7 +55,7 @@ module _ (old new : GivenBytes) where
   came_of bytes (Some Full) come = (new.left, come.came)
   came_of bytes (Some Failed) come = absurd (let failed = come.paused in omega (arith, failed))
 
-  module _ (j : Judging) (records : IsReadable j.records) (judged : ValueLaws j)
+  module _ (j : Validation) (records : IsReadable j.records) (judged : ValueLaws j)
       (accepted : AcceptedFacts j) (Gives : List ℕ → List ℕ → Type 0) where
     -- A command function that rejects a record rejects the bytes for the same reason.
     pub refused_whole : (because : Refused) (text : List ℕ)

@@ -4,7 +4,7 @@ use Rattle.std.proofs.Common.{subst, arith}
 use Rattle.std.specs.List.{All}
 use Rattle.dap_message.specs.Message.{Sent}
 use Rattle.dap_recording.proofs.Records.{readable}
-use Rattle.dap_rename.specs.Messages.{AreSame, in_whole}
+use Rattle.dap_rename.specs.Messages.{AreSame, no_stop}
 use Rattle.dap_rename.specs.Modes.{stop_in}
 use Rattle.dap_rename.specs.declared.mode.Mode.{Mode}
 use Rattle.dap_rename.specs.declared.mode.Mode.TheVariants.{Whole}
@@ -13,7 +13,7 @@ use Rattle.dap_session.specs.Rules.{open_requests}
 use Rattle.dap_session.proofs.SequenceNumbers.{typed_numbered}
 use Rattle.dap_input.specs.declared.limits.Limits.{Limits}
 use Rattle.dap_input.proofs.Outcomes.{one_list}
-use Rattle.dap_normal.specs.Accepting.{Held, AreMessages, Fits, IsAccepted, accepting, text}
+use Rattle.dap_normal.specs.Accepting.{Payload, AreMessages, Fits, IsAccepted, accepting, text}
 use Rattle.dap_normal.proofs.AcceptingFacts.{accepted_facts, value_laws}
 use Rattle.dap_normal.proofs.NormalFormLaws.{equal_texts_tell}
 use Rattle.dap_swaps.specs.Order.{ordered}
@@ -31,7 +31,7 @@ one_accepted limits mode =
     one_list (accepting limits mode) (readable limits.frame) (value_laws limits mode)
     (accepted_facts limits mode)
 
-numbered : (records : List Held) (ms : List Sent) → AreMessages records ms → All IsNumbered ms
+numbered : (records : List Payload) (ms : List Sent) → AreMessages records ms → All IsNumbered ms
 numbered [] [] typed k d small = absurd (omega (arith, small))
 numbered [] (m ∷ ms) typed k d small = absurd typed
 numbered (held ∷ records) [] typed k d small = absurd typed
@@ -85,7 +85,7 @@ equal_texts_in_order limits mode sound rules bytes others written other normal a
 pub equal_ordered_texts : EqualOrderedTexts
 equal_ordered_texts limits sound rules bytes others written other normal also a b n k =
     let ms = a.messages in
-    let tells : (normal ≡ also) ↔ AreSame in_whole (ordered rules ms) (ordered rules b.messages) =
+    let tells : (normal ≡ also) ↔ AreSame no_stop (ordered rules ms) (ordered rules b.messages) =
     equal_texts_in_order limits Whole sound rules bytes others written other normal also a b n k in
     let is = numbered a.accepts.records ms a.accepts.typed in (
       (λ same. from_same_orders rules ms b.messages is (tells.0 same)),

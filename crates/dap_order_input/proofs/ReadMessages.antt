@@ -7,7 +7,7 @@ use Rattle.dap_device.specs.Memory.{GivenBytes}
 use Rattle.dap_device.specs.Pieces.{HasPaused}
 use Rattle.dap_device.specs.declared.reading.Stop.{Stop}
 use Rattle.dap_device.specs.declared.reading.Stop.TheVariants.{End, Full, Failed}
-use Rattle.dap_items.specs.Items.{IsItem}
+use Rattle.dap_items.specs.Grammar.{IsItem}
 use Rattle.dap_items.proofs.Ends.{one_item}
 use Rattle.dap_message.specs.Message.{Sent}
 use Rattle.dap_recording.proofs.Records.{readable}
@@ -16,10 +16,10 @@ use Rattle.dap_recording.specs.declared.record.Record.{Record as WholeRecord}
 use Rattle.dap_rename.specs.declared.mode.Mode.{Mode}
 use Rattle.dap_input.specs.InputSteps.{RefusesOne}
 use Rattle.dap_input.specs.Inputs.{Fault, Input, IsRefusedAt, refused, read_fault}
-use Rattle.dap_input.specs.ItemReading.{StandsForRecord, record_items}
+use Rattle.dap_input.specs.ItemReading.{RepresentsRecord, record_items}
 use Rattle.dap_input.specs.ReadTo.{IsOf, so_far}
 use Rattle.dap_input.specs.RecordSteps.{IsAtStart, ReadsNext}
-use Rattle.dap_input.specs.Refusals.{RefusesAt, RefusesHeld}
+use Rattle.dap_input.specs.Refusals.{RefusesAt, RejectsPayload}
 use Rattle.dap_input.specs.declared.limits.Limits.{Limits}
 use Rattle.dap_input.specs.declared.records.Records.{Records}
 use Rattle.dap_input.specs.declared.refused.Refused.{Refused}
@@ -29,14 +29,14 @@ use Rattle.dap_input.proofs.InputLoop.{ReadsAs}
 use Rattle.dap_input.proofs.Refusals.{refused_in}
 use Rattle.dap_input.proofs.Runs.{GoesOn, Run, run_goes_on, some_bytes}
 use Rattle.dap_input.proofs.WholeInputs as loop
-use Rattle.dap_normal.specs.Accepting.{Held, IsAccepted, IsMessage, IsNext, Objects, accepting}
-use Rattle.dap_normal.specs.JudgingSteps.{held_of}
+use Rattle.dap_normal.specs.Accepting.{Payload, IsAccepted, IsMessage, IsNext, Rejects, accepting}
+use Rattle.dap_normal.specs.JudgingSteps.{payload_of}
 use Rattle.dap_normal.proofs.AcceptingFacts.{accepted_facts, message_once, value_laws}
 use Rattle.dap_normal.proofs.WholeInput.{memory}
 
 -- A reader of records returns the records that are checked.
 reads_records : (limits : Limits) (mode : Mode)
-    → ReadsAs (accepting limits mode) (record_items limits.frame) held_of
+    → ReadsAs (accepting limits mode) (record_items limits.frame) payload_of
 reads_records limits mode = record {
   records = readable limits.frame;
   judged = value_laws limits mode;
@@ -53,39 +53,39 @@ start recording = record { left = recording; given = 0 }
 -- The records before the next one contain these messages.
 abbrev pub Reading : Limits → Mode → List ℕ → GivenBytes → Records RecordReading → List Sent → Type 0
 Reading limits mode recording reader records messages =
-    loop.Going (accepting limits mode) (StandsForRecord limits.frame) memory (start recording)
+    loop.Going (accepting limits mode) (RepresentsRecord limits.frame) memory (start recording)
     reader records messages
 
 module _ (limits : Limits) (mode : Mode) (recording : List ℕ) where
   pub none_read : (reader : GivenBytes) (records : Records RecordReading)
-      → reader ≡ start recording → IsAtStart (StandsForRecord limits.frame) limits.input records
+      → reader ≡ start recording → IsAtStart (RepresentsRecord limits.frame) limits.input records
       → Reading limits mode recording reader records []
   none_read reader records same at_start =
       subst (λ r. Reading limits mode recording r records []) (sym same)
-      (loop.at_start (accepting limits mode) (record_items limits.frame) held_of
-      (reads_records limits mode) (StandsForRecord limits.frame) memory (start recording) records
+      (loop.at_start (accepting limits mode) (record_items limits.frame) payload_of
+      (reads_records limits mode) (RepresentsRecord limits.frame) memory (start recording) records
       at_start)
 
   module _ (reader : GivenBytes) (records : Records RecordReading) (messages : List Sent)
       (was : Reading limits mode recording reader records messages) where
     pub few_records : limits.input ≤ 2 ^ 62 → records.number < 2 ^ 63
     few_records =
-        loop.small_number (accepting limits mode) (record_items limits.frame) held_of
-        (reads_records limits mode) (StandsForRecord limits.frame) memory (start recording) reader
+        loop.small_number (accepting limits mode) (record_items limits.frame) payload_of
+        (reads_records limits mode) (RepresentsRecord limits.frame) memory (start recording) reader
         records messages was
 
     pub few_given : limits.input ≤ 2 ^ 62
         → reader.given + (records.pieces.limit - records.pieces.taken) < 2 ^ 63
     few_given most =
-        loop.small_count (accepting limits mode) (record_items limits.frame) held_of
-        (reads_records limits mode) (StandsForRecord limits.frame) memory (start recording) reader
+        loop.small_count (accepting limits mode) (record_items limits.frame) payload_of
+        (reads_records limits mode) (RepresentsRecord limits.frame) memory (start recording) reader
         records messages was most (omega arith)
 
 module _ (limits : Limits) (mode : Mode) (recording : List ℕ) (all : List Sent)
     (accepted : IsAccepted limits mode recording all) where
   -- ---- the next message
 
-  module _ (messages : List Sent) (item tail : List ℕ) (held : Held)
+  module _ (messages : List Sent) (item tail : List ℕ) (held : Payload)
       (is_item : IsItem (accepting limits mode).records item held) where
     abbrev Next : Type 0
     Next = (m : Sent) × IsNext limits mode messages held m
@@ -118,8 +118,8 @@ module _ (limits : Limits) (mode : Mode) (recording : List ℕ) (all : List Sent
       (was : Reading limits mode recording reader records messages)
       (new : Records RecordReading) (after : GivenBytes) where
     abbrev Reads : Result (Option WholeRecord) Refused → Type 0
-    Reads answer = ReadsNext (record_items limits.frame) (StandsForRecord limits.frame) memory
-        records new reader after answer
+    Reads outcome = ReadsNext (record_items limits.frame) (RepresentsRecord limits.frame) memory
+        records new reader after outcome
 
     module _ (whole : WholeRecord) (read : Reads (Ok (Some whole))) where
       split_at : recording
@@ -136,30 +136,32 @@ module _ (limits : Limits) (mode : Mode) (recording : List ℕ) (all : List Sent
           ∙ append_assoc front (item ++ new.pieces.unread) after.left
           ∙ ap (λ t. front ++ t) (append_assoc item new.pieces.unread after.left)
 
-      pub one_more : (m : Sent) → IsMessage (held_of whole) m
+      pub one_more : (m : Sent) → IsMessage (payload_of whole) m
           → Reading limits mode recording after new (messages ++ m ∷ [])
       one_more m is =
           let next = next_in messages read.finds.1.front (new.pieces.unread ++ after.left)
-          (held_of whole) read.finds.1.is_record was.behind.front split_at was.behind.accepted in
-          let same = message_once (held_of whole) next.0 m next.1.is_message is in
-          loop.on (accepting limits mode) (record_items limits.frame) held_of
-          (reads_records limits mode) (StandsForRecord limits.frame) memory (start recording) reader
+          (payload_of whole) read.finds.1.is_record was.behind.front split_at was.behind.accepted in
+          let same = message_once (payload_of whole) next.0 m next.1.is_message is in
+          loop.on (accepting limits mode) (record_items limits.frame) payload_of
+          (reads_records limits mode) (RepresentsRecord limits.frame) memory (start recording)
+          reader
           records messages was new after whole read m
-          (subst (IsNext limits mode messages (held_of whole)) same next.1)
+          (subst (IsNext limits mode messages (payload_of whole)) same next.1)
 
       pub fewer : (new.pieces.limit - new.pieces.taken) + length new.pieces.unread
           < (records.pieces.limit - records.pieces.taken) + length records.pieces.unread
       fewer =
-          loop.fewer_left (accepting limits mode) (record_items limits.frame) held_of
-          (reads_records limits mode) (StandsForRecord limits.frame) memory (start recording) reader
+          loop.fewer_left (accepting limits mode) (record_items limits.frame) payload_of
+          (reads_records limits mode) (RepresentsRecord limits.frame) memory (start recording)
+          reader
           records messages was new after whole read
 
     -- ---- the end
 
     pub all_read : Reads (Ok None) → IsAccepted limits mode recording messages
     all_read read =
-        let end = loop.accepts_all (accepting limits mode) (record_items limits.frame) held_of
-        (reads_records limits mode) (StandsForRecord limits.frame) memory (start recording) reader
+        let end = loop.accepts_all (accepting limits mode) (record_items limits.frame) payload_of
+        (reads_records limits mode) (RepresentsRecord limits.frame) memory (start recording) reader
         records messages was new after read in
         subst (λ t. IsAccepted limits mode t messages)
         (sym (end.came.came ∙ ap (λ t. end.whole ++ t) end.came.paused.0 ∙ append-nil end.whole))
@@ -202,15 +204,15 @@ module _ (limits : Limits) (mode : Mode) (recording : List ℕ) (all : List Sent
     pub not_read : (because : Refused) → Reads (Err because) → because ≡ Memory
     not_read because read =
         only_memory because
-        (loop.refuses_read (accepting limits mode) (record_items limits.frame) held_of
-        (reads_records limits mode) (StandsForRecord limits.frame) memory (start recording) reader
+        (loop.refuses_read (accepting limits mode) (record_items limits.frame) payload_of
+        (reads_records limits mode) (RepresentsRecord limits.frame) memory (start recording) reader
         records messages was new after because read)
 
     pub no_message : (whole : WholeRecord) (because : Refused) → Reads (Ok (Some whole))
-        → RefusesHeld (Objects limits mode messages (held_of whole)) records.number because
+        → RejectsPayload (Rejects limits mode messages (payload_of whole)) records.number because
         → because ≡ Memory
     no_message whole because read held =
         only_memory because
-        (loop.refuses_held (accepting limits mode) (record_items limits.frame) held_of
-        (reads_records limits mode) (StandsForRecord limits.frame) memory (start recording) reader
+        (loop.refuses_held (accepting limits mode) (record_items limits.frame) payload_of
+        (reads_records limits mode) (RepresentsRecord limits.frame) memory (start recording) reader
         records messages was new after whole read because held)

@@ -4,7 +4,7 @@ use Rattle.std.proofs.Common.{◌≡◌, ℕ, ◌+◌, ◌≤◌, List, [], ◌�
 use Rattle.std.proofs.Common.{sym, ◌∙◌, ap, subst, arith, append_assoc, append-nil, length-append}
 use Rattle.std.proofs.Common.{zero-add}
 use Rattle.std.proofs.lemmas.List.{append_cancel_left}
-use Rattle.dap_items.specs.Items.{IsItem, Shows}
+use Rattle.dap_items.specs.Grammar.{IsItem, FailsAt}
 use Rattle.dap_items.proofs.Ends.{item_not_faulty, item_not_open, one_item}
 use Rattle.dap_message.specs.Message.{Sent, no_reading, fraction, faulty as profile_fault}
 use Rattle.dap_message.proofs.Contents.{typed_not_refused}
@@ -19,9 +19,10 @@ use Rattle.dap_rename.specs.declared.mode.Mode.TheVariants.{Whole, PerStop}
 use Rattle.dap_rename.proofs.NormalForms.{front_has_few_ids}
 use Rattle.dap_session.specs.Rules.{KeepsRules, first_broken}
 use Rattle.dap_mask.specs.Swaps.{SwapRule}
-use Rattle.dap_input.specs.Judging.{Judging, IsFirstRefusal, Objection, Reason, Refuses, broken, cut}
-use Rattle.dap_input.specs.Judging.{faulty, grew, input_too_long, no_message, objected}
-use Rattle.dap_input.specs.Judging.{too_many_ids}
+use Rattle.dap_input.specs.Validation.{Validation, IsFirstRefusal, ContentError, Reason, Refuses}
+use Rattle.dap_input.specs.Validation.{broken, cut}
+use Rattle.dap_input.specs.Validation.{faulty, grew, input_too_long, no_message, objected}
+use Rattle.dap_input.specs.Validation.{too_many_ids}
 use Rattle.dap_input.specs.Limits.{AreSound}
 use Rattle.dap_input.specs.Refusals.{IsRefused}
 use Rattle.dap_input.specs.declared.limits.Limits.{Limits}
@@ -31,7 +32,7 @@ use Rattle.dap_input.specs.declared.refused.Refused.TheVariants.{Fraction, Messa
 use Rattle.dap_input.specs.declared.refused.Refused.TheVariants.{TooManyIds, Grew}
 use Rattle.dap_input.proofs.NextRecord.{refuses_some}
 use Rattle.dap_input.proofs.Runs.{Run}
-use Rattle.dap_normal.specs.Accepting.{AreMessages, Held, IsAccepted, IsMessage, Objects}
+use Rattle.dap_normal.specs.Accepting.{AreMessages, Payload, IsAccepted, IsMessage, Rejects}
 use Rattle.dap_normal.specs.Accepting.{accepting, id_limit, text}
 use Rattle.dap_normal.proofs.AcceptingFacts.{accepted_facts, message_once}
 use Rattle.dap_normal.proofs.NormalFormLaws.{contents_of, recording_of}
@@ -56,7 +57,7 @@ other_mode Whole not_whole = absurd (not_whole refl)
 other_mode PerStop not_whole = refl
 
 module _ (limits : Limits) (mode : Mode) where
-  abbrev judging : Judging
+  abbrev judging : Validation
   judging = accepting limits mode
 
   -- With `Mode::Whole`, the messages have few ids.
@@ -65,9 +66,9 @@ module _ (limits : Limits) (mode : Mode) where
 
   -- ---- one record
 
-  module _ (before : List Sent) (held : Held) (m : Sent) (is : IsMessage held m)
+  module _ (before : List Sent) (held : Payload) (m : Sent) (is : IsMessage held m)
       (keeps : first_broken before m ≡ None) (few : FewInWhole (before ++ m ∷ [])) where
-    objection : (why : Objection) → Objects limits mode before held why
+    objection : (why : ContentError) → Rejects limits mode before held why
         → Allowed mode (objected why)
     objection (no_message e) o = absurd (typed_not_refused held.0 held.1 m.doc e is.1 o)
     objection (broken rule) o = absurd (never (message_once held m o.0 is o.1) o.2)
@@ -89,7 +90,7 @@ module _ (limits : Limits) (mode : Mode) where
       here : (why : Reason) → Refuses judging before used rest why → Allowed mode why
       here (faulty cause) r =
           absurd (item_not_faulty (readable limits.frame).grammar front more held cause r.place
-          is_record (subst (λ t. Shows judging.records t cause r.place) split r.shows))
+          is_record (subst (λ t. FailsAt judging.records t cause r.place) split r.shows))
       here input_too_long r =
           let past = r.before_end front more held split is_record in
           absurd (omega (arith, past, in_time))
@@ -99,12 +100,12 @@ module _ (limits : Limits) (mode : Mode) where
       here (objected why) r =
           let one = one_item (readable limits.frame).grammar r.front front r.more more r.held held
           (sym r.whole ∙ split) r.is_record is_record in
-          objection why (subst (λ h. Objects limits mode before h why) one.1 r.objects)
+          objection why (subst (λ h. Rejects limits mode before h why) one.1 r.objects)
 
   -- ---- all records
 
   refused_so : (before messages values : List Sent) (used : ℕ) (bytes front rest : List ℕ)
-      (records : List Held) → IsRecording limits.frame bytes records
+      (records : List Payload) → IsRecording limits.frame bytes records
       → AreMessages records messages → KeepsRules (before ++ messages)
       → FewInWhole (before ++ messages) → used + length bytes ≤ limits.input
       → bytes ≡ front ++ rest → Run judging before used front values → (why : Reason)

@@ -24,7 +24,7 @@ use Rattle.dap_input.specs.declared.limits.Limits.{Limits}
 use Rattle.dap_input.specs.Limits.{AreSound}
 use Rattle.dap_input.specs.declared.refused.Refused.{Refused}
 use Rattle.dap_input.specs.declared.refused.Refused.TheVariants.{Grew, Memory}
-use Rattle.dap_normal.specs.Accepting.{Held, AreMessages, Fits, IsAccepted, IsMessage, text}
+use Rattle.dap_normal.specs.Accepting.{Payload, AreMessages, Fits, IsAccepted, IsMessage, text}
 use Rattle.dap_normal.specs.JudgingSteps.{record_of}
 use Rattle.dap_normal.proofs.AcceptingFacts.{message_once}
 use Rattle.dap_normal.proofs.JudgedRecords.{text_push}
@@ -154,9 +154,9 @@ module _ (limits : Limits) (all messages : List Sent) (p i : ℕ)
   pub not_appended : (n : ℕ) (new : List ℕ) → n ≡ i + 1 → (because : Refused)
       → Appends {U = Unit {0}} limits next.message n old new (Err because)
       → Writes limits messages (Err because)
-  not_appended n new is (Grew k) told =
+  not_appended n new is (Grew k) reported =
       let count = next.count in
-      let first = told.0 in
+      let first = reported.0 in
       record {
         before = take i messages;
         message = next.message;
@@ -164,10 +164,10 @@ module _ (limits : Limits) (all messages : List Sent) (p i : ℕ)
         split = next.split;
         number_is = omega (arith, first, is, count);
         fits = was.fits;
-        too_long = passes limits (take i messages) next.message old was told.1;
+        too_long = passes limits (take i messages) next.message old was reported.1;
       }
-  not_appended n new is Memory told = tt
-  not_appended n new is because told = absurd told
+  not_appended n new is Memory reported = tt
+  not_appended n new is because reported = absurd reported
 
 -- The message of a list at a position.
 pub message_at : (messages : List Message) (p : ℕ) (m : Sent) (item : Message)
@@ -185,7 +185,7 @@ message_at messages p m item is_at is =
 
 -- ---- the messages as which the text is accepted
 
-messages_once : (records : List Held) (ms ns : List Sent) → AreMessages records ms
+messages_once : (records : List Payload) (ms ns : List Sent) → AreMessages records ms
     → AreMessages records ns → ms ≡ ns
 messages_once [] [] [] one two = refl
 messages_once [] [] (n ∷ ns) one two = absurd two
@@ -200,14 +200,14 @@ messages_once (held ∷ records) (m ∷ ms) (n ∷ ns) one two =
 abbrev IsOwn : Sent → Type 0
 IsOwn m = IsReadBack m → IsTypedContent m.side (text_of m.doc) m.doc
 
-own : (held : Held) (m : Sent) → IsMessage held m → IsOwn m
+own : (held : Payload) (m : Sent) → IsMessage held m → IsOwn m
 own held m is read_back =
     let typed = is.1 in
     subst (λ side. IsTypedContent side (text_of m.doc) m.doc) (sym is.0)
     (typed_back held.0 m.doc (text_of m.doc) read_back typed.0
     (read_is_plain held.1 typed.0 typed.1) typed.2)
 
-all_own : (records : List Held) (ms : List Sent) → AreMessages records ms → All IsOwn ms
+all_own : (records : List Payload) (ms : List Sent) → AreMessages records ms → All IsOwn ms
 all_own [] [] typed k d small = absurd (omega (arith, small))
 all_own [] (m ∷ ms) typed k d small = absurd typed
 all_own (held ∷ records) [] typed k d small = absurd typed
@@ -231,7 +231,7 @@ module _ (rules : List SwapRule) where
       (reordered_permutation (free rules) ms (ordered rules ms) (to_ordered rules ms))
 
   -- The records of the text contain the messages in order.
-  pub ordered_typed : (ms : List Sent) (records : List Held) → AreMessages records ms
+  pub ordered_typed : (ms : List Sent) (records : List Payload) → AreMessages records ms
       → AllByRecursion IsReadBack (ordered rules ms)
       → AreMessages (contents_of (ordered rules ms)) (ordered rules ms)
   ordered_typed ms records typed =

@@ -3,7 +3,7 @@
 -- that of the numbering of ids: it determines how many ids a recording may have, and the length of
 -- its normal form.
 use Rattle.std.specs.Prelude.{◌≡◌, ◌⊎◌, ℕ, ◌+◌, List, [], ◌∷◌, ◌++◌, length}
-use Rattle.dap_device.specs.Reading.{HasCome, HasComePartly}
+use Rattle.dap_device.specs.Reading.{HasReadInput, HasReadPartly}
 use Rattle.dap_device.specs.declared.device.Source.{Ghosts as Source}
 use Rattle.dap_device.specs.declared.reading.Stop.{Stop}
 use Rattle.dap_message.specs.Message.{Sent}
@@ -20,8 +20,8 @@ use Rattle.dap_swaps.specs.Order.{ordered}
 -- A prefix of the input was read, and the reader did not fail. Or the input was read up to its end,
 -- to a byte beyond the limit, or to a failure of the reader.
 abbrev pub ReadsSomeOrAll : {R : Type 0} → Source R → ℕ → R → R → Type 0
-ReadsSomeOrAll source input old new = HasComePartly source old new input
-    ⊎ ((bytes : List ℕ) × (stop : Stop) × HasCome source old new input bytes stop)
+ReadsSomeOrAll source input old new = HasReadPartly source old new input
+    ⊎ ((bytes : List ℕ) × (stop : Stop) × HasReadInput source old new input bytes stop)
 
 -- The recording is accepted, and `written` is the text of its messages in order: for each message
 -- the record of its canonical content. The text is within the limits, and it is accepted as these

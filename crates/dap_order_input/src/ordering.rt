@@ -103,7 +103,7 @@ pub fn order<R: Source, W: Sink>(
     // The text of the input in order is written and flushed. If the writer fails, a prefix of the
     // text is written and `WriteFault` is returned. With any other error, nothing is written.
     // `ReadFault` is returned only if the reader failed.
-    ensures answer { Answers R.Source W.Sink limits.input (Orders limits mode (swaps_of rules.now))
+    ensures outcome { Answers R.Source W.Sink limits.input (Orders limits mode (swaps_of rules.now))
         (IsNotOrdered limits mode (swaps_of rules.now)) reader.old reader.new writer.old writer.new
         result }
 

@@ -1,7 +1,7 @@
 //! Reads the messages of an accepted recording.
 ghost use Rattle.std.specs.Prelude.{◌≡◌, IfErr, IfOk, map};
 ghost use Rattle.dap_message.specs.Message.{sent};
-ghost use Rattle.dap_input.specs.ItemReading.{StandsForRecord};
+ghost use Rattle.dap_input.specs.ItemReading.{RepresentsRecord};
 ghost use Rattle.dap_input.specs.Limits.{AreSound};
 ghost use Rattle.dap_input.specs.RecordSteps.{IsAtStart};
 ghost use Rattle.dap_normal.specs.Accepting.{IsAccepted};
@@ -47,7 +47,7 @@ fn read_records(
 ) -> Result<Vec<Message>, Refused>
     requires sound { AreSound limits }
     requires session { IsSession limits mode recording.now }
-    requires start { IsAtStart (StandsForRecord limits.frame) limits.input records.old }
+    requires start { IsAtStart (RepresentsRecord limits.frame) limits.input records.old }
     ensures ok { IfOk result
         (λ messages. IsAccepted limits mode recording.now (map sent messages.items)) }
     ensures only { IfErr result (λ because. because ≡ Refused.Memory) }

@@ -11,8 +11,9 @@ use Rattle.std.proofs.lemmas.List.Elements.{filter-append}
 use Rattle.std.proofs.lemmas.Slice.Eq.{bytes_eq-Decides}
 use Rattle.std.specs.List.{filter, list_all}
 use Rattle.std.specs.Option.{option_map_or}
-use Rattle.dap_profile.specs.Stretches.{same_kind, may_ask, has_name, asks, rows_asked, rows_named}
-use Rattle.dap_profile.specs.Stretches.{none_of, one_name, is_run, are_runs}
+use Rattle.dap_profile.specs.RowRanges.{same_kind, may_apply, has_name, asks, rows_asked}
+use Rattle.dap_profile.specs.RowRanges.{rows_named}
+use Rattle.dap_profile.specs.RowRanges.{none_of, one_name, is_run, are_runs}
 use Rattle.dap_profile.specs.Profile.{profile}
 use Rattle.dap_profile.specs.ProfileRows.{ProfileRow, row_of}
 use Rattle.dap_profile.specs.declared.profile.Kind.{Kind}
@@ -45,9 +46,9 @@ with_name k r =
     option_map_or (λ j. option_map_or (same_kind j) k false && is_some r.name) r.kind false
 
 narrower : (k : Option Kind) (n : Option (List ℕ)) (rs : List ProfileRow)
-    → filter (asks k n) rs ≡ filter (asks k n) (filter (may_ask k) rs)
+    → filter (asks k n) rs ≡ filter (asks k n) (filter (may_apply k) rs)
 narrower k n [] = refl
-narrower k n (r ∷ rs) = by_bool (may_ask k r)
+narrower k n (r ∷ rs) = by_bool (may_apply k r)
     (λ h. rw h (ap (λ xs. cond (asks k n r) (r ∷ xs) xs) (narrower k n rs)))
     (λ h. rw (h, not_asked r.kind r.name h) (narrower k n rs))
   where
@@ -121,7 +122,7 @@ named-part k n c x rest y h is later = record {
 
 -- the rows of a kind, in parts of the table
 pub asked-of-kind : (j k : Kind) → j ≡ k → (n : Option (List ℕ)) (parts x : List ProfileRow)
-    → filter (may_ask (Some k)) profile ≡ parts → AskedOf k n parts x
+    → filter (may_apply (Some k)) profile ≡ parts → AskedOf k n parts x
     → x ≡ rows_asked (Some j) n
 unfolding rows_asked
 asked-of-kind j k same n parts x h asked =

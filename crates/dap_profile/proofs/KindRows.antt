@@ -6,7 +6,7 @@ use Rattle.std.specs.List.{filter}
 use Rattle.dap_profile.proofs.AskedRows.{asked-of-kind, whole-part, named-part, no-parts}
 use Rattle.dap_profile.specs.Profile.{profile, first_rows, later_rows}
 use Rattle.dap_profile.specs.ProfileRows.{ProfileRow, row_of}
-use Rattle.dap_profile.specs.Stretches.{may_ask, rows_asked, rows_named, one_name, are_runs}
+use Rattle.dap_profile.specs.RowRanges.{may_apply, rows_asked, rows_named, one_name, are_runs}
 use Rattle.dap_profile.specs.declared.asked_rows.TheConstants.{FIRST_REQUESTS, SECOND_REQUESTS}
 use Rattle.dap_profile.specs.declared.asked_rows.TheConstants.{THIRD_REQUESTS, FIRST_EVENTS}
 use Rattle.dap_profile.specs.declared.asked_rows.TheConstants.{SECOND_EVENTS, THIRD_EVENTS}
@@ -29,7 +29,7 @@ every rows h = sym (take-map row_of 1 rows) ∙ ap (take 1) h
 
 -- ---- the rows of a kind
 
-requests : filter (may_ask (Some Request)) profile
+requests : filter (may_apply (Some Request)) profile
     ≡ take 1 profile
     ++ (take 1 (drop 1 profile)
     ++ (take 42 (drop 7 profile)
@@ -37,7 +37,7 @@ requests : filter (may_ask (Some Request)) profile
 unfolding profile first_rows later_rows
 requests = refl
 
-events : filter (may_ask (Some Event)) profile
+events : filter (may_apply (Some Event)) profile
     ≡ take 1 profile
     ++ (take 1 (drop 2 profile)
     ++ (take 17 (drop 87 profile)
@@ -45,7 +45,7 @@ events : filter (may_ask (Some Event)) profile
 unfolding profile first_rows later_rows
 events = refl
 
-responses : filter (may_ask (Some Response)) profile
+responses : filter (may_apply (Some Response)) profile
     ≡ take 1 profile
     ++ (take 4 (drop 3 profile)
     ++ (take 38 (drop 49 profile)

@@ -1,4 +1,4 @@
 pub mod PlaceSteps
 pub mod ProfileRows
 pub mod Profile
-pub mod Stretches
+pub mod RowRanges

@@ -1,7 +1,7 @@
 //! The rows of the profile that apply to a message, by its kind and its name.
 ghost use Rattle.std.specs.Prelude.{◌≡◌, true, Some, map, option_map};
-ghost use Rattle.dap_profile.specs.Stretches.{rows_in, rows_asked, rows_named, has_name, one_name};
-ghost use Rattle.dap_profile.specs.Stretches.{are_runs};
+ghost use Rattle.dap_profile.specs.RowRanges.{rows_in, rows_asked, rows_named, has_name, one_name};
+ghost use Rattle.dap_profile.specs.RowRanges.{are_runs};
 ghost use Rattle.dap_profile.specs.ProfileRows.{row_of};
 
 use crate::profile::{Kind, Row, profile_rows};
@@ -85,7 +85,7 @@ pub fn rows_of(kind: Kind, name: Option<&str>) -> AskedRows
 }
 
 /// Returns the rows, which all have one name, if it is this name, and otherwise no row.
-#[tactic(auto, unfolding(crate::specs::Stretches::rows_named))]
+#[tactic(auto, unfolding(crate::specs::RowRanges::rows_named))]
 fn all_if_named(rows: &'static [Row], name: Option<&str>) -> &'static [Row]
     requires { one_name (map row_of rows.now) ≡ true }
     ensures { map row_of result.now
@@ -99,7 +99,7 @@ fn all_if_named(rows: &'static [Row], name: Option<&str>) -> &'static [Row]
 
 /// Returns the rows with this name. `runs` has the lengths of the runs of the rows, and only the
 /// first row of a run is compared.
-#[tactic(auto, unfolding(crate::specs::Stretches::rows_named))]
+#[tactic(auto, unfolding(crate::specs::RowRanges::rows_named))]
 fn rows_named(rows: &'static [Row], runs: &[usize], name: Option<&str>) -> &'static [Row]
     requires { are_runs runs.now (map row_of rows.now) ≡ true }
     ensures { map row_of result.now

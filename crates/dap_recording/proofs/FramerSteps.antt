@@ -6,7 +6,7 @@ use Rattle.dap_frame.specs.declared.fault.FrameFault.{FrameFault}
 use Rattle.dap_frame.specs.declared.fault.FrameFault.TheVariants.{Memory}
 use Rattle.dap_frame.specs.declared.fed.Fed.{Fed}
 use Rattle.dap_frame.specs.Frame.{IsFrame}
-use Rattle.dap_frame.specs.Reading.{Reading, Stands, GivesFed}
+use Rattle.dap_frame.specs.Reading.{Reading, Represents, GivesFed}
 
 pub is_memory : (fault : FrameFault) → (fault ≡ Memory) ⊎ (fault ≢ Memory)
 is_memory Memory = inl refl
@@ -15,14 +15,14 @@ is_memory other = inr (λ e. cc)
 module _ (limits : FrameLimits) (rest piece : List ℕ) (fed : Fed) (new : Reading)
     (gives : GivesFed limits rest piece fed new) where
   pub fed_frame : (content : List ℕ) → fed.content ≡ Some content
-      → IsFrame limits (rest ++ take fed.used piece) content × Stands new []
+      → IsFrame limits (rest ++ take fed.used piece) content × Represents new []
   fed_frame content e =
       subst (λ (o : Option (List ℕ)). MatchOption o ((fed.used ≡ length piece)
-      × Stands new (rest ++ piece)) (λ c. IsFrame limits (rest ++ take fed.used piece) c
-      × Stands new [])) e gives.1
+      × Represents new (rest ++ piece)) (λ c. IsFrame limits (rest ++ take fed.used piece) c
+      × Represents new [])) e gives.1
 
-  pub fed_all : fed.content ≡ None → (fed.used ≡ length piece) × Stands new (rest ++ piece)
+  pub fed_all : fed.content ≡ None → (fed.used ≡ length piece) × Represents new (rest ++ piece)
   fed_all e =
       subst (λ (o : Option (List ℕ)). MatchOption o ((fed.used ≡ length piece)
-      × Stands new (rest ++ piece)) (λ c. IsFrame limits (rest ++ take fed.used piece) c
-      × Stands new [])) e gives.1
+      × Represents new (rest ++ piece)) (λ c. IsFrame limits (rest ++ take fed.used piece) c
+      × Represents new [])) e gives.1

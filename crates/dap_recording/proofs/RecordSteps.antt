@@ -3,11 +3,11 @@ use Rattle.std.proofs.Common.{arith, ◌≡◌, ◌≢◌, ℕ, suc, ◌+◌, �
 use Rattle.std.proofs.Common.{length, take, drop, get_or, Ok, Err, refl, sym, ap, ◌∙◌, subst}
 use Rattle.std.proofs.lemmas.List.{append_assoc, append-nil, take_more, take-append-drop}
 use Rattle.std.proofs.Math.Seq.{drop-cons}
-use Rattle.dap_items.specs.Then.{in_first, in_second, first_open, second_open}
+use Rattle.dap_items.specs.Combinators.{in_first, in_second, first_open, second_open}
 use Rattle.dap_frame.specs.declared.limits.FrameLimits.{FrameLimits}
 use Rattle.dap_frame.specs.declared.fault.FrameFault.{FrameFault}
 use Rattle.dap_frame.specs.declared.fault.FrameFault.TheVariants as frame_fault
-use Rattle.dap_frame.specs.Frame.{IsFrame, HasContentByte, Shows}
+use Rattle.dap_frame.specs.Frame.{IsFrame, HasContentByte, FailsAt}
 use Rattle.dap_frame.specs.Reading.{Reading, GivesFault, limits_of}
 use Rattle.dap_tree.specs.declared.side.Side.{Side}
 use Rattle.dap_recording.specs.declared.record_fault.RecordCause.{RecordCause}
@@ -18,7 +18,8 @@ use Rattle.dap_recording.specs.declared.record_state.RecordState.{RecordState}
 use Rattle.dap_recording.specs.declared.record_state.RecordState.TheVariants as states
 use Rattle.dap_recording.specs.Marker.{marker, IsNoMarker}
 use Rattle.dap_recording.specs.Recording.{HasRecord, IsRecord, ShowsFault, IsOpenRecord}
-use Rattle.dap_recording.specs.RecordReading.{RecordReading, StandsFor, IsKeptOfRecord, HasFailedAt}
+use Rattle.dap_recording.specs.RecordReading.{RecordReading, RepresentsRecords, IsKeptOfRecord}
+use Rattle.dap_recording.specs.RecordReading.{HasFailedAt}
 use Rattle.dap_recording.specs.RecordReading.{GivesRecordFault, record_limits}
 use Rattle.dap_recording.proofs.Fronts.{first_is, split_at, taken_more}
 use Rattle.dap_recording.proofs.FramerSteps.{is_memory}
@@ -41,9 +42,9 @@ frame_no_memory cause fault e f = cc
 -- the bytes that the reader represents, if its state is known
 pub at_state : (reader : RecordReading) (number : ℕ) (bytes : List ℕ) (state : RecordState)
     → reader.state ≡ state
-    → StandsFor reader number bytes → IsKeptOfRecord reader.framer state bytes
-at_state reader number bytes state e stands =
-    subst (λ s. IsKeptOfRecord reader.framer s bytes) e stands.kept
+    → RepresentsRecords reader number bytes → IsKeptOfRecord reader.framer state bytes
+at_state reader number bytes state e represents =
+    subst (λ s. IsKeptOfRecord reader.framer s bytes) e represents.kept
 
 kept_open : (framer : Reading) (state : RecordState) (bytes : List ℕ)
     → IsKeptOfRecord framer state bytes
@@ -56,10 +57,11 @@ kept_open framer (states.LineEnd whole) bytes h =
     (second_open h.0 [] whole.content (sym (append-nil h.0)) h.2 refl)
 kept_open framer (states.Failed cause) bytes h = absurd h
 
-pub stands_open : (reader : RecordReading) (number : ℕ) (bytes : List ℕ)
-    → StandsFor reader number bytes
+pub represented_is_incomplete : (reader : RecordReading) (number : ℕ) (bytes : List ℕ)
+    → RepresentsRecords reader number bytes
     → IsOpenRecord (record_limits reader) bytes
-stands_open reader number bytes stands = kept_open reader.framer reader.state bytes stands.kept
+represented_is_incomplete reader number bytes represents = kept_open reader.framer reader.state
+    bytes represents.kept
 
 pub bad_marker : (limits : FrameLimits) (bytes piece : List ℕ) → bytes ≡ [] → 0 < length piece
     → IsNoMarker (get_or piece 0 0) → ShowsFault limits (bytes ++ piece) BadMarker 1
@@ -130,18 +132,19 @@ record_in limits piece content side used is frame inside lf =
     }
 
 module _ (limits : FrameLimits) (number : ℕ) (bytes piece rest : List ℕ) (side : Side) (from : ℕ)
-    (fault : FrameFault) (told : RecordFault) (old new : RecordReading) (framer : Reading)
+    (fault : FrameFault) (reported : RecordFault) (old new : RecordReading) (framer : Reading)
     (front : bytes ++ take from piece
     ≡ marker side ∷ rest) (gives : GivesFault limits rest (drop from piece) fault framer)
     (content : fault ≡ frame_fault.Memory → HasContentByte limits (rest ++ drop from piece))
     (some : fault ≡ frame_fault.Memory → 0 < length piece)
-    (number_is : told.number ≡ number)
+    (number_is : reported.number ≡ number)
     (memory : fault ≡ frame_fault.Memory
-    → (told.cause ≡ Memory) × (new ≡ old)) (stands : fault ≡ frame_fault.Memory
-    → StandsFor old number bytes)
-    (other : fault ≢ frame_fault.Memory → (told.cause ≡ Frame fault) × HasFailedAt new told) where
+    → (reported.cause ≡ Memory) × (new ≡ old)) (represents : fault ≡ frame_fault.Memory
+    → RepresentsRecords old number bytes)
+    (other : fault ≢ frame_fault.Memory → (reported.cause ≡ Frame fault)
+    × HasFailedAt new reported) where
   -- a proof of an error of the frame is one of an error of the record
-  shown_in_frame : (i : ℕ) → Shows limits (rest ++ drop from piece) fault i
+  shown_in_frame : (i : ℕ) → FailsAt limits (rest ++ drop from piece) fault i
       → ShowsFault limits (bytes ++ piece) (Frame fault) (i + 1)
   shown_in_frame i shows = record {
     front = marker side ∷ shows.front;
@@ -154,11 +157,12 @@ module _ (limits : FrameLimits) (number : ℕ) (bytes piece rest : List ℕ) (si
     place = omega (arith, shows.place);
   }
 
-  pub frame_faults : GivesRecordFault limits number bytes piece told new
+  pub frame_faults : GivesRecordFault limits number bytes piece reported new
   frame_faults = ⊎_elim
       (λ (e : fault ≡ frame_fault.Memory). record {
         number_is = number_is;
-        memory = λ _. subst (λ reader. StandsFor reader number bytes) (sym (memory e).1) (stands e);
+        memory = λ _. subst (λ reader. RepresentsRecords reader number bytes) (sym (memory e).1)
+            (represents e);
         for_content = λ _. (
           side,
           rest
@@ -172,9 +176,9 @@ module _ (limits : FrameLimits) (number : ℕ) (bytes piece rest : List ℕ) (si
       })
       (λ (d : fault ≢ frame_fault.Memory). record {
         number_is = number_is;
-        memory = λ e. absurd (frame_no_memory told.cause fault (other d).0 e);
-        for_content = λ e. absurd (frame_no_memory told.cause fault (other d).0 e);
-        for_bytes = λ e. absurd (frame_no_memory told.cause fault (other d).0 e);
+        memory = λ e. absurd (frame_no_memory reported.cause fault (other d).0 e);
+        for_content = λ e. absurd (frame_no_memory reported.cause fault (other d).0 e);
+        for_bytes = λ e. absurd (frame_no_memory reported.cause fault (other d).0 e);
         shown = λ _. (
           (gives.shown d).0 + 1,
           subst (λ cause. ShowsFault limits (bytes ++ piece) cause ((gives.shown d).0 + 1))

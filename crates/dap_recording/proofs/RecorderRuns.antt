@@ -15,9 +15,9 @@ use Rattle.dap_frame.specs.Reading.{limits_of}
 use Rattle.dap_frame.proofs.Frames.{frame_grammar, no_empty_frame}
 use Rattle.dap_tree.specs.declared.side.Side.{Side}
 use Rattle.dap_tree.specs.declared.side.Side.TheVariants.{Client, Adapter}
-use Rattle.dap_recording.specs.declared.recorder_fault.RecorderFault.TheVariants as told
+use Rattle.dap_recording.specs.declared.recorder_fault.RecorderFault.TheVariants as reported
 use Rattle.dap_recording.specs.Recording.{record_text, recording_text}
-use Rattle.dap_recording.specs.RecorderReading.{RecorderReading, StandsForRests, GoesOn}
+use Rattle.dap_recording.specs.RecorderReading.{RecorderReading, RepresentsRests, GoesOn}
 use Rattle.dap_recording.specs.RecorderReading.{HasRecorded, framer_of, with_rest, text_of}
 use Rattle.dap_recording.specs.RecorderReading.{recorder_limits}
 use Rattle.dap_recording.specs.RecordedTraces.{is_side, of_side, bytes_of, HaveEnded, AreRecorded}
@@ -283,7 +283,8 @@ pub rest_with : (s : Side) (rest : List ℕ) (rests : Side → List ℕ) → wit
 rest_with Client rest rests = refl
 rest_with Adapter rest rests = refl
 
-no_frame_fault : (side : Side) (cause : FrameFault) → told.Memory ≡ told.Frame side cause → ⊥
+no_frame_fault : (side : Side) (cause : FrameFault) → reported.Memory ≡ reported.Frame side cause
+    → ⊥
 no_frame_fault side cause e = cc
 
 -- the bytes of a piece, in two parts
@@ -314,9 +315,9 @@ module _ (first recorder new : RecorderReading) (pieces left : List (Side × Lis
       take_all used piece (let long : length piece ≤ used = omega (arith, on.all) in long) in
       let rest : List ℕ = was.rests side ++ piece in
       let is_open : IsOpen limits rest =
-      subst (λ l. IsOpen l rest) (on.stands.limits side ∙ same ∙ was.limits)
+      subst (λ l. IsOpen l rest) (on.represents.limits side ∙ same ∙ was.limits)
       (subst (IsOpen (limits_of (framer_of new side))) (rest_with side rest was.rests)
-      (on.stands.each side).is_open) in
+      (on.represents.each side).is_open) in
       record {
         taken = was.taken ++ sent_by side (take used piece);
         messages = was.messages;
@@ -329,8 +330,9 @@ module _ (first recorder new : RecorderReading) (pieces left : List (Side × Lis
             ∙ ap (λ xs. was.rests side ++ xs) (sym e ∙ all))
             (item_of_more (was.rests side ++ front) back has)));
         text_is = on.text ∙ was.text_is;
-        stands = subst (λ xs. StandsForRests new (with_rest side (was.rests side ++ xs) was.rests))
-            (sym all) on.stands;
+        represents = subst
+            (λ xs. RepresentsRests new (with_rest side (was.rests side ++ xs) was.rests))
+            (sym all) on.represents;
         limits = same ∙ was.limits;
       }
 
@@ -356,7 +358,7 @@ module _ (first recorder new : RecorderReading) (pieces left : List (Side × Lis
             (sym (append-nil (record_text side has.content)))
             ∙ sym (flat_map-append (λ (m : Side × List ℕ). record_text m.0 m.1) was.messages
             ((side, has.content) ∷ [])));
-        stands = has.stands;
+        represents = has.represents;
         limits = same ∙ was.limits;
       }
 
@@ -365,20 +367,20 @@ module _ (first recorder new : RecorderReading) (pieces left : List (Side × Lis
   unchanged e = subst (λ r. RecordedSoFar first r pieces ((side, piece) ∷ left)) (sym e) was
 
 recorded_so_far : (first : RecorderReading) (pieces left : List (Side × List ℕ))
-    (last : RecorderReading) → StandsForRests first (λ side. [])
+    (last : RecorderReading) → RepresentsRests first (λ side. [])
     → Records first pieces left last → RecordedSoFar first last pieces left
-recorded_so_far first pieces _ _ stands begun = record {
+recorded_so_far first pieces _ _ represents begun = record {
   taken = [];
   messages = [];
   rests = λ side. [];
   bytes_are = refl;
   recorded = nothing_recorded (recorder_limits first);
   text_is = sym (append-nil (text_of first));
-  stands = stands;
+  represents = represents;
   limits = refl;
 }
-recorded_so_far first pieces left last stands (next_piece side records) =
-    let was = recorded_so_far first pieces ((side, []) ∷ left) last stands records in
+recorded_so_far first pieces left last represents (next_piece side records) =
+    let was = recorded_so_far first pieces ((side, []) ∷ left) last represents records in
     record {
       taken = was.taken;
       messages = was.messages;
@@ -386,25 +388,25 @@ recorded_so_far first pieces left last stands (next_piece side records) =
       bytes_are = was.bytes_are;
       recorded = was.recorded;
       text_is = was.text_is;
-      stands = was.stands;
+      represents = was.represents;
       limits = was.limits;
     }
-recorded_so_far first pieces _ new stands
+recorded_so_far first pieces _ new represents
     (took {left = left} {recorder = recorder} side piece used records call) =
-    let was = recorded_so_far first pieces ((side, piece) ∷ left) recorder stands records in
-    elim (call.gives was.rests was.stands) [
+    let was = recorded_so_far first pieces ((side, piece) ∷ left) recorder represents records in
+    elim (call.gives was.rests was.represents) [
       | inl on ↦ went_on first recorder new pieces left side piece used was call.limits on
       | inr has ↦ ended first recorder new pieces left side piece used was call.limits has
     ]
-recorded_so_far first pieces _ new stands
+recorded_so_far first pieces _ new represents
     (refused {left = left} {recorder = recorder} side piece records call) =
-    let was = recorded_so_far first pieces ((side, piece) ∷ left) recorder stands records in
-    elim (call.gives was.rests was.stands) [
+    let was = recorded_so_far first pieces ((side, piece) ∷ left) recorder represents records in
+    elim (call.gives was.rests was.represents) [
       | inl same ↦ unchanged first recorder new pieces left side piece 0 was call.limits same.1
       | inr faulty ↦ absurd (no_frame_fault side faulty.cause faulty.fault_is)
     ]
 
 pub any_pieces : (first last : RecorderReading) (pieces left : List (Side × List ℕ))
-    → StandsForRests first (λ side. [])
+    → RepresentsRests first (λ side. [])
     → Records first pieces left last → RecordedSoFar first last pieces left
 any_pieces first last pieces left = recorded_so_far first pieces left last

@@ -8,15 +8,15 @@ use Rattle.dap_frame.specs.declared.limits.FrameLimits.{FrameLimits}
 use Rattle.dap_frame.specs.declared.fault.FrameFault.{FrameFault}
 use Rattle.dap_frame.specs.declared.fault.FrameFault.TheVariants.{Memory}
 use Rattle.dap_frame.specs.declared.fed.Fed.{Fed}
-use Rattle.dap_frame.specs.Frame.{IsFrame, Shows}
-use Rattle.dap_frame.specs.Reading.{Reading, Stands, GivesFed, GivesFault, limits_of}
+use Rattle.dap_frame.specs.Frame.{IsFrame, FailsAt}
+use Rattle.dap_frame.specs.Reading.{Reading, Represents, GivesFed, GivesFault, limits_of}
 use Rattle.dap_frame.proofs.Frames.{content_small}
 use Rattle.dap_tree.specs.declared.side.Side.{Side}
 use Rattle.dap_tree.specs.declared.side.Side.TheVariants.{Client, Adapter}
 use Rattle.dap_recording.specs.declared.recorder_fault.RecorderFault.{RecorderFault}
 use Rattle.dap_recording.specs.declared.recorder_fault.RecorderFault.TheVariants.{Frame}
 use Rattle.dap_recording.specs.OneSide.{Takes, TakesAll, TakesFault, WantsMemory}
-use Rattle.dap_recording.specs.RecorderReading.{RecorderReading, StandsForRests, HasNotRecorded}
+use Rattle.dap_recording.specs.RecorderReading.{RecorderReading, RepresentsRests, HasNotRecorded}
 use Rattle.dap_recording.specs.RecorderReading.{GivesPiece, framer_of, with_rest, text_of}
 use Rattle.dap_recording.specs.Recorder.{IsConsistent}
 use Rattle.dap_recording.proofs.FramerSteps.{fed_all}
@@ -65,7 +65,7 @@ pub takes_all : (limits : FrameLimits) (rest piece before after : List ℕ) (fed
     → TakesAll rest piece before after new fed.used
 takes_all limits rest piece before after fed new e gives same =
     let got = fed_all limits rest piece fed new gives e in
-    record { all = got.0; text = same; stands = got.1 }
+    record { all = got.0; text = same; represents = got.1 }
 
 pub takes_fault : (limits its : FrameLimits) (rest piece before after : List ℕ) (old new : Reading)
     (fault : FrameFault)
@@ -79,7 +79,7 @@ takes_fault limits its rest piece before after old new fault e gives same memory
   wanted = λ is. subst (λ l. WantsMemory l rest piece) e (wanted is);
   shown = λ d. (
     (gives.shown d).0,
-    subst (λ l. Shows l (rest ++ piece) fault (gives.shown d).0) e (gives.shown d).1,
+    subst (λ l. FailsAt l (rest ++ piece) fault (gives.shown d).0) e (gives.shown d).1,
   );
 }
 
@@ -118,10 +118,10 @@ failed_with fault recorder =
 
 stands_with : (side : Side) (rests : Side
     → List ℕ) (rest text : List ℕ) (framer : Reading) (old : RecorderReading)
-    → StandsForRests old rests → limits_of framer ≡ limits_of (framer_of old side)
-    → Stands framer rest
-    → StandsForRests (with_framer side framer text old) (with_rest side rest rests)
-stands_with Client rests rest text framer old was limits stands =
+    → RepresentsRests old rests → limits_of framer ≡ limits_of (framer_of old side)
+    → Represents framer rest
+    → RepresentsRests (with_framer side framer text old) (with_rest side rest rests)
+stands_with Client rests rest text framer old was limits represents =
     record { going = was.going; limits = same; each = each }
   where
     same : (side : Side)
@@ -130,11 +130,11 @@ stands_with Client rests rest text framer old was limits stands =
     same Adapter = was.limits Adapter
 
     each : (side : Side)
-        → Stands (framer_of (with_framer Client framer text old) side)
+        → Represents (framer_of (with_framer Client framer text old) side)
         (with_rest Client rest rests side)
-    each Client = stands
+    each Client = represents
     each Adapter = was.each Adapter
-stands_with Adapter rests rest text framer old was limits stands =
+stands_with Adapter rests rest text framer old was limits represents =
     record { going = was.going; limits = same; each = each }
   where
     same : (side : Side)
@@ -143,10 +143,10 @@ stands_with Adapter rests rest text framer old was limits stands =
     same Adapter = limits ∙ was.limits Adapter
 
     each : (side : Side)
-        → Stands (framer_of (with_framer Adapter framer text old) side)
+        → Represents (framer_of (with_framer Adapter framer text old) side)
         (with_rest Adapter rest rests side)
     each Client = was.each Client
-    each Adapter = stands
+    each Adapter = represents
 
 text_with : (side : Side) (text : List ℕ) (framer : Reading) (old : RecorderReading)
     → text_of (with_framer side framer text old) ≡ text
@@ -164,14 +164,14 @@ with_same Adapter text framer old p q =
 -- if no error occurred, each framer represents a rest
 some_rest : (side : Side) (recorder : RecorderReading) → IsConsistent recorder
     → recorder.fault ≡ None
-    → (rest : List ℕ) × Stands (framer_of recorder side) rest
+    → (rest : List ℕ) × Represents (framer_of recorder side) rest
 some_rest Client recorder is none = (is.going none).0
 some_rest Adapter recorder is none = (is.going none).1
 
 consistent_with : (side : Side) (text : List ℕ) (framer : Reading) (old : RecorderReading)
     → IsConsistent old
     → limits_of framer ≡ limits_of (framer_of old side)
-    → (old.fault ≡ None → (rest : List ℕ) × Stands framer rest)
+    → (old.fault ≡ None → (rest : List ℕ) × Represents framer rest)
     → IsConsistent (with_framer side framer text old)
 consistent_with Client text framer old is limits some = record {
   sound = is.sound;
@@ -217,7 +217,7 @@ pub record Took (side : Side) (piece : List ℕ) (old new : RecorderReading)
   pub new_is : new ≡ with_framer side framer text old
   pub used : IfOk recorded (λ used. used ≤ length piece)
   pub limits : limits_of framer ≡ limits_of (framer_of old side)
-  pub takes : (rest : List ℕ) → Stands (framer_of old side) rest
+  pub takes : (rest : List ℕ) → Represents (framer_of old side) rest
       → Takes old.limits side rest piece old.text text (framer_of old side) framer recorded
 
 pub took_by : (s side : Side) (piece text : List ℕ) (old new : RecorderReading) (framer : Reading)
@@ -225,7 +225,7 @@ pub took_by : (s side : Side) (piece text : List ℕ) (old new : RecorderReading
     → side ≡ s → new ≡ with_framer s framer text old → recorded ≡ result
     → IfOk result (λ used. used ≤ length piece)
     → limits_of framer ≡ limits_of (framer_of old s)
-    → ((rest : List ℕ) → Stands (framer_of old s) rest
+    → ((rest : List ℕ) → Represents (framer_of old s) rest
     → Takes old.limits side rest piece old.text text (framer_of old s) framer result)
     → Took side piece old new recorded
 took_by s side piece text old new framer result recorded is new_is same used limits takes =
@@ -236,7 +236,7 @@ took_by s side piece text old new framer result recorded is new_is same used lim
       new_is = new_is;
       used = used;
       limits = limits;
-      takes = subst (λ u. (rest : List ℕ) → Stands (framer_of old s) rest
+      takes = subst (λ u. (rest : List ℕ) → Represents (framer_of old s) rest
           → Takes old.limits u rest piece old.text text (framer_of old s) framer result) is takes;
     }))
 
@@ -244,7 +244,7 @@ module _ (side : Side) (piece : List ℕ) (old new : RecorderReading) (recorded 
     (took : Took side piece old new recorded) where
   -- bytes were consumed: the piece is inside the frame, or ends it
   pub gives_used : (used : ℕ) → recorded ≡ Ok used → (rests : Side → List ℕ)
-      → StandsForRests old rests
+      → RepresentsRests old rests
       → GivesPiece side rests piece old new (Ok used)
   gives_used used is rests was =
       let framer = took.framer in
@@ -257,23 +257,23 @@ module _ (side : Side) (piece : List ℕ) (old new : RecorderReading) (recorded 
         | inl all ↦ inl (record {
           all = all.all;
           text = text ∙ all.text;
-          stands = subst (λ r. StandsForRests r (with_rest side (rests side ++ piece) rests))
+          represents = subst (λ r. RepresentsRests r (with_rest side (rests side ++ piece) rests))
               (sym took.new_is)
               (stands_with side rests (rests side ++ piece) took.text framer old was took.limits
-              all.stands);
+              all.represents);
         })
         | inr one ↦ inr (record {
           within = fits;
           content = one.content;
           is_frame = one.is_frame;
           text = text ∙ one.text;
-          stands = subst (λ r. StandsForRests r (with_rest side [] rests)) (sym took.new_is)
-              (stands_with side rests [] took.text framer old was took.limits one.stands);
+          represents = subst (λ r. RepresentsRests r (with_rest side [] rests)) (sym took.new_is)
+              (stands_with side rests [] took.text framer old was took.limits one.represents);
         })
       ]
 
   pub gives_fault : (cause : FrameFault) → recorded ≡ Err cause → cause ≢ Memory
-      → (rests : Side → List ℕ) → StandsForRests old rests
+      → (rests : Side → List ℕ) → RepresentsRests old rests
       → HasNotRecorded side rests piece old (failed_with (Frame side cause) new) (Frame side cause)
   gives_fault cause is apart rests was =
       let takes =
@@ -289,7 +289,7 @@ module _ (side : Side) (piece : List ℕ) (old new : RecorderReading) (recorded 
 
   -- an allocation failed
   pub wants : (cause : FrameFault) → recorded ≡ Err cause → cause ≡ Memory
-      → (rests : Side → List ℕ) → StandsForRests old rests
+      → (rests : Side → List ℕ) → RepresentsRests old rests
       → WantsMemory old.limits (rests side) piece
   wants cause is memory rests was =
       let takes =
@@ -307,8 +307,8 @@ module _ (side : Side) (piece : List ℕ) (old new : RecorderReading) (recorded 
         subst (Takes old.limits side rest.0 piece old.text took.text (framer_of old side)
         took.framer) is (took.takes rest.0 rest.1) in
         elim takes [
-          | inl all ↦ (rest.0 ++ piece, all.stands)
-          | inr one ↦ ([], one.stands)
+          | inl all ↦ (rest.0 ++ piece, all.represents)
+          | inr one ↦ ([], one.represents)
         ]))
 
     pub failed_consistent : (fault : RecorderFault) → IsConsistent (failed_with fault new)

@@ -2,8 +2,8 @@
 use Rattle.std.proofs.Common.{◌≡◌, ◌⊎◌, ℕ, inl, inr, List, [], ◌∷◌, ◌++◌, Result, Ok, Err, refl}
 use Rattle.std.proofs.Common.{sym, ap, ◌∙◌}
 use Rattle.std.proofs.lemmas.Bool.Decides.{eqb_tells}
-use Rattle.dap_items.specs.Items.{IsGrammar}
-use Rattle.dap_items.specs.Then.{in_first, in_second, first_open}
+use Rattle.dap_items.specs.Grammar.{IsGrammar}
+use Rattle.dap_items.specs.Combinators.{in_first, in_second, first_open}
 use Rattle.dap_items.proofs.Ends.{IsReadable}
 use Rattle.dap_items.proofs.Then.{and_then_grammar, byte_grammar}
 use Rattle.dap_frame.specs.declared.limits.FrameLimits.{FrameLimits}

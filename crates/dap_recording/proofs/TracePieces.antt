@@ -2,8 +2,8 @@
 use Rattle.std.proofs.Common.{◌≡◌, ◌⊎◌, ℕ, ◌<◌, inl, inr, List, [], ◌∷◌, ◌++◌, length, Err, refl}
 use Rattle.std.proofs.Common.{sym, ap, ◌∙◌}
 use Rattle.std.proofs.lemmas.List.{append_assoc}
-use Rattle.dap_items.specs.Items.{IsGrammar}
-use Rattle.dap_items.specs.Then.{in_first, in_second, first_open, second_open}
+use Rattle.dap_items.specs.Grammar.{IsGrammar}
+use Rattle.dap_items.specs.Combinators.{in_first, in_second, first_open, second_open}
 use Rattle.dap_items.proofs.Ends.{one_item, IsReadable}
 use Rattle.dap_items.proofs.Then.{and_then_grammar, so_many_grammar}
 use Rattle.dap_frame.specs.Lines.{number_of}

@@ -16,7 +16,7 @@ use Rattle.dap_recording.specs.declared.fed_trace.TracePart.{TracePart}
 use Rattle.dap_recording.specs.Marker.{marker}
 use Rattle.dap_recording.specs.RecordReading.{next_number, number_behind}
 use Rattle.dap_recording.specs.Trace.{IsPiece, PieceStream, ShowsTraceFault, pieces_of}
-use Rattle.dap_recording.specs.TraceReading.{TraceReading, StandsForPiece, HasFailedAtPiece}
+use Rattle.dap_recording.specs.TraceReading.{TraceReading, RepresentsPiece, HasFailedAtPiece}
 use Rattle.dap_recording.specs.TraceReading.{GivesRun}
 use Rattle.dap_recording.specs.Feeding.{Run, run_in, FeedsTrace, IsTraceCall}
 use Rattle.dap_recording.specs.Runs.{AreRunsOf, AreRunsOfPiece, AreRunsOfPieces, ReadSoFar}
@@ -117,9 +117,9 @@ module _ (reader new : TraceReading) (inputs left : List (List ℕ)) (input : Li
     (was : ReadSoFar reader inputs (input ∷ left) runs) (within : used ≤ length input) where
   -- no run was returned
   no_run : used ≡ length input
-      → StandsForPiece new (number_behind was.pieces) (was.rest ++ input) was.raw
+      → RepresentsPiece new (number_behind was.pieces) (was.rest ++ input) was.raw
       → ReadSoFar new inputs (drop used input ∷ left) (runs ++ [])
-  no_run all stands =
+  no_run all represents =
       let over : drop used input ≡ [] =
       nil_from_length (drop used input) (omega (arith, all, length-drop used input)) in
       record {
@@ -132,7 +132,7 @@ module _ (reader new : TraceReading) (inputs left : List (List ℕ)) (input : Li
             was.bytes_are
             ∙ ap (λ xs. was.front ++ xs) (sym (append_assoc was.rest input (concat left))
             ∙ ap (λ xs. (was.rest ++ input) ++ (xs ++ concat left)) (sym over));
-        stands = stands;
+        represents = represents;
         whole_runs = was.whole_runs;
         last_runs = was.last_runs;
         runs_are = append-nil runs ∙ was.runs_are;
@@ -152,10 +152,10 @@ module _ (reader new : TraceReading) (inputs left : List (List ℕ)) (input : Li
         gives.begins.0 was.last_runs was.of_last was.begins gives.begins.1
 
     ends_piece : IsPiece (was.rest ++ take used input) side (was.raw ++ run)
-        → StandsForPiece new (next_number (number_behind was.pieces)) [] []
+        → RepresentsPiece new (next_number (number_behind was.pieces)) [] []
         → ReadSoFar new inputs (drop used input ∷ left) (runs
         ++ record { piece = number_behind was.pieces; side = side; bytes = run } ∷ [])
-    ends_piece is stands =
+    ends_piece is represents =
         let last : List ℕ = was.rest ++ take used input in
         let parts : input ++ concat left ≡ take used input ++ (drop used input ++ concat left) =
         ap (λ xs. xs ++ concat left) (sym (take-append-drop used input))
@@ -174,7 +174,7 @@ module _ (reader new : TraceReading) (inputs left : List (List ℕ)) (input : Li
               ∙ ap (λ xs. was.front ++ xs) (ap (λ xs. was.rest ++ xs) parts
               ∙ sym (append_assoc was.rest (take used input) (drop used input ++ concat left)))
               ∙ sym (append_assoc was.front last (drop used input ++ concat left));
-          stands = subst (λ n. StandsForPiece new n [] []) number stands;
+          represents = subst (λ n. RepresentsPiece new n [] []) number represents;
           whole_runs =
               was.whole_runs
               ++ (was.last_runs
@@ -200,10 +200,10 @@ module _ (reader new : TraceReading) (inputs left : List (List ℕ)) (input : Li
         }
 
     goes_on : used ≡ length input → 0 < length run
-        → StandsForPiece new (number_behind was.pieces) (was.rest ++ input) (was.raw ++ run)
+        → RepresentsPiece new (number_behind was.pieces) (was.rest ++ input) (was.raw ++ run)
         → ReadSoFar new inputs (drop used input ∷ left) (runs
         ++ record { piece = number_behind was.pieces; side = side; bytes = run } ∷ [])
-    goes_on all some stands =
+    goes_on all some represents =
         let over : drop used input ≡ [] =
         nil_from_length (drop used input) (omega (arith, all, length-drop used input)) in
         record {
@@ -216,7 +216,7 @@ module _ (reader new : TraceReading) (inputs left : List (List ℕ)) (input : Li
               was.bytes_are
               ∙ ap (λ xs. was.front ++ xs) (sym (append_assoc was.rest input (concat left))
               ∙ ap (λ xs. (was.rest ++ input) ++ (xs ++ concat left)) (sym over));
-          stands = stands;
+          represents = represents;
           whole_runs = was.whole_runs;
           last_runs =
               was.last_runs ++ record { piece = number_behind was.pieces; side = side; bytes = run }
@@ -246,7 +246,7 @@ module _ (reader new : TraceReading) (inputs left : List (List ℕ)) (input : Li
 
   fed : (part : Option TracePart) → MatchOption part
       ((used ≡ length input)
-      × StandsForPiece new (number_behind was.pieces) (was.rest ++ input) was.raw)
+      × RepresentsPiece new (number_behind was.pieces) (was.rest ++ input) was.raw)
       (λ p. (p.piece ≡ number_behind was.pieces)
       × GivesRun (number_behind was.pieces) was.rest was.raw input used p.side p.bytes.now new)
       → ReadSoFar new inputs (drop used input ∷ left) (runs ++ run_in part)
@@ -255,16 +255,16 @@ module _ (reader new : TraceReading) (inputs left : List (List ℕ)) (input : Li
 
 read_so_far : (first : TraceReading) (inputs : List (List ℕ)) (runs : List Run)
     (left : List (List ℕ)) (last : TraceReading)
-    → StandsForPiece first 1 [] [] → FeedsTrace first inputs runs left last
+    → RepresentsPiece first 1 [] [] → FeedsTrace first inputs runs left last
     → ReadSoFar last inputs left runs
-read_so_far first inputs _ _ _ stands begun = record {
+read_so_far first inputs _ _ _ represents begun = record {
   front = [];
   pieces = [];
   trace = refl;
   rest = [];
   raw = [];
   bytes_are = refl;
-  stands = stands;
+  represents = represents;
   whole_runs = [];
   last_runs = [];
   runs_are = refl;
@@ -273,8 +273,8 @@ read_so_far first inputs _ _ _ stands begun = record {
   of_last = record { each = tt; joined = refl };
   begins = inl refl;
 }
-read_so_far first inputs runs left last stands (next_piece feeds) =
-    let was = read_so_far first inputs runs ([] ∷ left) last stands feeds in
+read_so_far first inputs runs left last represents (next_piece feeds) =
+    let was = read_so_far first inputs runs ([] ∷ left) last represents feeds in
     record {
       front = was.front;
       pieces = was.pieces;
@@ -282,7 +282,7 @@ read_so_far first inputs runs left last stands (next_piece feeds) =
       rest = was.rest;
       raw = was.raw;
       bytes_are = was.bytes_are;
-      stands = was.stands;
+      represents = was.represents;
       whole_runs = was.whole_runs;
       last_runs = was.last_runs;
       runs_are = was.runs_are;
@@ -291,29 +291,29 @@ read_so_far first inputs runs left last stands (next_piece feeds) =
       of_last = was.of_last;
       begins = was.begins;
     }
-read_so_far first inputs _ _ new stands
+read_so_far first inputs _ _ new represents
     (fed_on {values = runs} {left = left} {state = reader} input given feeds call) =
-    let was = read_so_far first inputs runs (input ∷ left) reader stands feeds in
-    let gives = call.gives (number_behind was.pieces) was.rest was.raw was.stands in
+    let was = read_so_far first inputs runs (input ∷ left) reader represents feeds in
+    let gives = call.gives (number_behind was.pieces) was.rest was.raw was.represents in
     fed reader new inputs left input runs given.used was gives.0 given.part gives.1
-read_so_far first inputs runs _ last stands (refused input feeds never) = absurd never
+read_so_far first inputs runs _ last represents (refused input feeds never) = absurd never
 
 pub any_inputs : (first last : TraceReading) (inputs left : List (List ℕ)) (runs : List Run)
-    → StandsForPiece first 1 [] []
+    → RepresentsPiece first 1 [] []
     → FeedsTrace first inputs runs left last → ReadSoFar last inputs left runs
 any_inputs first last inputs left runs = read_so_far first inputs runs left last
 
 pub fault_in_any_inputs : (first last new : TraceReading) (input : List ℕ)
     (inputs left : List (List ℕ)) (runs : List Run) (fault : TraceFault)
-    → StandsForPiece first 1 [] [] → FeedsTrace first inputs runs (input ∷ left) last
+    → RepresentsPiece first 1 [] [] → FeedsTrace first inputs runs (input ∷ left) last
     → IsTraceCall last input (Err fault) new
     → (pieces : List (Side × List ℕ)) × (rest : List ℕ) × (i : ℕ)
     × PieceStream (concat inputs) pieces rest
     × ShowsTraceFault rest fault.cause i × (fault.piece ≡ number_behind pieces)
     × HasFailedAtPiece new fault
-fault_in_any_inputs first last new input inputs left runs fault stands feeds call =
-    let was = read_so_far first inputs runs (input ∷ left) last stands feeds in
-    let given = call.gives (number_behind was.pieces) was.rest was.raw was.stands in
+fault_in_any_inputs first last new input inputs left runs fault represents feeds call =
+    let was = read_so_far first inputs runs (input ∷ left) last represents feeds in
+    let given = call.gives (number_behind was.pieces) was.rest was.raw was.represents in
     let read = faulty_stream piece_grammar (concat inputs) was.front was.rest input (concat left)
     was.pieces fault.cause given.shown.0 was.trace was.bytes_are given.shown.1 in
     (was.pieces, read.0, given.shown.0, read.1, read.2, given.piece_is, given.failed)

@@ -9,7 +9,7 @@ use Rattle.std.proofs.lemmas.List.Sums.{fold-append}
 use Rattle.std.proofs.Math.Nat.{pow-suc}
 use Rattle.std.proofs.Math.Seq.{drop-cons}
 use Rattle.std.specs.Char.{is_ascii_digit}
-use Rattle.dap_items.specs.Then.{in_first, in_second, first_open}
+use Rattle.dap_items.specs.Combinators.{in_first, in_second, first_open}
 use Rattle.dap_frame.specs.Lines.{number_of}
 use Rattle.dap_tree.specs.declared.side.Side.{Side}
 use Rattle.dap_recording.specs.declared.count.Count.{Count}
@@ -17,7 +17,7 @@ use Rattle.dap_recording.specs.declared.trace_fault.TraceCause.TheVariants.{BadM
 use Rattle.dap_recording.specs.declared.trace_state.TraceState.{TraceState}
 use Rattle.dap_recording.specs.declared.trace_state.TraceState.TheVariants as states
 use Rattle.dap_recording.specs.TraceReading.{TraceReading}
-use Rattle.dap_recording.specs.TraceReading.{StandsForPiece, IsKeptOfPiece}
+use Rattle.dap_recording.specs.TraceReading.{RepresentsPiece, IsKeptOfPiece}
 use Rattle.dap_recording.specs.Marker.{marker, IsNoMarker}
 use Rattle.dap_recording.specs.Trace.{IsCount, IsBadAt, IsPiece, ShowsTraceFault, IsOpenPiece}
 use Rattle.dap_recording.specs.Count.{IsCountOf}
@@ -160,9 +160,9 @@ bad_piece_marker bytes input none some other = record {
 }
 
 pub at_trace_state : (reader : TraceReading) (piece : ℕ) (bytes raw : List ℕ) (state : TraceState)
-    → reader.state ≡ state → StandsForPiece reader piece bytes raw → IsKeptOfPiece state bytes raw
-at_trace_state reader piece bytes raw state e stands =
-    subst (λ s. IsKeptOfPiece s bytes raw) e stands.kept
+    → reader.state ≡ state → RepresentsPiece reader piece bytes raw → IsKeptOfPiece state bytes raw
+at_trace_state reader piece bytes raw state e represents =
+    subst (λ s. IsKeptOfPiece s bytes raw) e represents.kept
 
 pub begun : (count : Count) (text : List ℕ) → IsCountOf count text → (text ≡ []) ⊎ IsCount text
 begun count [] is = inl refl
@@ -190,5 +190,6 @@ piece_kept_open (states.Raw side left) bytes raw h =
 piece_kept_open (states.Failed cause) bytes raw h = absurd h
 
 pub stands_open_piece : (reader : TraceReading) (piece : ℕ) (bytes raw : List ℕ)
-    → StandsForPiece reader piece bytes raw → IsOpenPiece bytes
-stands_open_piece reader piece bytes raw stands = piece_kept_open reader.state bytes raw stands.kept
+    → RepresentsPiece reader piece bytes raw → IsOpenPiece bytes
+stands_open_piece reader piece bytes raw represents = piece_kept_open reader.state bytes raw
+    represents.kept

@@ -13,16 +13,17 @@ use Rattle.dap_recording.specs.declared.recorder_fault.RecorderFault.TheVariants
 use Rattle.dap_recording.specs.declared.trace_fault.TraceFault.{TraceFault}
 use Rattle.dap_recording.specs.declared.fed_trace.FedTrace.{FedTrace}
 use Rattle.dap_recording.specs.declared.fed_trace.TracePart.{TracePart}
-use Rattle.dap_recording.specs.RecordReading.{RecordReading, StandsFor, GivesRecord, record_limits}
-use Rattle.dap_recording.specs.RecorderReading.{RecorderReading, StandsForRests, GivesPiece}
+use Rattle.dap_recording.specs.RecordReading.{RecordReading, RepresentsRecords, GivesRecord}
+use Rattle.dap_recording.specs.RecordReading.{record_limits}
+use Rattle.dap_recording.specs.RecorderReading.{RecorderReading, RepresentsRests, GivesPiece}
 use Rattle.dap_recording.specs.RecorderReading.{recorder_limits}
-use Rattle.dap_recording.specs.TraceReading.{TraceReading, StandsForPiece, GivesTrace}
+use Rattle.dap_recording.specs.TraceReading.{TraceReading, RepresentsPiece, GivesTrace}
 
 -- The contract of one call of `RecordReader::feed` states these facts about the reader before and
 -- after it.
 pub record IsRecordCall (old : RecordReading) (piece : List ℕ)
     (result : Result FedRecord RecordFault) (new : RecordReading) : Type 0 where
-  pub gives : (number : ℕ) (bytes : List ℕ) → StandsFor old number bytes
+  pub gives : (number : ℕ) (bytes : List ℕ) → RepresentsRecords old number bytes
       → GivesRecord (record_limits old) number bytes piece result new
   pub limits : record_limits new ≡ record_limits old
 
@@ -51,7 +52,7 @@ FeedsRecords = Feeds record_calls
 -- after it.
 pub record IsTraceCall (old : TraceReading) (input : List ℕ) (result : Result FedTrace TraceFault)
     (new : TraceReading) : Type 0 where
-  pub gives : (piece : ℕ) (bytes raw : List ℕ) → StandsForPiece old piece bytes raw
+  pub gives : (piece : ℕ) (bytes raw : List ℕ) → RepresentsPiece old piece bytes raw
       → GivesTrace piece bytes raw input result new
 
 -- a run of raw bytes: the number of its piece, its side, its bytes
@@ -84,7 +85,7 @@ FeedsTrace = Feeds trace_calls
 -- after it.
 pub record IsPieceCall (old : RecorderReading) (side : Side) (piece : List ℕ)
     (result : Result ℕ RecorderFault) (new : RecorderReading) : Type 0 where
-  pub gives : (rests : Side → List ℕ) → StandsForRests old rests
+  pub gives : (rests : Side → List ℕ) → RepresentsRests old rests
       → GivesPiece side rests piece old new result
   pub limits : recorder_limits new ≡ recorder_limits old
 

@@ -14,11 +14,12 @@ use Rattle.dap_recording.specs.declared.trace_fault.TraceCause.{TraceCause}
 use Rattle.dap_recording.specs.declared.trace_fault.TraceFault.{TraceFault}
 use Rattle.dap_recording.specs.Recording.{IsRecord, HasRecord, IsRecording, RecordStream}
 use Rattle.dap_recording.specs.Recording.{ShowsFault, IsOpenRecord, record_text, recording_text}
-use Rattle.dap_recording.specs.RecordReading.{RecordReading, StandsFor, HasFailedAt, number_behind}
+use Rattle.dap_recording.specs.RecordReading.{RecordReading, RepresentsRecords, HasFailedAt}
+use Rattle.dap_recording.specs.RecordReading.{number_behind}
 use Rattle.dap_recording.specs.RecordReading.{record_limits}
 use Rattle.dap_recording.specs.Trace.{IsPiece, HasPiece, PieceStream, ShowsTraceFault, IsOpenPiece}
-use Rattle.dap_recording.specs.TraceReading.{TraceReading, StandsForPiece, HasFailedAtPiece}
-use Rattle.dap_recording.specs.RecorderReading.{RecorderReading, StandsForRests}
+use Rattle.dap_recording.specs.TraceReading.{TraceReading, RepresentsPiece, HasFailedAtPiece}
+use Rattle.dap_recording.specs.RecorderReading.{RecorderReading, RepresentsRests}
 use Rattle.dap_recording.specs.RecordedTraces.{AreRecorded, RecordedSoFar}
 use Rattle.dap_recording.specs.Feeding.{IsRecordCall, FeedsRecords, Records, Run, IsTraceCall}
 use Rattle.dap_recording.specs.Feeding.{FeedsTrace}
@@ -126,18 +127,18 @@ OneRecordStream =
     → RecordStream limits bytes ms r → RecordStream limits bytes ns s → (ms ≡ ns) × (r ≡ s)
 
 -- The bytes that a reader of records represents are incomplete.
-abbrev pub StandsOpen : Type 0
-StandsOpen = (reader : RecordReading) (number : ℕ) (bytes : List ℕ)
-    → StandsFor reader number bytes → IsOpenRecord (record_limits reader) bytes
+abbrev pub RepresentedIsIncomplete : Type 0
+RepresentedIsIncomplete = (reader : RecordReading) (number : ℕ) (bytes : List ℕ)
+    → RepresentsRecords reader number bytes → IsOpenRecord (record_limits reader) bytes
 
 -- For any chunks: after all are used, the records that a new reader returned are those of the
 -- joined chunks, and the reader represents the rest after them.
 abbrev pub AnyRecordPieces : Type 0
 AnyRecordPieces =
     (first last : RecordReading) (pieces : List (List ℕ)) (messages : List (Side × List ℕ))
-    → StandsFor first 1 [] → FeedsRecords first pieces messages [] last
+    → RepresentsRecords first 1 [] → FeedsRecords first pieces messages [] last
     → (rest : List ℕ) × RecordStream (record_limits first) (concat pieces) messages rest
-    × StandsFor last (number_behind messages) rest
+    × RepresentsRecords last (number_behind messages) rest
 
 -- For any chunks: if a call returns an error of the format, the records returned before are those
 -- of the joined chunks. The rest after them proves the error, whose number is that of the next
@@ -146,7 +147,7 @@ abbrev pub FaultInAnyRecordPieces : Type 0
 FaultInAnyRecordPieces =
     (first last new : RecordReading) (piece : List ℕ) (pieces left : List (List ℕ))
     (messages : List (Side × List ℕ)) (fault : RecordFault)
-    → StandsFor first 1 [] → FeedsRecords first pieces messages (piece ∷ left) last
+    → RepresentsRecords first 1 [] → FeedsRecords first pieces messages (piece ∷ left) last
     → IsRecordCall last piece (Err fault) new
     → fault.cause ≢ Memory
     → (rest : List ℕ) × (i : ℕ) × RecordStream (record_limits first) (concat pieces) messages rest
@@ -209,22 +210,22 @@ SomeTraceOutcome = (bytes : List ℕ)
     ⊎ (((cause : TraceCause) × (i : ℕ) × ShowsTraceFault bytes cause i) ⊎ IsOpenPiece bytes)
 
 -- The bytes that a reader of traces represents are incomplete.
-abbrev pub StandsOpenPiece : Type 0
-StandsOpenPiece = (reader : TraceReading) (piece : ℕ) (bytes raw : List ℕ)
-    → StandsForPiece reader piece bytes raw → IsOpenPiece bytes
+abbrev pub RepresentedPieceIsIncomplete : Type 0
+RepresentedPieceIsIncomplete = (reader : TraceReading) (piece : ℕ) (bytes raw : List ℕ)
+    → RepresentsPiece reader piece bytes raw → IsOpenPiece bytes
 
 -- For any pieces of the trace: the text of a new recorder has the records of the consumed bytes, in
 -- the order of the bytes that end their frames.
 abbrev pub AnyTracePieces : Type 0
 AnyTracePieces = (first last : RecorderReading) (pieces left : List (Side × List ℕ))
-    → StandsForRests first (λ side. []) → Records first pieces left last
+    → RepresentsRests first (λ side. []) → Records first pieces left last
     → RecordedSoFar first last pieces left
 
 -- For any inputs: the runs that a new reader of traces returned are those of the pieces in the
 -- consumed bytes.
 abbrev pub AnyTraceInputs : Type 0
 AnyTraceInputs = (first last : TraceReading) (inputs left : List (List ℕ)) (runs : List Run)
-    → StandsForPiece first 1 [] [] → FeedsTrace first inputs runs left last
+    → RepresentsPiece first 1 [] [] → FeedsTrace first inputs runs left last
     → ReadSoFar last inputs left runs
 
 -- For any inputs: if a call returns an error, the joined inputs are some pieces and a rest that
@@ -233,7 +234,7 @@ abbrev pub FaultInAnyTraceInputs : Type 0
 FaultInAnyTraceInputs =
     (first last new : TraceReading) (input : List ℕ) (inputs left : List (List ℕ)) (runs : List Run)
     (fault : TraceFault)
-    → StandsForPiece first 1 [] [] → FeedsTrace first inputs runs (input ∷ left) last
+    → RepresentsPiece first 1 [] [] → FeedsTrace first inputs runs (input ∷ left) last
     → IsTraceCall last input (Err fault) new
     → (pieces : List (Side × List ℕ)) × (rest : List ℕ) × (i : ℕ)
     × PieceStream (concat inputs) pieces rest

@@ -1,7 +1,7 @@
 -- The bytes that represent the two sides. A byte is its number: 62 is `>`, 60 is `<`.
 use Rattle.std.specs.Prelude.{◌≡◌, ◌≢◌, ℕ, Result, Ok, Err}
-use Rattle.dap_items.specs.Items.{Items}
-use Rattle.dap_items.specs.Then.{a_byte}
+use Rattle.dap_items.specs.Grammar.{Grammar}
+use Rattle.dap_items.specs.Combinators.{one_byte}
 use Rattle.dap_tree.specs.declared.side.Side.{Side}
 use Rattle.dap_tree.specs.declared.side.Side.TheVariants.{Client, Adapter}
 
@@ -20,5 +20,5 @@ SaysSide bad byte (Ok side) = byte ≡ marker side
 SaysSide bad byte (Err fault) = IsNoMarker byte × (fault ≡ bad)
 
 -- markers as items
-abbrev pub markers : {F : Type 0} → F → Items Side F
-markers bad = a_byte (SaysSide bad)
+abbrev pub markers : {F : Type 0} → F → Grammar Side F
+markers bad = one_byte (SaysSide bad)

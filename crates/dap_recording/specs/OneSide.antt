@@ -5,8 +5,8 @@ use Rattle.std.specs.Prelude.{Err}
 use Rattle.dap_frame.specs.declared.limits.FrameLimits.{FrameLimits}
 use Rattle.dap_frame.specs.declared.fault.FrameFault.{FrameFault}
 use Rattle.dap_frame.specs.declared.fault.FrameFault.TheVariants.{Memory}
-use Rattle.dap_frame.specs.Frame.{HasContentByte, HasFrame, IsFrame, Shows}
-use Rattle.dap_frame.specs.Reading.{Reading, Stands}
+use Rattle.dap_frame.specs.Frame.{HasContentByte, HasFrame, IsFrame, FailsAt}
+use Rattle.dap_frame.specs.Reading.{Reading, Represents}
 use Rattle.dap_tree.specs.declared.side.Side.{Side}
 use Rattle.dap_recording.specs.Recording.{record_text}
 
@@ -20,7 +20,7 @@ WantsMemory limits rest piece = (0 < length piece)
 pub record TakesAll (rest piece before after : List ℕ) (new : Reading) (used : ℕ) : Type 0 where
   pub all : used ≡ length piece
   pub text : after ≡ before
-  pub stands : Stands new (rest ++ piece)
+  pub represents : Represents new (rest ++ piece)
 
 -- `used` bytes of the piece were consumed. A frame ended there, and its record was appended.
 pub record TakesFrame (limits : FrameLimits) (side : Side) (rest piece before after : List ℕ)
@@ -28,7 +28,7 @@ pub record TakesFrame (limits : FrameLimits) (side : Side) (rest piece before af
   pub content : List ℕ
   pub is_frame : IsFrame limits (rest ++ take used piece) content
   pub text : after ≡ before ++ record_text side content
-  pub stands : Stands new []
+  pub represents : Represents new []
 
 -- The returned error is `Memory`, the piece may need memory, and nothing is changed; or the rest
 -- and the piece prove the error.
@@ -37,7 +37,7 @@ pub record TakesFault (limits : FrameLimits) (rest piece before after : List ℕ
   pub text : after ≡ before
   pub memory : fault ≡ Memory → new ≡ old
   pub wanted : fault ≡ Memory → WantsMemory limits rest piece
-  pub shown : fault ≢ Memory → (i : ℕ) × Shows limits (rest ++ piece) fault i
+  pub shown : fault ≢ Memory → (i : ℕ) × FailsAt limits (rest ++ piece) fault i
 
 -- the result of a call if the framer represented the rest
 abbrev pub Takes : FrameLimits → Side → List ℕ → List ℕ → List ℕ → List ℕ → Reading → Reading

@@ -4,7 +4,7 @@ use Rattle.std.specs.Prelude.{◌≡◌, ◌≢◌, ℕ, ◌+◌, ◌-◌, ◌^�
 use Rattle.std.specs.Prelude.{min, take, Result, Ok, Err, MatchOption}
 use Rattle.dap_frame.specs.declared.limits.FrameLimits.{FrameLimits}
 use Rattle.dap_frame.specs.Frame.{IsFrame, HasContentByte}
-use Rattle.dap_frame.specs.Reading.{Reading, Stands, limits_of}
+use Rattle.dap_frame.specs.Reading.{Reading, Represents, limits_of}
 use Rattle.dap_tree.specs.declared.side.Side.{Side}
 use Rattle.dap_recording.specs.declared.record_fault.RecordCause.TheVariants.{Memory}
 use Rattle.dap_recording.specs.declared.record_fault.RecordFault.{RecordFault}
@@ -16,7 +16,7 @@ use Rattle.dap_recording.specs.Marker.{marker}
 use Rattle.dap_recording.specs.Recording.{IsRecord, ShowsFault}
 
 -- The stored state: a framer, the progress of the current record, and its number. Callers need only
--- `record_limits`, `HasFailedAt` and `StandsFor`.
+-- `record_limits`, `HasFailedAt` and `RepresentsRecords`.
 pub record RecordReading : Type 0 where
   pub framer : Reading
   pub state : RecordState
@@ -33,17 +33,17 @@ pub record HasFailedAt (reader : RecordReading) (fault : RecordFault) : Type 0 w
 
 -- The stored state is that of these bytes, received since the last complete record.
 abbrev pub IsKeptOfRecord : Reading → RecordState → List ℕ → Type 0
-IsKeptOfRecord framer Marker bytes = (bytes ≡ []) × Stands framer []
+IsKeptOfRecord framer Marker bytes = (bytes ≡ []) × Represents framer []
 IsKeptOfRecord framer (Frame side) bytes = (rest : List ℕ) × (bytes ≡ marker side ∷ rest)
-    × Stands framer rest
+    × Represents framer rest
 IsKeptOfRecord framer (LineEnd whole) bytes =
     (frame : List ℕ) × (bytes ≡ marker whole.side ∷ frame)
     × IsFrame (limits_of framer) frame whole.content
-    × Stands framer []
+    × Represents framer []
 IsKeptOfRecord framer (Failed cause) bytes = ⊥
 
 -- The reader represents these bytes of the record with this number, which is incomplete.
-pub record StandsFor (reader : RecordReading) (number : ℕ) (bytes : List ℕ) : Type 0 where
+pub record RepresentsRecords (reader : RecordReading) (number : ℕ) (bytes : List ℕ) : Type 0 where
   pub number_is : reader.number ≡ number
   pub kept : IsKeptOfRecord reader.framer reader.state bytes
 
@@ -66,16 +66,16 @@ HasMarkedContent limits bytes = (side : Side) × (rest : List ℕ) × (bytes ≡
 -- no bytes of the next one.
 abbrev pub GivesFedRecord : FrameLimits → ℕ → List ℕ → List ℕ → FedRecord → RecordReading → Type 0
 GivesFedRecord limits number bytes piece fed new = (fed.used ≤ length piece) × MatchOption fed.whole
-    ((fed.used ≡ length piece) × StandsFor new number (bytes ++ piece))
+    ((fed.used ≡ length piece) × RepresentsRecords new number (bytes ++ piece))
     (λ whole. IsRecord limits (bytes ++ take fed.used piece) whole.side whole.content
-    × StandsFor new (next_number number) [])
+    × RepresentsRecords new (next_number number) [])
 
 -- The returned error is `Memory`: the chunk is not empty, a byte of a content has arrived, and the
 -- reader still represents the bytes. Or the bytes and the chunk prove the error.
 pub record GivesRecordFault (limits : FrameLimits) (number : ℕ) (bytes piece : List ℕ)
     (fault : RecordFault) (new : RecordReading) : Type 0 where
   pub number_is : fault.number ≡ number
-  pub memory : fault.cause ≡ Memory → StandsFor new number bytes
+  pub memory : fault.cause ≡ Memory → RepresentsRecords new number bytes
   pub for_content : fault.cause ≡ Memory → HasMarkedContent limits (bytes ++ piece)
   pub for_bytes : fault.cause ≡ Memory → 0 < length piece
   pub shown : fault.cause ≢ Memory → (i : ℕ) × ShowsFault limits (bytes ++ piece) fault.cause i

@@ -6,7 +6,7 @@ use Rattle.dap_frame.specs.Frame.{Stream}
 use Rattle.dap_tree.specs.declared.side.Side.{Side}
 use Rattle.dap_tree.specs.declared.side.Side.TheVariants.{Client, Adapter}
 use Rattle.dap_recording.specs.Recording.{recording_text}
-use Rattle.dap_recording.specs.RecorderReading.{RecorderReading, StandsForRests, text_of}
+use Rattle.dap_recording.specs.RecorderReading.{RecorderReading, RepresentsRests, text_of}
 use Rattle.dap_recording.specs.RecorderReading.{recorder_limits}
 
 -- whether the two sides are equal
@@ -50,5 +50,5 @@ pub record RecordedSoFar (first last : RecorderReading) (pieces left : List (Sid
   pub bytes_are : bytes_of pieces ≡ taken ++ bytes_of left
   pub recorded : AreRecorded (recorder_limits first) taken messages rests
   pub text_is : text_of last ≡ text_of first ++ recording_text messages
-  pub stands : StandsForRests last rests
+  pub represents : RepresentsRests last rests
   pub limits : recorder_limits last ≡ recorder_limits first

@@ -1,7 +1,7 @@
 -- The view of a recorder's fields that callers have, and the invariant of the fields.
 use Rattle.std.specs.Prelude.{◌≡◌, List, ℕ, None}
 use Rattle.dap_frame.specs.Limits.{IsSound}
-use Rattle.dap_frame.specs.Reading.{Stands, limits_of}
+use Rattle.dap_frame.specs.Reading.{Represents, limits_of}
 use Rattle.dap_recording.specs.declared.recorder.Recorder.TheInside.{Inside}
 use Rattle.dap_recording.specs.RecorderReading.{RecorderReading}
 
@@ -23,5 +23,5 @@ pub record IsConsistent (recorder : RecorderReading) : Type 0 where
   pub client_limits : limits_of recorder.client ≡ recorder.limits
   pub adapter_limits : limits_of recorder.adapter ≡ recorder.limits
   pub going : recorder.fault ≡ None
-      → ((rest : List ℕ) × Stands recorder.client rest)
-      × ((rest : List ℕ) × Stands recorder.adapter rest)
+      → ((rest : List ℕ) × Represents recorder.client rest)
+      × ((rest : List ℕ) × Represents recorder.adapter rest)

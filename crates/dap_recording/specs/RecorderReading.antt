@@ -4,8 +4,8 @@ use Rattle.std.specs.Prelude.{◌≡◌, ℕ, ◌≤◌, ◌⊎◌, List, [], �
 use Rattle.std.specs.Prelude.{Option, Some, None}
 use Rattle.dap_frame.specs.declared.limits.FrameLimits.{FrameLimits}
 use Rattle.dap_frame.specs.declared.fault.FrameFault.{FrameFault}
-use Rattle.dap_frame.specs.Frame.{IsFrame, Shows}
-use Rattle.dap_frame.specs.Reading.{Reading, Stands, limits_of}
+use Rattle.dap_frame.specs.Frame.{IsFrame, FailsAt}
+use Rattle.dap_frame.specs.Reading.{Reading, Represents, limits_of}
 use Rattle.dap_tree.specs.declared.side.Side.{Side}
 use Rattle.dap_tree.specs.declared.side.Side.TheVariants.{Client, Adapter}
 use Rattle.dap_recording.specs.declared.recorder_fault.RecorderFault.{RecorderFault}
@@ -13,7 +13,7 @@ use Rattle.dap_recording.specs.declared.recorder_fault.RecorderFault.TheVariants
 use Rattle.dap_recording.specs.Recording.{record_text}
 
 -- The stored state: the limits, a framer for each side, the recording so far, and the error that
--- occurred. Callers need only `recorder_limits`, `text_of`, `HasFailedWith` and `StandsForRests`.
+-- occurred. Callers need only `recorder_limits`, `text_of`, `HasFailedWith` and `RepresentsRests`.
 pub record RecorderReading : Type 0 where
   pub limits : FrameLimits
   pub client : Reading
@@ -40,10 +40,10 @@ HasFailedWith recorder fault = recorder.fault ≡ Some fault
 
 -- The recorder represents these rests of the two sides' streams, which are incomplete under its
 -- limits.
-pub record StandsForRests (recorder : RecorderReading) (rests : Side → List ℕ) : Type 0 where
+pub record RepresentsRests (recorder : RecorderReading) (rests : Side → List ℕ) : Type 0 where
   pub going : recorder.fault ≡ None
   pub limits : (side : Side) → limits_of (framer_of recorder side) ≡ recorder_limits recorder
-  pub each : (side : Side) → Stands (framer_of recorder side) (rests side)
+  pub each : (side : Side) → Represents (framer_of recorder side) (rests side)
 
 -- the rests, with another one for this side
 abbrev pub with_rest : Side → List ℕ → (Side → List ℕ) → Side → List ℕ
@@ -57,7 +57,7 @@ pub record GoesOn (side : Side) (rests : Side
     → List ℕ) (piece : List ℕ) (old new : RecorderReading) (used : ℕ) : Type 0 where
   pub all : used ≡ length piece
   pub text : text_of new ≡ text_of old
-  pub stands : StandsForRests new (with_rest side (rests side ++ piece) rests)
+  pub represents : RepresentsRests new (with_rest side (rests side ++ piece) rests)
 
 -- `used` bytes of the piece were consumed. A frame of the side ended there, and its record was
 -- appended.
@@ -67,14 +67,14 @@ pub record HasRecorded (side : Side) (rests : Side
   pub content : List ℕ
   pub is_frame : IsFrame (recorder_limits old) (rests side ++ take used piece) content
   pub text : text_of new ≡ text_of old ++ record_text side content
-  pub stands : StandsForRests new (with_rest side [] rests)
+  pub represents : RepresentsRests new (with_rest side [] rests)
 
 -- An error of the side's frame, which its rest and the piece prove. The text is unchanged.
 pub record HasNotRecorded (side : Side) (rests : Side
     → List ℕ) (piece : List ℕ) (old new : RecorderReading) (fault : RecorderFault) : Type 0 where
   pub cause : FrameFault
   pub fault_is : fault ≡ Frame side cause
-  pub shown : (i : ℕ) × Shows (recorder_limits old) (rests side ++ piece) cause i
+  pub shown : (i : ℕ) × FailsAt (recorder_limits old) (rests side ++ piece) cause i
   pub failed : HasFailedWith new fault
   pub text : text_of new ≡ text_of old
 

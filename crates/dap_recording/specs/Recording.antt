@@ -2,8 +2,8 @@
 -- of the DAP base protocol. A message is its side and its content.
 use Rattle.std.specs.Prelude.{◌≡◌, ◌≢◌, ℕ, List, [], ◌∷◌, ◌++◌, Result, Ok, Err}
 use Rattle.std.specs.List.{flat_map}
-use Rattle.dap_items.specs.Items.{Items, IsItem, AreItems, HasItem, IsStream, Shows}
-use Rattle.dap_items.specs.Then.{and_then, a_byte}
+use Rattle.dap_items.specs.Grammar.{Grammar, IsItem, ParsesAs, HasItem, IsStream, FailsAt}
+use Rattle.dap_items.specs.Combinators.{and_then, one_byte}
 use Rattle.dap_frame.specs.declared.limits.FrameLimits.{FrameLimits}
 use Rattle.dap_frame.specs.Frame.{frames, frame_text}
 use Rattle.dap_tree.specs.declared.side.Side.{Side}
@@ -27,11 +27,11 @@ EndsLine message byte (Ok whole) = (byte ≡ 10) × (whole ≡ message)
 EndsLine message byte (Err cause) = (byte ≢ 10) × (cause ≡ NoLineEnd)
 
 -- a frame of this side and the byte after it
-abbrev pub lines : FrameLimits → Side → Items (Side × List ℕ) RecordCause
-lines limits side = and_then (frames limits) (λ content. a_byte (EndsLine (side, content))) Frame
+abbrev pub lines : FrameLimits → Side → Grammar (Side × List ℕ) RecordCause
+lines limits side = and_then (frames limits) (λ content. one_byte (EndsLine (side, content))) Frame
 
 -- records as the items of a recording (own): a marker, a frame, LF
-abbrev pub records : FrameLimits → Items (Side × List ℕ) RecordCause
+abbrev pub records : FrameLimits → Grammar (Side × List ℕ) RecordCause
 records limits = and_then (markers BadMarker) (lines limits) (λ cause. cause)
 
 -- The bytes are one record of this side with this content.
@@ -45,7 +45,7 @@ IsOpenRecord limits = (records limits).IsOpen
 
 -- the general definitions for items, applied to records
 abbrev pub IsRecording : FrameLimits → List ℕ → List (Side × List ℕ) → Type 0
-IsRecording limits = AreItems (records limits)
+IsRecording limits = ParsesAs (records limits)
 
 abbrev pub HasRecord : FrameLimits → List ℕ → Type 0
 HasRecord limits = HasItem (records limits)
@@ -54,4 +54,4 @@ abbrev pub RecordStream : FrameLimits → List ℕ → List (Side × List ℕ) �
 RecordStream limits = IsStream (records limits)
 
 abbrev pub ShowsFault : FrameLimits → List ℕ → RecordCause → ℕ → Type 0
-ShowsFault limits = Shows (records limits)
+ShowsFault limits = FailsAt (records limits)

@@ -5,7 +5,7 @@ use Rattle.dap_tree.specs.declared.side.Side.{Side}
 use Rattle.dap_recording.specs.Marker.{marker}
 use Rattle.dap_recording.specs.RecordReading.{number_behind}
 use Rattle.dap_recording.specs.Trace.{IsTrace}
-use Rattle.dap_recording.specs.TraceReading.{TraceReading, StandsForPiece}
+use Rattle.dap_recording.specs.TraceReading.{TraceReading, RepresentsPiece}
 use Rattle.dap_recording.specs.Feeding.{Run}
 
 -- The runs have this number and side, no run is empty, and their concatenation is these bytes.
@@ -40,7 +40,7 @@ pub record ReadSoFar (reader : TraceReading) (inputs left : List (List ℕ)) (ru
   pub rest : List ℕ
   pub raw : List ℕ
   pub bytes_are : concat inputs ≡ front ++ (rest ++ concat left)
-  pub stands : StandsForPiece reader (number_behind pieces) rest raw
+  pub represents : RepresentsPiece reader (number_behind pieces) rest raw
   pub whole_runs : List Run
   pub last_runs : List Run
   pub runs_are : runs ≡ whole_runs ++ last_runs

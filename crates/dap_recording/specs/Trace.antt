@@ -3,8 +3,8 @@ use Rattle.std.specs.Prelude.{◌≡◌, ◌≢◌, ℕ, ◌<◌, ◌≤◌, ◌
 use Rattle.std.specs.Prelude.{slice_index, Result, Ok, Err}
 use Rattle.std.specs.List.{list_all}
 use Rattle.std.specs.Char.{is_ascii_digit}
-use Rattle.dap_items.specs.Items.{Items, IsItem, AreItems, HasItem, IsStream, Shows}
-use Rattle.dap_items.specs.Then.{and_then, until, so_many}
+use Rattle.dap_items.specs.Grammar.{Grammar, IsItem, ParsesAs, HasItem, IsStream, FailsAt}
+use Rattle.dap_items.specs.Combinators.{and_then, until, take_bytes}
 use Rattle.dap_frame.specs.Lines.{number_of}
 use Rattle.dap_tree.specs.declared.side.Side.{Side}
 use Rattle.dap_recording.specs.declared.trace_fault.TraceCause.{TraceCause}
@@ -35,15 +35,15 @@ EndsCount text byte (Ok number) = (byte ≡ 10) × IsCount text × (number ≡ n
 EndsCount text byte (Err cause) = IsBadAt text byte × (cause ≡ BadCount)
 
 -- count lines as items
-abbrev pub counts : Items ℕ TraceCause
+abbrev pub counts : Grammar ℕ TraceCause
 counts = until IsCountFront EndsCount
 
 -- a count line and as many raw bytes of this side as it states
-abbrev pub counted : Side → Items (Side × List ℕ) TraceCause
-counted side = and_then counts (so_many (λ raw. (side, raw))) (λ cause. cause)
+abbrev pub counted : Side → Grammar (Side × List ℕ) TraceCause
+counted side = and_then counts (take_bytes (λ raw. (side, raw))) (λ cause. cause)
 
 -- pieces as the items of a trace (own): a marker, the number of the raw bytes, LF, the raw bytes
-abbrev pub pieces_of : Items (Side × List ℕ) TraceCause
+abbrev pub pieces_of : Grammar (Side × List ℕ) TraceCause
 pieces_of = and_then (markers BadMarker) counted (λ cause. cause)
 
 -- The bytes are one piece of this side with these raw bytes.
@@ -57,7 +57,7 @@ IsOpenPiece = pieces_of.IsOpen
 
 -- the general definitions for items, applied to pieces
 abbrev pub IsTrace : List ℕ → List (Side × List ℕ) → Type 0
-IsTrace = AreItems pieces_of
+IsTrace = ParsesAs pieces_of
 
 abbrev pub HasPiece : List ℕ → Type 0
 HasPiece = HasItem pieces_of
@@ -66,4 +66,4 @@ abbrev pub PieceStream : List ℕ → List (Side × List ℕ) → List ℕ → T
 PieceStream = IsStream pieces_of
 
 abbrev pub ShowsTraceFault : List ℕ → TraceCause → ℕ → Type 0
-ShowsTraceFault = Shows pieces_of
+ShowsTraceFault = FailsAt pieces_of

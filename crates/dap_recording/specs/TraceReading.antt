@@ -15,7 +15,7 @@ use Rattle.dap_recording.specs.Trace.{IsCount, IsPiece, ShowsTraceFault}
 use Rattle.dap_recording.specs.Count.{IsCountOf}
 
 -- The stored state: the progress of the current piece, and its number. Callers need only
--- `HasFailedAtPiece` and `StandsForPiece`.
+-- `HasFailedAtPiece` and `RepresentsPiece`.
 pub record TraceReading : Type 0 where
   pub state : TraceState
   pub piece : ℕ
@@ -45,7 +45,7 @@ IsKeptOfPiece (Failed cause) bytes raw = ⊥
 
 -- The reader represents these bytes of the piece with this number, which is incomplete. `raw` are
 -- its raw bytes so far.
-pub record StandsForPiece (reader : TraceReading) (piece : ℕ) (bytes raw : List ℕ) : Type 0 where
+pub record RepresentsPiece (reader : TraceReading) (piece : ℕ) (bytes raw : List ℕ) : Type 0 where
   pub piece_is : reader.piece ≡ piece
   pub kept : IsKeptOfPiece reader.state bytes raw
 
@@ -57,16 +57,16 @@ pub record GivesRun (piece : ℕ) (bytes raw input : List ℕ) (used : ℕ) (sid
   pub begins : (more : List ℕ) × (bytes ++ input ≡ marker side ∷ more)
   pub some : run ≡ [] → raw ≡ []
   pub next : (IsPiece (bytes ++ take used input) side (raw ++ run)
-      × StandsForPiece new (next_number piece) [] [])
+      × RepresentsPiece new (next_number piece) [] [])
       ⊎ ((used ≡ length input) × (0 < length run)
-      × StandsForPiece new piece (bytes ++ input) (raw ++ run))
+      × RepresentsPiece new piece (bytes ++ input) (raw ++ run))
 
 -- The effect of a call on a reader that represented these bytes. Either it consumed the whole
 -- input, without any raw byte, and then represents both. Or it consumed the bytes up to the end of
 -- a run.
 abbrev pub GivesFedTrace : ℕ → List ℕ → List ℕ → List ℕ → FedTrace → TraceReading → Type 0
 GivesFedTrace piece bytes raw input fed new = (fed.used ≤ length input) × MatchOption fed.part
-    ((fed.used ≡ length input) × StandsForPiece new piece (bytes ++ input) raw)
+    ((fed.used ≡ length input) × RepresentsPiece new piece (bytes ++ input) raw)
     (λ part. (part.piece ≡ piece)
     × GivesRun piece bytes raw input fed.used part.side part.bytes.now new)
 

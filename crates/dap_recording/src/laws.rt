@@ -7,12 +7,14 @@ ghost use Rattle.dap_recording.specs.Laws.{ShownOfFormat, ShownMore, ShownFront,
 ghost use Rattle.dap_recording.specs.Laws.{RecordNotFaulty, RecordNotOpen, OpenNotFaulty};
 ghost use Rattle.dap_recording.specs.Laws.{SomeOutcome, OpenNone, WrittenIsRecord};
 ghost use Rattle.dap_recording.specs.Laws.{WrittenIsRecording, EmptyRecording, OneRecording};
-ghost use Rattle.dap_recording.specs.Laws.{SomeRecordStream, OneRecordStream, StandsOpen};
+ghost use Rattle.dap_recording.specs.Laws.{SomeRecordStream, OneRecordStream};
+ghost use Rattle.dap_recording.specs.Laws.{RepresentedIsIncomplete};
 ghost use Rattle.dap_recording.specs.Laws.{AnyRecordPieces, FaultInAnyRecordPieces, OnePiece};
 ghost use Rattle.dap_recording.specs.Laws.{NoEmptyPiece, OneTraceCause, TraceShownWithin};
 ghost use Rattle.dap_recording.specs.Laws.{TraceShownMore, TraceShownFront, TraceShownLater};
 ghost use Rattle.dap_recording.specs.Laws.{PieceNotFaulty, PieceNotOpen, OpenPieceNotFaulty};
-ghost use Rattle.dap_recording.specs.Laws.{SomeTraceOutcome, StandsOpenPiece, OneRecorded};
+ghost use Rattle.dap_recording.specs.Laws.{SomeTraceOutcome, RepresentedPieceIsIncomplete};
+ghost use Rattle.dap_recording.specs.Laws.{OneRecorded};
 ghost use Rattle.dap_recording.specs.Laws.{AnyTracePieces, AnyTraceInputs, FaultInAnyTraceInputs};
 ghost use Rattle.dap_recording.specs.Laws.{SomePieceStream, OnePieceStream};
 
@@ -71,7 +73,7 @@ pub fn one_recording()
 /// For any chunks, calls of `RecordReader::feed` return the records of the joined chunks, up to
 /// their end or to their error. The bytes that a reader represents are incomplete.
 pub fn any_record_pieces()
-    ensures stands_open { StandsOpen }
+    ensures represented_is_incomplete { RepresentedIsIncomplete }
     ensures records { AnyRecordPieces }
     ensures fault { FaultInAnyRecordPieces }
 {}
@@ -100,7 +102,7 @@ pub fn one_trace_outcome()
     ensures piece_not_faulty { PieceNotFaulty }
     ensures piece_not_open { PieceNotOpen }
     ensures open_not_faulty { OpenPieceNotFaulty }
-    ensures stands_open { StandsOpenPiece }
+    ensures represented_is_incomplete { RepresentedPieceIsIncomplete }
 {}
 
 /// For any pieces of a trace, calls of `Recorder::piece` record the frames of both sides in the

@@ -4,7 +4,7 @@ ghost use Rattle.std.specs.Prelude.{◌≡◌, ℕ, ◌<◌, ◌≤◌, ◌+◌,
 ghost use Rattle.std.specs.Prelude.{OnOk, vec_capacity, vec_len};
 ghost use Rattle.dap_frame.specs.Frame.{IsFrame};
 ghost use Rattle.dap_frame.specs.Limits.{IsSound};
-ghost use Rattle.dap_frame.specs.Reading.{Stands, limits_of};
+ghost use Rattle.dap_frame.specs.Reading.{Represents, limits_of};
 ghost use Rattle.dap_recording.specs.OneSide.{Takes, WantsMemory};
 
 use crate::write::write_record;
@@ -17,11 +17,11 @@ use std::alloc::AllocError;
 fn make_room(text: &mut Vec<u8>, framer: &Framer, piece: &[u8]) -> Result<(), AllocError>
     requires { IsSound (limits_of framer.now) }
     ensures items { text.new.items ≡ text.old.items }
-    ensures room { OnOk result ((rest content : List ℕ) (used : ℕ) → Stands framer.now rest
+    ensures room { OnOk result ((rest content : List ℕ) (used : ℕ) → Represents framer.now rest
         → used ≤ length piece.now
         → IsFrame (limits_of framer.now) (rest ++ take used piece.now) content
         → vec_len text.new + length content + 32 ≤ vec_capacity text.new) }
-    ensures wanted { OnErr result ((rest : List ℕ) → Stands framer.now rest
+    ensures wanted { OnErr result ((rest : List ℕ) → Represents framer.now rest
         → WantsMemory (limits_of framer.now) rest piece.now) }
 {
     let room = framer.held() + piece.len() + 32;
@@ -45,7 +45,7 @@ pub fn record_frame(
 ) -> Result<usize, FrameFault>
     requires sound { IsSound limits }
     requires same { limits_of framer.old ≡ limits }
-    ensures takes { (rest : List ℕ) → Stands framer.old rest
+    ensures takes { (rest : List ℕ) → Represents framer.old rest
         → Takes limits side rest piece.now text.old.items text.new.items framer.old framer.new
         result }
     ensures used { IfOk result (λ used. used ≤ length piece.now) }

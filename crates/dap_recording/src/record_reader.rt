@@ -3,9 +3,9 @@ ghost use Rattle.std.specs.Prelude.{◌≡◌, ◌≢◌, ℕ, ◌<◌, ◌≤�
 ghost use Rattle.std.specs.Prelude.{Err, IfErr, IfOk, IsOk, IsTrue};
 ghost use Rattle.dap_frame.specs.Limits.{IsSound};
 ghost use Rattle.dap_frame.specs.Frame.{IsFrame};
-ghost use Rattle.dap_frame.specs.Reading.{Stands};
+ghost use Rattle.dap_frame.specs.Reading.{Represents};
 ghost use Rattle.dap_recording.specs.Marker.{marker};
-ghost use Rattle.dap_recording.specs.RecordReading.{StandsFor, HasFailedAt, GivesRecord};
+ghost use Rattle.dap_recording.specs.RecordReading.{RepresentsRecords, HasFailedAt, GivesRecord};
 ghost use Rattle.dap_recording.specs.RecordReading.{record_limits};
 ghost use Rattle.dap_recording.specs.Recording.{HasRecord};
 
@@ -48,7 +48,7 @@ impl RecordReader {
     /// Returns a reader at the start of a recording. Does not allocate.
     pub fn new(alloc: Global, limits: FrameLimits) -> RecordReader
         requires { IsSound limits }
-        ensures stands { StandsFor result 1 [] }
+        ensures represents { RepresentsRecords result 1 [] }
         ensures limits { record_limits result ≡ limits }
     {
         RecordReader {
@@ -72,7 +72,7 @@ impl RecordReader {
     /// - Any error except `Cut`: the bytes so far prove it. After that, `feed` and
     ///   [`finish`](RecordReader::finish) always return this error.
     pub fn feed(&mut self, piece: &[u8]) -> Result<FedRecord, RecordFault>
-        ensures gives { (number : ℕ) (bytes : List ℕ) → StandsFor self.old number bytes
+        ensures gives { (number : ℕ) (bytes : List ℕ) → RepresentsRecords self.old number bytes
             → GivesRecord (record_limits self.old) number bytes piece.now result self.new }
         ensures used { IfOk result (λ fed. fed.used ≤ length piece.now) }
         ensures progress { IfOk result (λ fed. 0 < length piece.now → 0 < fed.used) }
@@ -130,7 +130,7 @@ impl RecordReader {
     /// Reads a record from its marker on.
     fn read_marker(&mut self, piece: &[u8]) -> Result<FedRecord, RecordFault>
         requires { self.old.state ≡ RecordState.Marker }
-        ensures gives { (number : ℕ) (bytes : List ℕ) → StandsFor self.old number bytes
+        ensures gives { (number : ℕ) (bytes : List ℕ) → RepresentsRecords self.old number bytes
             → GivesRecord (record_limits self.old) number bytes piece.now result self.new }
         ensures used { IfOk result (λ fed. fed.used ≤ length piece.now) }
         ensures progress { IfOk result (λ fed. 0 < length piece.now → 0 < fed.used) }
@@ -165,8 +165,8 @@ impl RecordReader {
     ) -> Result<FedRecord, RecordFault>
         requires { from ≤ length piece.now }
         ensures gives { (number : ℕ) (bytes rest : List ℕ) → self.old.number ≡ number
-            → Stands self.old.framer rest → bytes ++ take from piece.now ≡ marker side ∷ rest
-            → StandsFor self.old number bytes
+            → Represents self.old.framer rest → bytes ++ take from piece.now ≡ marker side ∷ rest
+            → RepresentsRecords self.old number bytes
             → GivesRecord (record_limits self.old) number bytes piece.now result self.new }
         ensures used { IfOk result (λ fed. (from ≤ fed.used) × (fed.used ≤ length piece.now)) }
         ensures progress { IfOk result (λ fed. from < length piece.now → from < fed.used) }
@@ -224,7 +224,8 @@ impl RecordReader {
     ) -> Result<FedRecord, RecordFault>
         requires { from ≤ length piece.now }
         ensures gives { (number : ℕ) (bytes frame : List ℕ) → self.old.number ≡ number
-            → Stands self.old.framer [] → bytes ++ take from piece.now ≡ marker whole.side ∷ frame
+            → Represents self.old.framer [] → bytes ++ take from piece.now
+            ≡ marker whole.side ∷ frame
             → IsFrame (record_limits self.old) frame whole.content
             → GivesRecord (record_limits self.old) number bytes piece.now result self.new }
         ensures used { IfOk result (λ fed. (from ≤ fed.used) × (fed.used ≤ length piece.now)) }
@@ -261,9 +262,9 @@ impl RecordReader {
     /// - `Cut`: the recording ends inside a record.
     /// - The error that occurred before, if any.
     pub fn finish(&self) -> Result<(), RecordFault>
-        ensures ok { (number : ℕ) (bytes : List ℕ) → StandsFor self.now number bytes
+        ensures ok { (number : ℕ) (bytes : List ℕ) → RepresentsRecords self.now number bytes
             → (IsOk result ↔ (bytes ≡ [])) }
-        ensures cut { (number : ℕ) (bytes : List ℕ) → StandsFor self.now number bytes
+        ensures cut { (number : ℕ) (bytes : List ℕ) → RepresentsRecords self.now number bytes
             → IfErr result (λ fault. (fault.number ≡ number) × (fault.cause ≡ RecordCause.Cut)) }
         ensures failed { (fault : _) → HasFailedAt self.now fault → result ≡ Err fault }
     {

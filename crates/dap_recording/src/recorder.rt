@@ -3,7 +3,7 @@ ghost use Rattle.std.specs.Prelude.{◌≡◌, ◌≢◌, ℕ, ◌<◌, ◌≤�
 ghost use Rattle.std.specs.Prelude.{IsErrOf, OnErr};
 ghost use Rattle.dap_frame.specs.Limits.{IsSound};
 ghost use Rattle.dap_recording.specs.OneSide.{WantsMemory};
-ghost use Rattle.dap_recording.specs.RecorderReading.{StandsForRests, HasFailedWith, GivesPiece};
+ghost use Rattle.dap_recording.specs.RecorderReading.{RepresentsRests, HasFailedWith, GivesPiece};
 ghost use Rattle.dap_recording.specs.RecorderReading.{text_of, recorder_limits};
 
 use crate::one_side::record_frame;
@@ -48,7 +48,7 @@ impl Recorder {
     /// Returns a recorder at the start of a trace. Does not allocate.
     pub fn new(alloc: Global, limits: FrameLimits) -> Recorder
         requires { IsSound limits }
-        ensures stands { StandsForRests result (λ side. []) }
+        ensures represents { RepresentsRests result (λ side. []) }
         ensures text { text_of result ≡ [] }
         ensures limits { recorder_limits result ≡ limits }
     {
@@ -83,7 +83,7 @@ impl Recorder {
     ///   either side) and [`finish`](Recorder::finish) always return this error. The text keeps the
     ///   records appended before.
     pub fn piece(&mut self, side: Side, piece: &[u8]) -> Result<usize, RecorderFault>
-        ensures gives { (rests : Side → List ℕ) → StandsForRests self.old rests
+        ensures gives { (rests : Side → List ℕ) → RepresentsRests self.old rests
             → GivesPiece side rests piece.now self.old self.new result }
         ensures used { IfOk result (λ used. used ≤ length piece.now) }
         ensures progress { IfOk result (λ used. 0 < length piece.now → 0 < used) }
@@ -91,7 +91,7 @@ impl Recorder {
         // The state after an error.
         ensures memory { IsErrOf result RecorderFault.Memory → self.new ≡ self.old }
         ensures memory_for_record { IsErrOf result RecorderFault.Memory → (rests : Side → List ℕ)
-            → StandsForRests self.old rests
+            → RepresentsRests self.old rests
             → WantsMemory (recorder_limits self.old) (rests side) piece.now }
         ensures kept { OnErr result (text_of self.new ≡ text_of self.old) }
         ensures failed { (fault : _) → HasFailedWith self.old fault
@@ -128,12 +128,12 @@ impl Recorder {
     /// - The error that occurred before, if any.
     /// - `Cut`: a side ends inside a frame. The client is checked first, then the adapter.
     pub fn finish(&self) -> Result<(), RecorderFault>
-        ensures ok { (rests : Side → List ℕ) → StandsForRests self.now rests
+        ensures ok { (rests : Side → List ℕ) → RepresentsRests self.now rests
             → (IsOk result ↔ ((rests Side.Client ≡ []) × (rests Side.Adapter ≡ []))) }
-        ensures client { (rests : Side → List ℕ) → StandsForRests self.now rests
+        ensures client { (rests : Side → List ℕ) → RepresentsRests self.now rests
             → rests Side.Client ≢ []
             → result ≡ Err (RecorderFault.Frame Side.Client FrameFault.Cut) }
-        ensures adapter { (rests : Side → List ℕ) → StandsForRests self.now rests
+        ensures adapter { (rests : Side → List ℕ) → RepresentsRests self.now rests
             → rests Side.Client ≡ [] → rests Side.Adapter ≢ []
             → result ≡ Err (RecorderFault.Frame Side.Adapter FrameFault.Cut) }
         ensures failed { (fault : _) → HasFailedWith self.now fault → result ≡ Err fault }

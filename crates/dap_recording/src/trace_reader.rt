@@ -5,7 +5,7 @@ ghost use Rattle.dap_frame.specs.Lines.{number_of};
 ghost use Rattle.dap_recording.specs.Marker.{marker};
 ghost use Rattle.dap_recording.specs.Trace.{IsCount};
 ghost use Rattle.dap_recording.specs.Count.{IsCountOf};
-ghost use Rattle.dap_recording.specs.TraceReading.{StandsForPiece, HasFailedAtPiece, GivesTrace};
+ghost use Rattle.dap_recording.specs.TraceReading.{RepresentsPiece, HasFailedAtPiece, GivesTrace};
 ghost use Rattle.dap_recording.specs.TraceReading.{GivesFedTrace};
 
 use crate::count::{Count, CountEnd, count_end};
@@ -45,7 +45,7 @@ impl Model for TraceReader {
 impl TraceReader {
     /// Returns a reader at the start of a trace.
     pub fn new() -> TraceReader
-        ensures { StandsForPiece result 1 [] [] }
+        ensures { RepresentsPiece result 1 [] [] }
     {
         TraceReader {
             state: TraceState::Marker,
@@ -63,7 +63,7 @@ impl TraceReader {
     /// Any error except `Cut`, with the number of the piece in which it occurs. After that, `feed`
     /// and [`finish`](TraceReader::finish) always return this error.
     pub fn feed<'a>(&mut self, input: &'a [u8]) -> Result<FedTrace<'a>, TraceFault>
-        ensures gives { (piece : ℕ) (bytes raw : List ℕ) → StandsForPiece self.old piece bytes raw
+        ensures gives { (piece : ℕ) (bytes raw : List ℕ) → RepresentsPiece self.old piece bytes raw
             → GivesTrace piece bytes raw input.now result self.new }
         ensures used { IfOk result (λ fed. fed.used ≤ length input.now) }
         ensures progress { IfOk result (λ fed. 0 < length input.now → 0 < fed.used) }
@@ -84,7 +84,7 @@ impl TraceReader {
     /// Reads a piece from its marker on.
     fn read_marker<'a>(&mut self, input: &'a [u8]) -> Result<FedTrace<'a>, TraceFault>
         requires { self.old.state ≡ TraceState.Marker }
-        ensures gives { (piece : ℕ) (bytes raw : List ℕ) → StandsForPiece self.old piece bytes raw
+        ensures gives { (piece : ℕ) (bytes raw : List ℕ) → RepresentsPiece self.old piece bytes raw
             → GivesTrace piece bytes raw input.now result self.new }
         ensures used { IfOk result (λ fed. fed.used ≤ length input.now) }
         ensures progress { IfOk result (λ fed. 0 < length input.now → 0 < fed.used) }
@@ -200,9 +200,9 @@ impl TraceReader {
     /// - `Cut`: the trace ends inside a piece.
     /// - The error that occurred before, if any.
     pub fn finish(&self) -> Result<(), TraceFault>
-        ensures ok { (piece : ℕ) (bytes raw : List ℕ) → StandsForPiece self.now piece bytes raw
+        ensures ok { (piece : ℕ) (bytes raw : List ℕ) → RepresentsPiece self.now piece bytes raw
             → (IsOk result ↔ (bytes ≡ [])) }
-        ensures cut { (piece : ℕ) (bytes raw : List ℕ) → StandsForPiece self.now piece bytes raw
+        ensures cut { (piece : ℕ) (bytes raw : List ℕ) → RepresentsPiece self.now piece bytes raw
             → IfErr result (λ fault. (fault.piece ≡ piece) × (fault.cause ≡ TraceCause.Cut)) }
         ensures failed { (fault : _) → HasFailedAtPiece self.now fault → result ≡ Err fault }
     {

@@ -227,31 +227,31 @@ pub list_carried : (ps : List Pair) (stop : Sent → ℕ) → IsToldBySkeleton s
     (ms ns : List Sent) → carries_list ps stop k ms ns ≡ true
     → (map message_skeleton ms ≡ map message_skeleton ns)
     × AreRelated (entries ps) (occurrences stop k ms) (occurrences stop k ns)
-list_carried ps stop told k [] [] h = (refl, tt)
-list_carried ps stop told k (m ∷ ms) (n ∷ ns) h =
+list_carried ps stop reported k [] [] h = (refl, tt)
+list_carried ps stop reported k (m ∷ ms) (n ∷ ns) h =
     let a = and_parts (carries_sent ps k m n) (carries_list ps stop (k + stop m) ms ns) h in
     let b = and_parts (same_side m.side n.side) (carries_doc ps k m.doc n.doc) a.0 in
     let first = doc_carried ps k m.doc n.doc b.1 in
     let alike : message_skeleton m ≡ message_skeleton n =
     same_sent m.side n.side _ _ ((same_side_decides m.side n.side).0 b.0) first.0 in
-    let rest = list_carried ps stop told (k + stop m) ms ns a.1 in (
+    let rest = list_carried ps stop reported (k + stop m) ms ns a.1 in (
       same_cons (message_skeleton m) (message_skeleton n) _ _ alike rest.0,
       related-append (entries ps) (map (occurrence k) (ids m.doc)) (occurrences stop (k + stop m)
           ms)
           (map (occurrence k) (ids n.doc)) (occurrences stop (k + stop n) ns) first.1
           (subst (λ j. AreRelated (entries ps) (occurrences stop (k + stop m) ms)
-          (occurrences stop (k + j) ns)) (told m n alike) rest.1),
+          (occurrences stop (k + j) ns)) (reported m n alike) rest.1),
     )
-list_carried ps stop told k ms ns h = absurd cc
+list_carried ps stop reported k ms ns h = absurd cc
 
 pub carried_list : (ps : List Pair) (stop : Sent → ℕ) → IsToldBySkeleton stop → (k : ℕ)
     (ms ns : List Sent) → map message_skeleton ms ≡ map message_skeleton ns
     → AreRelated (entries ps) (occurrences stop k ms) (occurrences stop k ns)
     → carries_list ps stop k ms ns ≡ true
-carried_list ps stop told k [] [] e h = refl
-carried_list ps stop told k [] (n ∷ ns) e h = absurd cc
-carried_list ps stop told k (m ∷ ms) [] e h = absurd cc
-carried_list ps stop told k (m ∷ ms) (n ∷ ns) e h =
+carried_list ps stop reported k [] [] e h = refl
+carried_list ps stop reported k [] (n ∷ ns) e h = absurd cc
+carried_list ps stop reported k (m ∷ ms) [] e h = absurd cc
+carried_list ps stop reported k (m ∷ ms) (n ∷ ns) e h =
     let first = head_of e in
     let side : m.side ≡ n.side = ap (λ (w : Sent). w.side) first in
     let doc : skeleton m.doc ≡ skeleton n.doc = ap (λ (w : Sent). w.doc) first in
@@ -267,9 +267,9 @@ carried_list ps stop told k (m ∷ ms) (n ∷ ns) e h =
     and_from (carries_sent ps k m n) (carries_list ps stop (k + stop m) ms ns)
     (and_from (same_side m.side n.side) (carries_doc ps k m.doc n.doc)
     ((same_side_decides m.side n.side).1 side) (carried_doc ps k m.doc n.doc doc here))
-    (carried_list ps stop told (k + stop m) ms ns (tail_of e)
+    (carried_list ps stop reported (k + stop m) ms ns (tail_of e)
     (subst (λ j. AreRelated (entries ps) (occurrences stop (k + stop m) ms)
-    (occurrences stop (k + j) ns)) (sym (told m n first)) later))
+    (occurrences stop (k + j) ns)) (sym (reported m n first)) later))
 
 -- ---- at the end of one list
 

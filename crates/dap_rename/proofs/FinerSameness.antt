@@ -13,7 +13,7 @@ use Rattle.dap_message.specs.Message.{Sent}
 use Rattle.dap_names.proofs.Additions.{by_bool}
 use Rattle.dap_names.proofs.MixedNames.{firsts}
 use Rattle.dap_rename.specs.Laws.{SameInEachMode}
-use Rattle.dap_rename.specs.Messages.{Class, IsProperId, AreSame, in_whole}
+use Rattle.dap_rename.specs.Messages.{Class, IsProperId, AreSame, no_stop}
 use Rattle.dap_rename.specs.Messages.{occurrence, occurrences, same_class}
 use Rattle.dap_rename.specs.Modes.{stop_in}
 use Rattle.dap_rename.specs.Renamings.{IsIn, AreApart, IsRenaming, AreRelated}
@@ -37,7 +37,7 @@ whole_ids k [] = refl
 whole_ids k (i ∷ is) = rw (class_sort k i.0, first_class i.0, whole_ids k is) refl
 
 whole_occurrences : (stop : Sent → ℕ) (k : ℕ) (ms : List Sent)
-    → map in_whole_class (occurrences stop k ms) ≡ occurrences in_whole 0 ms
+    → map in_whole_class (occurrences stop k ms) ≡ occurrences no_stop 0 ms
 whole_occurrences stop k [] = refl
 whole_occurrences stop k (m ∷ ms) =
     map-append in_whole_class (map (occurrence k) (ids m.doc)) (occurrences stop (k + stop m) ms)

@@ -14,7 +14,7 @@ use Rattle.dap_rename.specs.declared.tables.Tables.{Tables}
 use Rattle.dap_names.specs.Table.{place, has}
 use Rattle.dap_rename.specs.Sorts.{EachSort, same_sort}
 use Rattle.dap_rename.specs.Tables.{table_of, Lists, lists, counts, added, added_all, names_from}
-use Rattle.dap_rename.specs.Tables.{Begins, AllBegin, Limits, limits, AllFit, SomeIsOver}
+use Rattle.dap_rename.specs.Tables.{Extends, AllExtend, Limits, limits, AllFit, SomeExceedsLimit}
 use Rattle.dap_tree.proofs.Sorts.{told_same_sort}
 use Rattle.dap_rename.proofs.AllSorts.{at_sort, each_sort, table_is, tables_equal}
 
@@ -30,10 +30,10 @@ names_from-push l [] i = refl
 names_from-push l (j ∷ is) i =
     ap (λ t. place (table_of l j.0) j.1 ∷ t) (names_from-push (added l j.0 j.1) is i)
 
-pub begins_refl : (t : List ℤ) → Begins t t
+pub begins_refl : (t : List ℤ) → Extends t t
 begins_refl t = (omega arith, take-length t)
 
-pub begins-add : (t u : List ℤ) (x : ℤ) → Begins t u → Begins t (add u x)
+pub begins-add : (t u : List ℤ) (x : ℤ) → Extends t u → Extends t (add u x)
 begins-add t u x h =
     by_bool (list_any (int_eq x) u)
     (λ a. rw a h)
@@ -47,21 +47,21 @@ pub added_at : (l : Lists) (s : Sort) (x : ℤ) (r : Sort)
 added_at l s x r =
     table_is (λ t. cond (same_sort t s) (add (table_of l t) x) (table_of l t)) r
 
-pub all_begin-added : (l m : Lists) (s : Sort) (x : ℤ) → AllBegin l m → AllBegin l (added m s x)
-unfolding AllBegin
+pub all_begin-added : (l m : Lists) (s : Sort) (x : ℤ) → AllExtend l m → AllExtend l (added m s x)
+unfolding AllExtend
 all_begin-added l m s x h r =
-    subst (Begins (table_of l r)) (sym (added_at m s x r))
+    subst (Extends (table_of l r)) (sym (added_at m s x r))
     (by_bool (same_sort r s) (λ a. rw a (begins-add (table_of l r) (table_of m r) x (h r)))
     (λ a. rw a (h r)))
 
-pub all_begin-added_all : (l m : Lists) (is : List (Sort × ℤ)) → AllBegin l m
-    → AllBegin l (added_all m is)
+pub all_begin-added_all : (l m : Lists) (is : List (Sort × ℤ)) → AllExtend l m
+    → AllExtend l (added_all m is)
 all_begin-added_all l m [] h = h
 all_begin-added_all l m (i ∷ is) h =
     all_begin-added_all l (added m i.0 i.1) is (all_begin-added l m i.0 i.1 h)
 
-pub all_begin : (l : Lists) (is : List (Sort × ℤ)) → AllBegin l (added_all l is)
-unfolding AllBegin
+pub all_begin : (l : Lists) (is : List (Sort × ℤ)) → AllExtend l (added_all l is)
+unfolding AllExtend
 all_begin l is =
     all_begin-added_all l l is (λ s. begins_refl (table_of l s))
 
@@ -77,7 +77,7 @@ pub named_step : (l m : Lists) (is : List (Sort × ℤ)) (k : ℕ) (d : Sort × 
 named_step l m is k d v w x h e f g q = rw (take_more is k d h, names_from-push, ← e, ← f, ← g) q
 
 -- truncating a list to the length of its prefix yields the prefix
-pub cut_back : (old new cut : List ℤ) (k : ℕ) → Begins old new → k ≡ length old → cut ≡ take k new
+pub cut_back : (old new cut : List ℤ) (k : ℕ) → Extends old new → k ≡ length old → cut ≡ take k new
     → cut ≡ old
 cut_back old new cut k h e f = f ∙ rw e h.1
 
@@ -95,19 +95,19 @@ module _ {T : Type 0} (numbers : T → List ℤ) where
 
   -- tables that have grown contain the numbers that they had
   pub counts_fit : (old new : Tables T) (n : Tables ℕ) → n ≡ counts numbers old
-      → AllBegin (lists numbers old) (lists numbers new)
+      → AllExtend (lists numbers old) (lists numbers new)
       → EachSort (λ s. table_of n s ≤ length (numbers (table_of new s)))
-  unfolding AllBegin
+  unfolding AllExtend
   counts_fit old new n e h =
       each_sort (λ s. table_of n s ≤ length (numbers (table_of new s)))
       (λ s. omega (arith, count_at old n s e, (h s).0, ap length (list_at new s)))
 
   -- and truncated to these they are unchanged
   pub lists_cut : (old new cut : Tables T) (n : Tables ℕ) → n ≡ counts numbers old
-      → AllBegin (lists numbers old) (lists numbers new)
+      → AllExtend (lists numbers old) (lists numbers new)
       → EachSort (λ s. numbers (table_of cut s) ≡ take (table_of n s) (numbers (table_of new s)))
       → lists numbers cut ≡ lists numbers old
-  unfolding AllBegin
+  unfolding AllExtend
   lists_cut old new cut n e h k =
       tables_equal (lists numbers cut) (lists numbers old)
       (λ s. cut_back (table_of (lists numbers old) s) (table_of (lists numbers new) s)
@@ -140,8 +140,9 @@ list_of-added l s x =
     added_at l s x s
     ∙ ap (λ b. cond b (add (table_of l s) x) (table_of l s)) (told_same_sort s s refl)
 
-pub longer : (l m : Lists) (s : Sort) → AllBegin l m → length (table_of l s) ≤ length (table_of m s)
-unfolding AllBegin
+pub longer : (l m : Lists) (s : Sort) → AllExtend l m → length (table_of l s)
+    ≤ length (table_of m s)
+unfolding AllExtend
 longer l m s h = (h s).0
 
 pub add-new : (t : List ℤ) (x : ℤ) → has t x ≡ false → length (add t x) ≡ length t + 1
@@ -152,7 +153,7 @@ pub over : (lim : Limits) (l : Lists) (is : List (Sort × ℤ)) (k : ℕ) (i : S
     → take (k + 1) is ≡ take k is ++ i ∷ []
     → has (table_of (added_all l (take k is)) i.0) i.1 ≡ false →
     table_of lim i.0 ≤ length (table_of (added_all l (take k is)) i.0)
-    → SomeIsOver lim (added_all l is)
+    → SomeExceedsLimit lim (added_all l is)
 over lim l is k i t new full =
     let m = added_all l (take k is) in
     let e : added_all l is ≡ added_all (added m i.0 i.1) (drop (k + 1) is) =
@@ -173,6 +174,6 @@ pub over_step : (lim now : Limits) (l m : Lists) (is : List (Sort × ℤ)) (k : 
     → k < length is → m ≡ added_all l (take k is) → now ≡ lim →
     (has (table_of m (get_or is k d).0) (get_or is k d).1 ≡ false)
     × (table_of now (get_or is k d).0 ≤ length (table_of m (get_or is k d).0))
-    → SomeIsOver lim (added_all l is)
+    → SomeExceedsLimit lim (added_all l is)
 over_step lim now l m is k d h e f q =
     over lim l is k (get_or is k d) (take_more is k d h) (rw e at q.0) (rw (e, f) at q.1)

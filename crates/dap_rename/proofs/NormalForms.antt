@@ -18,7 +18,7 @@ use Rattle.dap_rename.specs.Messages.{Class, AreProper, AreSame, class_after, oc
 use Rattle.dap_rename.specs.Messages.{occurrences}
 use Rattle.dap_rename.specs.Messages.{message_skeleton, same_class, stops_after, IsNormal, names_of}
 use Rattle.dap_rename.specs.Messages.{normal_from, normal_of}
-use Rattle.dap_rename.specs.Laws.{IsToldBySkeleton, WholeIsTold, SomeNormal, NormalOfFront}
+use Rattle.dap_rename.specs.Laws.{IsToldBySkeleton, WholeIffRenaming, SomeNormal, NormalOfFront}
 use Rattle.dap_rename.specs.Laws.{NormalOfNext, NamesAreCounted, NamesAreSmall, SameCounts}
 use Rattle.dap_rename.specs.Laws.{FrontHasFewIds}
 use Rattle.dap_names.proofs.Additions.{by_bool, numbers-append, add_all-append, any-table, up_to}
@@ -31,13 +31,13 @@ use Rattle.dap_rename.proofs.Occurrences.{occurrences-push, stops_alike, same_se
 use Rattle.dap_rename.proofs.Sameness.{alike, fresh_names, same_as_itself, same_is_proper}
 use Rattle.dap_rename.proofs.Sameness.{normal_is_unique, named_is_normal}
 
-pub whole_is_told : WholeIsTold
+pub whole_is_told : WholeIffRenaming
 whole_is_told m n h = refl
 
 -- lists that are the same have equally many stops
 pub same_stops : (stop : Sent → ℕ) → IsToldBySkeleton stop → (ms ns : List Sent)
     → AreSame stop ms ns → stops_after stop 0 ms ≡ stops_after stop 0 ns
-same_stops stop told ms ns s = stops_alike stop told 0 ms ns (alike stop ms ns s).skeletons
+same_stops stop reported ms ns s = stops_alike stop reported 0 ms ns (alike stop ms ns s).skeletons
 
 -- ---- canonical numbers are ids
 
@@ -106,28 +106,28 @@ pub normal_occurrences : (stop : Sent → ℕ) → IsToldBySkeleton stop
     → (before : List (Class × ℤ)) (stops : ℕ) (ms : List Sent)
     → occurrences stop stops (normal_from stop before stops ms)
     ≡ named same_class before (occurrences stop stops ms)
-normal_occurrences stop told before stops [] = refl
-normal_occurrences stop told before stops (m ∷ ms) =
+normal_occurrences stop reported before stops [] = refl
+normal_occurrences stop reported before stops (m ∷ ms) =
     let os : List (Class × ℤ) = map (occurrence stops) (ids m.doc) in
     let rest = normal_from stop (before ++ os) (stops + stop m) ms in
     ap (λ k. map (occurrence stops) (ids (named_message before stops m).doc)
     ++ occurrences stop (stops + k) rest)
-    (told (named_message before stops m) m (named_skeleton before stops m))
+    (reported (named_message before stops m) m (named_skeleton before stops m))
     ∙ ap (λ t. t ++ occurrences stop (stops + stop m) rest) (named_ids before stops m)
     ∙ ap (λ t. named same_class before os ++ t)
-    (normal_occurrences stop told (before ++ os) (stops + stop m) ms)
+    (normal_occurrences stop reported (before ++ os) (stops + stop m) ms)
     ∙ sym (named-append before os (occurrences stop (stops + stop m) ms))
 
 pub some_normal : SomeNormal
-some_normal stop told ms p =
+some_normal stop reported ms p =
     named_is_normal stop ms (normal_of stop ms) p (normal_skeletons stop [] 0 ms)
-    (normal_occurrences stop told [] 0 ms)
+    (normal_occurrences stop reported [] 0 ms)
 
 pub normal_one : (stop : Sent → ℕ) → IsToldBySkeleton stop → (ms n : List Sent) → AreProper ms
     → IsNormal stop ms n → n ≡ normal_of stop ms
-normal_one stop told ms n p h =
+normal_one stop reported ms n p h =
     normal_is_unique stop ms ms n (normal_of stop ms) (same_as_itself stop ms p) h
-    (some_normal stop told ms p)
+    (some_normal stop reported ms p)
 
 -- ---- prefixes
 
@@ -142,14 +142,14 @@ normal_front stop before stops (m ∷ ms) more =
 
 pub normal_of_front : NormalOfFront
 unfolding IsNormal
-normal_of_front stop told ms more n h =
+normal_of_front stop reported ms more n h =
     let p = (same_is_proper stop (ms ++ more) n h.0).0 in
     let r = normal_front stop [] 0 ms more in (
       normal_of stop ms,
       r.0,
-      normal_one stop told (ms ++ more) n p h
+      normal_one stop reported (ms ++ more) n p h
           ∙ r.1,
-      some_normal stop told ms (each_left _ ms more p),
+      some_normal stop reported ms (each_left _ ms more p),
     )
 
 -- the ids of a normal form
@@ -161,11 +161,12 @@ normal_names stop ms n h = let a =
 
 pub normal_of_next : NormalOfNext
 unfolding IsNormal
-normal_of_next stop told ms n m new p h r =
+normal_of_next stop reported ms n m new p h r =
     let a = alike stop ms n h.0 in
     let k = stops_after stop 0 ms in
     let os : List (Class × ℤ) = map (occurrence k) (ids m.doc) in
-    let same_stops : stops_after stop 0 n ≡ k = sym (stops_alike stop told 0 ms n a.skeletons) in
+    let same_stops : stops_after stop 0 n
+    ≡ k = sym (stops_alike stop reported 0 ms n a.skeletons) in
     let skeletons =
     map-append message_skeleton n (new ∷ [])
     ∙ (ap (λ t. t ++ message_skeleton new ∷ []) (sym a.skeletons)

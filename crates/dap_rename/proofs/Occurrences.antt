@@ -87,12 +87,12 @@ stops-push stop k (n ∷ ms) m = stops-push stop (k + stop n) ms m
 pub stops_alike : (stop : Sent → ℕ) → IsToldBySkeleton stop → (k : ℕ) (ms ns : List Sent)
     → map message_skeleton ms ≡ map message_skeleton ns
     → stops_after stop k ms ≡ stops_after stop k ns
-stops_alike stop told k [] [] h = refl
-stops_alike stop told k [] (n ∷ ns) h = absurd cc
-stops_alike stop told k (m ∷ ms) [] h = absurd cc
-stops_alike stop told k (m ∷ ms) (n ∷ ns) h =
-    ap (λ s. stops_after stop (k + s) ms) (told m n (head_of h))
-    ∙ stops_alike stop told (k + stop n) ms ns (tail_of h)
+stops_alike stop reported k [] [] h = refl
+stops_alike stop reported k [] (n ∷ ns) h = absurd cc
+stops_alike stop reported k (m ∷ ms) [] h = absurd cc
+stops_alike stop reported k (m ∷ ms) (n ∷ ns) h =
+    ap (λ s. stops_after stop (k + s) ms) (reported m n (head_of h))
+    ∙ stops_alike stop reported (k + stop n) ms ns (tail_of h)
 
 pub docs_alike : (m n : Sent) → message_skeleton m ≡ message_skeleton n
     → skeleton m.doc ≡ skeleton n.doc
@@ -137,16 +137,16 @@ firsts_of k (i ∷ is) (j ∷ js) h =
 pub firsts_alike : (stop : Sent → ℕ) → IsToldBySkeleton stop → (k : ℕ) (ms ns : List Sent)
     → map message_skeleton ms ≡ map message_skeleton ns
     → firsts (occurrences stop k ms) ≡ firsts (occurrences stop k ns)
-firsts_alike stop told k [] [] h = refl
-firsts_alike stop told k [] (n ∷ ns) h = absurd cc
-firsts_alike stop told k (m ∷ ms) [] h = absurd cc
-firsts_alike stop told k (m ∷ ms) (n ∷ ns) h =
+firsts_alike stop reported k [] [] h = refl
+firsts_alike stop reported k [] (n ∷ ns) h = absurd cc
+firsts_alike stop reported k (m ∷ ms) [] h = absurd cc
+firsts_alike stop reported k (m ∷ ms) (n ∷ ns) h =
     let class : Class × ℤ → Class = λ o. o.0 in
     let one = firsts_of k (ids m.doc) (ids n.doc)
     (sorts_alike m.doc n.doc (docs_alike m n (head_of h))) in
     let rest =
     subst (λ j. firsts (occurrences stop (k + stop m) ms) ≡ firsts (occurrences stop (k + j) ns))
-    (told m n (head_of h)) (firsts_alike stop told (k + stop m) ms ns (tail_of h)) in
+    (reported m n (head_of h)) (firsts_alike stop reported (k + stop m) ms ns (tail_of h)) in
     map-append class (map (occurrence k) (ids m.doc)) (occurrences stop (k + stop m) ms)
     ∙ ap₂ (λ a b. a ++ b) one rest
     ∙ sym (map-append class (map (occurrence k) (ids n.doc)) (occurrences stop (k + stop n) ns))

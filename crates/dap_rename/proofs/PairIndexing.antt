@@ -198,8 +198,8 @@ pub index_tells : (ps : List Pair) (i : PairIndex) (c : Class) (x y : ℤ) → I
     → IsSearchInRange r (length places)
     → IsBinarySearchResult (λ k. pair_key_cmp (key_at ps k) (pair_key c x y)) places r
     → is_ok r ≡ has_pair ps c x y
-index_tells ps i c x y h places e r n told =
+index_tells ps i c x y h places e r n reported =
     search_told pair_key_total (key_at ps) places (pair_key c x y)
-    (subst (IsSortedByKey (key_at ps) pair_key_cmp) (sym e) h.1) r n told
+    (subst (IsSortedByKey (key_at ps) pair_key_cmp) (sym e) h.1) r n reported
     ∙ ap (list_any (λ k. is_eq (pair_key_cmp (key_at ps k) (pair_key c x y)))) e
     ∙ sym (pair_found ps i c x y h)

@@ -12,7 +12,7 @@ use Rattle.dap_message.specs.Envelope.{kind_of, name_of, text_value}
 use Rattle.dap_message.specs.Message.{Sent}
 use Rattle.dap_message.specs.Rows.{is_of_kind, is_text, name_key, type_name}
 use Rattle.dap_message.proofs.Shapes.{text-shape, skeleton_keeps}
-use Rattle.dap_rename.specs.Laws.{ModeIsTold}
+use Rattle.dap_rename.specs.Laws.{ModeIffRenaming}
 use Rattle.dap_rename.specs.Modes.{is_stopped}
 use Rattle.dap_rename.specs.declared.mode.Mode.TheVariants.{Whole, PerStop}
 use Rattle.dap_rename.proofs.Occurrences.{docs_alike}
@@ -31,7 +31,7 @@ stopped_alike m n h =
     ap₂ (λ a b. a && b) (text_alike (type_name Event) (codes "type") m.doc n.doc h)
     (text_alike (codes "stopped") (name_key Event) m.doc n.doc h)
 
-pub mode_is_told : ModeIsTold
+pub mode_is_told : ModeIffRenaming
 mode_is_told Whole m n h = refl
 mode_is_told PerStop m n h = ap (λ b. cond b 1 0) (stopped_alike m n (docs_alike m n h))
 
@@ -51,10 +51,10 @@ turned a b =
 pub named_event : (m : Sent) (s : List ℕ) → Event ≡ kind_of m.doc → is_of_kind Event m.doc ≡ true
     → name_of m.doc ≡ Some s → is_stopped m ≡ bytes_eq s (codes "stopped")
 unfolding is_stopped
-named_event m s same told named =
+named_event m s same reported named =
     let e : text_value (get (name_key Event) m.doc) ≡ Some s =
     subst (λ k. text_value (get (name_key k) m.doc) ≡ Some s) (sym same) named in
-    ap (λ b. b && is_text (codes "stopped") (get (name_key Event) m.doc)) told
+    ap (λ b. b && is_text (codes "stopped") (get (name_key Event) m.doc)) reported
     ∙ text_told (codes "stopped") (get (name_key Event) m.doc) s e ∙ turned (codes "stopped") s
 
 other_text : (w v : List ℕ) (o : Option Doc) → bytes_eq v w ≡ false → is_text w o ≡ true
@@ -67,10 +67,10 @@ other_text w v o f h = absurd cc
 pub other_event : (m : Sent) (k : Kind) → is_of_kind k m.doc ≡ true → (k ≡ Event → ⊥)
     → is_stopped m ≡ false
 unfolding is_stopped
-other_event m k told apart =
+other_event m k reported apart =
     ap (λ b. b && is_text (codes "stopped") (get (name_key Event) m.doc))
     (other_text (type_name k) (type_name Event) (get (codes "type") m.doc) (other_name k apart)
-    told)
+    reported)
   where
     other_name : (k : Kind) → (k ≡ Event → ⊥) → bytes_eq (type_name Event) (type_name k) ≡ false
     other_name Request h = refl

@@ -23,8 +23,8 @@ use Rattle.dap_rename.specs.Messages.{occurrences, numbers_of_class, stops_after
 use Rattle.dap_rename.specs.Messages.{HasFewIds, HasTooManyIds, IsRenamed, with_numbers}
 use Rattle.dap_names.specs.Table.{place}
 use Rattle.dap_rename.specs.Tables.{Lists, table_of, added, added_all, names_from, lists}
-use Rattle.dap_rename.specs.Tables.{limits, AllFit, SomeIsOver}
-use Rattle.dap_rename.specs.Names.{past_lists, list_of_class, limit_in, StandWith, AreNamed}
+use Rattle.dap_rename.specs.Tables.{limits, AllFit, SomeExceedsLimit}
+use Rattle.dap_rename.specs.Names.{past_lists, list_of_class, limit_in, RepresentsWith, AreNamed}
 use Rattle.dap_rename.specs.declared.names.Names.{Names}
 use Rattle.dap_rename.specs.declared.past.PastClasses.{PastClasses}
 use Rattle.dap_rename.specs.declared.tables.Tables.{Tables}
@@ -43,11 +43,11 @@ pub table-own : (c : Class) (os : List (Class × ℤ)) (x : ℤ)
     → table same_class c (os ++ (c, x) ∷ []) ≡ add (table same_class c os) x
 table-own c os x = table-push same_class c os (c, x) ∙ rw (same_itself c) refl
 
-pub stand-added : (k : ℕ) (l : Lists) (os : List (Class × ℤ)) (s : Sort) (x : ℤ) (r : Sort)
+pub represents-added : (k : ℕ) (l : Lists) (os : List (Class × ℤ)) (s : Sort) (x : ℤ) (r : Sort)
     → StandAfter k l os
     → table_of (added l s x) r
     ≡ table same_class (class_after k r) (os ++ (class_after k s, x) ∷ [])
-stand-added k l os s x r h =
+represents-added k l os s x r h =
     added_at l s x r
     ∙ by_bool (same_sort r s)
     (λ a. rw a (ap (λ t. add t x) (h r) ∙ sym (table-own (class_after k r) os x)
@@ -60,12 +60,12 @@ pub name_is : (k : ℕ) (l : Lists) (os : List (Class × ℤ)) (i : Sort × ℤ)
 unfolding name
 name_is k l os i h = ap (λ t. pos (suc (position_or_len (int_eq i.1) t))) (h i.0)
 
-pub stand-added_all : (k : ℕ) (l : Lists) (os : List (Class × ℤ)) (is : List (Sort × ℤ))
+pub represents-added_all : (k : ℕ) (l : Lists) (os : List (Class × ℤ)) (is : List (Sort × ℤ))
     → StandAfter k l os → StandAfter k (added_all l is) (os ++ map (occurrence k) is)
-stand-added_all k l os [] h = rw append-nil h
-stand-added_all k l os (i ∷ is) h =
-    let t = stand-added_all k (added l i.0 i.1) (os ++ occurrence k i ∷ []) is
-    (λ r. stand-added k l os i.0 i.1 r h) in
+represents-added_all k l os [] h = rw append-nil h
+represents-added_all k l os (i ∷ is) h =
+    let t = represents-added_all k (added l i.0 i.1) (os ++ occurrence k i ∷ []) is
+    (λ r. represents-added k l os i.0 i.1 r h) in
     λ s. t s ∙ ap (table same_class (class_after k s))
     (append_assoc os (occurrence k i ∷ []) (map (occurrence k) is))
 
@@ -79,7 +79,7 @@ named_ids_are k l os (i ∷ is) h =
     rw (name_is k l os i h)
     (ap (λ t. (class_after k i.0, name same_class os (occurrence k i)) ∷ t)
     (named_ids_are k (added l i.0 i.1) (os ++ occurrence k i ∷ []) is
-    (λ r. stand-added k l os i.0 i.1 r h)))
+    (λ r. represents-added k l os i.0 i.1 r h)))
 
 pub count_names : (l : Lists) (is : List (Sort × ℤ)) → length (names_from l is) ≡ length is
 count_names l [] = refl
@@ -190,7 +190,7 @@ module _ (past : Sort → List (List ℤ)) (l : Lists) (k : ℕ) (os : List (Cla
       ≡ table same_class d (os ++ map (occurrence k) is))
       (present_class k c (eqb-true c.1 (class_after k c.0).1 a))
       (present_list past (table_of (added_all l is)) k c.0 (count c.0)
-      ∙ stand-added_all k l os is stand_now c.0))
+      ∙ represents-added_all k l os is stand_now c.0))
       (λ a. let apart : c.1 ≡ (class_after k c.0).1 → ⊥ =
       λ e. true≢false (sym (eq-eqb c.1 (class_after k c.0).1 e) ∙ a) in
       other_list (past c.0) (table_of (added_all l is) c.0) (table_of l c.0) c.1
@@ -200,89 +200,90 @@ module _ (past : Sort → List (List ℤ)) (l : Lists) (k : ℕ) (os : List (Cla
 -- ---- names after one more message
 
 module _ {T : Type 0} (stop : Sent → ℕ) (numbers_of : T → List ℤ) (limit : T → ℕ) where
-  module _ (names : Names T) (ms : List Sent) (h : StandWith stop numbers_of limit names ms) where
-    pub held_count : (s : Sort)
-        → length (past_lists names.past.items s) ≡ (class_after (stops_after stop 0 ms) s).1
-    held_count s =
-        past_count names.past.items s ∙ ap (λ k. (class_after k s).1) h.stops
+  module _ (names : Names T) (ms : List Sent) (h : RepresentsWith stop numbers_of limit names ms)
+    where
+      pub held_count : (s : Sort)
+          → length (past_lists names.past.items s) ≡ (class_after (stops_after stop 0 ms) s).1
+      held_count s =
+          past_count names.past.items s ∙ ap (λ k. (class_after k s).1) h.stops
 
-    pub held_lists : AreHeld (past_lists names.past.items) (lists numbers_of names.tables)
-        (occurrences stop 0 ms)
-    held_lists c =
-        ap (λ t. get_or (past_lists names.past.items c.0 ++ t ∷ []) c.1 [])
-        (list_at numbers_of names.tables c.0)
-        ∙ h.classes c
+      pub held_lists : AreHeld (past_lists names.past.items) (lists numbers_of names.tables)
+          (occurrences stop 0 ms)
+      held_lists c =
+          ap (λ t. get_or (past_lists names.past.items c.0 ++ t ∷ []) c.1 [])
+          (list_at numbers_of names.tables c.0)
+          ∙ h.classes c
 
-    pub stand_lists : StandAfter (stops_after stop 0 ms) (lists numbers_of names.tables)
-        (occurrences stop 0 ms)
-    stand_lists =
-        stand_now (past_lists names.past.items) (lists numbers_of names.tables)
-        (stops_after stop 0 ms) (occurrences stop 0 ms) held_count held_lists
+      pub stand_lists : StandAfter (stops_after stop 0 ms) (lists numbers_of names.tables)
+          (occurrences stop 0 ms)
+      stand_lists =
+          stand_now (past_lists names.past.items) (lists numbers_of names.tables)
+          (stops_after stop 0 ms) (occurrences stop 0 ms) held_count held_lists
 
-    pub held_next : (m : Sent)
-        → AreHeld (past_lists names.past.items)
-        (added_all (lists numbers_of names.tables) (ids m.doc))
-        (occurrences stop 0 (ms ++ m ∷ []))
-    held_next m c =
-        held_named (past_lists names.past.items) (lists numbers_of names.tables)
-        (stops_after stop 0 ms) (occurrences stop 0 ms) held_count held_lists (ids m.doc) c
-        ∙ ap (table same_class c) (sym (occurrences-push stop 0 ms m))
+      pub held_next : (m : Sent)
+          → AreHeld (past_lists names.past.items)
+          (added_all (lists numbers_of names.tables) (ids m.doc))
+          (occurrences stop 0 (ms ++ m ∷ []))
+      held_next m c =
+          held_named (past_lists names.past.items) (lists numbers_of names.tables)
+          (stops_after stop 0 ms) (occurrences stop 0 ms) held_count held_lists (ids m.doc) c
+          ∙ ap (table same_class c) (sym (occurrences-push stop 0 ms m))
 
-    pub stand_added : (m : Sent)
-        → StandAfter (stops_after stop 0 ms)
-        (added_all (lists numbers_of names.tables) (ids m.doc))
-        (occurrences stop 0 (ms ++ m ∷ []))
-    stand_added m =
-        stand_now (past_lists names.past.items)
-        (added_all (lists numbers_of names.tables) (ids m.doc))
-        (stops_after stop 0 ms) (occurrences stop 0 (ms ++ m ∷ [])) held_count (held_next m)
+      pub stand_added : (m : Sent)
+          → StandAfter (stops_after stop 0 ms)
+          (added_all (lists numbers_of names.tables) (ids m.doc))
+          (occurrences stop 0 (ms ++ m ∷ []))
+      stand_added m =
+          stand_now (past_lists names.past.items)
+          (added_all (lists numbers_of names.tables) (ids m.doc))
+          (stops_after stop 0 ms) (occurrences stop 0 (ms ++ m ∷ [])) held_count (held_next m)
 
-    pub few_next : (m : Sent)
-        → AllFit (limits limit names.tables)
-        (added_all (lists numbers_of names.tables) (ids m.doc))
-        → HasFewIds stop (limit_in limit names) (ms ++ m ∷ [])
-    unfolding AllFit
-    few_next m fit c =
-        let k = stops_after stop 0 ms in
-        by_bool (eqb c.1 (class_after k c.0).1)
-        (λ a. let own : class_after k c.0 ≡ c =
-        present_class k c (eqb-true c.1 (class_after k c.0).1 a) in
-        subst (λ d. length (table same_class d (occurrences stop 0 (ms ++ m ∷ [])))
-        ≤ limit_in limit names c.0) own
-        (few_of c.0 (ap length (stand_added m c.0)) (fit c.0)
-        (limit_at limit names.tables c.0)))
-        (λ a. let apart : c.1 ≡ (class_after k c.0).1 → ⊥ =
-        λ e. true≢false (sym (eq-eqb c.1 (class_after k c.0).1 e) ∙ a) in
-        subst (λ t. length t ≤ limit_in limit names c.0)
-        (sym (ap (table same_class c) (occurrences-push stop 0 ms m)
-        ∙ table_other k c (occurrences stop 0 ms) (ids m.doc) apart)) (h.few c))
-      where
-        few_of : (s : Sort) {a b n x : ℕ} → a ≡ b → a ≤ n → n ≡ x → b ≤ x
-        few_of s e f g = omega arith
+      pub few_next : (m : Sent)
+          → AllFit (limits limit names.tables)
+          (added_all (lists numbers_of names.tables) (ids m.doc))
+          → HasFewIds stop (limit_in limit names) (ms ++ m ∷ [])
+      unfolding AllFit
+      few_next m fit c =
+          let k = stops_after stop 0 ms in
+          by_bool (eqb c.1 (class_after k c.0).1)
+          (λ a. let own : class_after k c.0 ≡ c =
+          present_class k c (eqb-true c.1 (class_after k c.0).1 a) in
+          subst (λ d. length (table same_class d (occurrences stop 0 (ms ++ m ∷ [])))
+          ≤ limit_in limit names c.0) own
+          (few_of c.0 (ap length (stand_added m c.0)) (fit c.0)
+          (limit_at limit names.tables c.0)))
+          (λ a. let apart : c.1 ≡ (class_after k c.0).1 → ⊥ =
+          λ e. true≢false (sym (eq-eqb c.1 (class_after k c.0).1 e) ∙ a) in
+          subst (λ t. length t ≤ limit_in limit names c.0)
+          (sym (ap (table same_class c) (occurrences-push stop 0 ms m)
+          ∙ table_other k c (occurrences stop 0 ms) (ids m.doc) apart)) (h.few c))
+        where
+          few_of : (s : Sort) {a b n x : ℕ} → a ≡ b → a ≤ n → n ≡ x → b ≤ x
+          few_of s e f g = omega arith
 
-    pub many_next : (m : Sent)
-        → SomeIsOver (limits limit names.tables)
-        (added_all (lists numbers_of names.tables) (ids m.doc))
-        → HasTooManyIds stop (limit_in limit names) (ms ++ m ∷ [])
-    many_next m o =
-        let k = stops_after stop 0 ms in
-        record {
-          of = class_after k o.0;
-          many = omega (
-            arith,
-            o.1,
-            ap length (stand_added m o.0),
-            limit_at limit names.tables o.0,
-            ap (λ s. limit (table_of names.tables s)) (class_sort k o.0),
-          );
-        }
+      pub many_next : (m : Sent)
+          → SomeExceedsLimit (limits limit names.tables)
+          (added_all (lists numbers_of names.tables) (ids m.doc))
+          → HasTooManyIds stop (limit_in limit names) (ms ++ m ∷ [])
+      many_next m o =
+          let k = stops_after stop 0 ms in
+          record {
+            of = class_after k o.0;
+            many = omega (
+              arith,
+              o.1,
+              ap length (stand_added m o.0),
+              limit_at limit names.tables o.0,
+              ap (λ s. limit (table_of names.tables s)) (class_sort k o.0),
+            );
+          }
 
   pub stand_next : (old new : Names T) (ms : List Sent) (m : Sent) (b : Bool)
-      → StandWith stop numbers_of limit old ms → AreNamed numbers_of old new (ids m.doc) b
+      → RepresentsWith stop numbers_of limit old ms → AreNamed numbers_of old new (ids m.doc) b
       → stop m ≡ cond b 1 0
       → AllFit (limits limit old.tables) (added_all (lists numbers_of old.tables) (ids m.doc))
       → limits limit new.tables ≡ limits limit old.tables
-      → StandWith stop numbers_of limit new (ms ++ m ∷ [])
+      → RepresentsWith stop numbers_of limit new (ms ++ m ∷ [])
   stand_next old new ms m b h named is_stop fit same =
       record {
         stops = named.stops ∙ ap (λ k. k + cond b 1 0) h.stops
@@ -297,7 +298,7 @@ module _ {T : Type 0} (stop : Sent → ℕ) (numbers_of : T → List ℤ) (limit
 pub stand_new : {T : Type 0} (stop : Sent → ℕ) (numbers_of : T → List ℤ) (limit : T → ℕ)
     (names : Names T) → names.past.items ≡ []
     → ((s : Sort) → numbers_of (table_of names.tables s) ≡ [])
-    → StandWith stop numbers_of limit names []
+    → RepresentsWith stop numbers_of limit names []
 unfolding table
 stand_new stop numbers_of limit names none empty =
     record {

@@ -11,7 +11,7 @@ use Rattle.dap_names.specs.Numbering.{named}
 use Rattle.dap_rename.specs.Renamings.{IsIn, IsRenaming}
 use Rattle.dap_rename.specs.Messages.{Class, IsProperId, AreProper, same_class, message_skeleton}
 use Rattle.dap_rename.specs.Messages.{occurrences, numbers_of_class, HasFewIds, Carries, AreSame}
-use Rattle.dap_rename.specs.Messages.{AreFresh, IsNormal, IsRenamed, normal_of, in_whole}
+use Rattle.dap_rename.specs.Messages.{AreFresh, IsNormal, IsRenamed, normal_of, no_stop}
 use Rattle.dap_rename.specs.Messages.{equal_places}
 use Rattle.dap_rename.specs.Modes.{stop_in}
 use Rattle.dap_rename.specs.declared.mode.Mode.{Mode}
@@ -21,12 +21,12 @@ abbrev pub IsToldBySkeleton : (Sent → ℕ) → Type 0
 IsToldBySkeleton stop = (m n : Sent) → message_skeleton m ≡ message_skeleton n → stop m ≡ stop n
 
 -- This holds if no message counts as a stop.
-abbrev pub WholeIsTold : Type 0
-WholeIsTold = IsToldBySkeleton in_whole
+abbrev pub WholeIffRenaming : Type 0
+WholeIffRenaming = IsToldBySkeleton no_stop
 
 -- This holds in every mode.
-abbrev pub ModeIsTold : Type 0
-ModeIsTold = (mode : Mode) → IsToldBySkeleton (stop_in mode)
+abbrev pub ModeIffRenaming : Type 0
+ModeIffRenaming = (mode : Mode) → IsToldBySkeleton (stop_in mode)
 
 -- ---- being the same
 
@@ -63,7 +63,7 @@ FrontHasFewIds = (stop : Sent → ℕ) (limit : Sort → ℕ) (ms more : List Se
 
 -- Lists that are the same in the mode `Whole` are the same in every mode.
 abbrev pub SameInEachMode : Type 0
-SameInEachMode = (mode : Mode) (ms ns : List Sent) → AreSame in_whole ms ns
+SameInEachMode = (mode : Mode) (ms ns : List Sent) → AreSame no_stop ms ns
     → AreSame (stop_in mode) ms ns
 
 -- ---- additional ids
@@ -89,8 +89,8 @@ AreMixed p _ _ _ _ = ⊥
 -- If two lists are the same, so are two lists with their ids and additional ids that are equal in
 -- both.
 abbrev pub SameByParts : Type 0
-SameByParts = (p : Sort → Bool) (ms ns os qs : List Sent) → AreSame in_whole ms ns
-    → AreMixed p ms ns os qs → AreProper os → AreProper qs → AreSame in_whole os qs
+SameByParts = (p : Sort → Bool) (ms ns os qs : List Sent) → AreSame no_stop ms ns
+    → AreMixed p ms ns os qs → AreProper os → AreProper qs → AreSame no_stop os qs
 
 -- ---- the normal form
 

@@ -33,8 +33,8 @@ class_after stops s = (s, 0)
 -- The number of stops that a message counts as, if classes never restart: 0 for every message
 -- (own), so there is one class for each kind. In general, a function `stop` returns this number,
 -- and the classes of frame ids and variables references restart after a stop.
-abbrev pub in_whole : Sent → ℕ
-in_whole m = 0
+abbrev pub no_stop : Sent → ℕ
+no_stop m = 0
 
 -- ---- ids
 

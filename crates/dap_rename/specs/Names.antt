@@ -54,14 +54,14 @@ numbers_at numbers names =
 -- have counted as many stops, and contain the distinct numbers of each class in the order of their
 -- first occurrence. No class has more numbers than the limit of its kind.
 module _ {T : Type 0} (stop : Sent → ℕ) (numbers : T → List ℤ) (limit : T → ℕ) where
-  pub record StandWith (names : Names T) (ms : List Sent) : Type 0 where
+  pub record RepresentsWith (names : Names T) (ms : List Sent) : Type 0 where
     pub stops : stops_of names ≡ stops_after stop 0 ms
     pub classes : (c : Class) → numbers_at numbers names c ≡ numbers_of_class stop c ms
     pub few : HasFewIds stop (limit_in limit names) ms
 
 -- The same in the mode of the names.
-abbrev pub StandFor : {T : Type 0} → (T → List ℤ) → (T → ℕ) → Names T → List Sent → Type 0
-StandFor numbers limit names = StandWith (stop_in (mode_of names)) numbers limit names
+abbrev pub Represents : {T : Type 0} → (T → List ℤ) → (T → ℕ) → Names T → List Sent → Type 0
+Represents numbers limit names = RepresentsWith (stop_in (mode_of names)) numbers limit names
 
 -- No class has a number.
 abbrev pub HaveNoNumbers : {T : Type 0} → (T → List ℤ) → Names T → Type 0

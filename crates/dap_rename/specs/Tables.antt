@@ -57,12 +57,12 @@ names_from l [] = []
 names_from l (i ∷ is) = place (table_of l i.0) i.1 ∷ names_from (added l i.0 i.1) is
 
 -- The old list is a prefix of the new list.
-abbrev pub Begins : List ℤ → List ℤ → Type 0
-Begins old new = (length old ≤ length new) × (take (length old) new ≡ old)
+abbrev pub Extends : List ℤ → List ℤ → Type 0
+Extends old new = (length old ≤ length new) × (take (length old) new ≡ old)
 
 -- Each old list is a prefix of its new list.
-unfoldable pub AllBegin : Lists → Lists → Type 0
-AllBegin old new = (s : Sort) → Begins (table_of old s) (table_of new s)
+unfoldable pub AllExtend : Lists → Lists → Type 0
+AllExtend old new = (s : Sort) → Extends (table_of old s) (table_of new s)
 
 -- A limit for each kind of id.
 abbrev pub Limits : Type 0
@@ -76,5 +76,5 @@ unfoldable pub AllFit : Limits → Lists → Type 0
 AllFit m l = (s : Sort) → length (table_of l s) ≤ table_of m s
 
 -- Some list is longer than its limit.
-abbrev pub SomeIsOver : Limits → Lists → Type 0
-SomeIsOver m l = (s : Sort) × (table_of m s < length (table_of l s))
+abbrev pub SomeExceedsLimit : Limits → Lists → Type 0
+SomeExceedsLimit m l = (s : Sort) × (table_of m s < length (table_of l s))

@@ -3,7 +3,8 @@
 //!
 //! Two lists are *the same* if some renaming maps one to the other. A *proper* list has no
 //! variables reference of 0.
-ghost use Rattle.dap_rename.specs.Laws.{WholeIsTold, ModeIsTold, SameAsItself, SameBothWays};
+ghost use Rattle.dap_rename.specs.Laws.{WholeIffRenaming, ModeIffRenaming, SameAsItself};
+ghost use Rattle.dap_rename.specs.Laws.{SameBothWays};
 ghost use Rattle.dap_rename.specs.Laws.{SameAlong, SameIsProper, SameFronts, SameCounts};
 ghost use Rattle.dap_rename.specs.Laws.{FrontHasFewIds, SameInEachMode};
 ghost use Rattle.dap_rename.specs.Laws.{FreshIsUnique, NormalIsUnique, NormalIsComplete};
@@ -52,8 +53,8 @@ pub fn one_normal_form()
 pub fn some_normal_form()
     ensures named { NamedIsNormal }
     ensures some { SomeNormal }
-    ensures told { WholeIsTold }
-    ensures told_in_mode { ModeIsTold }
+    ensures reported { WholeIffRenaming }
+    ensures told_in_mode { ModeIffRenaming }
 {}
 
 /// States that the normal form can be computed message by message.

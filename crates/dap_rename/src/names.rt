@@ -7,7 +7,8 @@ ghost use Rattle.dap_message.specs.Numbers.{are_proper, renumbered};
 ghost use Rattle.dap_rename.specs.Messages.{HasFewIds, HasTooManyIds, IsRenamed, class_after};
 ghost use Rattle.dap_rename.specs.Messages.{with_numbers};
 ghost use Rattle.dap_rename.specs.Modes.{stop_in};
-ghost use Rattle.dap_rename.specs.Tables.{lists, added_all, names_from, limits, AllFit, SomeIsOver};
+ghost use Rattle.dap_rename.specs.Tables.{lists, added_all, names_from, limits, AllFit};
+ghost use Rattle.dap_rename.specs.Tables.{SomeExceedsLimit};
 
 use crate::mode::{Mode, begin_again_behind};
 use crate::past::{PastClasses, numbers_of};
@@ -31,7 +32,7 @@ pub struct Names<T> {
 }
 
 impl<T: NameTable> Names<T> {
-    ghost use Rattle.dap_rename.specs.Names.{AreEmpty, StandFor, AreUnchanged, AreNamed};
+    ghost use Rattle.dap_rename.specs.Names.{AreEmpty, Represents, AreUnchanged, AreNamed};
     ghost use Rattle.dap_rename.specs.Names.{BeginAgain, mode_of, stops_of, numbers_at, limit_in};
     ghost use Rattle.dap_rename.specs.Names.{past_lists};
     ghost use Rattle.dap_rename.specs.Tables.{table_of};
@@ -39,7 +40,7 @@ impl<T: NameTable> Names<T> {
     /// Returns the canonical numbers of no messages. Does not allocate.
     pub fn new(alloc: Global, tables: Tables<T>, mode: Mode) -> Names<T>
         requires { AreEmpty T.numbers tables }
-        ensures stand { StandFor T.numbers T.limit result [] }
+        ensures represents { Represents T.numbers T.limit result [] }
         ensures mode { mode_of result ≡ mode }
         ensures limits { (s : Sort) → limit_in T.limit result s ≡ T.limit (table_of tables s) }
     {
@@ -62,15 +63,16 @@ impl<T: NameTable> Names<T> {
     /// On an error the canonical numbers are unchanged, and the message is dropped.
     pub fn rename(&mut self, message: Message) -> Result<Message, NameFault>
         ensures renamed { IfOk result (λ new. (ms : List Sent)
-            → StandFor T.numbers T.limit self.old ms
+            → Represents T.numbers T.limit self.old ms
             → IsRenamed (stop_in (mode_of self.old)) ms (sent message) (sent new)) }
-        ensures stand { OnOk result ((ms : List Sent) → StandFor T.numbers T.limit self.old ms
-            → StandFor T.numbers T.limit self.new (ms ++ sent message ∷ [])) }
-        ensures few { OnOk result ((ms : List Sent) → StandFor T.numbers T.limit self.old ms
+        ensures represents { OnOk result ((ms : List Sent) → Represents T.numbers T.limit self.old
+            ms
+            → Represents T.numbers T.limit self.new (ms ++ sent message ∷ [])) }
+        ensures few { OnOk result ((ms : List Sent) → Represents T.numbers T.limit self.old ms
             → HasFewIds (stop_in (mode_of self.old)) (limit_in T.limit self.old)
             (ms ++ sent message ∷ [])) }
         ensures full { result ≡ Err NameFault.Full → (ms : List Sent)
-            → StandFor T.numbers T.limit self.old ms
+            → Represents T.numbers T.limit self.old ms
             → HasTooManyIds (stop_in (mode_of self.old)) (limit_in T.limit self.old)
             (ms ++ sent message ∷ []) }
         ensures refused { OnErr result (AreUnchanged T.numbers self.old self.new) }
@@ -93,7 +95,7 @@ impl<T: NameTable> Names<T> {
     /// On an error the canonical numbers are unchanged.
     pub fn name_message<M: AnyMessage>(&mut self, message: &M) -> Result<Vec<i64>, NameFault>
         ensures renamed { IfOk result (λ names. (ms : List Sent)
-            → StandFor T.numbers T.limit self.old ms
+            → Represents T.numbers T.limit self.old ms
             → IsRenamed (stop_in (mode_of self.old)) ms (M.sent message.now)
             (with_numbers (M.sent message.now) names.items)) }
 
@@ -102,13 +104,14 @@ impl<T: NameTable> Names<T> {
             (λ names. length names.items ≡ length (documents.ids (M.sent message.now).doc)) }
         ensures proper { IfOk result
             (λ names. are_proper (renumbered (M.sent message.now).doc names.items) ≡ true) }
-        ensures stand { OnOk result ((ms : List Sent) → StandFor T.numbers T.limit self.old ms
-            → StandFor T.numbers T.limit self.new (ms ++ M.sent message.now ∷ [])) }
-        ensures few { OnOk result ((ms : List Sent) → StandFor T.numbers T.limit self.old ms
+        ensures represents { OnOk result ((ms : List Sent) → Represents T.numbers T.limit self.old
+            ms
+            → Represents T.numbers T.limit self.new (ms ++ M.sent message.now ∷ [])) }
+        ensures few { OnOk result ((ms : List Sent) → Represents T.numbers T.limit self.old ms
             → HasFewIds (stop_in (mode_of self.old)) (limit_in T.limit self.old)
             (ms ++ M.sent message.now ∷ [])) }
         ensures full { result ≡ Err NameFault.Full → (ms : List Sent)
-            → StandFor T.numbers T.limit self.old ms
+            → Represents T.numbers T.limit self.old ms
             → HasTooManyIds (stop_in (mode_of self.old)) (limit_in T.limit self.old)
             (ms ++ M.sent message.now ∷ []) }
         ensures refused { OnErr result (AreUnchanged T.numbers self.old self.new) }
@@ -205,7 +208,8 @@ impl<T: NameTable> Names<T> {
         ensures grown { OnOk result (AreNamed T.numbers self.old self.new ids.now stops) }
         ensures fits { OnOk result (AllFit (limits T.limit self.old.tables)
             (added_all (lists T.numbers self.old.tables) ids.now)) }
-        ensures full { result ≡ Err NameFault.Full → SomeIsOver (limits T.limit self.old.tables)
+        ensures full { result ≡ Err NameFault.Full → SomeExceedsLimit (limits T.limit
+            self.old.tables)
             (added_all (lists T.numbers self.old.tables) ids.now) }
         ensures refused { OnErr result (AreUnchanged T.numbers self.old self.new) }
         ensures mode { mode_of self.new ≡ mode_of self.old }

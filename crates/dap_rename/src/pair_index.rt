@@ -122,7 +122,7 @@ impl SeenPairs {
 /// Returns the error of the first pair that has one, or `None` if the pairs are a renaming. If an
 /// allocation fails, nothing is known about the pairs.
 pub(crate) fn seen_fault(alloc: Global, pairs: &[Pair]) -> Result<Option<PairFault>, AllocError>
-    ensures told { IfOk result (λ told. MatchOption told
+    ensures reported { IfOk result (λ reported. MatchOption reported
         (AreRenaming pairs.now) (FailsFirst pairs.now)) }
     ensures empty { pairs.now ≡ [] → IsOk result }
 {

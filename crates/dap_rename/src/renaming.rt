@@ -5,7 +5,7 @@ ghost use Rattle.std.specs.Prelude.{IfErr, IfOk, IsOk, OnOk};
 ghost use Rattle.dap_message.specs.Message.{Sent, sent};
 ghost use Rattle.dap_rename.specs.Messages.{Carries, classes_of_sort, equal_places, same_class};
 ghost use Rattle.dap_rename.specs.Modes.{stop_in};
-ghost use Rattle.dap_rename.specs.Names.{StandFor, HaveEqualCounts, HaveNoNumbers, mode_of};
+ghost use Rattle.dap_rename.specs.Names.{Represents, HaveEqualCounts, HaveNoNumbers, mode_of};
 ghost use Rattle.dap_rename.specs.Names.{numbers_at, stops_of};
 ghost use Rattle.dap_rename.specs.Carrying.{has_pair};
 ghost use Rattle.dap_rename.specs.PairIndex.{IsIndexOf};
@@ -104,8 +104,8 @@ impl Renaming {
         requires { HaveEqualCounts T.numbers from.now to.now }
         ensures pairs { IfOk result (λ r. entries (pairs_of r) ≡ equal_names (stops_of from.now)
             (numbers_at T.numbers from.now) (numbers_at T.numbers to.now)) }
-        ensures stand { IfOk result (λ r. (ms ns : List Sent)
-            → StandFor T.numbers T.limit from.now ms → StandFor T.numbers T.limit to.now ns
+        ensures represents { IfOk result (λ r. (ms ns : List Sent)
+            → Represents T.numbers T.limit from.now ms → Represents T.numbers T.limit to.now ns
             → entries (pairs_of r) ≡ equal_places (stop_in (mode_of from.now)) ms ns) }
         ensures memory { IfErr result (λ f. f ≡ NameFault.Memory) }
         ensures empty { HaveNoNumbers T.numbers from.now → IsOk result }

@@ -7,7 +7,7 @@ ghost use Rattle.dap_names.specs.Table.{has, place};
 ghost use Rattle.dap_rename.specs.Names.{AreEmpty};
 ghost use Rattle.dap_rename.specs.Sorts.{EachSort};
 ghost use Rattle.dap_rename.specs.Tables.{table_of, lists, counts, added, added_all, names_from};
-ghost use Rattle.dap_rename.specs.Tables.{AllBegin, limits, AllFit, SomeIsOver};
+ghost use Rattle.dap_rename.specs.Tables.{AllExtend, limits, AllFit, SomeExceedsLimit};
 
 use dap_names::{IndexNames, NameFault, NameTable, PlainNames};
 use dap_tree::Sort;
@@ -93,7 +93,8 @@ impl<T: NameTable> Tables<T> {
         ensures fits { OnOk result
             (AllFit (limits T.limit self.old) (added_all (lists T.numbers self.old) ids.now)) }
         ensures full { result ≡ Err NameFault.Full
-            → SomeIsOver (limits T.limit self.old) (added_all (lists T.numbers self.old) ids.now) }
+            → SomeExceedsLimit (limits T.limit self.old)
+            (added_all (lists T.numbers self.old) ids.now) }
         ensures same_limits { limits T.limit self.new ≡ limits T.limit self.old }
     {
         let lengths = self.lengths();
@@ -110,9 +111,10 @@ impl<T: NameTable> Tables<T> {
         ensures named { IfOk result (λ v. v.items ≡ names_from (lists T.numbers self.old) ids.now) }
         ensures grown { OnOk result
             (lists T.numbers self.new ≡ added_all (lists T.numbers self.old) ids.now) }
-        ensures begins { AllBegin (lists T.numbers self.old) (lists T.numbers self.new) }
+        ensures begins { AllExtend (lists T.numbers self.old) (lists T.numbers self.new) }
         ensures full { result ≡ Err NameFault.Full
-            → SomeIsOver (limits T.limit self.old) (added_all (lists T.numbers self.old) ids.now) }
+            → SomeExceedsLimit (limits T.limit self.old)
+            (added_all (lists T.numbers self.old) ids.now) }
         ensures same_limits { limits T.limit self.new ≡ limits T.limit self.old }
     {
         let mut names = Vec::new(alloc);

@@ -4,7 +4,7 @@ use Rattle.std.proofs.Common.{ap, subst, arith, length-append}
 use Rattle.std.specs.Prelude.{IfErr, IfOk, Vec}
 use Rattle.std.specs.declared.alloc.Global.{Global}
 use Rattle.dap_device.specs.declared.device.Source.{Ghosts as Source}
-use Rattle.dap_device.specs.Reading.{HasCome}
+use Rattle.dap_device.specs.Reading.{HasReadInput}
 use Rattle.dap_device.specs.declared.reading.Stop.{Stop}
 use Rattle.dap_device.specs.declared.reading.Stop.TheVariants.{End, Full, Failed}
 use Rattle.dap_recording.specs.declared.record_fault.RecordCause.TheVariants.{Cut}
@@ -22,7 +22,7 @@ use Rattle.dap_rules_input.specs.declared.fault.ApplyRefused.TheVariants as beca
 module _ {R : Type 0} (source : Source R) (limits : Limits) (mode : Mode) (mask : Mask)
     (old new : R) (bytes : List ℕ) where
   abbrev Came : Stop → Type 0
-  Came stop = HasCome source old new limits.input bytes stop
+  Came stop = HasReadInput source old new limits.input bytes stop
 
   abbrev Returns : Result (Vec ℕ Global) ApplyRefused → Type 0
   Returns = ReadsByRules source limits mode mask old new

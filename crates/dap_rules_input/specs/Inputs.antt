@@ -3,7 +3,7 @@ use Rattle.std.specs.Prelude.{ℕ, List, Result, Ok, Err, Vec}
 use Rattle.std.specs.declared.alloc.Global.{Global}
 use Rattle.dap_device.specs.declared.device.Source.{Ghosts as Source}
 use Rattle.dap_device.specs.declared.reading.Stop.{Stop}
-use Rattle.dap_device.specs.Reading.{HasCome}
+use Rattle.dap_device.specs.Reading.{HasReadInput}
 use Rattle.dap_mask.specs.Mask.{Mask}
 use Rattle.dap_rename.specs.declared.mode.Mode.{Mode}
 use Rattle.dap_input.specs.declared.limits.Limits.{Limits}
@@ -24,7 +24,7 @@ module _ {R : Type 0} (source : Source R) (limits : Limits) (mode : Mode) (mask 
   pub record CannotOrder (old new : R) (refused : Refused) : Type 0 where
     pub bytes : List ℕ
     pub stop : Stop
-    pub came : HasCome source old new limits.input bytes stop
+    pub came : HasReadInput source old new limits.input bytes stop
     pub is_refused : IsRefusedByRules limits mode mask bytes (because.Order refused)
 
   -- The text is that of the whole input; or the first step that fails is reported. An input that

@@ -38,7 +38,7 @@ pub fn read_by_rules<R: Source>(
 
     // The text is that of the whole input and the rules, or an error is returned. `ReadFault` is
     // returned only if the reader failed.
-    ensures answer { ReadsByRules R.Source limits mode (mask_of rules.now) reader.old reader.new
+    ensures outcome { ReadsByRules R.Source limits mode (mask_of rules.now) reader.old reader.new
         result }
 
     // At most one byte past the limit is read.

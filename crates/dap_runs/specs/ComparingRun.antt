@@ -18,23 +18,23 @@ use Rattle.dap_compare.specs.declared.verdict.CompareRefused.TheVariants.{Input,
 use Rattle.dap_compare.specs.declared.verdict.Verdict.{Verdict}
 use Rattle.dap_compare.specs.declared.verdict.Verdict.TheVariants.{Same, Differ}
 use Rattle.dap_input.specs.declared.refused.Refused.TheVariants.{WriteFault}
-use Rattle.dap_device.specs.Written.{AllSent, FrontWritten}
+use Rattle.dap_device.specs.Written.{AllSent, PrefixWritten}
 use Rattle.dap_runs.specs.FaultLine.{compare_refused_text, fault_line, refused_text}
 use Rattle.dap_runs.specs.Reporting.{HasSent, refused_status}
 use Rattle.dap_compare.specs.Verdicts.{Compares}
 
 -- If the numbers of the kind restart, the line of a pair has its stop.
-abbrev pub tells_stop : Mode → Sort → Bool
-tells_stop PerStop Frame = true
-tells_stop PerStop Reference = true
-tells_stop mode sort = false
+abbrev pub shows_stop : Mode → Sort → Bool
+shows_stop PerStop Frame = true
+shows_stop PerStop Reference = true
+shows_stop mode sort = false
 
 -- the line of a pair: the kind, perhaps with the number of stops before its class, and the two
 -- numbers
 abbrev pub pair_line : Mode → Pair → List ℕ
 pair_line mode pair =
     sort_word pair.sort
-    ++ cond (tells_stop mode pair.sort) (codes "@" ++ decimal pair.stop) [] ++ codes " "
+    ++ cond (shows_stop mode pair.sort) (codes "@" ++ decimal pair.stop) [] ++ codes " "
     ++ signed_decimal pair.from ++ codes " " ++ signed_decimal pair.to ++ codes "\n"
 
 -- the line that two recordings are the same, and the line that they differ at this record
@@ -71,22 +71,23 @@ module _ {W E V : Type 0} (sink : Sink W) (errors : Sink E) (text : V → List �
   -- The text of an answer goes out and is flushed, and the status is that of it; or a front of the
   -- text goes out and the writer fails, and that is told. Of a refusal nothing goes out, and it is
   -- told.
-  abbrev pub ComparisonIsTold : Result V CompareRefused → W → W → E → E → ℕ → Type 0
-  ComparisonIsTold (Ok answer) before after old new status =
-      (AllSent sink before after (text answer) × (new ≡ old) × (status ≡ status_for answer))
-      ⊎ (FrontWritten sink before after (text answer)
+  abbrev pub ComparisonIsReported : Result V CompareRefused → W → W → E → E → ℕ → Type 0
+  ComparisonIsReported (Ok outcome) before after old new status =
+      (AllSent sink before after (text outcome) × (new ≡ old) × (status ≡ status_for outcome))
+      ⊎ (PrefixWritten sink before after (text outcome)
       × HasSent errors old new (fault_line (refused_text WriteFault)) × (status ≡ 4))
-  ComparisonIsTold (Err because) before after old new status = (after ≡ before)
+  ComparisonIsReported (Err because) before after old new status = (after ≡ before)
       × HasSent errors old new (fault_line (compare_refused_text because))
       × (status ≡ refusal_status because)
 
 -- What `compare` answers of the readers is printed or told.
-pub record CompareIsTold {R S W E : Type 0} (source_a : Source R) (source_b : Source S)
+pub record CompareIsReported {R S W E : Type 0} (source_a : Source R) (source_b : Source S)
     (sink : Sink W) (errors : Sink E) (limits : Limits) (mode : Mode) (old_a new_a : R) (old_b new_b
     : S)
     (before after : W) (silent spoken : E) (status : ℕ) : Type 0 where
-  pub answer : Result Verdict CompareRefused
-  pub compares : Compares source_a source_b limits mode old_a new_a old_b new_b answer
-  pub tells : ComparisonIsTold sink errors (verdict_text mode) verdict_status answer before after
+  pub outcome : Result Verdict CompareRefused
+  pub compares : Compares source_a source_b limits mode old_a new_a old_b new_b outcome
+  pub tells : ComparisonIsReported sink errors (verdict_text mode) verdict_status outcome before
+      after
       silent
       spoken status

@@ -1,6 +1,6 @@
 -- What the program does and tells where it masks a recording by the rules of a file. Source: own.
 use Rattle.std.specs.Prelude.{◌≡◌, ◌≢◌, ℕ, ◌++◌, List, Result, Ok, Err, codes, decimal}
-use Rattle.dap_device.specs.Reading.{HasCome}
+use Rattle.dap_device.specs.Reading.{HasReadInput}
 use Rattle.dap_device.specs.declared.device.Sink.{Ghosts as Sink}
 use Rattle.dap_device.specs.declared.device.Source.{Ghosts as Source}
 use Rattle.dap_device.specs.declared.reading.Stop.{Stop}
@@ -18,7 +18,7 @@ use Rattle.dap_mask.specs.declared.mask_rules.MaskRules.{MaskRules}
 use Rattle.dap_mask_input.specs.MaskedRecordings.{IsMaskedTo, Masks}
 use Rattle.dap_mask_input.specs.Masking.{masking}
 use Rattle.dap_runs.specs.FaultLine.{fault_line, refused_text}
-use Rattle.dap_runs.specs.Reporting.{Answered, HasSent, IsTold}
+use Rattle.dap_runs.specs.Reporting.{Answered, HasSent, IsReported}
 use Rattle.dap_runs.specs.declared.mask_run.RulesRefused.{RulesRefused}
 use Rattle.dap_runs.specs.declared.mask_run.RulesRefused.TheVariants as refused
 
@@ -38,21 +38,21 @@ outcome_of (Err (refused.Line fault)) = said (Err fault)
 outcome_of (Err refused.Memory) = no_memory
 
 -- The file says this, by all of its bytes or by the first 65,537 of them.
-pub record Says {F : Type 0} (source : Source F) (old new : F)
+pub record FileGivesRules {F : Type 0} (source : Source F) (old new : F)
     (what : Result Mask RulesFault) : Type 0 where
   pub bytes : List ℕ
   pub stop : Stop
-  pub came : HasCome source old new 65536 bytes stop
+  pub came : HasReadInput source old new 65536 bytes stop
   pub whole : stop ≢ Failed
   pub says : rules_said bytes ≡ what
 
 -- The file could not be read to its end.
 pub record IsUnread {F : Type 0} (source : Source F) (old new : F) : Type 0 where
   pub bytes : List ℕ
-  pub came : HasCome source old new 65536 bytes Failed
+  pub came : HasReadInput source old new 65536 bytes Failed
 
 abbrev pub ReadsRules : {F : Type 0} → Source F → F → F → RulesOutcome → Type 0
-ReadsRules source old new (said what) = Says source old new what
+ReadsRules source old new (said what) = FileGivesRules source old new what
 ReadsRules source old new unread = IsUnread source old new
 ReadsRules source old new no_memory = Unit {0}
 
@@ -94,27 +94,28 @@ rules_refused_status refused.Memory = 5
 module _ {R W E : Type 0} (source : Source R) (sink : Sink W) (errors : Sink E) (limits : Limits)
     (old new : R) (before after : W) (silent spoken : E) (status : ℕ) where
   -- Nothing is read of the recording and nothing written; this line is told, with this status.
-  pub record TellsAlone (line : List ℕ) (wanted : ℕ) : Type 0 where
+  pub record ReportsOnly (line : List ℕ) (wanted : ℕ) : Type 0 where
     pub unread : new ≡ old
     pub unwritten : after ≡ before
     pub sent : HasSent errors silent spoken line
     pub status_is : status ≡ wanted
 
   -- By a mask the recording is masked, and a refusal of it is told.
-  abbrev pub TellsMask : RulesOutcome → Type 0
-  TellsMask (said (Ok mask)) =
+  abbrev pub ReportsMask : RulesOutcome → Type 0
+  ReportsMask (said (Ok mask)) =
       Answered (Streams (masking limits mask) (Masks limits mask) (IsMaskedTo limits mask) source
       sink old new before after)
-      (IsTold errors silent spoken) status
-  TellsMask (said (Err fault)) = TellsAlone (rules_line fault) 2
-  TellsMask unread = TellsAlone rules_unread 4
-  TellsMask no_memory = TellsAlone (fault_line (refused_text Memory)) 5
+      (IsReported errors silent spoken) status
+  ReportsMask (said (Err fault)) = ReportsOnly (rules_line fault) 2
+  ReportsMask unread = ReportsOnly rules_unread 4
+  ReportsMask no_memory = ReportsOnly (fault_line (refused_text Memory)) 5
 
 -- The rules are read, and by what became of them the recording is masked, or they are told to be
 -- wrong.
-pub record MaskIsTold {F R W E : Type 0} (file : Source F) (source : Source R) (sink : Sink W)
+pub record MaskIsReported {F R W E : Type 0} (file : Source F) (source : Source R) (sink : Sink W)
     (errors : Sink E) (limits : Limits) (old_rules new_rules : F) (old new : R) (before after : W)
     (silent spoken : E) (status : ℕ) : Type 0 where
   pub outcome : RulesOutcome
   pub reads : ReadsRules file old_rules new_rules outcome
-  pub tells : TellsMask source sink errors limits old new before after silent spoken status outcome
+  pub tells : ReportsMask source sink errors limits old new before after silent spoken status
+      outcome

@@ -9,9 +9,9 @@ use Rattle.dap_input.specs.declared.refused.Refused.TheVariants.{Memory}
 use Rattle.dap_rename.specs.declared.mode.Mode.TheVariants.{Whole}
 use Rattle.dap_order_input.specs.Ordering.{IsNotOrdered, Orders}
 use Rattle.dap_runs.specs.FaultLine.{fault_line, refused_text}
-use Rattle.dap_runs.specs.MaskRun.{ReadsRules, RulesOutcome, TellsAlone, no_memory, rules_line}
+use Rattle.dap_runs.specs.MaskRun.{ReadsRules, RulesOutcome, ReportsOnly, no_memory, rules_line}
 use Rattle.dap_runs.specs.MaskRun.{rules_unread, said, unread}
-use Rattle.dap_runs.specs.Reporting.{Answered, IsTold}
+use Rattle.dap_runs.specs.Reporting.{Answered, IsReported}
 
 module _ {R W E : Type 0} (source : Source R) (sink : Sink W) (errors : Sink E) (limits : Limits)
     (old new : R) (before after : W) (silent spoken : E) (status : ℕ) where
@@ -21,15 +21,15 @@ module _ {R W E : Type 0} (source : Source R) (sink : Sink W) (errors : Sink E) 
   ReportsOrder (said (Ok rules)) =
       Answered (Answers source sink limits.input (Orders limits Whole rules.swaps)
       (IsNotOrdered limits Whole rules.swaps) old new before after)
-      (IsTold errors silent spoken) status
+      (IsReported errors silent spoken) status
   ReportsOrder (said (Err fault)) =
-      TellsAlone source sink errors limits old new before after silent spoken status
+      ReportsOnly source sink errors limits old new before after silent spoken status
       (rules_line fault) 2
   ReportsOrder unread =
-      TellsAlone source sink errors limits old new before after silent spoken status
+      ReportsOnly source sink errors limits old new before after silent spoken status
       rules_unread 4
   ReportsOrder no_memory =
-      TellsAlone source sink errors limits old new before after silent spoken status
+      ReportsOnly source sink errors limits old new before after silent spoken status
       (fault_line (refused_text Memory)) 5
 
 -- The rules are read. By what became of them the recording is put in order, or they are rejected.

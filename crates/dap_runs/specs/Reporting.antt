@@ -1,7 +1,7 @@
 -- What the program reports, and its statuses. Source: own.
 use Rattle.std.specs.Prelude.{◌≡◌, ◌⊎◌, ℕ, List, Result, Ok, Err}
 use Rattle.dap_device.specs.declared.device.Sink.{Ghosts as Sink}
-use Rattle.dap_device.specs.Written.{AllSent, FrontWritten}
+use Rattle.dap_device.specs.Written.{AllSent, PrefixWritten}
 use Rattle.dap_input.specs.declared.refused.Refused.{Refused}
 use Rattle.dap_input.specs.declared.refused.Refused.TheVariants.{ReadFault, WriteFault, Memory}
 use Rattle.dap_runs.specs.FaultLine.{fault_line, refused_text}
@@ -22,20 +22,20 @@ status_of (Err refused) = refused_status refused
 module _ {S : Type 0} (sink : Sink S) where
   -- The text went out and was flushed, or a front of it went out and the device failed.
   abbrev pub HasSent : S → S → List ℕ → Type 0
-  HasSent old new text = AllSent sink old new text ⊎ FrontWritten sink old new text
+  HasSent old new text = AllSent sink old new text ⊎ PrefixWritten sink old new text
 
   -- Of an answer its refusal is told, in one line, and of what was done nothing.
-  abbrev pub IsTold : S → S → Result (Unit {0}) Refused → Type 0
-  IsTold old new (Ok done) = new ≡ old
-  IsTold old new (Err refused) = HasSent old new (fault_line (refused_text refused))
+  abbrev pub IsReported : S → S → Result (Unit {0}) Refused → Type 0
+  IsReported old new (Ok done) = new ≡ old
+  IsReported old new (Err refused) = HasSent old new (fault_line (refused_text refused))
 
 -- The devices are as an engine leaves them with its answer, this is told, and the status is that of
 -- it.
 pub record Answered (Leaves Tells : Result (Unit {0}) Refused → Type 0) (status : ℕ) : Type 0 where
-  pub answer : Result (Unit {0}) Refused
-  pub leaves : Leaves answer
-  pub tells : Tells answer
-  pub status_is : status ≡ status_of answer
+  pub outcome : Result (Unit {0}) Refused
+  pub leaves : Leaves outcome
+  pub tells : Tells outcome
+  pub status_is : status ≡ status_of outcome
 
 module _ {W : Type 0} (sink : Sink W) where
   -- The text goes out and is flushed, and the status is this; or a front of it goes out and the
@@ -43,4 +43,4 @@ module _ {W : Type 0} (sink : Sink W) where
   abbrev pub IsSent : W → W → List ℕ → ℕ → ℕ → Type 0
   IsSent before after text done status =
       (AllSent sink before after text × (status ≡ done))
-      ⊎ (FrontWritten sink before after text × (status ≡ 4))
+      ⊎ (PrefixWritten sink before after text × (status ≡ 4))

@@ -1,8 +1,9 @@
 //! Compares two inputs, and tells of it what the program tells: lines and a status.
 ghost use Rattle.std.specs.Prelude.{◌≡◌, ◌+◌, ◌<◌, ◌≤◌, ◌^◌};
 ghost use Rattle.std.specs.List.{flat_map};
-ghost use Rattle.dap_runs.specs.ComparingRun.{CompareIsTold, differ_line, first_line, pair_line};
-ghost use Rattle.dap_runs.specs.ComparingRun.{pairs_in, refusal_status, same_line, tells_stop};
+ghost use Rattle.dap_runs.specs.ComparingRun.{CompareIsReported, differ_line, first_line};
+ghost use Rattle.dap_runs.specs.ComparingRun.{pair_line};
+ghost use Rattle.dap_runs.specs.ComparingRun.{pairs_in, refusal_status, same_line, shows_stop};
 ghost use Rattle.dap_runs.specs.ComparingRun.{verdict_status, verdict_text};
 ghost use Rattle.dap_device.specs.Written.{HasSentAll, HasWrittenAll};
 ghost use Rattle.dap_input.specs.Limits.{AreSound};
@@ -27,7 +28,7 @@ fn line_of(mode: Mode, pair: Pair) -> ArrayString<LINE>
     let mut number = Buffer::new();
     let mut line = ArrayString::new();
     line.push_str(pair.sort.word());
-    if tells_stop(mode, pair.sort) {
+    if shows_stop(mode, pair.sort) {
         line.push_str("@");
         line.push_str(number.format(pair.stop));
     }
@@ -40,8 +41,8 @@ fn line_of(mode: Mode, pair: Pair) -> ArrayString<LINE>
 }
 
 /// Whether the line of a pair of this sort tells its stop: where the names of the sort begin again.
-fn tells_stop(mode: Mode, sort: Sort) -> bool
-    ensures { result ≡ tells_stop mode sort }
+fn shows_stop(mode: Mode, sort: Sort) -> bool
+    ensures { result ≡ shows_stop mode sort }
 {
     match (mode, sort) {
         (Mode::PerStop, Sort::Frame | Sort::Reference) => true,
@@ -162,7 +163,7 @@ pub fn run_compare<A: Source, B: Source, W: Sink, E: Sink>(
 
     // The output is the lines of the verdict, flushed, a refusal is told, and so is a writer that
     // failed; and the status is that of what was answered or told.
-    ensures told { CompareIsTold A.Source B.Source W.Sink E.Sink limits mode
+    ensures reported { CompareIsReported A.Source B.Source W.Sink E.Sink limits mode
         reader_a.old reader_a.new reader_b.old reader_b.new writer.old writer.new
         errors.old errors.new result }
 
@@ -207,7 +208,7 @@ pub fn run_compare_with<A: Source, B: Source, W: Sink, E: Sink, T: NameTable + D
     requires error_failures { E.failures errors.old < 2 ^ 62 }
 
     // What `run_compare` promises, whatever the tables are.
-    ensures told { CompareIsTold A.Source B.Source W.Sink E.Sink limits mode
+    ensures reported { CompareIsReported A.Source B.Source W.Sink E.Sink limits mode
         reader_a.old reader_a.new reader_b.old reader_b.new writer.old writer.new
         errors.old errors.new result }
     ensures taken_a { A.given reader_a.new ≤ A.given reader_a.old + limits.input + 1 }

@@ -5,7 +5,7 @@ ghost use Rattle.dap_compare.specs.Which.{which_text};
 ghost use Rattle.dap_tree.specs.Side.{side_text};
 ghost use Rattle.dap_runs.specs.FaultLine.{compare_refused_text, fault_line, in_piece, in_record};
 ghost use Rattle.dap_runs.specs.FaultLine.{message_fault_text, recorder_fault_text, refused_text};
-ghost use Rattle.dap_runs.specs.Reporting.{HasSent, IsTold, status_of};
+ghost use Rattle.dap_runs.specs.Reporting.{HasSent, IsReported, status_of};
 
 use crate::status::status;
 use arrayvec::ArrayString;
@@ -242,13 +242,13 @@ pub fn tell_of_input<E: Sink>(errors: &mut E, refused: CompareRefused)
 }
 
 /// Tells a refusal in one line, and answers the program's status.
-pub fn tell_answer<E: Sink>(errors: &mut E, answer: Result<(), Refused>) -> u8
+pub fn tell_answer<E: Sink>(errors: &mut E, outcome: Result<(), Refused>) -> u8
     requires { E.failures errors.old < 2 ^ 63 }
-    ensures told { IsTold E.Sink errors.old errors.new answer }
-    ensures status { result ≡ status_of answer }
+    ensures reported { IsReported E.Sink errors.old errors.new outcome }
+    ensures status { result ≡ status_of outcome }
 {
-    if let Err(refused) = answer {
+    if let Err(refused) = outcome {
         tell(errors, refused);
     }
-    status(answer)
+    status(outcome)
 }

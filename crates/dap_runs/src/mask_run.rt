@@ -1,7 +1,7 @@
 //! Masks a recording by the rules of a file, and tells of it what the program tells.
 ghost use Rattle.std.specs.Prelude.{◌≡◌, ◌+◌, ◌<◌, ◌≤◌, ◌^◌, length};
 ghost use Rattle.dap_input.specs.Limits.{AreSound};
-ghost use Rattle.dap_runs.specs.MaskRun.{MaskIsTold, ReadsRules, cause_word, outcome_of};
+ghost use Rattle.dap_runs.specs.MaskRun.{MaskIsReported, ReadsRules, cause_word, outcome_of};
 ghost use Rattle.dap_runs.specs.MaskRun.{rules_line, rules_refused_line, rules_refused_status};
 ghost use Rattle.dap_runs.specs.Reporting.{HasSent};
 
@@ -157,7 +157,8 @@ pub fn run_mask<F: Source, R: Source, W: Sink, E: Sink>(
 
     // The output is what `mask` writes by the rules that the file says, a refusal is told, and the
     // status is that of what was answered or told.
-    ensures told { MaskIsTold F.Source R.Source W.Sink E.Sink limits rules.old rules.new reader.old
+    ensures reported { MaskIsReported F.Source R.Source W.Sink E.Sink limits rules.old rules.new
+        reader.old
         reader.new writer.old writer.new errors.old errors.new result }
 
     // It takes at most one byte past the limit.
@@ -165,8 +166,8 @@ pub fn run_mask<F: Source, R: Source, W: Sink, E: Sink>(
 {
     match read_rules(alloc, rules) {
         Ok(rules) => {
-            let answer = mask(alloc, &rules, reader, writer, limits);
-            tell_answer(errors, answer)
+            let outcome = mask(alloc, &rules, reader, writer, limits);
+            tell_answer(errors, outcome)
         }
         Err(refused) => report_rules(errors, refused),
     }

@@ -44,8 +44,8 @@ pub fn run_order<F: Source, R: Source, W: Sink, E: Sink>(
 {
     match read_rules(alloc, rules) {
         Ok(rules) => {
-            let answer = order(alloc, rules.swaps(), reader, writer, limits, Mode::Whole);
-            tell_answer(errors, answer)
+            let outcome = order(alloc, rules.swaps(), reader, writer, limits, Mode::Whole);
+            tell_answer(errors, outcome)
         }
         Err(refused) => report_rules(errors, refused),
     }

@@ -1,6 +1,6 @@
 //! Prints rows of the profile.
 ghost use Rattle.std.specs.Prelude.{◌<◌, ◌^◌, option_map};
-ghost use Rattle.dap_runs.specs.RowsRun.{RowsArePrinted, TellsRows};
+ghost use Rattle.dap_runs.specs.RowsRun.{RowsArePrinted, ReportsRows};
 ghost use Rattle.dap_rows.specs.RowLines.{lines_of};
 
 use crate::fault_line::{send, tell_answer};
@@ -26,7 +26,7 @@ pub fn tell_rows<W: Sink, E: Sink>(
 ) -> u8
     requires write_failures { W.failures writer.old < 2 ^ 62 }
     requires error_failures { E.failures errors.old < 2 ^ 62 }
-    ensures { TellsRows W.Sink E.Sink
+    ensures { ReportsRows W.Sink E.Sink
         (lines_of (option_map (λ s. s.now) number.entry)) writer.old writer.new errors.old
         errors.new result }
 {
@@ -37,8 +37,8 @@ pub fn tell_rows<W: Sink, E: Sink>(
         send(errors, NO_ROW);
         return USAGE;
     }
-    let answer = print_lines(writer, lines.as_str());
-    tell_answer(errors, answer)
+    let outcome = print_lines(writer, lines.as_str());
+    tell_answer(errors, outcome)
 }
 
 fn print_lines<W: Sink>(writer: &mut W, lines: &str) -> Result<(), Refused>

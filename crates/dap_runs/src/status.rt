@@ -34,10 +34,10 @@ pub fn refused_status(refused: Refused) -> u8
 }
 
 /// Returns the status of the program for the result of a command.
-pub(crate) fn status(answer: Result<(), Refused>) -> u8
-    ensures { result ≡ status_of answer }
+pub(crate) fn status(outcome: Result<(), Refused>) -> u8
+    ensures { result ≡ status_of outcome }
 {
-    match answer {
+    match outcome {
         Ok(()) => DONE,
         Err(refused) => refused_status(refused),
     }

@@ -3,10 +3,10 @@ use Rattle.std.proofs.Common.{◌≡◌, ℤ, Option, Some, ap, ◌∙◌}
 use Rattle.dap_tree.specs.declared.side.Side.{Side}
 use Rattle.dap_message.specs.Message.{Sent}
 use Rattle.dap_session.specs.Messages.{side_of, request_seq_of, other}
-use Rattle.dap_session.specs.Kept.{Kept, Requests, request_numbered, requests_of}
+use Rattle.dap_session.specs.SessionState.{SessionState, Requests, request_numbered, requests_of}
 use Rattle.dap_session.specs.KeptRules.{asked_for, request_if_numbered}
 
-pub asked_is : (k : Kept) (m : Sent) (n : ℤ) (side : Side) (es : Requests)
+pub asked_is : (k : SessionState) (m : Sent) (n : ℤ) (side : Side) (es : Requests)
     → Some n ≡ request_seq_of m → side ≡ side_of m → es ≡ requests_of (other side) k
     → request_numbered n es ≡ asked_for k m
 asked_is k m n side es number from is =

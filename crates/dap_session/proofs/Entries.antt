@@ -8,8 +8,9 @@ use Rattle.std.specs.Map.{lookup, set_value}
 use Rattle.std.specs.BTreeMap.{insert_entry}
 use Rattle.std.proofs.lemmas.Bool.Decides.{Decides-int_eq}
 use Rattle.std.proofs.lemmas.List.Sums.{sum_by-cons}
-use Rattle.dap_session.specs.Kept.{Requests, Noted, request_numbered, unanswered, with_request}
-use Rattle.dap_session.specs.Kept.{with_answer}
+use Rattle.dap_session.specs.SessionState.{Requests, RequestEntry, request_numbered, unanswered}
+use Rattle.dap_session.specs.SessionState.{with_request}
+use Rattle.dap_session.specs.SessionState.{with_answer}
 
 module _ {X Y : Type 0} (f : X → Y) where
   pub lookup-map : (test : ℤ → Bool) (es : List (ℤ × X))
@@ -64,12 +65,12 @@ apart q n k ne a b =
     let same : int_eq n k ≡ true = (Decides-int_eq n k).1 (sym at_n ∙ at_k) in
     cc
 
-unanswered-cons : (e : ℤ × Noted) (es : Requests)
+unanswered-cons : (e : ℤ × RequestEntry) (es : Requests)
     → unanswered (e ∷ es) ≡ cond (not e.1.1) 1 0 + unanswered es
-unanswered-cons e es = sum_by-cons (λ (x : ℤ × Noted). cond (not x.1.1) 1 0) e es
+unanswered-cons e es = sum_by-cons (λ (x : ℤ × RequestEntry). cond (not x.1.1) 1 0) e es
 
 -- one more request
-found_step : (q n : ℤ) (c : List ℕ) (e : ℤ × Noted) (es : Requests) (o : Ordering)
+found_step : (q n : ℤ) (c : List ℕ) (e : ℤ × RequestEntry) (es : Requests) (o : Ordering)
     → int_cmp n e.0 ≡ o →
     request_numbered q (with_request n c es)
     ≡ cond (int_eq q n) (Some (c, false)) (request_numbered q es) →
@@ -98,7 +99,7 @@ found-with_request q n c [] = refl
 found-with_request q n c (e ∷ es) =
     found_step q n c e es (int_cmp n e.0) refl (found-with_request q n c es)
 
-unanswered_step : (n : ℤ) (c : List ℕ) (e : ℤ × Noted) (es : Requests) (o : Ordering)
+unanswered_step : (n : ℤ) (c : List ℕ) (e : ℤ × RequestEntry) (es : Requests) (o : Ordering)
     → cond (is_eq o) (Some e.1) (request_numbered n es) ≡ None →
     (request_numbered n es ≡ None → unanswered (with_request n c es) ≡ unanswered es + 1) →
     unanswered (match_ordering o ((n, (c, false)) ∷ e ∷ es) ((e.0, (c, false)) ∷ es) (e
@@ -115,7 +116,8 @@ unanswered-with_request n c (e ∷ es) h =
     unanswered_step n c e es (int_cmp n e.0) h (unanswered-with_request n c es)
 
 -- one more response
-found_answer_step : (q n : ℤ) (c : List ℕ) (a : Noted) (e : ℤ × Noted) (es : Requests) (b : Bool)
+found_answer_step : (q n : ℤ) (c : List ℕ) (a : RequestEntry) (e : ℤ × RequestEntry)
+    (es : Requests) (b : Bool)
     → int_eq n e.0 ≡ b → cond b (Some e.1) (request_numbered n es) ≡ Some a →
     (request_numbered n es ≡ Some a
     → request_numbered q (with_answer n c es)
@@ -134,7 +136,7 @@ found_answer_step q n c a e es false is h ih =
     ∙ cond_swap (int_eq q e.0) (int_eq q n) (Some e.1) (Some (c, true)) (request_numbered q es)
     (apart q n e.0 is)
 
-pub found-with_answer : (q n : ℤ) (c : List ℕ) (a : Noted) (es : Requests)
+pub found-with_answer : (q n : ℤ) (c : List ℕ) (a : RequestEntry) (es : Requests)
     → request_numbered n es ≡ Some a
     → request_numbered q (with_answer n c es)
     ≡ cond (int_eq q n) (Some (c, true)) (request_numbered q es)
@@ -142,7 +144,7 @@ found-with_answer q n c a [] h = absurd (cc)
 found-with_answer q n c a (e ∷ es) h =
     found_answer_step q n c a e es (int_eq n e.0) refl h (found-with_answer q n c a es)
 
-unanswered_answer_step : (n : ℤ) (c d : List ℕ) (e : ℤ × Noted) (es : Requests) (b : Bool)
+unanswered_answer_step : (n : ℤ) (c d : List ℕ) (e : ℤ × RequestEntry) (es : Requests) (b : Bool)
     → cond b (Some e.1) (request_numbered n es) ≡ Some (d, false) →
     (request_numbered n es ≡ Some (d, false) → unanswered (with_answer n c es) + 1 ≡ unanswered es)
     →
@@ -152,7 +154,7 @@ unanswered_answer_step n c d e es true h ih =
     let one : ℕ = 1 in
     let none : ℕ = 0 in
     let not_yet : cond (not e.1.1) one none ≡ 1 =
-    ap (λ (a : Noted). cond (not a.1) one none) pair in
+    ap (λ (a : RequestEntry). cond (not a.1) one none) pair in
     let before : unanswered (e ∷ es) ≡ cond (not e.1.1) one none + unanswered es =
     unanswered-cons e es in
     let after : unanswered ((e.0, (c, true)) ∷ es) ≡ 0 + unanswered es =

@@ -9,9 +9,9 @@ use Rattle.dap_session.specs.declared.phase.Phase.{Phase}
 use Rattle.dap_session.specs.declared.phase.Phase.TheVariants.{Waiting, Asked, Answered}
 use Rattle.dap_session.specs.Messages.{seq_of, is_response_to, is_client_initialize}
 use Rattle.dap_session.specs.Rules.{is_answered, is_initializing}
-use Rattle.dap_session.specs.Kept.{phase_after, answers_asked}
+use Rattle.dap_session.specs.SessionState.{phase_after, answers_asked}
 use Rattle.dap_session.specs.KeptRules.{is_waiting, is_unanswered}
-use Rattle.dap_session.specs.Standing.{IsPhase, HaveNumber}
+use Rattle.dap_session.specs.Representation.{IsPhase, HaveNumber}
 use Rattle.dap_session.proofs.KeptAfter.{any_push}
 
 none_initializing : (ms : List Sent) → list_any is_client_initialize ms ≡ false

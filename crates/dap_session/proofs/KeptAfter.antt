@@ -11,7 +11,7 @@ use Rattle.std.proofs.lemmas.List.Sums.{sum_by-cons, sum_by_push}
 use Rattle.dap_tree.specs.declared.side.Side.{Side}
 use Rattle.dap_message.specs.Message.{Sent}
 use Rattle.dap_session.specs.Messages.{seq_of, is_request_of}
-use Rattle.dap_session.specs.Standing.{request_at}
+use Rattle.dap_session.specs.Representation.{request_at}
 
 pub any_push : (p : Sent → Bool) (ms : List Sent) (m : Sent)
     → list_any p (ms ++ m ∷ []) ≡ (list_any p ms || p m)

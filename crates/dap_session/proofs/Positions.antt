@@ -28,13 +28,14 @@ use Rattle.dap_session.specs.Messages.{side_of, kind_of, name_of, seq_of, reques
 use Rattle.dap_session.specs.Messages.{success_of, other, same_kind, is_number, is_yes, is_request}
 use Rattle.dap_session.specs.Messages.{is_response, is_event, is_from, is_named, is_request_of}
 use Rattle.dap_session.specs.Messages.{is_response_to, is_initialize, is_client_initialize}
-use Rattle.dap_session.specs.Messages.{is_configuration_done, is_initialized, is_farewell}
+use Rattle.dap_session.specs.Messages.{is_configuration_done, is_initialized, is_disconnect_success}
 use Rattle.dap_session.specs.Messages.{is_output}
 use Rattle.dap_session.specs.Rules.{at_number, is_answered, is_initializing, is_broken, rules}
 use Rattle.dap_session.specs.Rules.{first_of, first_broken}
 use Rattle.dap_session.specs.Positions.{IsFrom, IsRequest, IsResponse, IsEvent, IsNamed}
 use Rattle.dap_session.specs.Positions.{IsInitialize, IsClientInitialize, IsConfigurationDone}
-use Rattle.dap_session.specs.Positions.{IsInitialized, IsFarewell, IsRequestOf, IsResponseOf, At}
+use Rattle.dap_session.specs.Positions.{IsInitialized, IsDisconnectSuccess, IsRequestOf}
+use Rattle.dap_session.specs.Positions.{IsResponseOf, At}
 use Rattle.dap_session.specs.Positions.{Earlier, NoneBetween, IsInitializingAt, BreaksAt, IsOutput}
 use Rattle.dap_session.specs.Positions.{BreaksNone, BreaksFirst}
 use Rattle.dap_session.proofs.Sides.{other_other}
@@ -86,7 +87,7 @@ yes_is None = (λ h. absurd (cc), λ h. absurd (cc))
 yes_is (Some true) = (λ h. refl, λ h. refl)
 yes_is (Some false) = (λ h. absurd (cc), λ h. cc)
 
-pub farewell : (m : Sent) → Decides (is_farewell m) (IsFarewell m)
+pub farewell : (m : Sent) → Decides (is_disconnect_success m) (IsDisconnectSuccess m)
 farewell m =
     Decides-and _ _
     (Decides-and _ _ (Decides-and _ _ (from Adapter m) (response m)) (named (codes "disconnect") m))
@@ -240,7 +241,7 @@ by_position InitializeTwice before after m =
     (earlier is_client_initialize IsClientInitialize client_initialize before (m ∷ after))
 by_position AfterDisconnect before after m =
     Decides-and _ _ (Decides-and _ _ (from Client m) (request m))
-    (earlier is_farewell IsFarewell farewell before (m ∷ after))
+    (earlier is_disconnect_success IsDisconnectSuccess farewell before (m ∷ after))
 by_position SeqUsed before after m =
     Decides-and _ _ (request m)
     (earlier (λ q. is_request_of (side_of m) (seq_of m) q) (IsRequestOf (side_of m) (seq_of m))
@@ -303,15 +304,15 @@ false_below test r rs i h g (suc j) s low at = g j s (omega arith) at
 
 later : (test : Rule → Bool) (r : Rule) (rs : List Rule) (o : Option Rule) → test r ≡ false
     → TellsFirst test rs o → TellsFirst test (r ∷ rs) o
-later test r rs None h told = false_at test r rs h told
-later test r rs (Some x) h told =
-    (suc told.0, told.1, told.2, false_below test r rs told.0 h told.3)
+later test r rs None h reported = false_at test r rs h reported
+later test r rs (Some x) h reported =
+    (suc reported.0, reported.1, reported.2, false_below test r rs reported.0 h reported.3)
 
 tells_step : (test : Rule → Bool) (r : Rule) (rs : List Rule) (b : Bool) → test r ≡ b
     → TellsFirst test rs (first_of test rs)
     → TellsFirst test (r ∷ rs) (cond b (Some r) (first_of test rs))
-tells_step test r rs true h told = (0, refl, h, λ j s low at. absurd (omega arith))
-tells_step test r rs false h told = later test r rs (first_of test rs) h told
+tells_step test r rs true h reported = (0, refl, h, λ j s low at. absurd (omega arith))
+tells_step test r rs false h reported = later test r rs (first_of test rs) h reported
 
 tells_first : (test : Rule → Bool) (rs : List Rule) → TellsFirst test rs (first_of test rs)
 tells_first test [] = λ j r at. absurd (cc)
@@ -334,16 +335,16 @@ first_told : (before after : List Sent) (m : Sent) (o : Option Rule) → is_outp
     → TellsFirst (λ r. is_broken r before m) rules o
     → MatchOption o (BreaksNone (before ++ m ∷ after) (length before) m)
     (λ rule. BreaksFirst rule (before ++ m ∷ after) (length before) m)
-first_told before after m None quiet told = λ out r. let w =
+first_told before after m None quiet reported = λ out r. let w =
     place_of r in not_from_Decides (is_broken r before m) (by_position r before after m)
-    (told w.0 r w.1)
-first_told before after m (Some r) quiet told = (
-  told.0,
-  told.1,
+    (reported w.0 r w.1)
+first_told before after m (Some r) quiet reported = (
+  reported.0,
+  reported.1,
   not_from_Decides (is_output m) (output m) quiet,
-  (by_position r before after m).0 told.2,
+  (by_position r before after m).0 reported.2,
   λ j s low at. not_from_Decides (is_broken s before m) (by_position s before after m)
-      (told.3 j s low at),
+      (reported.3 j s low at),
 )
 
 first_with : (before after : List Sent) (m : Sent) (b : Bool) → is_output m ≡ b

@@ -130,12 +130,12 @@ module _ (R : Sort → ℤ → ℤ → Type 0) where
 
   pub alike : (m n : Sent) → IsNumbered m → DiffersInIds R m n → Alike m n
   alike m n is h =
-      let told = told_alike m n h.one_skeleton in
+      let reported = told_alike m n h.one_skeleton in
       record {
         side = side_alike m n h.one_side;
-        kind = told.0;
-        name = told.1;
-        success = told.2;
+        kind = reported.0;
+        name = reported.1;
+        success = reported.2;
         seq = seq_tied m n is h;
         request_seq = request_seq_tied m n is h;
       }

@@ -22,7 +22,7 @@ use Rattle.dap_session.specs.Messages.{side_of, name_of, seq_of, request_seq_of,
 use Rattle.dap_session.specs.Messages.{same_kind, is_number, is_yes, is_request, is_response}
 use Rattle.dap_session.specs.Messages.{is_event, is_from, is_named, is_request_of, is_response_to}
 use Rattle.dap_session.specs.Messages.{is_initialize, is_client_initialize, is_configuration_done}
-use Rattle.dap_session.specs.Messages.{is_initialized, is_farewell, is_output}
+use Rattle.dap_session.specs.Messages.{is_initialized, is_disconnect_success, is_output}
 use Rattle.dap_session.specs.RenamedLists.{seq_sort, IsNumbered, DifferInIds, IsOneToOne}
 use Rattle.dap_session.specs.Rules.{at_number, is_answered, is_initializing, is_broken, rules}
 use Rattle.dap_session.specs.Rules.{first_of, first_broken, open_requests, KeepsRules}
@@ -155,7 +155,7 @@ module _ (R : Sort → ℤ → ℤ → Type 0) (one : IsOneToOne R) where
   initialized_same a b t =
       and_same _ _ _ _ (event_same a b t) (named_same (codes "initialized") a b t)
 
-  pub farewell_same : (a b : Sent) → Alike R a b → is_farewell a ≡ is_farewell b
+  pub farewell_same : (a b : Sent) → Alike R a b → is_disconnect_success a ≡ is_disconnect_success b
   farewell_same a b t =
       and_same _ _ _ _
       (and_same _ _ _ _ (and_same _ _ _ _ (from_same Adapter a b t) (response_same a b t))
@@ -244,7 +244,7 @@ module _ (R : Sort → ℤ → ℤ → Type 0) (one : IsOneToOne R) where
       (any_same is_client_initialize is_client_initialize client_initialize_same ms ns s)
   broken_same AfterDisconnect ms ns m n s t =
       and_same _ _ _ _ (and_same _ _ _ _ (from_same Client m n t) (request_same m n t))
-      (any_same is_farewell is_farewell farewell_same ms ns s)
+      (any_same is_disconnect_success is_disconnect_success farewell_same ms ns s)
   broken_same SeqUsed ms ns m n s t =
       and_same _ _ _ _ (request_same m n t)
       (any_same (λ q. is_request_of (side_of m) (seq_of m) q)

@@ -14,10 +14,11 @@ use Rattle.dap_session.specs.Messages.{name_of, seq_of, request_seq_of, other, i
 use Rattle.dap_session.specs.Messages.{is_request, is_response, is_from, is_request_of}
 use Rattle.dap_session.specs.Messages.{is_response_to}
 use Rattle.dap_session.specs.Rules.{is_answered, open_requests}
-use Rattle.dap_session.specs.Kept.{Requests, Noted, request_numbered, with_request, with_answer}
-use Rattle.dap_session.specs.Kept.{answered_in, requests_after}
+use Rattle.dap_session.specs.SessionState.{Requests, RequestEntry, request_numbered, with_request}
+use Rattle.dap_session.specs.SessionState.{with_answer}
+use Rattle.dap_session.specs.SessionState.{answered_in, requests_after}
 use Rattle.dap_session.specs.RequestSteps.{FitsRequests}
-use Rattle.dap_session.specs.Standing.{AreRequests, request_at}
+use Rattle.dap_session.specs.Representation.{AreRequests, request_at}
 use Rattle.dap_session.proofs.Entries.{found-with_request, unanswered-with_request}
 use Rattle.dap_session.proofs.Entries.{found-with_answer, unanswered-with_answer}
 use Rattle.dap_session.proofs.Sides.{no_request, no_response}
@@ -29,11 +30,11 @@ int_same : (a b : ℤ) → int_eq a b ≡ true → a ≡ b
 int_same a b h = (Decides-int_eq a b).0 h
 
 -- what the list has for one number
-abbrev pub listed_as : Side → List Sent → ℤ → Option Noted
+abbrev pub listed_as : Side → List Sent → ℤ → Option RequestEntry
 listed_as side ms n = option_map (λ q. (name_of q, is_answered side n ms)) (request_at side n ms)
 
 pub map_none : (side : Side) (ms : List Sent) (n : ℤ) (o : Option Sent)
-    → option_map {U = Noted} (λ q. (name_of q, is_answered side n ms)) o ≡ None → o ≡ None
+    → option_map {U = RequestEntry} (λ q. (name_of q, is_answered side n ms)) o ≡ None → o ≡ None
 map_none side ms n None h = refl
 map_none side ms n (Some q) h = absurd (cc)
 
@@ -76,9 +77,10 @@ count_kept side n ms m h = omega (arith, count_push (λ q. is_request_of side n 
 listed_same : (side : Side) (n : ℤ) (ms : List Sent) (m : Sent) → is_request_of side n m ≡ false
     → is_response_to side n m ≡ false → listed_as side ms n ≡ listed_as side (ms ++ m ∷ []) n
 listed_same side n ms m h g =
-    ap (λ o. option_map {U = Noted} (λ q. (name_of q, is_answered side n ms)) o)
+    ap (λ o. option_map {U = RequestEntry} (λ q. (name_of q, is_answered side n ms)) o)
     (sym (at_same side n ms m h))
-    ∙ ap (λ b. option_map {U = Noted} (λ q. (name_of q, b)) (request_at side n (ms ++ m ∷ [])))
+    ∙ ap (λ b. option_map {U = RequestEntry} (λ q. (name_of q, b))
+    (request_at side n (ms ++ m ∷ [])))
     (sym (answered_same side n ms m g))
 
 -- with A and its requests, the number of requests that have no response
@@ -136,7 +138,8 @@ request_listed side es ms m n true is r h g new =
     let fresh : is_answered side n (ms ++ m ∷ []) ≡ false =
     answered_same side n ms m (not_answered side n m g) ∙ r.asked n none in
     ap (λ b. Some (name_of m, b)) (sym fresh)
-    ∙ ap (λ o. option_map {U = Noted} (λ q. (name_of q, is_answered side n (ms ++ m ∷ []))) o)
+    ∙ ap (λ o. option_map {U = RequestEntry} (λ q. (name_of q, is_answered side n (ms ++ m ∷ [])))
+    o)
     (sym at)
 request_listed side es ms m n false is r h g new =
     r.listed n ∙ listed_same side n ms m (request_is side n m h ∙ is) (not_answered side n m g)
@@ -198,12 +201,12 @@ response_is side n k m h e =
     ap (λ b. b && is_number (request_seq_of m) n) h ∙ ap (λ o. is_number o n) e
 
 map_some : (side : Side) (ms : List Sent) (n : ℤ) (name : List ℕ) (b : Bool) (o : Option Sent)
-    → option_map {U = Noted} (λ q. (name_of q, is_answered side n ms)) o ≡ Some (name, b)
+    → option_map {U = RequestEntry} (λ q. (name_of q, is_answered side n ms)) o ≡ Some (name, b)
     → (q : Sent) × (o ≡ Some q) × (name_of q ≡ name) × (is_answered side n ms ≡ b)
 map_some side ms n name b None h = absurd (cc)
 map_some side ms n name b (Some q) h =
     let pair : (name_of q, is_answered side n ms) ≡ (name, b) = cc in
-    (q, refl, ap (λ (x : Noted). x.0) pair, ap (λ (x : Noted). x.1) pair)
+    (q, refl, ap (λ (x : RequestEntry). x.0) pair, ap (λ (x : RequestEntry). x.1) pair)
 
 response_listed : (side : Side) (es : Requests) (ms : List Sent) (m : Sent) (k n : ℤ) (b : Bool)
     → int_eq n k ≡ b → AreRequests side es ms → asks side m ≡ false → responds side m ≡ true
@@ -212,16 +215,17 @@ response_listed : (side : Side) (es : Requests) (ms : List Sent) (m : Sent) (k n
     → cond b (Some (name_of m, true)) (request_numbered n es) ≡ listed_as side (ms ++ m ∷ []) n
 response_listed side es ms m k n true is r h g e open_one =
     let same : n ≡ k = int_same n k is in
-    let told = map_some side ms n (name_of m) false (request_at side n ms) (sym (r.listed n)
+    let reported = map_some side ms n (name_of m) false (request_at side n ms) (sym (r.listed n)
     ∙ ap (λ x. request_numbered x es) same ∙ open_one) in
-    let at : request_at side n (ms ++ m ∷ []) ≡ Some told.0 =
-    at_same side n ms m (not_asked side n m h) ∙ told.1 in
+    let at : request_at side n (ms ++ m ∷ []) ≡ Some reported.0 =
+    at_same side n ms m (not_asked side n m h) ∙ reported.1 in
     let now : is_answered side n (ms ++ m ∷ []) ≡ true =
     any_push (λ r. is_response_to side n r) ms m
     ∙ ap (λ b. is_answered side n ms || b) (response_is side n k m g e ∙ int_eq_equiv.symm k n
     ∙ is) ∙ or-true _ in
-    ap (λ t. Some (t, true)) (sym told.2) ∙ ap (λ b. Some (name_of told.0, b)) (sym now)
-    ∙ ap (λ o. option_map {U = Noted} (λ q. (name_of q, is_answered side n (ms ++ m ∷ []))) o)
+    ap (λ t. Some (t, true)) (sym reported.2) ∙ ap (λ b. Some (name_of reported.0, b)) (sym now)
+    ∙ ap (λ o. option_map {U = RequestEntry} (λ q. (name_of q, is_answered side n (ms ++ m ∷ [])))
+    o)
     (sym at)
 response_listed side es ms m k n false is r h g e open_one =
     r.listed n ∙ listed_same side n ms m (not_asked side n m h) (response_is side n k m g e
@@ -234,7 +238,7 @@ response_asked : (side : Side) (es : Requests) (ms : List Sent) (m : Sent) (k n 
 response_asked side es ms m k n true is r g e open_one gone =
     let same : n ≡ k = int_same n k is in
     let none : request_numbered n es ≡ None =
-    r.listed n ∙ ap (λ o. option_map {U = Noted} (λ q. (name_of q, is_answered side n ms)) o)
+    r.listed n ∙ ap (λ o. option_map {U = RequestEntry} (λ q. (name_of q, is_answered side n ms)) o)
     gone in
     let some : request_numbered n es ≡ Some (name_of m, false) =
     ap (λ x. request_numbered x es) same ∙ open_one in
@@ -252,7 +256,7 @@ response_step side es ms m k r h g e open_one = record {
   listed = λ n. found-with_answer n k (name_of m) (name_of m, false) es open_one
       ∙ response_listed side es ms m k n (int_eq n k) refl r h g e open_one;
   count =
-      let told = map_some side ms k (name_of m) false (request_at side k ms) (sym (r.listed k)
+      let reported = map_some side ms k (name_of m) false (request_at side k ms) (sym (r.listed k)
       ∙ open_one) in
       let push = open_push side ms m (λ n. is_answered side n ms || int_eq k n)
       (λ n. any_push (λ r. is_response_to side n r) ms m
@@ -260,9 +264,9 @@ response_step side es ms m k r h g e open_one = record {
       let none : is_open side (λ n. is_answered side n ms || int_eq k n) m ≡ false =
       and_left _ _ h in
       let parts =
-      count_split (λ q. is_request q && is_from side q) (λ n. is_answered side n ms) k told.3 ms
+      count_split (λ q. is_request q && is_from side q) (λ n. is_answered side n ms) k reported.3 ms
       in
-      let low = count_some side k told.0 ms told.1 in
+      let low = count_some side k reported.0 ms reported.1 in
       let high = r.once k in
       omega (
         arith,

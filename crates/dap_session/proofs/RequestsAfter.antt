@@ -4,7 +4,7 @@ use Rattle.dap_tree.specs.declared.side.Side.{Side}
 use Rattle.dap_message.specs.Message.{Sent}
 use Rattle.dap_session.specs.Messages.{name_of, seq_of, request_seq_of, other, is_request}
 use Rattle.dap_session.specs.Messages.{is_response, is_from}
-use Rattle.dap_session.specs.Kept.{Requests, with_request, answered_in, requests_after}
+use Rattle.dap_session.specs.SessionState.{Requests, with_request, answered_in, requests_after}
 use Rattle.std.proofs.lemmas.Bool.{and_left}
 
 pub after_request : (side : Side) (es : Requests) (m : Sent) → is_request m && is_from side m ≡ true

@@ -18,8 +18,10 @@ use Rattle.dap_session.specs.declared.rule.Rule.TheVariants.{NoRequest, Answered
 use Rattle.dap_session.specs.Messages.{side_of, name_of, seq_of, other, is_request}
 use Rattle.dap_session.specs.Messages.{is_response, is_event, is_from, is_output}
 use Rattle.dap_session.specs.Rules.{first_of, rules}
-use Rattle.dap_session.specs.Kept.{Kept, Noted, request_numbered, requests_of}
-use Rattle.dap_session.specs.KeptRules.{first_told, tells, asked_for, request_if_numbered}
+use Rattle.dap_session.specs.SessionState.{SessionState, RequestEntry, request_numbered}
+use Rattle.dap_session.specs.SessionState.{requests_of}
+use Rattle.dap_session.specs.KeptRules.{first_broken_in_state, is_broken_in_state, asked_for}
+use Rattle.dap_session.specs.KeptRules.{request_if_numbered}
 use Rattle.dap_session.specs.KeptRules.{has_answer, has_other_command}
 use Rattle.dap_session.specs.RequestSteps.{FitsRequests}
 use Rattle.dap_session.proofs.Sides.{event_alone, from_side}
@@ -70,12 +72,13 @@ none_each test h =
     ]
 
 -- each rule passes, if the message is not an `output` event
-pub told_none : (k : Kept) (m : Sent) → first_told k m ≡ None → is_output m ≡ false → (r : Rule)
-    → tells r k m ≡ false
-unfolding first_told
+pub told_none : (k : SessionState) (m : Sent) → first_broken_in_state k m ≡ None → is_output m
+    ≡ false → (r : Rule)
+    → is_broken_in_state r k m ≡ false
+unfolding first_broken_in_state
 told_none k m h g =
-    none_each (λ r. tells r k m)
-    (subst (λ b. cond b None (first_of (λ r. tells r k m) rules) ≡ None) g h)
+    none_each (λ r. is_broken_in_state r k m)
+    (subst (λ b. cond b None (first_of (λ r. is_broken_in_state r k m) rules) ≡ None) g h)
 
 output_event : (a b c : Bool) → a && b && c ≡ true → b ≡ true
 output_event true true c h = refl
@@ -101,25 +104,28 @@ pub after_and : (a b : Bool) → a ≡ true → a && b ≡ false → b ≡ false
 after_and true b h g = g
 after_and false b h g = absurd (cc)
 
-none_found : (o : Option Noted) → is_some o ≡ false → o ≡ None
+none_found : (o : Option RequestEntry) → is_some o ≡ false → o ≡ None
 none_found None h = refl
 none_found (Some a) h = absurd (cc)
 
-pub asks_new : (k : Kept) (m : Sent) → first_told k m ≡ None → is_request m ≡ true
+pub asks_new : (k : SessionState) (m : Sent) → first_broken_in_state k m ≡ None → is_request m
+    ≡ true
     → request_numbered (seq_of m) (requests_of (side_of m) k) ≡ None
-unfolding tells
+unfolding is_broken_in_state
 asks_new k m h g = none_found _ (after_and _ _ g (told_none k m h (request_output m g) SeqUsed))
 
-answer_found : (name : List ℕ) (o : Option Noted) → not (is_some o) ≡ false → has_answer o ≡ false
+answer_found : (name : List ℕ) (o : Option RequestEntry) → not (is_some o) ≡ false → has_answer o
+    ≡ false
     → has_other_command name o ≡ false → o ≡ Some (name, false)
 answer_found name None h g f = absurd (cc)
 answer_found name (Some a) h g f =
     let same : a.0 ≡ name = (bytes_eq-Decides a.0 name).0 (not-false (bytes_eq a.0 name) f) in
     ap (λ (x : List ℕ). Some (x, a.1)) same ∙ ap (λ (y : Bool). Some (name, y)) g
 
-pub answers_asked_for : (k : Kept) (m : Sent) → first_told k m ≡ None → is_response m ≡ true
+pub answers_asked_for : (k : SessionState) (m : Sent) → first_broken_in_state k m ≡ None
+    → is_response m ≡ true
     → asked_for k m ≡ Some (name_of m, false)
-unfolding tells
+unfolding is_broken_in_state
 answers_asked_for k m h g =
     let each = told_none k m h (response_output m g) in
     answer_found (name_of m) (asked_for k m) (after_and _ _ g (each NoRequest))
@@ -131,7 +137,7 @@ other_of Client Adapter h = refl
 other_of Adapter Client h = refl
 other_of Adapter Adapter h = absurd (cc)
 
-pub may_follow : (k : Kept) (m : Sent) (side : Side) → first_told k m ≡ None
+pub may_follow : (k : SessionState) (m : Sent) (side : Side) → first_broken_in_state k m ≡ None
     → FitsRequests side (requests_of side k) m
 may_follow k m side h = record {
   asks = λ g. subst (λ (s : Side). request_numbered (seq_of m) (requests_of s k)

@@ -20,8 +20,9 @@ use Rattle.dap_session.specs.Messages.{side_of, name_of, seq_of, is_request, is_
 use Rattle.dap_session.specs.Messages.{is_from, is_named, is_initialize, is_client_initialize}
 use Rattle.dap_session.specs.Messages.{is_configuration_done, is_output}
 use Rattle.dap_session.specs.Rules.{rules, first_of}
-use Rattle.dap_session.specs.Kept.{Kept, request_numbered, requests_of}
-use Rattle.dap_session.specs.KeptRules.{first_told, tells, is_waiting, is_unanswered, asked_for}
+use Rattle.dap_session.specs.SessionState.{SessionState, request_numbered, requests_of}
+use Rattle.dap_session.specs.KeptRules.{first_broken_in_state, is_broken_in_state, is_waiting}
+use Rattle.dap_session.specs.KeptRules.{is_unanswered, asked_for}
 use Rattle.dap_session.specs.KeptRules.{has_answer, has_other_command, start_rules, request_rules}
 use Rattle.dap_session.specs.KeptRules.{response_rules, first_of_told}
 use Rattle.dap_session.proofs.RuleTests.{request_output, response_output}
@@ -60,9 +61,9 @@ requests_only : (c d u n i f : Bool)
 requests_only true d u n i f = refl
 requests_only false d u n i f = refl
 
-no_request_rule : (k : Kept) (m : Sent) → is_request m ≡ false
+no_request_rule : (k : SessionState) (m : Sent) → is_request m ≡ false
     → first_of_told request_rules k m ≡ None
-unfolding first_of_told tells
+unfolding first_of_told is_broken_in_state
 no_request_rule k m h =
     ap (λ r. cond (is_from Client m && r && k.disconnected) (Some AfterDisconnect)
     (cond (r && is_some (request_numbered (seq_of m) (requests_of (side_of m) k))) (Some SeqUsed)
@@ -74,9 +75,9 @@ no_request_rule k m h =
     (is_some (request_numbered (seq_of m) (requests_of (side_of m) k)))
     (is_named (codes "configurationDone") m) k.initialized k.configured
 
-no_response_rule : (k : Kept) (m : Sent) → is_response m ≡ false
+no_response_rule : (k : SessionState) (m : Sent) → is_response m ≡ false
     → first_of_told response_rules k m ≡ None
-unfolding first_of_told tells
+unfolding first_of_told is_broken_in_state
 no_response_rule k m h =
     ap (λ r. cond (r && not (is_some (asked_for k m))) (Some NoRequest)
     (cond (r && has_answer (asked_for k m)) (Some AnsweredTwice)
@@ -84,26 +85,28 @@ no_response_rule k m h =
 
 -- ---- the first rule of all
 
-three_lists : (k : Kept) (m : Sent)
+three_lists : (k : SessionState) (m : Sent)
     → first_of_told (start_rules ++ (request_rules ++ response_rules)) k m
     ≡ or_else (first_of_told start_rules k m)
     (or_else (first_of_told request_rules k m) (first_of_told response_rules k m))
 unfolding first_of_told
 three_lists k m =
-    first_of_two (λ r. tells r k m) start_rules (request_rules ++ response_rules)
-    ∙ ap (λ o. or_else (first_of (λ r. tells r k m) start_rules) o)
-    (first_of_two (λ r. tells r k m) request_rules response_rules)
+    first_of_two (λ r. is_broken_in_state r k m) start_rules (request_rules ++ response_rules)
+    ∙ ap (λ o. or_else (first_of (λ r. is_broken_in_state r k m) start_rules) o)
+    (first_of_two (λ r. is_broken_in_state r k m) request_rules response_rules)
 
 -- a message that is neither an `output` event nor an event of the client
-others : (k : Kept) (m : Sent) → is_output m ≡ false → is_from Client m && is_event m ≡ false
-    → first_told k m
+others : (k : SessionState) (m : Sent) → is_output m ≡ false → is_from Client m && is_event m
+    ≡ false
+    → first_broken_in_state k m
     ≡ or_else (first_of_told start_rules k m)
     (or_else (first_of_told request_rules k m) (first_of_told response_rules k m))
-unfolding first_told first_of_told tells
+unfolding first_broken_in_state first_of_told is_broken_in_state
 others k m quiet no_event =
-    ap (λ b. cond b None (first_of (λ r. tells r k m) rules)) quiet
+    ap (λ b. cond b None (first_of (λ r. is_broken_in_state r k m) rules)) quiet
     ∙ ap (λ b. cond b (Some EventFromClient)
-    (first_of (λ r. tells r k m) (start_rules ++ (request_rules ++ response_rules)))) no_event
+    (first_of (λ r. is_broken_in_state r k m) (start_rules ++ (request_rules ++ response_rules))))
+    no_event
     ∙ three_lists k m
 
 pub and_second : (a b : Bool) → b ≡ false → a && b ≡ false
@@ -124,8 +127,9 @@ no_event_response m h =
     and_second (is_from Client m) (is_event m)
     (event_false m (is_event m) refl (λ e. absurd (true≢false (sym h ∙ (event_alone m e).1))))
 
-pub of_request : (k : Kept) (m : Sent) → is_request m ≡ true
-    → first_told k m ≡ or_else (first_of_told start_rules k m) (first_of_told request_rules k m)
+pub of_request : (k : SessionState) (m : Sent) → is_request m ≡ true
+    → first_broken_in_state k m
+    ≡ or_else (first_of_told start_rules k m) (first_of_told request_rules k m)
 of_request k m h =
     others k m (request_output m h) (no_event_request m h)
     ∙ ap (λ o. or_else (first_of_told start_rules k m)
@@ -133,8 +137,9 @@ of_request k m h =
     ∙ ap (λ o. or_else (first_of_told start_rules k m) o)
     (or_else-None (first_of_told request_rules k m))
 
-pub of_response : (k : Kept) (m : Sent) → is_response m ≡ true
-    → first_told k m ≡ or_else (first_of_told start_rules k m) (first_of_told response_rules k m)
+pub of_response : (k : SessionState) (m : Sent) → is_response m ≡ true
+    → first_broken_in_state k m
+    ≡ or_else (first_of_told start_rules k m) (first_of_told response_rules k m)
 of_response k m h =
     others k m (response_output m h) (no_event_response m h)
     ∙ ap (λ o. or_else (first_of_told start_rules k m)
@@ -148,34 +153,36 @@ client_silent b c Adapter h = absurd (cc)
 no_output : (m : Sent) → is_from Client m ≡ true → is_output m ≡ false
 no_output m h = client_silent (is_event m) (is_named (codes "output") m) (side_of m) h
 
-pub of_client_event : (k : Kept) (m : Sent) → is_event m ≡ true → is_from Client m ≡ true
-    → first_told k m ≡ Some EventFromClient
-unfolding first_told tells
+pub of_client_event : (k : SessionState) (m : Sent) → is_event m ≡ true → is_from Client m ≡ true
+    → first_broken_in_state k m ≡ Some EventFromClient
+unfolding first_broken_in_state is_broken_in_state
 of_client_event k m h client =
-    ap (λ b. cond b None (first_of (λ r. tells r k m) rules)) (no_output m client)
+    ap (λ b. cond b None (first_of (λ r. is_broken_in_state r k m) rules)) (no_output m client)
     ∙ ap (λ b. cond b (Some EventFromClient)
-    (first_of (λ r. tells r k m) (start_rules ++ (request_rules ++ response_rules))))
+    (first_of (λ r. is_broken_in_state r k m) (start_rules ++ (request_rules ++ response_rules))))
     (and_from _ _ client h)
 
-pub of_output : (k : Kept) (m : Sent) → is_output m ≡ true → first_told k m ≡ None
-unfolding first_told
-of_output k m h = ap (λ b. cond b None (first_of (λ r. tells r k m) rules)) h
+pub of_output : (k : SessionState) (m : Sent) → is_output m ≡ true → first_broken_in_state k m
+    ≡ None
+unfolding first_broken_in_state
+of_output k m h = ap (λ b. cond b None (first_of (λ r. is_broken_in_state r k m) rules)) h
 
-pub of_adapter_event : (k : Kept) (m : Sent) → is_event m ≡ true → is_from Client m ≡ false
-    → is_output m ≡ false → first_told k m ≡ first_of_told start_rules k m
+pub of_adapter_event : (k : SessionState) (m : Sent) → is_event m ≡ true → is_from Client m ≡ false
+    → is_output m ≡ false → first_broken_in_state k m ≡ first_of_told start_rules k m
 of_adapter_event k m h adapter quiet =
     others k m quiet (and_left (is_from Client m) (is_event m) adapter)
     ∙ ap₂ (λ o p. or_else (first_of_told start_rules k m) (or_else o p))
     (no_request_rule k m (event_alone m h).0) (no_response_rule k m (event_alone m h).1)
     ∙ or_else-None (first_of_told start_rules k m)
 
-silent_or_not : (k : Kept) (m : Sent) (b : Bool) → is_output m ≡ b → is_event m ≡ true
-    → is_from Client m ≡ false → first_of_told start_rules k m ≡ None → first_told k m ≡ None
+silent_or_not : (k : SessionState) (m : Sent) (b : Bool) → is_output m ≡ b → is_event m ≡ true
+    → is_from Client m ≡ false → first_of_told start_rules k m ≡ None → first_broken_in_state k m
+    ≡ None
 silent_or_not k m true e h adapter none = of_output k m e
 silent_or_not k m false e h adapter none = of_adapter_event k m h adapter e ∙ none
 
-pub of_passed_event : (k : Kept) (m : Sent) → is_event m ≡ true → is_from Client m ≡ false
-    → first_of_told start_rules k m ≡ None → first_told k m ≡ None
+pub of_passed_event : (k : SessionState) (m : Sent) → is_event m ≡ true → is_from Client m ≡ false
+    → first_of_told start_rules k m ≡ None → first_broken_in_state k m ≡ None
 of_passed_event k m h adapter none = silent_or_not k m (is_output m) refl h adapter none
 
 -- ---- the rules on the `initialize` request
@@ -218,19 +225,19 @@ once_answered false false false a false h g = refl
 once_answered false true c a i h g = absurd (true≢false g)
 once_answered true u c a i h g = absurd (true≢false h)
 
-pub waiting : (k : Kept) (m : Sent) (b : Bool) → is_waiting k.phase ≡ true
+pub waiting : (k : SessionState) (m : Sent) (b : Bool) → is_waiting k.phase ≡ true
     → is_client_initialize m ≡ b
     → first_of_told start_rules k m ≡ cond b None (Some NotInitialized)
-unfolding first_of_told tells
+unfolding first_of_told is_broken_in_state
 waiting k m b h c =
     while_waiting (is_waiting k.phase) (is_unanswered k.phase) (is_client_initialize m)
     (is_from Adapter m && is_response m) (is_initialize m) h (not_unanswered k.phase h)
     ∙ ap (λ x. cond x None (Some NotInitialized)) c
 
-pub unanswered : (k : Kept) (m : Sent) (b : Bool) → is_waiting k.phase ≡ false
+pub unanswered : (k : SessionState) (m : Sent) (b : Bool) → is_waiting k.phase ≡ false
     → is_unanswered k.phase ≡ true → is_from Adapter m && is_response m ≡ b
     → first_of_told start_rules k m ≡ cond b None (Some StillInitializing)
-unfolding first_of_told tells
+unfolding first_of_told is_broken_in_state
 unanswered k m b h g c =
     while_asked (is_waiting k.phase) (is_unanswered k.phase) (is_client_initialize m)
     (is_from Adapter m && is_response m) (is_initialize m) h g
@@ -238,10 +245,10 @@ unanswered k m b h g c =
     (no_request m (and_parts (is_from Adapter m) (is_response m) e).1))
     ∙ ap (λ x. cond x None (Some StillInitializing)) c
 
-pub answered : (k : Kept) (m : Sent) (b : Bool) → is_waiting k.phase ≡ false
+pub answered : (k : SessionState) (m : Sent) (b : Bool) → is_waiting k.phase ≡ false
     → is_unanswered k.phase ≡ false → is_initialize m ≡ b
     → first_of_told start_rules k m ≡ cond b (Some InitializeTwice) None
-unfolding first_of_told tells
+unfolding first_of_told is_broken_in_state
 answered k m b h g i =
     once_answered (is_waiting k.phase) (is_unanswered k.phase) (is_client_initialize m)
     (is_from Adapter m && is_response m) (is_initialize m) h g
@@ -270,16 +277,17 @@ for_request l u f i e =
     (cond u (Some SeqUsed)
     (cond f (cond i (cond e (Some ConfiguredTwice) None) (Some ConfiguredEarly)) None))
 
-abbrev pub is_late : Kept → Sent → Bool
+abbrev pub is_late : SessionState → Sent → Bool
 is_late k m = is_from Client m && k.disconnected
 
-abbrev pub is_used : Kept → Sent → Bool
+abbrev pub is_used : SessionState → Sent → Bool
 is_used k m = is_some (request_numbered (seq_of m) (requests_of (side_of m) k))
 
-pub requested : (k : Kept) (m : Sent) (l u f i e : Bool) → is_request m ≡ true → is_late k m ≡ l
+pub requested : (k : SessionState) (m : Sent) (l u f i e : Bool) → is_request m ≡ true
+    → is_late k m ≡ l
     → is_used k m ≡ u → is_configuration_done m ≡ f → k.initialized ≡ i → k.configured ≡ e
     → first_of_told request_rules k m ≡ for_request l u f i e
-unfolding first_of_told tells
+unfolding first_of_told is_broken_in_state
 requested k m l u f i e h hl hu hf hi he =
     by_request (is_from Client m) (is_request m) k.disconnected (is_used k m)
     (is_configuration_done m) k.initialized k.configured h
@@ -291,19 +299,19 @@ requested k m l u f i e h hl hu hf hi he =
 
 -- ---- the rules on responses
 
-pub unasked : (k : Kept) (m : Sent) → is_response m ≡ true → asked_for k m ≡ None
+pub unasked : (k : SessionState) (m : Sent) → is_response m ≡ true → asked_for k m ≡ None
     → first_of_told response_rules k m ≡ Some NoRequest
-unfolding first_of_told tells
+unfolding first_of_told is_broken_in_state
 unasked k m h e =
     ap₂ (λ r o. cond (r && not (is_some o)) (Some NoRequest)
     (cond (r && has_answer o) (Some AnsweredTwice)
     (cond (r && has_other_command (name_of m) o) (Some OtherCommand) None))) h e
 
-pub asked : (k : Kept) (m : Sent) (command : List ℕ) (a b e : Bool) → is_response m ≡ true
+pub asked : (k : SessionState) (m : Sent) (command : List ℕ) (a b e : Bool) → is_response m ≡ true
     → asked_for k m ≡ Some (command, a) → a ≡ b → bytes_eq command (name_of m) ≡ e
     → first_of_told response_rules k m
     ≡ cond b (Some AnsweredTwice) (cond (not e) (Some OtherCommand) None)
-unfolding first_of_told tells
+unfolding first_of_told is_broken_in_state
 asked k m command a b e h is answered same =
     ap₂ (λ r o. cond (r && not (is_some o)) (Some NoRequest)
     (cond (r && has_answer o) (Some AnsweredTwice)

@@ -19,15 +19,17 @@ use Rattle.dap_session.specs.declared.phase.Phase.TheVariants.{Waiting}
 use Rattle.dap_session.specs.Messages.{side_of, name_of, seq_of, request_seq_of, other, is_number}
 use Rattle.dap_session.specs.Messages.{is_request, is_response, is_from, is_request_of}
 use Rattle.dap_session.specs.Messages.{is_response_to, is_initialize, is_client_initialize}
-use Rattle.dap_session.specs.Messages.{is_configuration_done, is_initialized, is_farewell}
+use Rattle.dap_session.specs.Messages.{is_configuration_done, is_initialized, is_disconnect_success}
 use Rattle.dap_session.specs.Messages.{is_output}
 use Rattle.dap_session.specs.Rules.{at_number, is_answered, is_broken, rules, first_of}
 use Rattle.dap_session.specs.Rules.{first_broken, open_requests}
-use Rattle.dap_session.specs.Kept.{Kept, Requests, Noted, request_numbered, requests_of}
-use Rattle.dap_session.specs.Kept.{phase_after, kept_after}
-use Rattle.dap_session.specs.KeptRules.{first_told, tells, request_if_numbered, has_answer}
+use Rattle.dap_session.specs.SessionState.{SessionState, Requests, RequestEntry, request_numbered}
+use Rattle.dap_session.specs.SessionState.{requests_of}
+use Rattle.dap_session.specs.SessionState.{phase_after, state_after}
+use Rattle.dap_session.specs.KeptRules.{first_broken_in_state, is_broken_in_state}
+use Rattle.dap_session.specs.KeptRules.{request_if_numbered, has_answer}
 use Rattle.dap_session.specs.KeptRules.{has_other_command}
-use Rattle.dap_session.specs.Standing.{Stands, AreRequests, IsPhase, request_at}
+use Rattle.dap_session.specs.Representation.{Represents, AreRequests, IsPhase, request_at}
 use Rattle.dap_session.proofs.KeptAfter.{any_push, request_at-any, none_with, one_with}
 use Rattle.dap_session.proofs.RequestLists.{requests_follow, map_none}
 use Rattle.dap_session.proofs.RuleTests.{after_and, may_follow, told_none, request_output}
@@ -38,13 +40,14 @@ use Rattle.dap_session.proofs.Sides.{no_response}
 
 -- ---- the tests of the state agree with the tests of the list
 
-requests_stand : (k : Kept) (ms : List Sent) (side : Side) → Stands k ms
+requests_stand : (k : SessionState) (ms : List Sent) (side : Side) → Represents k ms
     → AreRequests side (requests_of side k) ms
 requests_stand k ms Client s = s.client
 requests_stand k ms Adapter s = s.adapter
 
 is_some_map : (side : Side) (ms : List Sent) (n : ℤ) (o : Option Sent)
-    → is_some (option_map {U = Noted} (λ q. (name_of q, is_answered side n ms)) o) ≡ is_some o
+    → is_some (option_map {U = RequestEntry} (λ q. (name_of q, is_answered side n ms)) o)
+    ≡ is_some o
 is_some_map side ms n None = refl
 is_some_map side ms n (Some q) = refl
 
@@ -102,9 +105,9 @@ other_is : (side : Side) (es : Requests) (ms : List Sent) (o : Option ℤ) (name
 other_is side es ms None name r = refl
 other_is side es ms (Some n) name r = command_is side es ms n name r
 
-each_rule : (k : Kept) (ms : List Sent) (m : Sent) → Stands k ms → (r : Rule)
-    → tells r k m ≡ is_broken r ms m
-unfolding tells
+each_rule : (k : SessionState) (ms : List Sent) (m : Sent) → Represents k ms → (r : Rule)
+    → is_broken_in_state r k m ≡ is_broken r ms m
+unfolding is_broken_in_state
 each_rule k ms m s EventFromClient = refl
 each_rule k ms m s NotInitialized =
     ap (λ b. not (is_client_initialize m) && b) (waiting_is k.phase ms s.phase)
@@ -138,12 +141,12 @@ first_same f g same (r ∷ rs) =
     ap (λ b. cond b (Some r) (first_of f rs)) (same r)
     ∙ ap (λ o. cond (g r) (Some r) o) (first_same f g same rs)
 
-pub judged_is : (k : Kept) (ms : List Sent) (m : Sent) → Stands k ms
-    → first_told k m ≡ first_broken ms m
-unfolding first_told first_broken
+pub judged_is : (k : SessionState) (ms : List Sent) (m : Sent) → Represents k ms
+    → first_broken_in_state k m ≡ first_broken ms m
+unfolding first_broken_in_state first_broken
 judged_is k ms m s =
     ap (λ o. cond (is_output m) None o)
-    (first_same (λ r. tells r k m) (λ r. is_broken r ms m) (each_rule k ms m s) rules)
+    (first_same (λ r. is_broken_in_state r k m) (λ r. is_broken r ms m) (each_rule k ms m s) rules)
 
 -- ---- the empty list
 
@@ -152,8 +155,8 @@ unfolding open_requests
 no_requests side =
     record { listed = λ n. refl; count = refl; once = λ n. omega arith; asked = λ n e. refl }
 
-pub new_stands : (k : Kept) → k.client ≡ [] → k.adapter ≡ [] → k.phase ≡ Waiting
-    → k.initialized ≡ false → k.configured ≡ false → k.disconnected ≡ false → Stands k []
+pub new_stands : (k : SessionState) → k.client ≡ [] → k.adapter ≡ [] → k.phase ≡ Waiting
+    → k.initialized ≡ false → k.configured ≡ false → k.disconnected ≡ false → Represents k []
 new_stands k c a p i f d = record {
   rules = none_keep;
   client = subst (λ es. AreRequests Client es []) (sym c) (no_requests Client);
@@ -170,9 +173,10 @@ flag_push : (p : Sent → Bool) (b : Bool) (ms : List Sent) (m : Sent) → b ≡
     → (b || p m) ≡ list_any p (ms ++ m ∷ [])
 flag_push p b ms m h = ap (λ x. x || p m) h ∙ sym (any_push p ms m)
 
-phase_step : (k : Kept) (ms : List Sent) (m : Sent) (b : Bool) → is_client_initialize m ≡ b
-    → Stands k ms → first_told k m ≡ None → IsPhase (phase_after k.phase m) (ms ++ m ∷ [])
-unfolding tells
+phase_step : (k : SessionState) (ms : List Sent) (m : Sent) (b : Bool) → is_client_initialize m ≡ b
+    → Represents k ms → first_broken_in_state k m ≡ None
+    → IsPhase (phase_after k.phase m) (ms ++ m ∷ [])
+unfolding is_broken_in_state
 phase_step k ms m true h s j =
     let client : is_from Client m ≡ true = (and_parts _ (is_initialize m) h).0 in
     let initialize : is_initialize m ≡ true = (and_parts (is_from Client m) _ h).1 in
@@ -190,8 +194,9 @@ phase_step k ms m true h s j =
     phase_asks k.phase ms m h twice (s.client.asked (seq_of m) none) silent
 phase_step k ms m false h s j = phase_goes k.phase ms m h s.phase
 
-pub stands_push : (k : Kept) (ms : List Sent) (m : Sent) → Stands k ms → first_told k m ≡ None
-    → Stands (kept_after k m) (ms ++ m ∷ [])
+pub stands_push : (k : SessionState) (ms : List Sent) (m : Sent) → Represents k ms
+    → first_broken_in_state k m ≡ None
+    → Represents (state_after k m) (ms ++ m ∷ [])
 stands_push k ms m s j = record {
   rules = keeps_push ms m s.rules (sym (judged_is k ms m s) ∙ j);
   client = requests_follow Client k.client ms m s.client (may_follow k m Client j);
@@ -199,5 +204,5 @@ stands_push k ms m s j = record {
   phase = phase_step k ms m (is_client_initialize m) refl s j;
   initialized = flag_push is_initialized k.initialized ms m s.initialized;
   configured = flag_push is_configuration_done k.configured ms m s.configured;
-  disconnected = flag_push is_farewell k.disconnected ms m s.disconnected;
+  disconnected = flag_push is_disconnect_success k.disconnected ms m s.disconnected;
 }

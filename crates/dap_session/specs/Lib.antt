@@ -3,9 +3,9 @@ pub mod Rules
 pub mod Positions
 pub mod RenamedLists
 pub mod Laws
-pub mod Kept
+pub mod SessionState
 pub mod KeptRules
-pub mod Standing
+pub mod Representation
 pub mod View
 pub mod RequestSteps
 pub mod SessionView

@@ -120,8 +120,8 @@ is_initialized m = is_event m && is_named (codes "initialized") m
 
 -- The message is a successful `disconnect` response of the adapter (DAP specification,
 -- DisconnectResponse).
-abbrev pub is_farewell : Sent → Bool
-is_farewell m =
+abbrev pub is_disconnect_success : Sent → Bool
+is_disconnect_success m =
     is_from Adapter m && is_response m && is_named (codes "disconnect") m && is_yes (success_of m)
 
 -- The message is an `output` event of the adapter (DAP specification, OutputEvent).

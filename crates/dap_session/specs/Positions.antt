@@ -52,8 +52,8 @@ IsInitialized m = IsEvent m × IsNamed (codes "initialized") m
 
 -- The message is a successful `disconnect` response of the adapter (DAP specification,
 -- DisconnectResponse).
-abbrev pub IsFarewell : Sent → Type 0
-IsFarewell m = ((IsFrom Adapter m × IsResponse m) × IsNamed (codes "disconnect") m)
+abbrev pub IsDisconnectSuccess : Sent → Type 0
+IsDisconnectSuccess m = ((IsFrom Adapter m × IsResponse m) × IsNamed (codes "disconnect") m)
     × (success_of m ≡ Some true)
 
 -- The message is a request of this side with this number.
@@ -92,7 +92,7 @@ BreaksAt EventFromClient ms k m = IsFrom Client m × IsEvent m
 BreaksAt NotInitialized ms k m = ¬ IsClientInitialize m × ¬ Earlier IsClientInitialize ms k
 BreaksAt StillInitializing ms k m = IsInitializingAt ms k × ¬ (IsFrom Adapter m × IsResponse m)
 BreaksAt InitializeTwice ms k m = IsInitialize m × Earlier IsClientInitialize ms k
-BreaksAt AfterDisconnect ms k m = (IsFrom Client m × IsRequest m) × Earlier IsFarewell ms k
+BreaksAt AfterDisconnect ms k m = (IsFrom Client m × IsRequest m) × Earlier IsDisconnectSuccess ms k
 BreaksAt SeqUsed ms k m = IsRequest m × Earlier (IsRequestOf (side_of m) (seq_of m)) ms k
 BreaksAt ConfiguredEarly ms k m = IsConfigurationDone m × ¬ Earlier IsInitialized ms k
 BreaksAt ConfiguredTwice ms k m = IsConfigurationDone m × Earlier IsConfigurationDone ms k

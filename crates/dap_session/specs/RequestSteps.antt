@@ -4,7 +4,7 @@ use Rattle.dap_tree.specs.declared.side.Side.{Side}
 use Rattle.dap_message.specs.Message.{Sent}
 use Rattle.dap_session.specs.Messages.{name_of, seq_of, request_seq_of, other, is_request}
 use Rattle.dap_session.specs.Messages.{is_response, is_from}
-use Rattle.dap_session.specs.Kept.{Requests, request_numbered}
+use Rattle.dap_session.specs.SessionState.{Requests, request_numbered}
 
 -- The message is a request of this side.
 abbrev pub adds_to : Side → Sent → Bool

@@ -16,7 +16,7 @@ use Rattle.dap_session.specs.declared.rule.Rule.TheVariants.{NoRequest, Answered
 use Rattle.dap_session.specs.Messages.{side_of, name_of, seq_of, request_seq_of, other, is_request}
 use Rattle.dap_session.specs.Messages.{is_response, is_event, is_from, is_request_of}
 use Rattle.dap_session.specs.Messages.{is_response_to, is_initialize, is_client_initialize}
-use Rattle.dap_session.specs.Messages.{is_configuration_done, is_initialized, is_farewell}
+use Rattle.dap_session.specs.Messages.{is_configuration_done, is_initialized, is_disconnect_success}
 use Rattle.dap_session.specs.Messages.{is_output}
 
 -- Some response in the list answers the request of this side with this number (DAP specification,
@@ -54,7 +54,7 @@ initialize_twice ms m = is_initialize m && list_any is_client_initialize ms
 
 -- The client sends no request after a successful `disconnect` response (own).
 abbrev pub after_disconnect : List Sent → Sent → Bool
-after_disconnect ms m = is_from Client m && is_request m && list_any is_farewell ms
+after_disconnect ms m = is_from Client m && is_request m && list_any is_disconnect_success ms
 
 -- No two requests of a side have the same number (DAP specification, ProtocolMessage.seq).
 abbrev pub seq_used : List Sent → Sent → Bool

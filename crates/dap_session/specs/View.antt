@@ -3,14 +3,14 @@ use Rattle.std.specs.Prelude.{◌≡◌, ℤ, map}
 use Rattle.std.specs.Rc.{rc_str_bytes}
 use Rattle.dap_session.specs.declared.requests.Request.{Request}
 use Rattle.dap_session.specs.declared.requests.Requests.TheInside.{Inside}
-use Rattle.dap_session.specs.Kept.{Requests, Noted, unanswered}
+use Rattle.dap_session.specs.SessionState.{Requests, RequestEntry, unanswered}
 
 -- The command of a request, and whether it is answered.
-abbrev pub noted_of : Request → Noted
+abbrev pub noted_of : Request → RequestEntry
 noted_of r = (rc_str_bytes r.command, r.answered)
 
 -- The same with the number of the request.
-abbrev pub entry_of : ℤ × Request → ℤ × Noted
+abbrev pub entry_of : ℤ × Request → ℤ × RequestEntry
 entry_of e = (e.0, noted_of e.1)
 
 -- The requests of the map.

@@ -106,7 +106,7 @@ pub fn is_initialized<M: AnyMessage>(message: &Envelope<'_, M>) -> bool
 
 /// Returns whether the message is a successful `disconnect` response of the adapter.
 pub fn is_farewell<M: AnyMessage>(message: &Envelope<'_, M>) -> bool
-    ensures { result ≡ words.is_farewell (message_of message.now) }
+    ensures { result ≡ words.is_disconnect_success (message_of message.now) }
 {
     is_from(message, Side::Adapter)
         && is_response(message)

@@ -2,7 +2,7 @@
 ghost use Rattle.dap_session.specs.EnvelopeView.{message_of};
 ghost use Rattle.std.specs.Prelude.{◌≡◌};
 ghost use Rattle.dap_session.specs.KeptRules as tells;
-ghost use Rattle.dap_session.specs.Kept as kept;
+ghost use Rattle.dap_session.specs.SessionState as kept;
 
 use crate::envelope::Envelope;
 use crate::message::{is_client_initialize, is_from, is_response, request_seq_of, seq_of};

@@ -3,8 +3,9 @@ ghost use Rattle.dap_session.specs.EnvelopeView.{message_of};
 ghost use Rattle.std.specs.Prelude.{◌≡◌, ◌&&◌, [], OnOk, OnErr, option_map, false, true};
 ghost use Rattle.std.specs.Prelude.{None, Some, IfOk};
 ghost use Rattle.std.specs.Rc.{rc_str_bytes};
-ghost use Rattle.dap_session.specs.Kept.{request_numbered, unanswered, with_request, with_answer};
-ghost use Rattle.dap_session.specs.Kept.{requests_after};
+ghost use Rattle.dap_session.specs.SessionState.{request_numbered, unanswered, with_request};
+ghost use Rattle.dap_session.specs.SessionState.{with_answer};
+ghost use Rattle.dap_session.specs.SessionState.{requests_after};
 ghost use Rattle.dap_session.specs.RequestSteps.{FitsRequests, adds_to};
 
 use crate::envelope::Envelope;
@@ -33,7 +34,7 @@ pub struct Requests {
 }
 
 impl Model for Requests {
-    ghost use Rattle.dap_session.specs.Kept.{Requests};
+    ghost use Rattle.dap_session.specs.SessionState.{Requests};
 
     ghost Value = { Requests };
 

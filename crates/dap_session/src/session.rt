@@ -6,10 +6,10 @@ ghost use Rattle.dap_message.specs.Message.{Sent, sent};
 ghost use Rattle.dap_session.specs.Messages.{is_request, is_response, is_event, is_from};
 ghost use Rattle.dap_session.specs.Messages.{seq_of, side_of};
 ghost use Rattle.dap_session.specs.Rules.{first_broken, open_requests};
-ghost use Rattle.dap_session.specs.Kept.{requests_of, request_numbered, kept_after};
-ghost use Rattle.dap_session.specs.KeptRules.{first_told, first_of_told, asked_for};
+ghost use Rattle.dap_session.specs.SessionState.{requests_of, request_numbered, state_after};
+ghost use Rattle.dap_session.specs.KeptRules.{first_broken_in_state, first_of_told, asked_for};
 ghost use Rattle.dap_session.specs.KeptRules.{start_rules, request_rules, response_rules};
-ghost use Rattle.dap_session.specs.Standing.{Stands, Says};
+ghost use Rattle.dap_session.specs.Representation.{Represents, AcceptOutcome};
 
 use crate::envelope::{Envelope, envelope_of};
 use crate::message::{
@@ -40,9 +40,9 @@ pub struct Session {
 }
 
 impl Model for Session {
-    ghost use Rattle.dap_session.specs.Kept.{Kept};
+    ghost use Rattle.dap_session.specs.SessionState.{SessionState};
 
-    ghost Value = { Kept };
+    ghost Value = { SessionState };
 
     ghost use Rattle.dap_session.specs.SessionView.{kept};
 
@@ -52,7 +52,7 @@ impl Model for Session {
 impl Session {
     /// Returns a session without messages. Does not allocate.
     pub fn new(alloc: Global) -> Session
-        ensures { Stands result [] }
+        ensures { Represents result [] }
     {
         Session {
             client: Requests::new(alloc),
@@ -73,13 +73,13 @@ impl Session {
     ///
     /// On an error the session is unchanged.
     pub fn accept(&mut self, message: &Message) -> Result<(), SessionFault>
-        ensures says { (ms : List Sent) → Stands self.old ms
-            → Says ms (sent message.now) result self.old self.new }
+        ensures says { (ms : List Sent) → Represents self.old ms
+            → AcceptOutcome ms (sent message.now) result self.old self.new }
         ensures unchanged { OnErr result (self.new ≡ self.old) }
         ensures memory { IsErrOf result SessionFault.Memory
             → is_request (sent message.now) ≡ true }
         ensures in_rules { IsErrOf result SessionFault.Memory → (ms : List Sent)
-            → Stands self.old ms → first_broken ms (sent message.now) ≡ None }
+            → Represents self.old ms → first_broken ms (sent message.now) ≡ None }
     {
         self.accept_any(message)
     }
@@ -94,13 +94,13 @@ impl Session {
     ///
     /// On an error the session is unchanged.
     pub fn accept_any<M: AnyMessage>(&mut self, message: &M) -> Result<(), SessionFault>
-        ensures says { (ms : List Sent) → Stands self.old ms
-            → Says ms (M.sent message.now) result self.old self.new }
+        ensures says { (ms : List Sent) → Represents self.old ms
+            → AcceptOutcome ms (M.sent message.now) result self.old self.new }
         ensures unchanged { OnErr result (self.new ≡ self.old) }
         ensures memory { IsErrOf result SessionFault.Memory
             → is_request (M.sent message.now) ≡ true }
         ensures in_rules { IsErrOf result SessionFault.Memory → (ms : List Sent)
-            → Stands self.old ms → first_broken ms (M.sent message.now) ≡ None }
+            → Represents self.old ms → first_broken ms (M.sent message.now) ≡ None }
     {
         let message = &envelope_of(message);
         if let Some(rule) = self.broken_by(message) {
@@ -114,7 +114,7 @@ impl Session {
 
     /// Returns the number of requests of this side that have no response so far. Does not allocate.
     pub fn open(&self, side: Side) -> usize
-        ensures { (ms : List Sent) → Stands self.now ms → result ≡ open_requests side ms }
+        ensures { (ms : List Sent) → Represents self.now ms → result ≡ open_requests side ms }
     {
         self.requests_of(side).open()
     }
@@ -156,7 +156,7 @@ impl Session {
 
     /// Returns the first rule that the message breaks.
     fn broken_by<M: AnyMessage>(&self, message: &Envelope<'_, M>) -> Option<Rule>
-        ensures { result ≡ first_told self.now (message_of message.now) }
+        ensures { result ≡ first_broken_in_state self.now (message_of message.now) }
     {
         match kind_of(message) {
             Kind::Event => self.broken_by_event(message),
@@ -178,7 +178,7 @@ impl Session {
     /// Returns the first rule that an event breaks.
     fn broken_by_event<M: AnyMessage>(&self, message: &Envelope<'_, M>) -> Option<Rule>
         requires { is_event (message_of message.now) ≡ true }
-        ensures { result ≡ first_told self.now (message_of message.now) }
+        ensures { result ≡ first_broken_in_state self.now (message_of message.now) }
     {
         if is_from(message, Side::Client) {
             return Some(Rule::EventFromClient);
@@ -264,8 +264,8 @@ impl Session {
     /// An event changes only a flag. A request changes the requests of its own side, and a response
     /// those of the other side.
     fn keep<M: AnyMessage>(&mut self, message: &Envelope<'_, M>) -> Result<(), AllocError>
-        requires { first_told self.old (message_of message.now) ≡ None }
-        ensures ok { OnOk result (self.new ≡ kept_after self.old (message_of message.now)) }
+        requires { first_broken_in_state self.old (message_of message.now) ≡ None }
+        ensures ok { OnOk result (self.new ≡ state_after self.old (message_of message.now)) }
         ensures err { OnErr result (self.new ≡ self.old) }
         ensures memory { OnErr result (is_request (message_of message.now) ≡ true) }
     {

@@ -7,18 +7,18 @@ use Rattle.std.proofs.lemmas.Bool.Decides.{nat_tests}
 use Rattle.std.proofs.lemmas.List.Concat.{flat_map-append}
 use Rattle.dap_message.specs.Message.{Refusal, no_reading, fraction, faulty}
 use Rattle.dap_recording.specs.declared.record_fault.RecordCause.TheVariants as cause
-use Rattle.dap_input.specs.Refusals.{RefusesHeld}
+use Rattle.dap_input.specs.Refusals.{RejectsPayload}
 use Rattle.dap_input.specs.declared.limits.Limits.{Limits}
 use Rattle.dap_input.specs.declared.refused.Refused.{Refused}
 use Rattle.dap_input.specs.declared.refused.Refused.TheVariants as because
 use Rattle.dap_message.specs.Message.{HasRefusal, Sent}
-use Rattle.dap_normal.specs.Accepting.{Held, HoldsNoMessage, IsMessage}
+use Rattle.dap_normal.specs.Accepting.{Payload, HoldsNoMessage, IsMessage}
 use Rattle.dap_show.specs.Showing.{start_words}
-use Rattle.dap_session.specs.Kept.{Kept}
+use Rattle.dap_session.specs.SessionState.{SessionState}
 use Rattle.dap_session.specs.declared.rule.Rule.{Rule}
 use Rattle.dap_tree.specs.Doc.{Doc}
 use Rattle.dap_tree.specs.Json.{IsRead}
-use Rattle.dap_show.specs.Viewing.{Entry, Fits, Objects, entry_lines, first_refusal, fits_in, kept}
+use Rattle.dap_show.specs.Viewing.{Entry, Fits, Rejects, entry_lines, first_refusal, fits_in, kept}
 use Rattle.dap_show.specs.Viewing.{IsEntry, detail_lines, fault_words, head_lines, kept_of}
 use Rattle.dap_show.specs.Viewing.{lines_of, or_else, refusal_at, refusal_of, refused_words}
 use Rattle.dap_show.specs.Viewing.{rule_refusal, typed, untyped}
@@ -75,13 +75,13 @@ part_fits Leaves limit m n le past = grind (arith, nat_tests)
 -- ---- why a record is rejected
 
 -- A record that does not contain a message, and the rejection for that reason.
-pub record Untyped (held : Held) (n : ℕ) (refused : Refused) : Type 0 where
+pub record Untyped (held : Payload) (n : ℕ) (refused : Refused) : Type 0 where
   pub why : Refusal
   pub has : HasRefusal held.1 why
   pub refused_is : refused ≡ refusal_of n why
 
-pub untyped_for : (held : Held) (n : ℕ) (refused : Refused)
-    → RefusesHeld (HoldsNoMessage held) n refused → refused ≢ because.Memory
+pub untyped_for : (held : Payload) (n : ℕ) (refused : Refused)
+    → RejectsPayload (HoldsNoMessage held) n refused → refused ≢ because.Memory
     → Untyped held n refused
 untyped_for held n (because.Json m) (same, has) other =
     record { why = no_reading; has = has; refused_is = ap because.Json same }
@@ -104,9 +104,9 @@ untyped_for held n (because.Grew m) h other = absurd h.1
 untyped_for held n refused h other = absurd h
 
 -- If errors are not marked, that reason rejects the record.
-pub refused_strictly : (detail : Detail) (limits : Limits) (before : List Entry) (held : Held)
-    (n : ℕ) (refused : Refused) → RefusesHeld (HoldsNoMessage held) n refused
-    → RefusesHeld (Objects false detail limits before held) n refused
+pub refused_strictly : (detail : Detail) (limits : Limits) (before : List Entry) (held : Payload)
+    (n : ℕ) (refused : Refused) → RejectsPayload (HoldsNoMessage held) n refused
+    → RejectsPayload (Rejects false detail limits before held) n refused
 refused_strictly detail limits before held n (because.Json m) (same, has) = (same, (refl, has))
 refused_strictly detail limits before held n (because.Fraction m) (same, has) = (same, (refl, has))
 refused_strictly detail limits before held n (because.Message m fault) (same, has) =
@@ -148,13 +148,14 @@ module _ (detail : Detail) (limits : Limits) (before : List Entry) (number : ℕ
       sym (ap (λ t. fits_in detail limits.input (length t)) (entered_lines e new is)) ∙ fits
 
   -- A record that does not contain a message.
-  module _ (held : Held) (refused : Refused)
-      (told : RefusesHeld (HoldsNoMessage held) number refused) (other : refused ≢ because.Memory)
+  module _ (held : Payload) (refused : Refused)
+      (reported : RejectsPayload (HoldsNoMessage held) number refused)
+      (other : refused ≢ because.Memory)
       (new : List ℕ)
       (new_is : new ≡ old ++ (start_words number held.0 ++ fault_words (refused_words refused)))
     where
       abbrev here : Untyped held number refused
-      here = untyped_for held number refused told other
+      here = untyped_for held number refused reported other
 
       abbrev entry : Entry
       entry = untyped held.0 here.why
@@ -164,14 +165,14 @@ module _ (detail : Detail) (limits : Limits) (before : List Entry) (number : ℕ
           new_is ∙ ap (λ r. old ++ (start_words number held.0 ++ fault_words (refused_words r)))
           here.refused_is
 
-      pub entered_untyped : (session : Kept) → StandsIf true session (kept before)
+      pub entered_untyped : (session : SessionState) → StandsIf true session (kept before)
           → fits_in detail limits.input (length new) ≡ true
           → IsEntered true detail limits before number held session new (Some refused)
-      entered_untyped session stands fits = record {
+      entered_untyped session represents fits = record {
         entry = entry;
         is_next = ((refl, refl, here.has), fitting true entry new lines_are fits);
         session_is = subst (StandsIf true session)
-            (sym (kept_push before entry ∙ append-nil (kept before))) stands;
+            (sym (kept_push before entry ∙ append-nil (kept before))) represents;
         lines_are = entered_lines entry new lines_are;
         refusal_is = ap Some here.refused_is;
       }
@@ -185,8 +186,8 @@ module _ (detail : Detail) (limits : Limits) (before : List Entry) (number : ℕ
       )
 
   -- A record that contains a message.
-  module _ (marks_faults : Bool) (held : Held) (message : Sent) (d : Doc) (rule : Option Rule)
-      (session : Kept) (is : IsMessage held message) (reads : IsRead held.1 d)
+  module _ (marks_faults : Bool) (held : Payload) (message : Sent) (d : Doc) (rule : Option Rule)
+      (session : SessionState) (is : IsMessage held message) (reads : IsRead held.1 d)
       (judged : IsJudged marks_faults (kept before) message rule session) (mid : List ℕ)
       (mid_is : mid ≡ old ++ head_lines number message rule) where
     is_entry : IsEntry marks_faults detail limits before held (typed message d rule)

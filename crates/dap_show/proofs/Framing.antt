@@ -2,9 +2,9 @@
 use Rattle.std.proofs.Common.{◌≡◌, ◌≢◌, ◌⊎◌, inl, inr, ℕ, zero, suc, ◌+◌, ◌-◌, ◌<◌, ◌≤◌, ◌^◌, List}
 use Rattle.std.proofs.Common.{[], ◌∷◌, ◌++◌, length, Option, Some, None, Result, Ok, Err, refl, sym}
 use Rattle.std.proofs.Common.{◌∙◌, ap, subst, arith, append_assoc, length-append}
-use Rattle.dap_device.specs.Pieces.{HasComeSoFar}
+use Rattle.dap_device.specs.Pieces.{HasReadSoFar}
 use Rattle.dap_device.specs.declared.device.Source.{Ghosts as Source}
-use Rattle.dap_items.specs.Items.{IsItem}
+use Rattle.dap_items.specs.Grammar.{IsItem}
 use Rattle.dap_recording.proofs.Records.{readable}
 use Rattle.dap_recording.specs.Recording.{IsRecording, records as recorded}
 use Rattle.dap_recording.specs.RecordReading.{RecordReading}
@@ -15,15 +15,15 @@ use Rattle.dap_input.proofs.InputSteps as steps
 use Rattle.dap_input.proofs.Runs.{AcceptedFacts, Run, ValueLaws, run_within}
 use Rattle.dap_input.proofs.WholeInputs.{Going, accepts_all, at_start, few_failures, fewer_left}
 use Rattle.dap_input.proofs.WholeInputs.{on, small_count, small_number}
-use Rattle.dap_input.specs.ItemReading.{StandsForRecord, record_items}
+use Rattle.dap_input.specs.ItemReading.{RepresentsRecord, record_items}
 use Rattle.dap_input.specs.ReadTo.{IsReadTo}
 use Rattle.dap_input.specs.RecordSteps.{IsAtStart, IsWithin, ReadsNext}
 use Rattle.dap_input.specs.declared.limits.Limits.{Limits}
 use Rattle.dap_input.specs.declared.records.Records.{Records}
 use Rattle.dap_input.specs.declared.refused.Refused.{Refused}
-use Rattle.dap_normal.specs.Accepting.{Held}
+use Rattle.dap_normal.specs.Accepting.{Payload}
 use Rattle.dap_show.specs.OneRecord.{HasNoRecord, HasRecord, IsSought, StopsBefore, framing}
-use Rattle.dap_show.specs.ShowingSteps.{held_of}
+use Rattle.dap_show.specs.ShowingSteps.{payload_of}
 use Rattle.dap_show.proofs.Stopping.{stops_read}
 
 module _ (limits : Limits) where
@@ -34,7 +34,7 @@ module _ (limits : Limits) where
     next_not_objected = λ before held v why next objects. objects;
   }
 
-  run_of : (before values : List Held) (used : ℕ) (bytes : List ℕ)
+  run_of : (before values : List Payload) (used : ℕ) (bytes : List ℕ)
       → IsRecording limits.frame bytes values → used + length bytes ≤ limits.input
       → Run (framing limits) before used bytes values
   unfolding Run
@@ -53,7 +53,7 @@ module _ (limits : Limits) where
         (omega (arith, ap length split, length-append front more)),
   )
 
-  recording_of : (before values : List Held) (used : ℕ) (bytes : List ℕ)
+  recording_of : (before values : List Payload) (used : ℕ) (bytes : List ℕ)
       → Run (framing limits) before used bytes values → IsRecording limits.frame bytes values
   unfolding Run
   recording_of before [] used bytes run = run
@@ -76,7 +76,7 @@ module _ (limits : Limits) where
         };
   }
 
-  pub reads_framed : ReadsAs (framing limits) (record_items limits.frame) held_of
+  pub reads_framed : ReadsAs (framing limits) (record_items limits.frame) payload_of
   reads_framed = record {
     records = readable limits.frame;
     judged = value_laws;
@@ -89,8 +89,8 @@ module _ (limits : Limits) where
 -- The records before the next one are framed, and the requested record is not among them.
 pub record Sought {R : Type 0} (limits : Limits) (source : Source R) (number : ℕ)
     (start reader : R) (records : Records RecordReading) : Type 0 where
-  pub values : List Held
-  pub going : Going (framing limits) (StandsForRecord limits.frame) source start reader records
+  pub values : List Payload
+  pub going : Going (framing limits) (RepresentsRecord limits.frame) source start reader records
       values
   pub sought : IsSought number records.number
 
@@ -111,12 +111,12 @@ not_there number at count (inr early) is = inr (omega (arith, early, is))
 
 module _ {R : Type 0} (limits : Limits) (source : Source R) (number : ℕ) where
   pub none_sought : (reader : R) (records : Records RecordReading)
-      → IsAtStart (StandsForRecord limits.frame) limits.input records
+      → IsAtStart (RepresentsRecord limits.frame) limits.input records
       → Sought limits source number reader reader records
   none_sought reader records start = record {
     values = [];
-    going = at_start (framing limits) (record_items limits.frame) held_of (reads_framed limits)
-        (StandsForRecord limits.frame) source reader records start;
+    going = at_start (framing limits) (record_items limits.frame) payload_of (reads_framed limits)
+        (RepresentsRecord limits.frame) source reader records start;
     sought = sought_first number records.number start.number;
   }
 
@@ -124,33 +124,33 @@ module _ {R : Type 0} (limits : Limits) (source : Source R) (number : ℕ) where
       (was : Sought limits source number start reader records) where
     pub few_records : limits.input ≤ 2 ^ 62 → records.number < 2 ^ 63
     few_records =
-        small_number (framing limits) (record_items limits.frame) held_of (reads_framed limits)
-        (StandsForRecord limits.frame) source start reader records was.values was.going
+        small_number (framing limits) (record_items limits.frame) payload_of (reads_framed limits)
+        (RepresentsRecord limits.frame) source start reader records was.values was.going
 
     pub few_given : limits.input ≤ 2 ^ 62 → source.given start < 2 ^ 62
         → source.given reader + (records.pieces.limit - records.pieces.taken) < 2 ^ 63
     few_given =
-        small_count (framing limits) (record_items limits.frame) held_of (reads_framed limits)
-        (StandsForRecord limits.frame) source start reader records was.values was.going
+        small_count (framing limits) (record_items limits.frame) payload_of (reads_framed limits)
+        (RepresentsRecord limits.frame) source start reader records was.values was.going
 
     pub few_failed : source.failures start < 2 ^ 62 → source.failures reader < 2 ^ 63
     few_failed =
-        few_failures (framing limits) (record_items limits.frame) held_of (reads_framed limits)
-        (StandsForRecord limits.frame) source start reader records was.values was.going
+        few_failures (framing limits) (record_items limits.frame) payload_of (reads_framed limits)
+        (RepresentsRecord limits.frame) source start reader records was.values was.going
 
     pub some_number : 1 ≤ records.number
     some_number = let is = was.going.behind.number_is in omega (arith, is)
 
     module _ (new : Records RecordReading) (after : R) where
       abbrev Reads : Result (Option WholeRecord) Refused → Type 0
-      Reads answer = ReadsNext (record_items limits.frame) (StandsForRecord limits.frame) source
-          records new reader after answer
+      Reads outcome = ReadsNext (record_items limits.frame) (RepresentsRecord limits.frame) source
+          records new reader after outcome
 
       pub not_framed : (refused : Refused) → Reads (Err refused)
           → StopsBefore limits source start after number refused
       not_framed refused read = record {
-        stops = stops_read (framing limits) (record_items limits.frame) held_of
-            (reads_framed limits) (StandsForRecord limits.frame) source start reader records
+        stops = stops_read (framing limits) (record_items limits.frame) payload_of
+            (reads_framed limits) (RepresentsRecord limits.frame) source start reader records
             was.values was.going new after refused read;
         early = was.sought;
       }
@@ -162,8 +162,8 @@ module _ {R : Type 0} (limits : Limits) (source : Source R) (number : ℕ) where
           let count_is : count ≡ length was.values = omega (arith, is, number_is) in
           record {
             values = was.values;
-            all = accepts_all (framing limits) (record_items limits.frame) held_of
-                (reads_framed limits) (StandsForRecord limits.frame) source start reader records
+            all = accepts_all (framing limits) (record_items limits.frame) payload_of
+                (reads_framed limits) (RepresentsRecord limits.frame) source start reader records
                 was.values was.going new after read;
             count_is = count_is;
             missing = not_there number records.number count was.sought
@@ -177,16 +177,16 @@ module _ {R : Type 0} (limits : Limits) (source : Source R) (number : ℕ) where
           let behind = was.going.behind in
           record {
             bytes = bytes;
-            came = subst (HasComeSoFar source start after bytes) read.finds.0
+            came = subst (HasReadSoFar source start after bytes) read.finds.0
                 (came_on source start reader after was.going.bytes read.more read.stop
                 was.going.came read.came);
             short = subst (IsWithin (length bytes) limits.input) read.finds.0
-                (steps.within (framing limits) (record_items limits.frame) held_of
-                (reads_framed limits) (StandsForRecord limits.frame) source was.going.bytes records
+                (steps.within (framing limits) (record_items limits.frame) payload_of
+                (reads_framed limits) (RepresentsRecord limits.frame) source was.going.bytes records
                 was.values behind new reader after (Ok (Some whole)) read);
             read_to = subst (IsReadTo (framing limits) bytes) here
-                (steps.read_to (framing limits) (record_items limits.frame) held_of
-                (reads_framed limits) (StandsForRecord limits.frame) source was.going.bytes records
+                (steps.read_to (framing limits) (record_items limits.frame) payload_of
+                (reads_framed limits) (RepresentsRecord limits.frame) source was.going.bytes records
                 was.values behind new reader after (Ok (Some whole)) read);
             before = record {
               values = was.values;
@@ -207,10 +207,10 @@ module _ {R : Type 0} (limits : Limits) (source : Source R) (number : ℕ) where
       pub go_on : (whole : WholeRecord) → records.number ≢ number → Reads (Ok (Some whole))
           → Sought limits source number start after new
       go_on whole other read = record {
-        values = was.values ++ held_of whole ∷ [];
-        going = on (framing limits) (record_items limits.frame) held_of (reads_framed limits)
-            (StandsForRecord limits.frame) source start reader records was.values was.going new
-            after whole read (held_of whole) refl;
+        values = was.values ++ payload_of whole ∷ [];
+        going = on (framing limits) (record_items limits.frame) payload_of (reads_framed limits)
+            (RepresentsRecord limits.frame) source start reader records was.values was.going new
+            after whole read (payload_of whole) refl;
         sought = sought_next number records.number new.number was.sought other
             read.finds.1.number_is;
       }
@@ -219,5 +219,5 @@ module _ {R : Type 0} (limits : Limits) (source : Source R) (number : ℕ) where
           → (new.pieces.limit - new.pieces.taken) + length new.pieces.unread
           < (records.pieces.limit - records.pieces.taken) + length records.pieces.unread
       fewer =
-          fewer_left (framing limits) (record_items limits.frame) held_of (reads_framed limits)
-          (StandsForRecord limits.frame) source start reader records was.values was.going new after
+          fewer_left (framing limits) (record_items limits.frame) payload_of (reads_framed limits)
+          (RepresentsRecord limits.frame) source start reader records was.values was.going new after

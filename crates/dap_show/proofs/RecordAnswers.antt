@@ -7,8 +7,8 @@ use Rattle.dap_device.specs.declared.device.Source.{Ghosts as Source}
 use Rattle.dap_message.specs.Message.{no_reading, fraction}
 use Rattle.dap_input.proofs.Refusals.{untold}
 use Rattle.dap_input.specs.Inputs.{Fault, Input, IsRefusedAt, read_fault, refused}
-use Rattle.dap_input.specs.Judging.{IsFirstRefusal, Objection, Reason, no_message, objected}
-use Rattle.dap_input.specs.Refusals.{RefusesAt, Tells, reason_of}
+use Rattle.dap_input.specs.Validation.{IsFirstRefusal, ContentError, Reason, no_message, objected}
+use Rattle.dap_input.specs.Refusals.{RefusesAt, RefusalMatches, reason_of}
 use Rattle.dap_input.specs.declared.limits.Limits.{Limits}
 use Rattle.dap_input.specs.declared.refused.Refused.{Refused}
 use Rattle.dap_input.specs.declared.refused.Refused.TheVariants as because
@@ -19,17 +19,17 @@ use Rattle.dap_show.proofs.Stopping.{stops_at_start}
 
 module _ (limits : Limits) where
   -- No record is rejected for its content, because only the framing is checked.
-  not_held : (why_not : Refused) (input : Input) (number n : ℕ) (why : Objection)
+  not_held : (why_not : Refused) (input : Input) (number n : ℕ) (why : ContentError)
       → reason_of why_not ≡ Some (n, objected why) → why_not ≢ because.ReadFault
       → RefusesAt (framing limits) input number why_not → ⊥
-  not_held why_not input number n why told other at = by_fault at.fault at.tells at.is_refused
+  not_held why_not input number n why reported other at = by_fault at.fault at.tells at.is_refused
     where
-      by_fault : (fault : Fault) → Tells why_not number fault
+      by_fault : (fault : Fault) → RefusalMatches why_not number fault
           → IsRefusedAt (framing limits) input number fault → ⊥
       by_fault (refused reason) tells is =
           let same : reason ≡ objected why =
           ap (λ (o : Option (ℕ × Reason)). option_map_or (λ (t : ℕ × Reason). t.1) o reason)
-          (sym tells ∙ told) in
+          (sym tells ∙ reported) in
           let first = subst (IsFirstRefusal (framing limits) input.bytes number) same is.0 in
           first.refuses.objects
       by_fault read_fault tells is = other tells

@@ -6,8 +6,8 @@ use Rattle.dap_message.specs.Message.{Sent}
 use Rattle.dap_message.proofs.Contents.{one_refusal, typed_not_refused, some_message}
 use Rattle.dap_recording.specs.Recording.{IsRecording}
 use Rattle.dap_input.specs.declared.limits.Limits.{Limits}
-use Rattle.dap_input.specs.Judging.{Objection, no_message}
-use Rattle.dap_normal.specs.Accepting.{Held, HoldsNoMessage, IsMessage, AreMessages}
+use Rattle.dap_input.specs.Validation.{ContentError, no_message}
+use Rattle.dap_normal.specs.Accepting.{Payload, HoldsNoMessage, IsMessage, AreMessages}
 use Rattle.dap_show.specs.Showing.{lines_from, message_lines, showing}
 use Rattle.dap_normal.proofs.AcceptingFacts.{message_once}
 use Rattle.dap_input.proofs.Runs.{Run, run_within, ValueLaws, ValueFacts, AcceptedFacts}
@@ -25,14 +25,14 @@ lines_push n k (first ∷ messages) m is =
     (message_lines k m))
 
 module _ (limits : Limits) where
-  one_objection : (held : Held) (why because : Objection) → HoldsNoMessage held why
+  one_objection : (held : Payload) (why because : ContentError) → HoldsNoMessage held why
       → HoldsNoMessage held because → why ≡ because
   one_objection held (no_message why) (no_message because) one two =
       ap no_message (one_refusal held.1 why because one two)
   one_objection held (no_message why) because one two = absurd two
   one_objection held why because one two = absurd one
 
-  next_not_objected : (held : Held) (m : Sent) (why : Objection) → IsMessage held m
+  next_not_objected : (held : Payload) (m : Sent) (why : ContentError) → IsMessage held m
       → HoldsNoMessage held why → ⊥
   next_not_objected held m (no_message why) next objects =
       typed_not_refused held.0 held.1 m.doc why next.1 objects
@@ -57,7 +57,7 @@ module _ (limits : Limits) where
 
   -- ---- accepted recordings are runs
 
-  run_of : (before messages : List Sent) (used : ℕ) (bytes : List ℕ) (records : List Held)
+  run_of : (before messages : List Sent) (used : ℕ) (bytes : List ℕ) (records : List Payload)
       → IsRecording limits.frame bytes records → AreMessages records messages
       → used + length bytes ≤ limits.input → Run (showing limits) before used bytes messages
   unfolding Run
@@ -82,7 +82,7 @@ module _ (limits : Limits) where
   -- The records of a run contain its messages.
   records_of : (before messages : List Sent) (used : ℕ) (bytes : List ℕ)
       → Run (showing limits) before used bytes messages
-      → (records : List Held) × IsRecording limits.frame bytes records
+      → (records : List Payload) × IsRecording limits.frame bytes records
       × AreMessages records messages
   unfolding Run
   records_of before [] used bytes run = ([], run, tt)

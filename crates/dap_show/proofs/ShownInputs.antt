@@ -4,8 +4,8 @@ use Rattle.std.proofs.Common.{◌≡◌, ℕ, ◌+◌, ◌-◌, ◌<◌, ◌≤�
 use Rattle.std.proofs.Common.{Some, None, refl, sym, ◌∙◌, subst, arith}
 use Rattle.dap_device.specs.declared.device.Sink.{Ghosts as Sink}
 use Rattle.dap_device.specs.declared.device.Source.{Ghosts as Source}
-use Rattle.dap_device.specs.Written.{AllSent, FrontWritten}
-use Rattle.dap_device.specs.Pieces.{HasComeSoFar}
+use Rattle.dap_device.specs.Written.{AllSent, PrefixWritten}
+use Rattle.dap_device.specs.Pieces.{HasReadSoFar}
 use Rattle.dap_device.specs.declared.reading.Stop.{Stop}
 use Rattle.dap_device.specs.declared.reading.Stop.TheVariants.{End, Full, Failed}
 use Rattle.dap_message.specs.Message.{Sent}
@@ -53,13 +53,13 @@ module _ {R : Type 0} (limits : Limits) (source : Source R)
         written = subst (AllSent sink before after) text_is done;
       }
 
-      pub not_written : FrontWritten sink before after written
+      pub not_written : PrefixWritten sink before after written
           → HasNotWritten source sink limits.input (IsShownBy limits)
           (IsRefused (showing limits)) old new before after
       not_written front = record {
         text = lines_from 1 messages;
         accepts = accepts;
-        written = subst (FrontWritten sink before after) text_is front;
+        written = subst (PrefixWritten sink before after) text_is front;
       }
 
   -- ---- the input is rejected
@@ -96,6 +96,6 @@ module _ {R : Type 0} (limits : Limits) (source : Source R)
     pub rest_failures : source.failures old < 2 ^ 62 → source.failures mid < 2 ^ 63
     rest_failures small =
         let came =
-        subst (HasComeSoFar source old mid one.bytes) not_stopped one.came in
+        subst (HasReadSoFar source old mid one.bytes) not_stopped one.came in
         let same : source.failures mid ≡ source.failures old = came.paused in
         omega (arith, small, same)

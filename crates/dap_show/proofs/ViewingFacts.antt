@@ -10,22 +10,22 @@ use Rattle.dap_tree.proofs.Outcomes.{read_once}
 use Rattle.dap_input.proofs.InputLoop.{ReadsAs}
 use Rattle.dap_input.proofs.Runs.{AcceptedFacts, Run, ValueFacts, ValueLaws, run_within}
 use Rattle.dap_input.specs.ItemReading.{record_items}
-use Rattle.dap_input.specs.Judging.{Objection, grew, no_message}
+use Rattle.dap_input.specs.Validation.{ContentError, grew, no_message}
 use Rattle.dap_input.specs.declared.limits.Limits.{Limits}
 use Rattle.dap_normal.proofs.AcceptingFacts.{message_once}
-use Rattle.dap_normal.specs.Accepting.{Held}
-use Rattle.dap_show.specs.ShowingSteps.{held_of}
-use Rattle.dap_show.specs.Viewing.{AreEntries, Entry, Fits, IsEntry, IsNext, Objects, kept}
+use Rattle.dap_normal.specs.Accepting.{Payload}
+use Rattle.dap_show.specs.ShowingSteps.{payload_of}
+use Rattle.dap_show.specs.Viewing.{AreEntries, Entry, Fits, IsEntry, IsNext, Rejects, kept}
 use Rattle.dap_show.specs.Viewing.{fits_in, lines_of, broken_rule, typed, untyped, viewing}
 use Rattle.dap_show.specs.declared.detail.Detail.{Detail}
 
 module _ (marks_faults : Bool) (detail : Detail) (limits : Limits) where
-  abbrev Holds : List Entry → Held → Entry → Type 0
+  abbrev Holds : List Entry → Payload → Entry → Type 0
   Holds = IsEntry marks_faults detail limits
 
   -- ---- a record has at most one entry, or one rejection
 
-  entry_once : (before : List Entry) (held : Held) (e f : Entry) → Holds before held e
+  entry_once : (before : List Entry) (held : Payload) (e f : Entry) → Holds before held e
       → Holds before held f → e ≡ f
   entry_once before held (typed m d rule) (typed n e other) one two =
       let same = message_once held m n one.0 two.0 in
@@ -41,16 +41,16 @@ module _ (marks_faults : Bool) (detail : Detail) (limits : Limits) where
       ap (λ x. untyped x why) (one.1 ∙ sym two.1)
       ∙ ap (untyped other) (one_refusal held.1 why because one.2 two.2)
 
-  entry_not_refused : (before : List Entry) (held : Held) (e : Entry) (why : Refusal)
+  entry_not_refused : (before : List Entry) (held : Payload) (e : Entry) (why : Refusal)
       → (marks_faults ≡ false) × HasRefusal held.1 why → Holds before held e → ⊥
   entry_not_refused before held (typed m d rule) why refused is =
       typed_not_refused held.0 held.1 m.doc why is.0.1 refused.1
   entry_not_refused before held (untyped side because) why refused is =
       (let clash : true ≡ false = sym is.0 ∙ refused.0 in cc)
 
-  one_objection : (before : List Entry) (held : Held) (why because : Objection)
-      → Objects marks_faults detail limits before held why
-      → Objects marks_faults detail limits before held because → why ≡ because
+  one_objection : (before : List Entry) (held : Payload) (why because : ContentError)
+      → Rejects marks_faults detail limits before held why
+      → Rejects marks_faults detail limits before held because → why ≡ because
   one_objection before held (no_message why) (no_message because) one two =
       ap no_message (one_refusal held.1 why because one.1 two.1)
   one_objection before held (no_message why) grew one two =
@@ -62,9 +62,9 @@ module _ (marks_faults : Bool) (detail : Detail) (limits : Limits) where
   one_objection before held grew because one two = absurd two
   one_objection before held why because one two = absurd one
 
-  next_not_objected : (before : List Entry) (held : Held) (e : Entry) (why : Objection)
+  next_not_objected : (before : List Entry) (held : Payload) (e : Entry) (why : ContentError)
       → IsNext marks_faults detail limits before held e
-      → Objects marks_faults detail limits before held why → ⊥
+      → Rejects marks_faults detail limits before held why → ⊥
   next_not_objected before held e (no_message why) next objects =
       entry_not_refused before held e why objects next.0
   next_not_objected before held e grew next objects =
@@ -81,7 +81,7 @@ module _ (marks_faults : Bool) (detail : Detail) (limits : Limits) where
 
   -- ---- accepted recordings are runs
 
-  run_of : (before entries : List Entry) (used : ℕ) (bytes : List ℕ) (records : List Held)
+  run_of : (before entries : List Entry) (used : ℕ) (bytes : List ℕ) (records : List Payload)
       → IsRecording limits.frame bytes records
       → AreEntries marks_faults detail limits before records entries
       → used + length bytes ≤ limits.input
@@ -108,7 +108,7 @@ module _ (marks_faults : Bool) (detail : Detail) (limits : Limits) where
   -- The records of a run have its entries.
   records_of : (before entries : List Entry) (used : ℕ) (bytes : List ℕ)
       → Run (viewing marks_faults detail limits) before used bytes entries
-      → (records : List Held) × IsRecording limits.frame bytes records
+      → (records : List Payload) × IsRecording limits.frame bytes records
       × AreEntries marks_faults detail limits before records entries
   unfolding Run
   records_of before [] used bytes run = ([], run, tt)
@@ -136,7 +136,7 @@ module _ (marks_faults : Bool) (detail : Detail) (limits : Limits) where
 
   -- A reader of records returns the records that are checked.
   pub reads_entries : ReadsAs (viewing marks_faults detail limits) (record_items limits.frame)
-      held_of
+      payload_of
   reads_entries = record {
     records = readable limits.frame;
     judged = value_laws;
@@ -148,19 +148,19 @@ module _ (marks_faults : Bool) (detail : Detail) (limits : Limits) where
 
   -- ---- each record is accepted or rejected
 
-  abbrev Judgement : List Entry → Held → Type 0
+  abbrev Judgement : List Entry → Payload → Type 0
   Judgement before held =
       ((e : Entry) × IsNext marks_faults detail limits before held e)
-      ⊎ ((why : Objection) × Objects marks_faults detail limits before held why)
+      ⊎ ((why : ContentError) × Rejects marks_faults detail limits before held why)
 
-  by_fit : (before : List Entry) (held : Held) (e : Entry) → Holds before held e → (b : Bool)
+  by_fit : (before : List Entry) (held : Payload) (e : Entry) → Holds before held e → (b : Bool)
       → fits_in detail limits.input (length (lines_of detail 1 (before ++ e ∷ []))) ≡ b
       → Judgement before held
   by_fit before held e is true fits = inl (e, (is, fits))
   by_fit before held e is false past =
       inr (grew, (e, is, λ fits. (let clash : false ≡ true = sym past ∙ fits in cc)))
 
-  by_marks : (before : List Entry) (held : Held) (why : Refusal) → HasRefusal held.1 why
+  by_marks : (before : List Entry) (held : Payload) (why : Refusal) → HasRefusal held.1 why
       → (b : Bool) → marks_faults ≡ b → Judgement before held
   by_marks before held why refused true marked =
       by_fit before held (untyped held.0 why) (marked, refl, refused) _ refl

@@ -5,12 +5,12 @@ use Rattle.std.proofs.Common.{Option, Some, None, Result, Ok, Err, sym, ◌∙�
 use Rattle.dap_device.specs.declared.device.Source.{Ghosts as Source}
 use Rattle.dap_recording.specs.RecordReading.{RecordReading}
 use Rattle.dap_recording.specs.declared.record.Record.{Record as WholeRecord}
-use Rattle.dap_session.specs.Kept.{Kept}
-use Rattle.dap_session.specs.Standing.{Stands}
-use Rattle.dap_input.specs.ItemReading.{StandsForRecord, record_items}
+use Rattle.dap_session.specs.SessionState.{SessionState}
+use Rattle.dap_session.specs.Representation.{Represents}
+use Rattle.dap_input.specs.ItemReading.{RepresentsRecord, record_items}
 use Rattle.dap_input.specs.RecordSteps.{IsAtStart, ReadsNext}
-use Rattle.dap_input.specs.Judging.{Objection}
-use Rattle.dap_input.specs.Refusals.{RefusesHeld}
+use Rattle.dap_input.specs.Validation.{ContentError}
+use Rattle.dap_input.specs.Refusals.{RejectsPayload}
 use Rattle.dap_recording.specs.declared.record_fault.RecordCause.TheVariants as cause
 use Rattle.dap_input.specs.declared.limits.Limits.{Limits}
 use Rattle.dap_input.specs.declared.records.Records.{Records}
@@ -18,9 +18,9 @@ use Rattle.dap_input.specs.declared.refused.Refused.{Refused}
 use Rattle.dap_input.specs.declared.refused.Refused.TheVariants as because
 use Rattle.dap_input.proofs.WholeInputs.{Going, accepts_all, at_start, few_failures, fewer_left}
 use Rattle.dap_input.proofs.WholeInputs.{on, small_count, small_number}
-use Rattle.dap_show.specs.ShowingSteps.{held_of}
+use Rattle.dap_show.specs.ShowingSteps.{payload_of}
 use Rattle.dap_show.specs.Viewing.{Entry, IsFraming, kept, or_else}
-use Rattle.dap_show.specs.Viewing.{viewing, Objects}
+use Rattle.dap_show.specs.Viewing.{viewing, Rejects}
 use Rattle.dap_show.specs.ViewingSteps.{AreShown, IsEntered, ShowsRecords, StandsIf}
 use Rattle.dap_show.specs.declared.detail.Detail.{Detail}
 use Rattle.dap_show.proofs.EntryLines.{refusal_push}
@@ -29,77 +29,82 @@ use Rattle.dap_show.proofs.ViewingFacts.{reads_entries}
 
 -- The records before the next one have entries, and their lines have been appended.
 pub record Viewed {R : Type 0} (marks_faults : Bool) (detail : Detail) (limits : Limits)
-    (source : Source R) (start reader : R) (records : Records RecordReading) (session : Kept)
+    (source : Source R) (start reader : R) (records : Records RecordReading)
+    (session : SessionState)
     (lines : List ℕ) (first : Option Refused) : Type 0 where
   pub entries : List Entry
-  pub going : Going (viewing marks_faults detail limits) (StandsForRecord limits.frame) source start
+  pub going : Going (viewing marks_faults detail limits) (RepresentsRecord limits.frame) source
+      start
       reader records entries
   pub session_is : StandsIf marks_faults session (kept entries)
   pub shown : AreShown marks_faults detail limits entries lines first
 
 -- The rejection of a record for its content is not an error of the framing.
-held_not_framing : (Objects : Objection → Type 0) (n : ℕ) (refused : Refused)
-    → RefusesHeld Objects n refused → IsFraming refused → ⊥
-held_not_framing Objects n (because.Record m cause.Cut) h framing = h.1
-held_not_framing Objects n (because.Record m cause.Memory) h framing = h
-held_not_framing Objects n (because.Record m why) h framing = h.1
-held_not_framing Objects n (because.InputTooLong m) h framing = h.1
-held_not_framing Objects n refused h framing = absurd framing
+held_not_framing : (Rejects : ContentError → Type 0) (n : ℕ) (refused : Refused)
+    → RejectsPayload Rejects n refused → IsFraming refused → ⊥
+held_not_framing Rejects n (because.Record m cause.Cut) h framing = h.1
+held_not_framing Rejects n (because.Record m cause.Memory) h framing = h
+held_not_framing Rejects n (because.Record m why) h framing = h.1
+held_not_framing Rejects n (because.InputTooLong m) h framing = h.1
+held_not_framing Rejects n refused h framing = absurd framing
 
 module _ {R : Type 0} (marks_faults : Bool) (detail : Detail) (limits : Limits) (source : Source R)
   where
-    pub none_viewed : (reader : R) (records : Records RecordReading) (session : Kept)
+    pub none_viewed : (reader : R) (records : Records RecordReading) (session : SessionState)
         (lines : List ℕ) (first : Option Refused)
-        → IsAtStart (StandsForRecord limits.frame) limits.input records → Stands session []
+        → IsAtStart (RepresentsRecord limits.frame) limits.input records → Represents session []
         → lines ≡ [] → first ≡ None
         → Viewed marks_faults detail limits source reader reader records session lines first
-    none_viewed reader records session lines first start stands no_lines no_first = record {
+    none_viewed reader records session lines first start represents no_lines no_first = record {
       entries = [];
-      going = at_start (viewing marks_faults detail limits) (record_items limits.frame) held_of
-          (reads_entries marks_faults detail limits) (StandsForRecord limits.frame) source reader
+      going = at_start (viewing marks_faults detail limits) (record_items limits.frame) payload_of
+          (reads_entries marks_faults detail limits) (RepresentsRecord limits.frame) source reader
           records
           start;
-      session_is = λ faulty. stands;
+      session_is = λ faulty. represents;
       shown = record { lines_are = no_lines; first_is = no_first };
     }
 
-    module _ (start reader : R) (records : Records RecordReading) (session : Kept) (lines : List ℕ)
+    module _ (start reader : R) (records : Records RecordReading) (session : SessionState)
+        (lines : List ℕ)
         (first : Option Refused)
         (was : Viewed marks_faults detail limits source start reader records session lines first)
       where
         pub few_records : limits.input ≤ 2 ^ 62 → records.number < 2 ^ 63
         few_records =
-            small_number (viewing marks_faults detail limits) (record_items limits.frame) held_of
-            (reads_entries marks_faults detail limits) (StandsForRecord limits.frame) source start
+            small_number (viewing marks_faults detail limits) (record_items limits.frame) payload_of
+            (reads_entries marks_faults detail limits) (RepresentsRecord limits.frame) source start
             reader
             records was.entries was.going
 
         pub few_given : limits.input ≤ 2 ^ 62 → source.given start < 2 ^ 62
             → source.given reader + (records.pieces.limit - records.pieces.taken) < 2 ^ 63
         few_given =
-            small_count (viewing marks_faults detail limits) (record_items limits.frame) held_of
-            (reads_entries marks_faults detail limits) (StandsForRecord limits.frame) source start
+            small_count (viewing marks_faults detail limits) (record_items limits.frame) payload_of
+            (reads_entries marks_faults detail limits) (RepresentsRecord limits.frame) source start
             reader
             records was.entries was.going
 
         pub few_failed : source.failures start < 2 ^ 62 → source.failures reader < 2 ^ 63
         few_failed =
-            few_failures (viewing marks_faults detail limits) (record_items limits.frame) held_of
-            (reads_entries marks_faults detail limits) (StandsForRecord limits.frame) source start
+            few_failures (viewing marks_faults detail limits) (record_items limits.frame) payload_of
+            (reads_entries marks_faults detail limits) (RepresentsRecord limits.frame) source start
             reader
             records was.entries was.going
 
         module _ (new : Records RecordReading) (after : R) where
           abbrev Reads : Result (Option WholeRecord) Refused → Type 0
-          Reads answer = ReadsNext (record_items limits.frame) (StandsForRecord limits.frame) source
-              records new reader after answer
+          Reads outcome = ReadsNext (record_items limits.frame) (RepresentsRecord limits.frame)
+              source
+              records new reader after outcome
 
           pub not_read : (refused : Refused) → Reads (Err refused)
               → ShowsRecords marks_faults detail limits source {U = Unit {0}} start after lines first
               (Err refused)
           not_read refused read = (
-            stops_read (viewing marks_faults detail limits) (record_items limits.frame) held_of
-                (reads_entries marks_faults detail limits) (StandsForRecord limits.frame) source start
+            stops_read (viewing marks_faults detail limits) (record_items limits.frame) payload_of
+                (reads_entries marks_faults detail limits) (RepresentsRecord limits.frame) source
+                start
                 reader records was.entries was.going new after refused read,
             λ framing. was.shown,
           )
@@ -108,39 +113,42 @@ module _ {R : Type 0} (marks_faults : Bool) (detail : Detail) (limits : Limits) 
               → ShowsRecords marks_faults detail limits source start after lines first (Ok done)
           all_viewed done read = (
             was.entries,
-            accepts_all (viewing marks_faults detail limits) (record_items limits.frame) held_of
-                (reads_entries marks_faults detail limits) (StandsForRecord limits.frame) source start
+            accepts_all (viewing marks_faults detail limits) (record_items limits.frame) payload_of
+                (reads_entries marks_faults detail limits) (RepresentsRecord limits.frame) source
+                start
                 reader records was.entries was.going new after read,
             was.shown,
           )
 
           pub not_entered : (whole : WholeRecord) (longer : List ℕ) (refused : Refused)
               → Reads (Ok (Some whole))
-              → RefusesHeld (Objects marks_faults detail limits was.entries (held_of whole))
+              → RejectsPayload (Rejects marks_faults detail limits was.entries (payload_of whole))
               records.number refused
               → ShowsRecords marks_faults detail limits source {U = Unit {0}} start after longer first
               (Err refused)
           not_entered whole longer refused read refuses = (
-            stops_held (viewing marks_faults detail limits) (record_items limits.frame) held_of
-                (reads_entries marks_faults detail limits) (StandsForRecord limits.frame) source start
+            stops_held (viewing marks_faults detail limits) (record_items limits.frame) payload_of
+                (reads_entries marks_faults detail limits) (RepresentsRecord limits.frame) source
+                start
                 reader records was.entries was.going new after whole read refused refuses,
             λ framing. absurd (held_not_framing
-                (Objects marks_faults detail limits was.entries (held_of whole)) records.number
+                (Rejects marks_faults detail limits was.entries (payload_of whole)) records.number
                 refused
                 refuses framing),
           )
 
-          pub one_more : (whole : WholeRecord) (kept_now : Kept) (longer : List ℕ)
+          pub one_more : (whole : WholeRecord) (kept_now : SessionState) (longer : List ℕ)
               (refusal last : Option Refused) → Reads (Ok (Some whole))
-              → IsEntered marks_faults detail limits was.entries records.number (held_of whole)
+              → IsEntered marks_faults detail limits was.entries records.number (payload_of whole)
               kept_now
               longer refusal
               → last ≡ or_else first refusal
               → Viewed marks_faults detail limits source start after new kept_now longer last
           one_more whole kept_now longer refusal last read entered noted = record {
             entries = was.entries ++ entered.entry ∷ [];
-            going = on (viewing marks_faults detail limits) (record_items limits.frame) held_of
-                (reads_entries marks_faults detail limits) (StandsForRecord limits.frame) source start
+            going = on (viewing marks_faults detail limits) (record_items limits.frame) payload_of
+                (reads_entries marks_faults detail limits) (RepresentsRecord limits.frame) source
+                start
                 reader records was.entries was.going new after whole read entered.entry
                 entered.is_next;
             session_is = entered.session_is;
@@ -156,7 +164,8 @@ module _ {R : Type 0} (marks_faults : Bool) (detail : Detail) (limits : Limits) 
               → (new.pieces.limit - new.pieces.taken) + length new.pieces.unread
               < (records.pieces.limit - records.pieces.taken) + length records.pieces.unread
           fewer =
-              fewer_left (viewing marks_faults detail limits) (record_items limits.frame) held_of
-              (reads_entries marks_faults detail limits) (StandsForRecord limits.frame) source start
+              fewer_left (viewing marks_faults detail limits) (record_items limits.frame) payload_of
+              (reads_entries marks_faults detail limits) (RepresentsRecord limits.frame) source
+              start
               reader
               records was.entries was.going new after

@@ -1,8 +1,8 @@
 -- What `show_record` prints of a recording. Source: own.
 use Rattle.std.specs.Prelude.{◌≡◌, ◌⊎◌, ℕ, ◌<◌, ◌≤◌, List, [], ◌++◌, length, None, Result, Ok, Err}
 use Rattle.std.specs.Prelude.{codes}
-use Rattle.dap_device.specs.Pieces.{HasComeSoFar}
-use Rattle.dap_device.specs.Written.{AllSent, FrontWritten}
+use Rattle.dap_device.specs.Pieces.{HasReadSoFar}
+use Rattle.dap_device.specs.Written.{AllSent, PrefixWritten}
 use Rattle.dap_device.specs.declared.device.Sink.{Ghosts as Sink}
 use Rattle.dap_device.specs.declared.device.Source.{Ghosts as Source}
 use Rattle.dap_tree.specs.Doc.{Doc}
@@ -11,12 +11,12 @@ use Rattle.dap_tree.specs.declared.side.Side.{Side}
 use Rattle.dap_recording.specs.Recording.{IsRecord, IsRecording, records}
 use Rattle.dap_input.specs.InputSteps.{AcceptsAll}
 use Rattle.dap_input.specs.Inputs.{AcceptedBefore}
-use Rattle.dap_input.specs.Judging.{Judging}
+use Rattle.dap_input.specs.Validation.{Validation}
 use Rattle.dap_input.specs.ReadTo.{IsReadTo, so_far}
 use Rattle.dap_input.specs.declared.limits.Limits.{Limits}
 use Rattle.dap_input.specs.declared.refused.Refused.{Refused}
 use Rattle.dap_input.specs.declared.refused.Refused.TheVariants.{Fraction, Json, WriteFault}
-use Rattle.dap_normal.specs.Accepting.{Held}
+use Rattle.dap_normal.specs.Accepting.{Payload}
 use Rattle.dap_show.specs.Indented.{indented}
 use Rattle.dap_show.specs.Stopping.{StopsAt}
 use Rattle.dap_show.specs.declared.one_record.RecordShown.{RecordShown}
@@ -27,18 +27,18 @@ abbrev pub content_text : Doc → List ℕ
 content_text d = indented [] d ++ codes "\n"
 
 -- The bytes are a recording of these records, whose contents are not checked.
-pub record IsFramed (limits : Limits) (bytes : List ℕ) (values : List Held) : Type 0 where
+pub record IsFramed (limits : Limits) (bytes : List ℕ) (values : List Payload) : Type 0 where
   pub short : length bytes ≤ limits.input
   pub recording : IsRecording limits.frame bytes values
 
-abbrev pub framing : Limits → Judging
+abbrev pub framing : Limits → Validation
 framing limits = record {
-  Held = Held;
-  Value = Held;
+  Payload = Payload;
+  Value = Payload;
   input = limits.input;
   records = records limits.frame;
   IsNext = λ before held value. value ≡ held;
-  Objects = λ before held why. ⊥;
+  Rejects = λ before held why. ⊥;
   IsAccepted = IsFramed limits;
 }
 
@@ -52,7 +52,7 @@ module _ {R : Type 0} (limits : Limits) (source : Source R) where
   -- more was read than this record requires.
   pub record HasRecord (old new : R) (number : ℕ) (content : List ℕ) : Type 0 where
     pub bytes : List ℕ
-    pub came : HasComeSoFar source old new bytes None
+    pub came : HasReadSoFar source old new bytes None
     pub short : length bytes ≤ limits.input
     pub read_to : IsReadTo (framing limits) bytes number
     pub before : AcceptedBefore (framing limits) (so_far bytes None) number
@@ -64,7 +64,7 @@ module _ {R : Type 0} (limits : Limits) (source : Source R) where
 
   -- The recording has `count` records, and none of them has this number.
   pub record HasNoRecord (old new : R) (number count : ℕ) : Type 0 where
-    pub values : List Held
+    pub values : List Payload
     pub all : AcceptsAll (framing limits) source old new values
     pub count_is : count ≡ length values
     pub missing : (number ≡ 0) ⊎ (count < number)
@@ -87,7 +87,7 @@ module _ {R : Type 0} (limits : Limits) (source : Source R) where
     ShowsRecord old new before after (Ok (Missing count)) =
         HasNoRecord old new number count × (after ≡ before)
     ShowsRecord old new before after (Err WriteFault) =
-        Writes old new (FrontWritten sink before after)
+        Writes old new (PrefixWritten sink before after)
     ShowsRecord old new before after (Err (Json n)) = (n ≡ number)
         × ((content : List ℕ) × HasRecord old new number content × HasNoReading content)
         × (after ≡ before)

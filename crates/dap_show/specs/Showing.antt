@@ -16,9 +16,9 @@ use Rattle.dap_message.specs.Message.{Sent}
 use Rattle.dap_message.specs.Views.{StackFrame, Scope, Variable, frames_of, scopes_of, variables_of}
 use Rattle.dap_recording.specs.Recording.{IsRecording, records}
 use Rattle.dap_input.specs.declared.limits.Limits.{Limits}
-use Rattle.dap_normal.specs.Accepting.{Held, IsMessage, HoldsNoMessage, AreMessages}
+use Rattle.dap_normal.specs.Accepting.{Payload, IsMessage, HoldsNoMessage, AreMessages}
 use Rattle.dap_input.specs.Limits.{AreSound}
-use Rattle.dap_input.specs.Judging.{Judging}
+use Rattle.dap_input.specs.Validation.{Validation}
 use Rattle.dap_input.specs.Refusals.{HasOneOutcome, RefusalStays}
 
 -- ---- the lines
@@ -100,19 +100,19 @@ lines_from n (message ∷ messages) = message_lines n message ++ lines_from (n +
 -- The bytes are a recording of these messages, within the input limit.
 pub record IsShowable (limits : Limits) (bytes : List ℕ) (messages : List Sent) : Type 0 where
   pub short : length bytes ≤ limits.input
-  pub records : List Held
+  pub records : List Payload
   pub recording : IsRecording limits.frame bytes records
   pub typed : AreMessages records messages
 
 -- Recordings of messages, without the session rules.
-abbrev pub showing : Limits → Judging
+abbrev pub showing : Limits → Validation
 showing limits = record {
-  Held = Held;
+  Payload = Payload;
   Value = Sent;
   input = limits.input;
   records = records limits.frame;
   IsNext = λ before held message. IsMessage held message;
-  Objects = λ before. HoldsNoMessage;
+  Rejects = λ before. HoldsNoMessage;
   IsAccepted = IsShowable limits;
 }
 

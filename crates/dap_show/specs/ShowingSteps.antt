@@ -9,31 +9,31 @@ use Rattle.dap_input.specs.declared.limits.Limits.{Limits}
 use Rattle.dap_input.specs.declared.records.Records.{Records}
 use Rattle.dap_input.specs.declared.refused.Refused.{Refused}
 use Rattle.dap_input.specs.InputSteps.{JudgesAll}
-use Rattle.dap_input.specs.ItemReading.{StandsForRecord}
+use Rattle.dap_input.specs.ItemReading.{RepresentsRecord}
 use Rattle.dap_input.specs.Limits.{AreSound}
 use Rattle.dap_input.specs.RecordSteps.{IsAtStart}
-use Rattle.dap_input.specs.Refusals.{RefusesHeld}
-use Rattle.dap_normal.specs.Accepting.{Held, HoldsNoMessage, IsMessage}
+use Rattle.dap_input.specs.Refusals.{RejectsPayload}
+use Rattle.dap_normal.specs.Accepting.{Payload, HoldsNoMessage, IsMessage}
 use Rattle.dap_show.specs.Showing.{lines_from, message_lines, showing}
 
 -- The side and the content of a record.
-abbrev pub held_of : WholeRecord → Held
-held_of whole = (whole.side, whole.content)
+abbrev pub payload_of : WholeRecord → Payload
+payload_of whole = (whole.side, whole.content)
 
 -- The record contains a message, and its lines, which start with this number, were appended.
-abbrev pub IsAppended : Held → ℕ → List ℕ → List ℕ → Type 0
+abbrev pub IsAppended : Payload → ℕ → List ℕ → List ℕ → Type 0
 IsAppended held n old new = (message : Sent) × IsMessage held message
     × (new ≡ old ++ message_lines n message)
 
 -- The lines of record n are appended, or the record is rejected.
-abbrev pub Appended : {U : Type 0} → ℕ → Held → List ℕ → List ℕ → Result U Refused → Type 0
+abbrev pub Appended : {U : Type 0} → ℕ → Payload → List ℕ → List ℕ → Result U Refused → Type 0
 Appended n held old new (Ok done) = IsAppended held n old new
-Appended n held old new (Err because) = RefusesHeld (HoldsNoMessage held) n because
+Appended n held old new (Err because) = RejectsPayload (HoldsNoMessage held) n because
 
 -- Nothing has been read of the records, under some limits.
 abbrev pub AreReady : Records RecordReading → Type 0
 AreReady records = (limits : Limits) × AreSound limits
-    × IsAtStart (StandsForRecord limits.frame) limits.input records
+    × IsAtStart (RepresentsRecord limits.frame) limits.input records
 
 -- The lines of all records are returned, or a record is rejected.
 module _ {R : Type 0} (limits : Limits) (source : Source R) where

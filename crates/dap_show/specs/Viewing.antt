@@ -3,7 +3,7 @@
 use Rattle.std.specs.Prelude.{◌≡◌, ◌⊎◌, ℕ, ◌+◌, ◌≤◌, Bool, true, false, nat_le, List, [], ◌∷◌}
 use Rattle.std.specs.Prelude.{◌++◌, length, Option, Some, None, Result, Ok, Err, codes, decimal}
 use Rattle.std.specs.List.{flat_map}
-use Rattle.dap_device.specs.Written.{AllSent, FrontWritten}
+use Rattle.dap_device.specs.Written.{AllSent, PrefixWritten}
 use Rattle.dap_device.specs.declared.device.Sink.{Ghosts as Sink}
 use Rattle.dap_device.specs.declared.device.Source.{Ghosts as Source}
 use Rattle.dap_tree.specs.Doc.{Doc}
@@ -18,13 +18,13 @@ use Rattle.dap_session.specs.RuleName.{rule_name}
 use Rattle.dap_session.specs.Rules.{first_broken}
 use Rattle.dap_session.specs.declared.rule.Rule.{Rule}
 use Rattle.dap_input.specs.InputSteps.{AcceptsAll}
-use Rattle.dap_input.specs.Judging.{Judging, Objection, grew, no_message}
+use Rattle.dap_input.specs.Validation.{Validation, ContentError, grew, no_message}
 use Rattle.dap_input.specs.Limits.{AreSound}
 use Rattle.dap_input.specs.Refusals.{HasOneOutcome, RefusalStays}
 use Rattle.dap_input.specs.declared.limits.Limits.{Limits}
 use Rattle.dap_input.specs.declared.refused.Refused.{Refused}
 use Rattle.dap_input.specs.declared.refused.Refused.TheVariants as because
-use Rattle.dap_normal.specs.Accepting.{Held, IsMessage}
+use Rattle.dap_normal.specs.Accepting.{Payload, IsMessage}
 use Rattle.dap_show.specs.Leaves.{leaf_lines}
 use Rattle.dap_show.specs.Showing.{listed_lines, message_line, start_words}
 use Rattle.dap_show.specs.Stopping.{StopsAt}
@@ -153,7 +153,7 @@ broken_rule true before message = first_broken before message
 module _ (marks_faults : Bool) (detail : Detail) (limits : Limits) where
   -- A record has this entry after these entries. Records that do not contain a message are entries
   -- only if errors are marked.
-  abbrev pub IsEntry : List Entry → Held → Entry → Type 0
+  abbrev pub IsEntry : List Entry → Payload → Entry → Type 0
   IsEntry before held (typed message d rule) = IsMessage held message × IsRead held.1 d
       × (rule ≡ broken_rule marks_faults (kept before) message)
   IsEntry before held (untyped side why) = (marks_faults ≡ true) × (side ≡ held.0)
@@ -162,19 +162,19 @@ module _ (marks_faults : Bool) (detail : Detail) (limits : Limits) where
   abbrev pub Fits : List Entry → Type 0
   Fits entries = fits_in detail limits.input (length (lines_of detail 1 entries)) ≡ true
 
-  abbrev pub IsNext : List Entry → Held → Entry → Type 0
+  abbrev pub IsNext : List Entry → Payload → Entry → Type 0
   IsNext before held entry = IsEntry before held entry × Fits (before ++ entry ∷ [])
 
   -- A record is rejected because it does not contain a message and errors are not marked, or
   -- because the output including its lines exceeds the limit.
-  abbrev pub Objects : List Entry → Held → Objection → Type 0
-  Objects before held (no_message why) = (marks_faults ≡ false) × HasRefusal held.1 why
-  Objects before held grew =
+  abbrev pub Rejects : List Entry → Payload → ContentError → Type 0
+  Rejects before held (no_message why) = (marks_faults ≡ false) × HasRefusal held.1 why
+  Rejects before held grew =
       (entry : Entry) × IsEntry before held entry × (Fits (before ++ entry ∷ []) → ⊥)
-  Objects before held why = ⊥
+  Rejects before held why = ⊥
 
   -- The records have these entries, each checked after those before it.
-  abbrev pub AreEntries : List Entry → List Held → List Entry → Type 0
+  abbrev pub AreEntries : List Entry → List Payload → List Entry → Type 0
   AreEntries before [] [] = Unit {0}
   AreEntries before [] (entry ∷ entries) = ⊥
   AreEntries before (held ∷ records) [] = ⊥
@@ -184,18 +184,18 @@ module _ (marks_faults : Bool) (detail : Detail) (limits : Limits) where
   -- The bytes are a recording of records with these entries.
   pub record IsViewable (bytes : List ℕ) (entries : List Entry) : Type 0 where
     pub short : length bytes ≤ limits.input
-    pub records : List Held
+    pub records : List Payload
     pub recording : IsRecording limits.frame bytes records
     pub entered : AreEntries [] records entries
 
-  abbrev pub viewing : Judging
+  abbrev pub viewing : Validation
   viewing = record {
-    Held = Held;
+    Payload = Payload;
     Value = Entry;
     input = limits.input;
     records = records limits.frame;
     IsNext = IsNext;
-    Objects = Objects;
+    Rejects = Rejects;
     IsAccepted = IsViewable;
   }
 
@@ -229,7 +229,7 @@ module _ (marks_faults : Bool) (detail : Detail) (limits : Limits) where
           (text : List ℕ) × Shows old new text first × AllSent sink before after text
       ViewsInput old new before after (Err because.WriteFault) =
           (text : List ℕ) × (first : Option Refused) × Shows old new text first
-          × FrontWritten sink before after text
+          × PrefixWritten sink before after text
       ViewsInput old new before after (Err refused) = StopsAt viewing source old new refused
           × (marks_faults ≡ true → IsFraming refused → ⊥) × (after ≡ before)
 
@@ -243,7 +243,7 @@ ShowsInput detail limits source sink old new before after (Ok done) =
     × ShowsAll false detail limits source old new text first × AllSent sink before after text
 ShowsInput detail limits source sink old new before after (Err because.WriteFault) =
     (text : List ℕ) × (first : Option Refused)
-    × ShowsAll false detail limits source old new text first × FrontWritten sink before after text
+    × ShowsAll false detail limits source old new text first × PrefixWritten sink before after text
 ShowsInput detail limits source sink old new before after (Err refused) =
     StopsAt (viewing false detail limits) source old new refused × (after ≡ before)
 

@@ -3,34 +3,34 @@ use Rattle.std.specs.Prelude.{◌≡◌, ℕ, ◌++◌, Bool, true, List, [], �
 use Rattle.std.specs.Prelude.{Some, Result, Ok, Err}
 use Rattle.dap_device.specs.declared.device.Source.{Ghosts as Source}
 use Rattle.dap_input.specs.InputSteps.{AcceptsAll}
-use Rattle.dap_input.specs.Refusals.{RefusesHeld}
+use Rattle.dap_input.specs.Refusals.{RejectsPayload}
 use Rattle.dap_input.specs.declared.limits.Limits.{Limits}
 use Rattle.dap_input.specs.declared.refused.Refused.{Refused}
 use Rattle.dap_input.specs.declared.refused.Refused.TheVariants as because
 use Rattle.dap_message.specs.Message.{Sent}
-use Rattle.dap_normal.specs.Accepting.{Held}
-use Rattle.dap_session.specs.Kept.{Kept}
-use Rattle.dap_session.specs.Standing.{Stands}
+use Rattle.dap_normal.specs.Accepting.{Payload}
+use Rattle.dap_session.specs.SessionState.{SessionState}
+use Rattle.dap_session.specs.Representation.{Represents}
 use Rattle.dap_session.specs.declared.rule.Rule.{Rule}
 use Rattle.dap_show.specs.Stopping.{StopsAt}
-use Rattle.dap_show.specs.Viewing.{Entry, IsFraming, IsNext, Objects, first_refusal, kept}
+use Rattle.dap_show.specs.Viewing.{Entry, IsFraming, IsNext, Rejects, first_refusal, kept}
 use Rattle.dap_show.specs.Viewing.{kept_if, lines_of, or_else, refusal_at, broken_rule, stop_line}
 use Rattle.dap_show.specs.Viewing.{viewing}
 use Rattle.dap_show.specs.declared.detail.Detail.{Detail}
 
 -- If rules are checked, the session represents these messages.
-abbrev pub StandsIf : Bool → Kept → List Sent → Type 0
-StandsIf marks_faults session messages = marks_faults ≡ true → Stands session messages
+abbrev pub StandsIf : Bool → SessionState → List Sent → Type 0
+StandsIf marks_faults session messages = marks_faults ≡ true → Represents session messages
 
 -- The rule that a message violates, if rules are checked. The session then contains the message if
 -- it violates no rule.
-abbrev pub IsJudged : Bool → List Sent → Sent → Option Rule → Kept → Type 0
+abbrev pub IsJudged : Bool → List Sent → Sent → Option Rule → SessionState → Type 0
 IsJudged marks_faults before message rule session = (rule ≡ broken_rule marks_faults before message)
     × StandsIf marks_faults session (before ++ kept_if rule message)
 
 module _ (marks_faults : Bool) (detail : Detail) (limits : Limits) where
   -- Record n has this entry, whose lines were appended.
-  pub record IsEntered (before : List Entry) (n : ℕ) (held : Held) (session : Kept)
+  pub record IsEntered (before : List Entry) (n : ℕ) (held : Payload) (session : SessionState)
       (lines : List ℕ) (refusal : Option Refused) : Type 0 where
     pub entry : Entry
     pub is_next : IsNext marks_faults detail limits before held entry
@@ -39,12 +39,13 @@ module _ (marks_faults : Bool) (detail : Detail) (limits : Limits) where
     pub refusal_is : refusal ≡ refusal_at n entry
 
   -- The lines of record n are appended, or the record is rejected.
-  abbrev pub Enters : List Entry → ℕ → Held → Kept → List ℕ → Result (Option Refused) Refused
+  abbrev pub Enters : List Entry → ℕ → Payload → SessionState → List ℕ
+      → Result (Option Refused) Refused
       → Type 0
   Enters before n held session lines (Ok refusal) =
       IsEntered before n held session lines refusal
   Enters before n held session lines (Err refused) =
-      RefusesHeld (Objects marks_faults detail limits before held) n refused
+      RejectsPayload (Rejects marks_faults detail limits before held) n refused
 
   -- These are the lines of the entries, and this is the first rejection among them.
   pub record AreShown (entries : List Entry) (lines : List ℕ) (first : Option Refused) : Type 0

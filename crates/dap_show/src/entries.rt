@@ -1,13 +1,13 @@
 //! Formats one record, and returns the error that it is marked with.
 ghost use Rattle.std.specs.Prelude.{◌≡◌, ◌≢◌, ◌+◌, ◌<◌, ◌++◌, List, [], true, false};
 ghost use Rattle.std.specs.Prelude.{IfOk, IsErrOf, OnOk, length};
-ghost use Rattle.dap_input.specs.Refusals.{RefusesHeld};
+ghost use Rattle.dap_input.specs.Refusals.{RejectsPayload};
 ghost use Rattle.dap_message.specs.Message.{Sent, doc_of, sent};
 ghost use Rattle.dap_normal.specs.Accepting.{HoldsNoMessage, IsMessage};
-ghost use Rattle.dap_show.specs.ShowingSteps.{held_of};
+ghost use Rattle.dap_show.specs.ShowingSteps.{payload_of};
 ghost use Rattle.dap_show.specs.Viewing.{Entry, detail_lines, fits_in, head_lines, kept};
 ghost use Rattle.dap_show.specs.Viewing.{fault_words, lines_of, refused_words, rule_refusal};
-ghost use Rattle.dap_session.specs.Kept.{Kept};
+ghost use Rattle.dap_session.specs.SessionState.{SessionState};
 ghost use Rattle.dap_show.specs.Showing.{listed_lines, start_words};
 ghost use Rattle.dap_show.specs.ViewingSteps.{Enters, IsJudged, StandsIf};
 ghost use Rattle.dap_show.specs.Leaves.{leaf_lines};
@@ -161,10 +161,11 @@ fn append_message(
     scratch: &mut Scratch,
     lines: &mut Vec<u8>,
 ) -> Result<Option<Refused>, Refused>
-    requires { IsMessage (held_of whole.now) (sent message.now) }
+    requires { IsMessage (payload_of whole.now) (sent message.now) }
     ensures { (before : List Entry) → StandsIf view.marks_faults session.old (kept before)
         → lines.old.items ≡ lines_of view.detail 1 before → number ≡ length before + 1
-        → Enters view.marks_faults view.detail limits before number (held_of whole.now) session.new
+        → Enters view.marks_faults view.detail limits before number (payload_of whole.now)
+        session.new
         lines.new.items result }
 {
     let Ok(rule) = judge(view.marks_faults, session, message) else {
@@ -220,11 +221,11 @@ fn append_no_message(
     refused: Refused,
     lines: &mut Vec<u8>,
 ) -> Result<Option<Refused>, Refused>
-    requires told { RefusesHeld (HoldsNoMessage (held_of whole.now)) number refused }
+    requires reported { RejectsPayload (HoldsNoMessage (payload_of whole.now)) number refused }
     requires memory { refused ≢ Refused.Memory }
-    ensures { (before : List Entry) (session : Kept) → StandsIf true session (kept before)
+    ensures { (before : List Entry) (session : SessionState) → StandsIf true session (kept before)
         → lines.old.items ≡ lines_of detail 1 before → number ≡ length before + 1
-        → Enters true detail limits before number (held_of whole.now) session lines.new.items
+        → Enters true detail limits before number (payload_of whole.now) session lines.new.items
         result }
 {
     match push_no_message(alloc, number, whole.side, refused, lines) {
@@ -258,7 +259,8 @@ pub fn append_entry(
 ) -> Result<Option<Refused>, Refused>
     ensures { (before : List Entry) → StandsIf view.marks_faults session.old (kept before)
         → lines.old.items ≡ lines_of view.detail 1 before → number ≡ length before + 1
-        → Enters view.marks_faults view.detail limits before number (held_of whole.now) session.new
+        → Enters view.marks_faults view.detail limits before number (payload_of whole.now)
+        session.new
         lines.new.items result }
 {
     match read_message(alloc, number, whole.side, whole.content.as_slice(), scratch) {

@@ -1,6 +1,6 @@
 //! Prints the content of one record.
 ghost use Rattle.std.specs.Prelude.{◌≡◌, ◌+◌, ◌<◌, ◌≤◌, ◌^◌, IfOk, true};
-ghost use Rattle.dap_input.specs.ItemReading.{StandsForRecord};
+ghost use Rattle.dap_input.specs.ItemReading.{RepresentsRecord};
 ghost use Rattle.dap_input.specs.Limits.{AreSound};
 ghost use Rattle.dap_input.specs.RecordSteps.{IsAtStart};
 ghost use Rattle.dap_show.specs.OneRecord.{ShowsRecord, content_text};
@@ -39,7 +39,7 @@ fn find_record<R: Source>(
     number: u64,
 ) -> Result<Found, Refused>
     requires sound { AreSound limits }
-    requires start { IsAtStart (StandsForRecord limits.frame) limits.input records.old }
+    requires start { IsAtStart (RepresentsRecord limits.frame) limits.input records.old }
     requires given { R.given reader.old < 2 ^ 62 }
     requires failures { R.failures reader.old < 2 ^ 62 }
     ensures { Finds limits R.Source reader.old reader.new number result }
@@ -113,7 +113,7 @@ pub fn show_record<R: Source, W: Sink>(
 
     // The text of the record's content is written and flushed. If the record does not exist or the
     // input is rejected, nothing is written.
-    ensures answer { ShowsRecord limits R.Source W.Sink number reader.old reader.new writer.old
+    ensures outcome { ShowsRecord limits R.Source W.Sink number reader.old reader.new writer.old
         writer.new result }
 
     // At most one byte past the limit is read.

@@ -1,13 +1,13 @@
 //! Prints recordings as lines.
 ghost use Rattle.std.specs.Prelude.{◌+◌, ◌<◌, ◌≤◌, ◌^◌, IsErrOf, string_bytes};
 ghost use Rattle.dap_input.specs.Engine.{Answers, ReadsNoneOrAll};
-ghost use Rattle.dap_input.specs.ItemReading.{StandsForRecord};
+ghost use Rattle.dap_input.specs.ItemReading.{RepresentsRecord};
 ghost use Rattle.dap_input.specs.Limits.{AreSound};
 ghost use Rattle.dap_input.specs.RecordSteps.{IsAtStart};
 ghost use Rattle.dap_input.specs.Refusals.{IsRefused};
 ghost use Rattle.dap_input.specs.declared.limits.Limits.{Limits};
 ghost use Rattle.dap_show.specs.Showing.{IsShownBy, showing};
-ghost use Rattle.dap_show.specs.ShowingSteps.{Appended, AreReady, JudgesInput, held_of};
+ghost use Rattle.dap_show.specs.ShowingSteps.{Appended, AreReady, JudgesInput, payload_of};
 
 use crate::message_lines::push_lines;
 use dap_device::{Sink, Source, write_and_flush};
@@ -25,7 +25,7 @@ fn append_lines(
     whole: &Record,
     scratch: &mut Scratch,
 ) -> Result<(), Refused>
-    ensures { Appended number (held_of whole.now) (string_bytes out.old) (string_bytes out.new)
+    ensures { Appended number (payload_of whole.now) (string_bytes out.old) (string_bytes out.new)
         result }
 {
     let message = read_message(alloc, number, whole.side, whole.content.as_slice(), scratch)?;
@@ -45,7 +45,7 @@ fn show_records<R: Source>(
     requires given { R.given reader.old < 2 ^ 62 }
     requires failures { R.failures reader.old < 2 ^ 62 }
     ensures { (limits : Limits)
-        → IsAtStart (StandsForRecord limits.frame) limits.input records.old
+        → IsAtStart (RepresentsRecord limits.frame) limits.input records.old
         → JudgesInput limits R.Source reader.old reader.new records.new result }
 {
     let mut scratch = Scratch::new(alloc);
@@ -99,7 +99,7 @@ pub fn show<R: Source, W: Sink>(
     // The lines of the input's messages are written and flushed, or its first error is returned and
     // nothing is written. `WriteFault` is returned if and only if the writer failed, `ReadFault`
     // only if the reader failed: a read that fails after a rejection is not reported.
-    ensures answer { Answers R.Source W.Sink limits.input (IsShownBy limits)
+    ensures outcome { Answers R.Source W.Sink limits.input (IsShownBy limits)
         (IsRefused (showing limits)) reader.old reader.new writer.old writer.new result }
 
     // After a failed allocation, either nothing or the whole input was read.

@@ -1,7 +1,7 @@
 //! Prints recordings with the leaves of their contents, and with their errors.
 ghost use Rattle.std.specs.Prelude.{◌≡◌, ◌+◌, ◌<◌, ◌≤◌, ◌^◌, ◌++◌, ◌↔◌, [], None, true};
 ghost use Rattle.std.specs.Prelude.{IsTrue, OnOk};
-ghost use Rattle.dap_input.specs.ItemReading.{StandsForRecord};
+ghost use Rattle.dap_input.specs.ItemReading.{RepresentsRecord};
 ghost use Rattle.dap_input.specs.Limits.{AreSound};
 ghost use Rattle.dap_input.specs.RecordSteps.{IsAtStart};
 ghost use Rattle.dap_show.specs.Viewing.{IsFraming, ShowsInput, ViewsInput, or_else, stop_line};
@@ -37,7 +37,7 @@ fn view_records<R: Source>(
     first: &mut Option<Refused>,
 ) -> Result<(), Refused>
     requires sound { AreSound limits }
-    requires start { IsAtStart (StandsForRecord limits.frame) limits.input records.old }
+    requires start { IsAtStart (RepresentsRecord limits.frame) limits.input records.old }
     requires lines { lines.old.items ≡ [] }
     requires first { first.old ≡ None }
     requires given { R.given reader.old < 2 ^ 62 }
@@ -119,7 +119,7 @@ fn view_input<R: Source, W: Sink>(
     requires given { R.given reader.old < 2 ^ 62 }
     requires read_failures { R.failures reader.old < 2 ^ 62 }
     requires write_failures { W.failures writer.old < 2 ^ 62 }
-    ensures answer { ViewsInput view.marks_faults view.detail limits R.Source W.Sink reader.old
+    ensures outcome { ViewsInput view.marks_faults view.detail limits R.Source W.Sink reader.old
         reader.new writer.old writer.new result }
     ensures taken { R.given reader.new ≤ R.given reader.old + limits.input + 1 }
 {
@@ -180,7 +180,7 @@ pub fn show_with<R: Source, W: Sink>(
     // The lines of all records are written and flushed, or the first error is returned and nothing
     // is written. `WriteFault` is returned if and only if the writer failed, `ReadFault` only if
     // the reader failed.
-    ensures answer { ShowsInput detail limits R.Source W.Sink reader.old reader.new writer.old
+    ensures outcome { ShowsInput detail limits R.Source W.Sink reader.old reader.new writer.old
         writer.new result }
 
     // At most one byte past the limit is read.
@@ -223,7 +223,7 @@ pub fn show_faulty<R: Source, W: Sink>(
     // The lines of all records, or those before an error of the framing and the line of that error,
     // are written and flushed. Otherwise nothing is written. `WriteFault` is returned if and only
     // if the writer failed, `ReadFault` only if the reader failed.
-    ensures answer { ViewsInput true detail limits R.Source W.Sink reader.old reader.new
+    ensures outcome { ViewsInput true detail limits R.Source W.Sink reader.old reader.new
         writer.old writer.new result }
 
     // At most one byte past the limit is read.

@@ -19,7 +19,7 @@ module _ (limits : Limits) (given a b : List ℕ) where
   pub rules_rejected : (fault : RulesFault) → (result : SuggestRefused)
       → IsRulesRefusal fault result → (fault.cause ≢ cause.Memory → rules_said given ≡ Err fault)
       → IsNotSuggested limits given a b result
-  rules_rejected fault (because.Rules told) (is, named) said = subst
+  rules_rejected fault (because.Rules reported) (is, named) said = subst
       (λ f. rules_said given ≡ Err f) (sym is) (said named)
   rules_rejected fault (because.Input which refused) is said = absurd is
   rules_rejected fault (because.NoRules obstacle) is said = absurd is

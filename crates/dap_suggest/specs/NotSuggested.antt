@@ -46,7 +46,7 @@ IsSessionRefusal limits mask which recording result =
 
 -- The error for rules that are rejected. A failed allocation says nothing about them.
 abbrev pub IsRulesRefusal : RulesFault → SuggestRefused → Type 0
-IsRulesRefusal fault (because.Rules told) = (told ≡ fault) × (fault.cause ≢ cause.Memory)
+IsRulesRefusal fault (because.Rules reported) = (reported ≡ fault) × (fault.cause ≢ cause.Memory)
 IsRulesRefusal fault (because.Input which refused) = ⊥
 IsRulesRefusal fault (because.NoRules obstacle) = ⊥
 IsRulesRefusal fault because.Memory = Unit {0}

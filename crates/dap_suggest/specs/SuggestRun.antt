@@ -1,6 +1,6 @@
 -- What the program prints of a suggestion. Source: own.
 use Rattle.std.specs.Prelude.{◌≡◌, ◌⊎◌, ℕ, List, [], ◌++◌, Result, Ok, Err}
-use Rattle.dap_device.specs.Written.{AllSent, FrontWritten}
+use Rattle.dap_device.specs.Written.{AllSent, PrefixWritten}
 use Rattle.dap_device.specs.declared.device.Sink.{Ghosts as Sink}
 use Rattle.dap_input.specs.declared.limits.Limits.{Limits}
 use Rattle.dap_input.specs.declared.refused.Refused.TheVariants.{WriteFault}
@@ -24,16 +24,16 @@ Suggests limits given a b (Ok found) = AreSameBy limits found.mode (given ++ fou
 Suggests limits given a b (Err refused) = IsNotSuggested limits given a b refused
 
 -- Without rules that were given, a session that is rejected is the recording itself.
-abbrev pub told_refusal : List ℕ → ApplyRefused → ApplyRefused
-told_refusal [] (step.Order refused) = step.Mask refused
-told_refusal given refused = refused
+abbrev pub reported_refusal : List ℕ → ApplyRefused → ApplyRefused
+reported_refusal [] (step.Order refused) = step.Mask refused
+reported_refusal given refused = refused
 
 -- The text is printed and flushed, with status 0; or a prefix of it is, the writer fails, and that
 -- is reported.
 abbrev pub IsPrinted : {W E : Type 0} → Sink W → Sink E → W → W → E → E → ℕ → List ℕ → Type 0
 IsPrinted sink errors before after silent spoken status text =
     (AllSent sink before after text × (spoken ≡ silent) × (status ≡ 0))
-    ⊎ (FrontWritten sink before after text
+    ⊎ (PrefixWritten sink before after text
     × HasSent errors silent spoken (fault_line (refused_text WriteFault)) × (status ≡ 4))
 
 -- Some line says why no rules were found, with status 1; or an allocation failed, and that is
@@ -48,8 +48,8 @@ abbrev pub IsReported : {E : Type 0} → Sink E → List ℕ → E → E → ℕ
 IsReported errors given silent spoken status (because.Rules fault) =
     HasSent errors silent spoken (rules_refused_line (Line fault)) × (status ≡ 2)
 IsReported errors given silent spoken status (because.Input which refused) =
-    HasSent errors silent spoken (unapplied_line which (told_refusal given refused))
-    × (status ≡ unapplied_status (told_refusal given refused))
+    HasSent errors silent spoken (unapplied_line which (reported_refusal given refused))
+    × (status ≡ unapplied_status (reported_refusal given refused))
 IsReported errors given silent spoken status (because.NoRules obstacle) =
     IsObstacleReported errors silent spoken status
 IsReported errors given silent spoken status because.Memory =
@@ -58,15 +58,15 @@ IsReported errors given silent spoken status because.Memory =
 module _ {W E : Type 0} (sink : Sink W) (errors : Sink E) (given : List ℕ)
     (before after : W) (silent spoken : E) (status : ℕ) where
   -- Rules that were found are printed. An error is reported, and nothing is printed.
-  abbrev pub TellsSuggestion : Result Suggestion SuggestRefused → Type 0
-  TellsSuggestion (Ok found) =
+  abbrev pub ReportsSuggestion : Result Suggestion SuggestRefused → Type 0
+  ReportsSuggestion (Ok found) =
       IsPrinted sink errors before after silent spoken status found.rules.items
-  TellsSuggestion (Err refused) =
+  ReportsSuggestion (Err refused) =
       (after ≡ before) × IsReported errors given silent spoken status refused
 
 -- What `suggest` returns is printed or reported.
-pub record SuggestionIsTold {W E : Type 0} (sink : Sink W) (errors : Sink E) (limits : Limits)
+pub record SuggestionIsReported {W E : Type 0} (sink : Sink W) (errors : Sink E) (limits : Limits)
     (given a b : List ℕ) (before after : W) (silent spoken : E) (status : ℕ) : Type 0 where
-  pub answer : Result Suggestion SuggestRefused
-  pub suggests : Suggests limits given a b answer
-  pub tells : TellsSuggestion sink errors given before after silent spoken status answer
+  pub outcome : Result Suggestion SuggestRefused
+  pub suggests : Suggests limits given a b outcome
+  pub tells : ReportsSuggestion sink errors given before after silent spoken status outcome

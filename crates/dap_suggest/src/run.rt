@@ -1,8 +1,8 @@
 //! Suggests rules, and prints them: lines and a status.
 ghost use Rattle.std.specs.Prelude.{◌≡◌, ◌<◌, ◌^◌};
 ghost use Rattle.dap_input.specs.Limits.{AreSound};
-ghost use Rattle.dap_suggest.specs.SuggestRun.{IsPrinted, IsReported, SuggestionIsTold};
-ghost use Rattle.dap_suggest.specs.SuggestRun.{IsObstacleReported, told_refusal};
+ghost use Rattle.dap_suggest.specs.SuggestRun.{IsPrinted, IsReported, SuggestionIsReported};
+ghost use Rattle.dap_suggest.specs.SuggestRun.{IsObstacleReported, reported_refusal};
 
 use crate::obstacle::Obstacle;
 use crate::obstacle_line::obstacle_line;
@@ -17,8 +17,8 @@ use dap_runs::{
 use std::alloc::Global;
 
 /// Returns how a rejected input is reported.
-fn told_refusal(given: &[u8], refused: ApplyRefused) -> ApplyRefused
-    ensures { result ≡ told_refusal given.now refused }
+fn reported_refusal(given: &[u8], refused: ApplyRefused) -> ApplyRefused
+    ensures { result ≡ reported_refusal given.now refused }
 {
     match given {
         [] => match refused {
@@ -67,7 +67,7 @@ fn report<E: Sink>(alloc: Global, errors: &mut E, given: &[u8], refused: &Sugges
     match refused {
         SuggestRefused::Rules(fault) => report_rules(errors, RulesRefused::Line(*fault)),
         SuggestRefused::Input(which, refused) => {
-            report_unapplied(errors, *which, told_refusal(given, *refused))
+            report_unapplied(errors, *which, reported_refusal(given, *refused))
         }
         SuggestRefused::NoRules(obstacle) => report_obstacle(alloc, errors, obstacle),
         SuggestRefused::Memory => report_rules(errors, RulesRefused::Memory),
@@ -94,7 +94,8 @@ pub fn run_suggest<W: Sink, E: Sink>(
     requires error_failures { E.failures errors.old < 2 ^ 62 }
 
     // What `suggest` returns is printed or reported, and the status is the one for that.
-    ensures told { SuggestionIsTold W.Sink E.Sink limits given.now a.now b.now writer.old writer.new
+    ensures reported { SuggestionIsReported W.Sink E.Sink limits given.now a.now b.now writer.old
+        writer.new
         errors.old errors.new result }
 {
     match suggest(alloc, given, a, b, limits) {

@@ -19,7 +19,7 @@ use Rattle.dap_session.specs.declared.rule.Rule.TheVariants.{NoRequest, Answered
 use Rattle.dap_session.specs.Messages.{side_of, name_of, seq_of, request_seq_of, other, is_request}
 use Rattle.dap_session.specs.Messages.{is_response, is_from, is_request_of, is_response_to}
 use Rattle.dap_session.specs.Messages.{is_initialize, is_client_initialize, is_configuration_done}
-use Rattle.dap_session.specs.Messages.{is_initialized, is_farewell, is_output}
+use Rattle.dap_session.specs.Messages.{is_initialized, is_disconnect_success, is_output}
 use Rattle.dap_session.specs.Rules.{at_number, is_answered, is_initializing, is_broken, rules}
 use Rattle.dap_session.specs.Rules.{first_of, first_broken}
 use Rattle.dap_session.proofs.RuleTests.{none_each}
@@ -114,7 +114,7 @@ initializing_swapped (f ∷ front) back x y a =
 pub record Ends (front : List Sent) (x : Sent) : Type 0 where
   pub asked : Sent
   pub initialize : is_client_initialize asked ≡ true
-  pub answer : is_response_to Client (seq_of asked) x ≡ true
+  pub outcome : is_response_to Client (seq_of asked) x ≡ true
   pub there : (p : Sent → Bool) → p asked ≡ true → list_any p front ≡ true
 
 pub initializing_kept : (front : List Sent) (x : Sent) → is_initializing front ≡ true
@@ -130,7 +130,7 @@ initializing_kept (f ∷ front) x h =
             | inl r ↦ inr (record {
               asked = f;
               initialize = w.0;
-              answer = r;
+              outcome = r;
               there = λ p g. or_left (p f) (list_any p front) g;
             })
             | inr n ↦ inl (or_left
@@ -153,7 +153,7 @@ initializing_kept (f ∷ front) x h =
         | inr k ↦ inr (record {
           asked = k.asked;
           initialize = k.initialize;
-          answer = k.answer;
+          outcome = k.outcome;
           there = λ p g. or_right (p f) (list_any p front) (k.there p g);
         })
       ]
@@ -212,7 +212,7 @@ same_broken StillInitializing ms ns m s =
 same_broken InitializeTwice ms ns m s =
     ap (λ b. is_initialize m && b) (s.any is_client_initialize)
 same_broken AfterDisconnect ms ns m s =
-    ap (λ b. is_from Client m && is_request m && b) (s.any is_farewell)
+    ap (λ b. is_from Client m && is_request m && b) (s.any is_disconnect_success)
 same_broken SeqUsed ms ns m s =
     ap (λ b. is_request m && b) (s.any (λ q. is_request_of (side_of m) (seq_of m) q))
 same_broken ConfiguredEarly ms ns m s =

@@ -28,7 +28,7 @@ use Rattle.dap_swaps.proofs.ClassOrder.{class_total}
 -- The order of x and y is not fixed.
 pub record NotDependent (x y : Sent) : Type 0 where
   pub alike : of_one_class x y ≡ false
-  pub answer : answers x y ≡ false
+  pub outcome : answers x y ≡ false
   pub initialize : initializes x y ≡ false
   pub configuration : allows_configuration x y ≡ false
   pub farewell : ends_requests x y ≡ false
@@ -51,7 +51,7 @@ not_dependent x y h =
     let d = or_parts (allows_configuration x y) (ends_requests x y) c.1 in
     record {
       alike = a.0;
-      answer = b.0;
+      outcome = b.0;
       initialize = c.0;
       configuration = d.0;
       farewell = d.1;

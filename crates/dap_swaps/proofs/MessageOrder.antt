@@ -78,7 +78,7 @@ pub are_message_answers : (rules : List SwapRule) → AreAnswers (message_answer
 are_message_answers rules = record {
   are_classes = are_message_classes rules;
   not_free = λ x y h. false_from_ne_true (free rules x y) (λ f.
-      both_ways (answers y x) (apart rules x y f).back.answer
+      both_ways (answers y x) (apart rules x y f).back.outcome
       (and_parts (is_from Client x) (answers y x) h).1);
   one_answered = λ m x y h g. false_from_ne_true (free rules x y) (λ f.
       both_ways _ (apart rules x y f).there.alike

@@ -22,7 +22,8 @@ use Rattle.dap_session.specs.declared.rule.Rule.TheVariants.{NoRequest, Answered
 use Rattle.dap_session.specs.Messages.{side_of, name_of, seq_of, request_seq_of, other, is_request}
 use Rattle.dap_session.specs.Messages.{is_response, is_from, is_request_of, is_response_to}
 use Rattle.dap_session.specs.Messages.{is_initialize, is_client_initialize, is_configuration_done}
-use Rattle.dap_session.specs.Messages.{is_initialized, is_farewell, is_output, is_number, is_named}
+use Rattle.dap_session.specs.Messages.{is_initialized, is_disconnect_success, is_output, is_number}
+use Rattle.dap_session.specs.Messages.{is_named}
 use Rattle.dap_session.specs.Rules.{at_number, is_answered, is_initializing, is_broken}
 use Rattle.dap_session.proofs.Sides.{from_side}
 use Rattle.dap_session.proofs.RuleTests.{request_output, response_output}
@@ -45,7 +46,7 @@ ends_it : (front : List Sent) (x : Sent) → Fine front x → Ends front x
 ends_it front x fine e =
     let q = e.asked in
     let a = and_parts (is_response x && is_from Adapter x) (is_number (request_seq_of x) (seq_of q))
-    e.answer in
+    e.outcome in
     let b = and_parts (is_response x) (is_from Adapter x) a.0 in
     let n : request_seq_of x ≡ Some (seq_of q) =
     number_is (request_seq_of x) (seq_of q) a.1 in
@@ -115,10 +116,11 @@ without_first InitializeTwice front x y a fine quiet h =
     (any_before is_client_initialize front x w.1)))
 without_first AfterDisconnect front x y a fine quiet h =
     false_from_ne_true _ (λ t.
-    let w = and_parts (is_from Client y && is_request y) (list_any is_farewell front) t in
+    let w = and_parts (is_from Client y && is_request y) (list_any is_disconnect_success front) t in
     both_ways _ h
-    (and_from (is_from Client y && is_request y) (list_any is_farewell (front ++ x ∷ [])) w.0
-    (any_before is_farewell front x w.1)))
+    (and_from (is_from Client y && is_request y) (list_any is_disconnect_success (front ++ x ∷ []))
+    w.0
+    (any_before is_disconnect_success front x w.1)))
 without_first SeqUsed front x y a fine quiet h =
     false_from_ne_true _ (λ t.
     let w = and_parts (is_request y)
@@ -160,7 +162,7 @@ without_first NoRequest front x y a fine quiet h =
       | inl b ↦ both_ways _ (not-true _ w.1)
           (at_from (request_seq_of y)
           (λ n. list_any (λ q. is_request_of (other (side_of y)) n q) front) k.0 k.1 b)
-      | inr b ↦ both_ways _ a.back.answer (answers_request y x k.0 w.0 k.1 b)
+      | inr b ↦ both_ways _ a.back.outcome (answers_request y x k.0 w.0 k.1 b)
     ])))))
 without_first AnsweredTwice front x y a fine quiet h =
     false_from_ne_true _ (λ t.
@@ -225,12 +227,12 @@ after_second InitializeTwice front x y a fine later quiet =
 after_second AfterDisconnect front x y a fine later quiet =
     false_from_ne_true _ (λ t.
     let w = and_parts (is_from Client x && is_request x)
-    (list_any is_farewell (front ++ y ∷ [])) t in
-    elim (any_cases is_farewell front y w.1) [
+    (list_any is_disconnect_success (front ++ y ∷ [])) t in
+    elim (any_cases is_disconnect_success front y w.1) [
       | inl k ↦ both_ways _ (fine quiet AfterDisconnect)
-          (and_from (is_from Client x && is_request x) (list_any is_farewell front) w.0 k)
+          (and_from (is_from Client x && is_request x) (list_any is_disconnect_success front) w.0 k)
       | inr k ↦ both_ways _ a.back.farewell
-          (and_from (is_farewell y) (is_from Client x && is_request x) k w.0)
+          (and_from (is_disconnect_success y) (is_from Client x && is_request x) k w.0)
     ])
 after_second SeqUsed front x y a fine later quiet =
     false_from_ne_true _ (λ t.
@@ -329,7 +331,7 @@ after_second OtherCommand front x y a fine later quiet =
           (at_from (request_seq_of x)
           (λ n. list_any (λ q. is_request_of (other (side_of x)) n q
           && not (bytes_eq (name_of q) (name_of x))) front) k.0 k.1 b))
-      | inr b ↦ both_ways _ a.there.answer
+      | inr b ↦ both_ways _ a.there.outcome
           (answers_request x y k.0 w.0 k.1
           (and_parts (is_request_of (other (side_of x)) k.0 y)
           (not (bytes_eq (name_of y) (name_of x))) b).0)

@@ -9,7 +9,7 @@ use Rattle.dap_profile.specs.declared.profile.Kind.{Kind}
 use Rattle.dap_profile.specs.declared.profile.Kind.TheVariants.{Request, Response, Event}
 use Rattle.dap_message.specs.Message.{Sent}
 use Rattle.dap_session.specs.Messages.{kind_of, name_of, same_kind, is_output, is_initialized}
-use Rattle.dap_session.specs.Messages.{is_configuration_done, is_farewell}
+use Rattle.dap_session.specs.Messages.{is_configuration_done, is_disconnect_success}
 use Rattle.dap_mask.specs.Swaps.{Half, SwapRule}
 use Rattle.dap_swaps.specs.Free.{fits_name, fits_half, names_both, begins, is_client_request}
 use Rattle.dap_swaps.specs.Free.{is_fixed, may_swap, of_one_class, answers, depends, free}
@@ -44,13 +44,13 @@ record AreAlike (x y : Sent) : Type 0 where
   output : is_output x ≡ is_output y
   initialized : is_initialized x ≡ is_initialized y
   configured : is_configuration_done x ≡ is_configuration_done y
-  farewell : is_farewell x ≡ is_farewell y
+  farewell : is_disconnect_success x ≡ is_disconnect_success y
   request : is_client_request x ≡ is_client_request y
 
 alike : (x y : Sent) → session_code x ≡ session_code y → AreAlike x y
 alike x y e =
     let f = digit _ _ (is_client_request x) (is_client_request y) e in
-    let g = digit _ _ (is_farewell x) (is_farewell y) f.0 in
+    let g = digit _ _ (is_disconnect_success x) (is_disconnect_success y) f.0 in
     let h = digit _ _ (is_configuration_done x) (is_configuration_done y) g.0 in
     let i = digit _ _ (is_initialized x) (is_initialized y) h.0 in
     let j = digit _ _ (is_output x) (is_output y) i.0 in
@@ -73,18 +73,21 @@ fixed_by b o i c f q = (b && not o) || ((i && c) || (f && q))
 fixed_alike : (x x' y y' : Sent) → AreAlike x x' → AreAlike y y'
     → is_fixed x y ≡ is_fixed x' y'
 fixed_alike x x' y y' h g =
-    ap (λ b. fixed_by b (is_output y) (is_initialized x) (is_configuration_done y) (is_farewell x)
+    ap (λ b. fixed_by b (is_output y) (is_initialized x) (is_configuration_done y)
+    (is_disconnect_success x)
     (is_client_request y)) h.begin
-    ∙ ap (λ b. fixed_by (begins x') b (is_initialized x) (is_configuration_done y) (is_farewell x)
+    ∙ ap (λ b. fixed_by (begins x') b (is_initialized x) (is_configuration_done y)
+    (is_disconnect_success x)
     (is_client_request y)) g.output
-    ∙ ap (λ b. fixed_by (begins x') (is_output y') b (is_configuration_done y) (is_farewell x)
+    ∙ ap (λ b. fixed_by (begins x') (is_output y') b (is_configuration_done y)
+    (is_disconnect_success x)
     (is_client_request y)) h.initialized
-    ∙ ap (λ b. fixed_by (begins x') (is_output y') (is_initialized x') b (is_farewell x)
+    ∙ ap (λ b. fixed_by (begins x') (is_output y') (is_initialized x') b (is_disconnect_success x)
     (is_client_request y)) g.configured
     ∙ ap (λ b. fixed_by (begins x') (is_output y') (is_initialized x') (is_configuration_done y') b
     (is_client_request y)) h.farewell
     ∙ ap (fixed_by (begins x') (is_output y') (is_initialized x') (is_configuration_done y')
-    (is_farewell x')) g.request
+    (is_disconnect_success x')) g.request
 
 -- ---- the user's rules
 

@@ -12,7 +12,7 @@ use Rattle.dap_tree.proofs.IdNumbers.{sorts_alike}
 use Rattle.dap_message.specs.Message.{Sent}
 use Rattle.dap_session.specs.RenamedLists.{IsNumbered, DifferInIds, IsOneToOne, seq_sort}
 use Rattle.dap_session.specs.Rules.{KeepsRules}
-use Rattle.dap_rename.specs.Messages.{Class, IsProperId, AreSame, Carries, class_after, in_whole}
+use Rattle.dap_rename.specs.Messages.{Class, IsProperId, AreSame, Carries, class_after, no_stop}
 use Rattle.dap_rename.specs.Messages.{message_skeleton, occurrence, occurrences}
 use Rattle.dap_rename.specs.Renamings.{IsIn, IsRenaming, AreRelated}
 use Rattle.dap_rename.proofs.RelatedLists.{gives_one, takes_one}
@@ -56,7 +56,7 @@ related_rest r (o ∷ xs) more (p ∷ ys) rest n h =
 
 renamed : (r : List (Class × ℤ × ℤ)) (ms ns : List Sent)
     → map message_skeleton ms ≡ map message_skeleton ns
-    → AreRelated r (occurrences in_whole 0 ms) (occurrences in_whole 0 ns)
+    → AreRelated r (occurrences no_stop 0 ms) (occurrences no_stop 0 ns)
     → DifferInIds (Puts r) ms ns
 renamed r [] [] same h = tt
 renamed r [] (n ∷ ns) same h = absurd cc
@@ -64,8 +64,8 @@ renamed r (m ∷ ms) [] same h = absurd cc
 renamed r (m ∷ ms) (n ∷ ns) same h =
     let xs : List (Class × ℤ) = map (occurrence 0) (ids m.doc) in
     let ys : List (Class × ℤ) = map (occurrence 0) (ids n.doc) in
-    let more : List (Class × ℤ) = occurrences in_whole 0 ms in
-    let rest : List (Class × ℤ) = occurrences in_whole 0 ns in
+    let more : List (Class × ℤ) = occurrences no_stop 0 ms in
+    let rest : List (Class × ℤ) = occurrences no_stop 0 ns in
     let alike = head_of same in
     let count : length xs ≡ length ys =
     length-map (ids m.doc) (occurrence 0) ∙ ids_alike m n alike
@@ -99,7 +99,7 @@ one_skeleton m n s d =
     ∙ ap (λ (e : Doc). record { side = n.side; doc = e }) d
 
 carried : (r : List (Class × ℤ × ℤ)) (ms ns : List Sent) → DifferInIds (Puts r) ms ns
-    → Carries in_whole r ms ns
+    → Carries no_stop r ms ns
 carried r [] [] h = (refl, tt)
 carried r [] (n ∷ ns) h = absurd h
 carried r (m ∷ ms) [] h = absurd h
@@ -108,14 +108,14 @@ carried r (m ∷ ms) (n ∷ ns) h =
       ap (λ (a : Sent). a ∷ map message_skeleton ms)
           (one_skeleton m n h.0.one_side h.0.one_skeleton)
           ∙ ap (λ (t : List Sent). message_skeleton n ∷ t) w.0,
-      joined_ids r (ids m.doc) (ids n.doc) (occurrences in_whole 0 ms) (occurrences in_whole 0 ns)
+      joined_ids r (ids m.doc) (ids n.doc) (occurrences no_stop 0 ms) (occurrences no_stop 0 ns)
           (sorts_alike m.doc n.doc h.0.one_skeleton) h.0.related w.1,
     )
 
 -- ---- the orders
 
 pub same_orders : (rules : List SwapRule) (ms ns : List Sent) → All IsNumbered ms → KeepsRules ms
-    → AreSameButOrder rules ms ns → AreSame in_whole (ordered rules ms) (ordered rules ns)
+    → AreSameButOrder rules ms ns → AreSame no_stop (ordered rules ms) (ordered rules ns)
 unfolding AreSame
 same_orders rules ms ns is keeps same =
     let r = same.2.0 in
@@ -132,7 +132,7 @@ same_orders rules ms ns is keeps same =
     )
 
 pub from_same_orders : (rules : List SwapRule) (ms ns : List Sent) → All IsNumbered ms
-    → AreSame in_whole (ordered rules ms) (ordered rules ns) → AreSameButOrder rules ms ns
+    → AreSame no_stop (ordered rules ms) (ordered rules ns) → AreSameButOrder rules ms ns
 unfolding AreSame
 from_same_orders rules ms ns is same =
     let r = same.0 in
@@ -141,16 +141,16 @@ from_same_orders rules ms ns is same =
     (w.between, w.swaps, (r, same.1, carried r w.between ns w.renaming))
 
 pub one_normal_form : (rules : List SwapRule) (ms ns n k : List Sent) → All IsNumbered ms
-    → KeepsRules ms → IsNormal in_whole (ordered rules ms) n
-    → IsNormal in_whole (ordered rules ns) k → AreSameButOrder rules ms ns → n ≡ k
+    → KeepsRules ms → IsNormal no_stop (ordered rules ms) n
+    → IsNormal no_stop (ordered rules ns) k → AreSameButOrder rules ms ns → n ≡ k
 one_normal_form rules ms ns n k is keeps p q same =
-    normal_is_unique in_whole (ordered rules ms) (ordered rules ns) n k
+    normal_is_unique no_stop (ordered rules ms) (ordered rules ns) n k
     (same_orders rules ms ns is keeps same) p q
 
 pub same_from_normal_form : (rules : List SwapRule) (ms ns n k : List Sent) → All IsNumbered ms
-    → IsNormal in_whole (ordered rules ms) n → IsNormal in_whole (ordered rules ns) k → n ≡ k
+    → IsNormal no_stop (ordered rules ms) n → IsNormal no_stop (ordered rules ns) k → n ≡ k
     → AreSameButOrder rules ms ns
 same_from_normal_form rules ms ns n k is p q e =
     from_same_orders rules ms ns is
-    (normal_is_complete in_whole (ordered rules ms) (ordered rules ns) n p
-    (subst (IsNormal in_whole (ordered rules ns)) (sym e) q))
+    (normal_is_complete no_stop (ordered rules ms) (ordered rules ns) n p
+    (subst (IsNormal no_stop (ordered rules ns)) (sym e) q))

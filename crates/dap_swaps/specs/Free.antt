@@ -14,7 +14,7 @@ use Rattle.dap_message.specs.Message.{Sent}
 use Rattle.dap_session.specs.Messages.{side_of, kind_of, name_of, seq_of, request_seq_of}
 use Rattle.dap_session.specs.Messages.{same_kind, is_request, is_response, is_from, is_named}
 use Rattle.dap_session.specs.Messages.{is_response_to, is_client_initialize, is_output}
-use Rattle.dap_session.specs.Messages.{is_configuration_done, is_initialized, is_farewell}
+use Rattle.dap_session.specs.Messages.{is_configuration_done, is_initialized, is_disconnect_success}
 use Rattle.dap_mask.specs.Swaps.{Half, SwapRule}
 
 -- ---- messages that the rules name
@@ -121,7 +121,7 @@ is_client_request m = is_from Client m && is_request m
 -- x is a successful `disconnect` response, and y is a request of the client (rule
 -- `AfterDisconnect`).
 abbrev pub ends_requests : Sent → Sent → Bool
-ends_requests x y = is_farewell x && is_client_request y
+ends_requests x y = is_disconnect_success x && is_client_request y
 
 -- A session rule fixes the order of x and y, whatever their ids are.
 abbrev pub is_fixed : Sent → Sent → Bool

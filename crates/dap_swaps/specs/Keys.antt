@@ -11,7 +11,7 @@ use Rattle.dap_profile.specs.declared.profile.Kind.TheVariants.{Request, Respons
 use Rattle.dap_message.specs.Message.{Sent}
 use Rattle.dap_session.specs.Messages.{side_of, kind_of, name_of, seq_of, request_seq_of, other}
 use Rattle.dap_session.specs.Messages.{is_request, is_response, is_named, is_output}
-use Rattle.dap_session.specs.Messages.{is_configuration_done, is_initialized, is_farewell}
+use Rattle.dap_session.specs.Messages.{is_configuration_done, is_initialized, is_disconnect_success}
 use Rattle.dap_mask.specs.Swaps.{SwapRule, swaps_of}
 use Rattle.dap_swaps.specs.Free.{class_of, class_rank, class_number, class_name, begins}
 use Rattle.dap_swaps.specs.Free.{is_client_request}
@@ -97,7 +97,8 @@ kind_code Event = 2
 abbrev pub session_code : Sent → ℕ
 session_code m =
     with_bit (with_bit (with_bit (with_bit (with_bit (with_bit (kind_code (kind_of m))
-    (begins m)) (is_output m)) (is_initialized m)) (is_configuration_done m)) (is_farewell m))
+    (begins m)) (is_output m)) (is_initialized m)) (is_configuration_done m))
+    (is_disconnect_success m))
     (is_client_request m)
 
 -- Messages with the same look may be swapped with the same messages, unless their ids, or names

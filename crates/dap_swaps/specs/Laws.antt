@@ -11,7 +11,7 @@ use Rattle.dap_order.specs.Swaps.{BothWays, Reordered}
 use Rattle.dap_order.specs.Barriers.{order_by_label_after}
 use Rattle.dap_mask.specs.Swaps.{SwapRule}
 use Rattle.dap_swaps.specs.Free.{free, names}
-use Rattle.dap_rename.specs.Messages.{AreSame, IsNormal, in_whole}
+use Rattle.dap_rename.specs.Messages.{AreSame, IsNormal, no_stop}
 use Rattle.dap_swaps.specs.SameButOrder.{SameButOrder, AreSameButOrder}
 use Rattle.dap_swaps.specs.Words.{IsFree}
 use Rattle.dap_swaps.specs.Order.{message_labels, ordered, AreOrdered}
@@ -93,11 +93,11 @@ OneOrderButIds = (rules : List SwapRule) (pairs : Renaming) (ms ns : List Sent)
 -- are the same except for ids.
 abbrev pub SameOrders : Type 0
 SameOrders = (rules : List SwapRule) (ms ns : List Sent) → All IsNumbered ms → KeepsRules ms
-    → AreSameButOrder rules ms ns ↔ AreSame in_whole (ordered rules ms) (ordered rules ns)
+    → AreSameButOrder rules ms ns ↔ AreSame no_stop (ordered rules ms) (ordered rules ns)
 
 -- Two lists are the same except for ids and the order of free messages if and only if the normal
 -- forms of their orders are equal.
 abbrev pub OneNormalForm : Type 0
 OneNormalForm = (rules : List SwapRule) (ms ns n k : List Sent) → All IsNumbered ms → KeepsRules ms
-    → IsNormal in_whole (ordered rules ms) n → IsNormal in_whole (ordered rules ns) k
+    → IsNormal no_stop (ordered rules ms) n → IsNormal no_stop (ordered rules ns) k
     → AreSameButOrder rules ms ns ↔ (n ≡ k)

@@ -3,7 +3,7 @@ use Rattle.std.specs.Prelude.{ℤ, List}
 use Rattle.dap_tree.specs.declared.sort.Sort.{Sort}
 use Rattle.dap_message.specs.Message.{Sent}
 use Rattle.dap_session.specs.RenamedLists.{DifferInIds}
-use Rattle.dap_rename.specs.Messages.{AreSame, in_whole}
+use Rattle.dap_rename.specs.Messages.{AreSame, no_stop}
 use Rattle.dap_order.specs.Swaps.{Reordered}
 use Rattle.dap_mask.specs.Swaps.{SwapRule}
 use Rattle.dap_swaps.specs.Free.{free}
@@ -18,4 +18,4 @@ pub record SameButOrder (R : Sort → ℤ → ℤ → Type 0) (rules : List Swap
 -- Swaps of free neighbours, followed by a one-to-one renaming with `Mode::Whole`, turn ms into ns.
 abbrev pub AreSameButOrder : List SwapRule → List Sent → List Sent → Type 0
 AreSameButOrder rules ms ns =
-    (between : List Sent) × Reordered (free rules) ms between × AreSame in_whole between ns
+    (between : List Sent) × Reordered (free rules) ms between × AreSame no_stop between ns

@@ -5,7 +5,8 @@ use Rattle.dap_tree.specs.declared.side.Side.TheVariants.{Client, Adapter}
 use Rattle.dap_message.specs.Message.{Sent}
 use Rattle.dap_session.specs.Messages.{side_of, kind_of, seq_of, other}
 use Rattle.dap_session.specs.Positions.{IsFrom, IsRequest, IsResponse, IsNamed, IsClientInitialize}
-use Rattle.dap_session.specs.Positions.{IsConfigurationDone, IsInitialized, IsFarewell, IsOutput}
+use Rattle.dap_session.specs.Positions.{IsConfigurationDone, IsInitialized, IsDisconnectSuccess}
+use Rattle.dap_session.specs.Positions.{IsOutput}
 use Rattle.dap_session.specs.Positions.{IsResponseOf}
 use Rattle.dap_mask.specs.Swaps.{Half, SwapRule}
 use Rattle.dap_swaps.specs.Free.{class_of}
@@ -39,7 +40,7 @@ Depends x y =
     ⊎ ((IsFrom Adapter x × IsResponse x) × IsNamed (codes "initialize") x))
     × ¬ IsOutput y)
     ⊎ ((IsInitialized x × IsConfigurationDone y)
-    ⊎ (IsFarewell x × (IsFrom Client y × IsRequest y)))))
+    ⊎ (IsDisconnectSuccess x × (IsFrom Client y × IsRequest y)))))
 
 -- The messages may be swapped if they are neighbours: a rule names both of them, and their order is
 -- not fixed.

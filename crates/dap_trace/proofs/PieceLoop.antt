@@ -7,8 +7,8 @@ use Rattle.std.proofs.lemmas.List.{drop_all, take_all}
 use Rattle.dap_device.specs.declared.device.Source.{Ghosts as Source}
 use Rattle.dap_device.specs.declared.reading.Stop.{Stop}
 use Rattle.dap_device.specs.declared.reading.Stop.TheVariants.{End, Full, Failed}
-use Rattle.dap_device.specs.Pieces.{HasComeSoFar, HasNextPiece, HasNoPiece, Window}
-use Rattle.dap_device.specs.Reading.{FitsStop, HasCome, HasLength}
+use Rattle.dap_device.specs.Pieces.{HasReadSoFar, HasNextPiece, HasNoPiece, Window}
+use Rattle.dap_device.specs.Reading.{FitsStop, HasReadInput, HasLength}
 use Rattle.dap_recording.specs.RecorderReading.{RecorderReading}
 use Rattle.dap_recording.specs.TraceReading.{TraceReading}
 use Rattle.dap_input.specs.declared.limits.Limits.{Limits}
@@ -29,8 +29,8 @@ length_of limit bytes Failed within = within
 module _ {R : Type 0} (source : Source R) where
   -- If no more bytes follow, these are all bytes of the input.
   all_came : (start end : R) (limit : ℕ) (bytes : List ℕ) (stop : Stop)
-      → HasComeSoFar source start end bytes (Some stop) → IsWithin (length bytes) limit (Some stop)
-      → HasCome source start end limit bytes stop
+      → HasReadSoFar source start end bytes (Some stop) → IsWithin (length bytes) limit (Some stop)
+      → HasReadInput source start end limit bytes stop
   all_came start end limit bytes stop came within = record {
     came = came.came;
     counted = came.counted;
@@ -43,7 +43,7 @@ module _ {R : Type 0} (source : Source R) where
   -- This many more bytes were read, and the limit allows them.
   pub record Dropping (old now : Window) (before mid : R) : Type 0 where
     pub more : List ℕ
-    pub came : HasComeSoFar source before mid more None
+    pub came : HasReadSoFar source before mid more None
     pub taken : now.taken ≡ old.taken + length more
     pub limit_is : now.limit ≡ old.limit
     pub within : old.taken ≤ old.limit → now.taken ≤ now.limit
@@ -85,10 +85,10 @@ module _ {R : Type 0} (source : Source R) where
     at_most : old.taken ≤ old.limit → old.taken + length was.more ≤ old.limit
     at_most le = let within = was.within le in omega (arith, within, was.taken, was.limit_is)
 
-    came_none : (after : R) (stop : Stop) → HasComeSoFar source mid after [] (Some stop)
-        → HasComeSoFar source before after was.more (Some stop)
+    came_none : (after : R) (stop : Stop) → HasReadSoFar source mid after [] (Some stop)
+        → HasReadSoFar source before after was.more (Some stop)
     came_none after stop next =
-        subst (λ more. HasComeSoFar source before after more (Some stop)) (append-nil was.more)
+        subst (λ more. HasReadSoFar source before after more (Some stop)) (append-nil was.more)
         (came_on source before mid after was.more [] (Some stop) was.came next)
 
     pub dropped : (after : R) (stop : Stop) → HasNoPiece source now mid after stop
@@ -117,7 +117,7 @@ module _ {R : Type 0} (source : Source R) where
     pub record Going (reader : R) (pieces : Window) (trace : TraceReading)
         (recorder : RecorderReading) (last : ℕ) : Type 0 where
       pub bytes : List ℕ
-      pub came : HasComeSoFar source start reader bytes None
+      pub came : HasReadSoFar source start reader bytes None
       pub none : pieces.unread ≡ []
       pub taken : pieces.taken ≡ length bytes
       pub limit_is : pieces.limit ≡ limits.input
@@ -126,7 +126,7 @@ module _ {R : Type 0} (source : Source R) where
     pub at_start : (reader : R) (pieces : Window) (trace : TraceReading)
         (recorder : RecorderReading)
         → pieces ≡ record { unread = []; taken = 0; limit = limits.input }
-        → HasComeSoFar source start reader [] None → Tracing limits [] [] trace recorder 0
+        → HasReadSoFar source start reader [] None → Tracing limits [] [] trace recorder 0
         → Going reader pieces trace recorder 0
     at_start reader pieces trace recorder is came traced = record {
       bytes = [];
@@ -140,7 +140,7 @@ module _ {R : Type 0} (source : Source R) where
     -- These bytes were consumed, out of all bytes of the input.
     pub record Ended (taken : List ℕ) (after : R) (stop : Stop) : Type 0 where
       pub bytes : List ℕ
-      pub came : HasCome source start after limits.input bytes stop
+      pub came : HasReadInput source start after limits.input bytes stop
       pub is_front : taken ≡ take limits.input bytes
       pub fits : FitsStop limits.input bytes stop
 
@@ -156,10 +156,10 @@ module _ {R : Type 0} (source : Source R) where
       pub few_failures : source.failures start < 2 ^ 62 → source.failures reader < 2 ^ 63
       few_failures small = let same = was.came.paused in omega (arith, small, same)
 
-      came_whole : (after : R) (stop : Stop) → HasComeSoFar source reader after [] (Some stop)
-          → HasComeSoFar source start after was.bytes (Some stop)
+      came_whole : (after : R) (stop : Stop) → HasReadSoFar source reader after [] (Some stop)
+          → HasReadSoFar source start after was.bytes (Some stop)
       came_whole after stop next =
-          subst (λ bytes. HasComeSoFar source start after bytes (Some stop)) (append-nil was.bytes)
+          subst (λ bytes. HasReadSoFar source start after bytes (Some stop)) (append-nil was.bytes)
           (came_on source start reader after was.bytes [] (Some stop) was.came next)
 
       -- Why no more bytes follow.
@@ -218,21 +218,21 @@ module _ {R : Type 0} (source : Source R) where
           pub now_short : length (was.bytes ++ filled.unread) ≤ limits.input
           now_short = let within = got.within in omega (arith, within, now_taken, now_limit)
 
-          pub came_now : HasComeSoFar source start after (was.bytes ++ filled.unread) None
+          pub came_now : HasReadSoFar source start after (was.bytes ++ filled.unread) None
           came_now =
-              subst (λ t. HasComeSoFar source start after (was.bytes ++ t) None) (sym unread_is)
+              subst (λ t. HasReadSoFar source start after (was.bytes ++ t) None) (sym unread_is)
               (came_on source start reader after was.bytes got.piece None was.came got.came)
 
           -- The result of recording the chunk.
           pub of_piece : AreSound limits → (piece : List ℕ) → piece ≡ filled.unread
-              → (now : TraceReading) (recorded : RecorderReading) (answer : Result ℕ Refused)
+              → (now : TraceReading) (recorded : RecorderReading) (outcome : Result ℕ Refused)
               → ((its : Limits) (bytes : List ℕ) → AreSound its
               → length (bytes ++ piece) ≤ its.input
               → Tracing its bytes [] trace recorder last
-              → RecordsPiece its (bytes ++ piece) now recorded answer)
-              → RecordsPiece limits (was.bytes ++ filled.unread) now recorded answer
-          of_piece sound piece is now recorded answer records =
-              subst (λ t. RecordsPiece limits (was.bytes ++ t) now recorded answer) is
+              → RecordsPiece its (bytes ++ piece) now recorded outcome)
+              → RecordsPiece limits (was.bytes ++ filled.unread) now recorded outcome
+          of_piece sound piece is now recorded outcome records =
+              subst (λ t. RecordsPiece limits (was.bytes ++ t) now recorded outcome) is
               (records limits was.bytes sound
               (subst (λ t. length (was.bytes ++ t) ≤ limits.input) (sym is) now_short) was.traced)
 
@@ -280,7 +280,7 @@ module _ {R : Type 0} (source : Source R) where
               → Traces {U = Unit {0}} limits (was.bytes ++ filled.unread) s (Err because) recorded)
               → (end : R) (stop : Stop) → HasReadOn source filled after end stop
               → TracesInput source {U = Unit {0}} limits start end (Err because) recorded
-          refused because recorded told end stop rest =
+          refused because recorded reported end stop rest =
               let front : List ℕ = was.bytes ++ filled.unread in
               let long : filled.taken + length rest.more ≡ length (front ++ rest.more) =
               omega (arith, now_taken, length-append front rest.more) in
@@ -292,5 +292,6 @@ module _ {R : Type 0} (source : Source R) where
                     (subst (λ limit. IsWithin (length (front ++ rest.more)) limit (Some stop))
                     now_limit
                     (subst (λ n. IsWithin n filled.limit (Some stop)) long rest.within));
-                traces = refused_later (Unit {0}) limits front rest.more because recorded told stop;
+                traces = refused_later (Unit {0}) limits front rest.more because recorded reported
+                    stop;
               }

@@ -7,12 +7,12 @@ use Rattle.dap_items.proofs.Ends.{shown_by_byte}
 use Rattle.dap_frame.proofs.Frames.{frame_grammar}
 use Rattle.dap_frame.specs.declared.fault.FrameFault.{FrameFault}
 use Rattle.dap_frame.specs.declared.limits.FrameLimits.{FrameLimits}
-use Rattle.dap_frame.specs.Frame.{IsFrame, IsOpen, Shows}
+use Rattle.dap_frame.specs.Frame.{IsFrame, IsOpen, FailsAt}
 use Rattle.dap_recording.specs.declared.recorder_fault.RecorderFault.{RecorderFault}
 use Rattle.dap_recording.specs.declared.recorder_fault.RecorderFault.TheVariants.{Frame, Memory}
 use Rattle.dap_recording.specs.OneSide.{WantsMemory}
 use Rattle.dap_recording.specs.RecordedTraces.{AreRecorded}
-use Rattle.dap_recording.specs.RecorderReading.{RecorderReading, StandsForRests, GivesPiece}
+use Rattle.dap_recording.specs.RecorderReading.{RecorderReading, RepresentsRests, GivesPiece}
 use Rattle.dap_recording.specs.RecorderReading.{recorder_limits, text_of, with_rest}
 use Rattle.dap_recording.specs.Recording.{record_text, recording_text}
 use Rattle.dap_recording.proofs.RecorderRuns.{recorded_frame, rest_with}
@@ -22,11 +22,12 @@ use Rattle.dap_trace.specs.TracingSteps.{HasRecorded, RecordsRun, ShowsInRun}
 use Rattle.dap_trace.proofs.TraceSteps.{recorded_open, sent_on, with_open}
 
 -- The rests that a recorder represents are incomplete.
-pub stands_open : (limits : FrameLimits) (recorder : RecorderReading) (rests : Side → List ℕ)
-    → StandsForRests recorder rests → recorder_limits recorder ≡ limits → (s : Side)
+pub represented_is_incomplete : (limits : FrameLimits) (recorder : RecorderReading)
+    (rests : Side → List ℕ)
+    → RepresentsRests recorder rests → recorder_limits recorder ≡ limits → (s : Side)
     → IsOpen limits (rests s)
-stands_open limits recorder rests stands its s =
-    subst (λ l. IsOpen l (rests s)) (stands.limits s ∙ its) (stands.each s).is_open
+represented_is_incomplete limits recorder rests represents its s =
+    subst (λ l. IsOpen l (rests s)) (represents.limits s ∙ its) (represents.each s).is_open
 
 module _ (limits : FrameLimits) (recorder new : RecorderReading) (taken : List (Side × ℕ))
     (side : Side) (piece : List ℕ) (was : HasRecorded limits recorder taken) where
@@ -40,14 +41,14 @@ module _ (limits : FrameLimits) (recorder new : RecorderReading) (taken : List (
       let rests = with_rest side (was.rests side ++ piece) was.rests in
       let is_open : IsOpen limits (was.rests side ++ piece) =
       subst (IsOpen limits) (rest_with side (was.rests side ++ piece) was.rests)
-      (stands_open limits new rests on.stands (kept ∙ was.its_limits) side) in
+      (represented_is_incomplete limits new rests on.represents (kept ∙ was.its_limits) side) in
       subst (λ xs. HasRecorded limits new (taken ++ sent_by side xs)) (sym all)
       (record {
         messages = was.messages;
         rests = rests;
         recorded = recorded_open limits taken was.messages was.rests was.recorded side piece
             is_open;
-        stands = on.stands;
+        represents = on.represents;
         its_limits = kept ∙ was.its_limits;
         text = on.text ∙ was.text;
       })
@@ -59,7 +60,7 @@ module _ (limits : FrameLimits) (recorder new : RecorderReading) (taken : List (
         rests = with_rest side [] was.rests;
         recorded = recorded_frame limits side taken (take used piece) was.messages was.rests
             was.recorded has.content is;
-        stands = has.stands;
+        represents = has.represents;
         its_limits = kept ∙ was.its_limits;
         text = has.text ∙ ap (λ xs. xs ++ record_text side has.content) was.text
             ∙ ap (λ xs. recording_text was.messages ++ xs)
@@ -69,10 +70,11 @@ module _ (limits : FrameLimits) (recorder new : RecorderReading) (taken : List (
       }
 
   shows_there : (fault : FrameFault) (place : ℕ)
-      → Shows limits (was.rests side ++ piece) fault place → text_of new ≡ text_of recorder
+      → FailsAt limits (was.rests side ++ piece) fault place → text_of new ≡ text_of recorder
       → ShowsInRun limits new taken side piece fault
   shows_there fault place shows kept =
-      let is_open = stands_open limits recorder was.rests was.stands was.its_limits in
+      let is_open = represented_is_incomplete limits recorder was.rests was.represents
+      was.its_limits in
       let there =
       shown_by_byte (frame_grammar limits) (was.rests side) piece fault place (is_open side)
       shows in
@@ -88,7 +90,7 @@ module _ (limits : FrameLimits) (recorder new : RecorderReading) (taken : List (
             there.is_open;
         are_open = with_open limits side rest was.rests there.is_open is_open;
         place = place;
-        shows = subst (λ r. Shows limits (r ++ there.byte ∷ []) fault place)
+        shows = subst (λ r. FailsAt limits (r ++ there.byte ∷ []) fault place)
             (sym (rest_with side rest was.rests)) there.shows;
         text = kept ∙ was.text;
       }
@@ -108,7 +110,8 @@ module _ (limits : FrameLimits) (recorder new : RecorderReading) (taken : List (
         rests = was.rests;
         recorded = subst (λ xs. AreRecorded limits xs was.messages was.rests)
             (sym (append-nil taken)) was.recorded;
-        are_open = stands_open limits recorder was.rests was.stands was.its_limits;
+        are_open = represented_is_incomplete limits recorder was.rests was.represents
+            was.its_limits;
         wants = subst (λ l. WantsMemory l (was.rests side) piece) was.its_limits
             (wants memory.0);
       })
@@ -116,7 +119,7 @@ module _ (limits : FrameLimits) (recorder new : RecorderReading) (taken : List (
       subst (λ f. RecordsRun {U = U} limits new taken side piece (Err f)) (sym faulty.fault_is) (
         refl,
         shows_there faulty.cause faulty.shown.0
-            (subst (λ l. Shows l (was.rests side ++ piece) faulty.cause faulty.shown.0)
+            (subst (λ l. FailsAt l (was.rests side ++ piece) faulty.cause faulty.shown.0)
             was.its_limits
             faulty.shown.1) faulty.text,
       )
@@ -144,14 +147,14 @@ run_starts old side run limits taken was =
 module _ (old recorder new : RecorderReading) (side : Side) (run rest : List ℕ)
     (was : RunGoesOn old recorder side run rest) where
   pub run_taken : (used : ℕ)
-      → ((rests : Side → List ℕ) → StandsForRests recorder rests
+      → ((rests : Side → List ℕ) → RepresentsRests recorder rests
       → GivesPiece side rests rest recorder new (Ok used))
       → recorder_limits new ≡ recorder_limits recorder
       → RunGoesOn old new side run (drop used rest)
   run_taken used gives kept limits taken before =
       let so_far = was limits taken before in
       let more = piece_taken limits recorder new (taken ++ sent_by side so_far.front) side rest
-      so_far.recorded used (gives so_far.recorded.rests so_far.recorded.stands) kept in
+      so_far.recorded used (gives so_far.recorded.rests so_far.recorded.represents) kept in
       record {
         front = so_far.front ++ take used rest;
         run_is = so_far.run_is ∙ ap (λ t. so_far.front ++ t) (sym (take-append-drop used rest))
@@ -162,9 +165,9 @@ module _ (old recorder new : RecorderReading) (side : Side) (run rest : List ℕ
       }
 
   pub run_refused : (U : Type 0) (fault : RecorderFault)
-      → ((rests : Side → List ℕ) → StandsForRests recorder rests
+      → ((rests : Side → List ℕ) → RepresentsRests recorder rests
       → GivesPiece side rests rest recorder new (Err fault))
-      → (fault ≡ Memory → (rests : Side → List ℕ) → StandsForRests recorder rests
+      → (fault ≡ Memory → (rests : Side → List ℕ) → RepresentsRests recorder rests
       → WantsMemory (recorder_limits recorder) (rests side) rest)
       → (limits : FrameLimits) (taken : List (Side × ℕ)) → HasRecorded limits old taken
       → RecordsRun {U = U} limits new taken side run (Err fault)
@@ -172,8 +175,8 @@ module _ (old recorder new : RecorderReading) (side : Side) (run rest : List ℕ
       let so_far = was limits taken before in
       later fault so_far
       (piece_refused limits recorder new (taken ++ sent_by side so_far.front) side rest
-      so_far.recorded U fault (gives so_far.recorded.rests so_far.recorded.stands)
-      (λ memory. wants memory so_far.recorded.rests so_far.recorded.stands))
+      so_far.recorded U fault (gives so_far.recorded.rests so_far.recorded.represents)
+      (λ memory. wants memory so_far.recorded.rests so_far.recorded.represents))
     where
       later : (f : RecorderFault) → (so_far : RecordedFront limits recorder taken side run rest)
           → RecordsRun {U = U} limits new (taken ++ sent_by side so_far.front) side rest (Err f)

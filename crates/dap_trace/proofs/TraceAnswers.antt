@@ -6,8 +6,8 @@ use Rattle.dap_device.specs.declared.device.Sink.{Ghosts as Sink}
 use Rattle.dap_device.specs.declared.device.Source.{Ghosts as Source}
 use Rattle.dap_device.specs.declared.reading.Stop.{Stop}
 use Rattle.dap_device.specs.declared.reading.Stop.TheVariants.{End, Full}
-use Rattle.dap_device.specs.Reading.{HasCome}
-use Rattle.dap_device.specs.Written.{AllSent, FrontWritten}
+use Rattle.dap_device.specs.Reading.{HasReadInput}
+use Rattle.dap_device.specs.Written.{AllSent, PrefixWritten}
 use Rattle.dap_recording.specs.RecorderReading.{RecorderReading, text_of}
 use Rattle.dap_input.specs.declared.limits.Limits.{Limits}
 use Rattle.dap_input.specs.declared.refused.Refused.{Refused}
@@ -22,11 +22,11 @@ use Rattle.dap_trace.proofs.TraceOutcomes.{refusal_stays}
 module _ {R W : Type 0} (U : Type 0) (source : Source R) (sink : Sink W) (limits : Limits)
     (old new : R) (before after : W)
     (bytes : List ℕ) (stop : Stop)
-    (came : HasCome source old new limits.input bytes stop)
+    (came : HasReadInput source old new limits.input bytes stop)
     (recorder : RecorderReading) where
-  abbrev judged : (answer : Result U Refused) → HasTraced limits bytes stop answer recorder
-      → HasJudgedTrace source sink limits old new answer
-  judged answer traced =
+  abbrev judged : (outcome : Result U Refused) → HasTraced limits bytes stop outcome recorder
+      → HasJudgedTrace source sink limits old new outcome
+  judged outcome traced =
       record {
         bytes = bytes;
         stop = stop;
@@ -35,38 +35,39 @@ module _ {R W : Type 0} (U : Type 0) (source : Source R) (sink : Sink W) (limits
         judges = traced.judges;
       }
 
-  sent : (answer result : Result U Refused)
-      → (HasTraced limits bytes stop answer recorder
+  sent : (outcome result : Result U Refused)
+      → (HasTraced limits bytes stop outcome recorder
       → AllSent sink before after (text_of recorder)
-      → RecordsTrace source sink limits old new before after answer)
-      → HasTraced limits bytes stop answer recorder
-      → ((result ≡ answer) × AllSent sink before after (text_of recorder))
+      → RecordsTrace source sink limits old new before after outcome)
+      → HasTraced limits bytes stop outcome recorder
+      → ((result ≡ outcome) × AllSent sink before after (text_of recorder))
       ⊎ ((result ≡ Err WriteFault)
-      × FrontWritten sink before after (text_of recorder))
+      × PrefixWritten sink before after (text_of recorder))
       → RecordsTrace source sink limits old new before after result
-  sent answer result all traced (inl (same, written)) =
+  sent outcome result all traced (inl (same, written)) =
       subst (RecordsTrace source sink limits old new before after)
       (sym same) (all traced written)
-  sent answer result all traced (inr (same, written)) =
+  sent outcome result all traced (inr (same, written)) =
       subst (RecordsTrace source sink limits old new before after)
       (sym same)
       (record {
-        answer = answer;
-        judged = judged answer traced;
-        written = subst (FrontWritten sink before after) traced.text written;
+        outcome = outcome;
+        judged = judged outcome traced;
+        written = subst (PrefixWritten sink before after) traced.text written;
       })
 
-  written_all : (answer : Result U Refused) → (traced : HasTraced limits bytes stop answer recorder)
+  written_all : (outcome : Result U Refused)
+      → (traced : HasTraced limits bytes stop outcome recorder)
       → AllSent sink before after (text_of recorder)
-      → HasWrittenRecords source sink limits old new before after answer
-  written_all answer traced written =
+      → HasWrittenRecords source sink limits old new before after outcome
+  written_all outcome traced written =
       record {
-        judged = judged answer traced;
+        judged = judged outcome traced;
         written = subst (AllSent sink before after) traced.text written;
       }
 
-  pub answered : (answer result : Result U Refused) → Traces limits bytes stop answer recorder
-      → HasSentRecords sink (text_of recorder) answer before after result
+  pub answered : (outcome result : Result U Refused) → Traces limits bytes stop outcome recorder
+      → HasSentRecords sink (text_of recorder) outcome before after result
       → RecordsTrace source sink limits old new before after result
   answered (Err NoMemory) result traced has_sent =
       subst (RecordsTrace source sink limits old new before after)
@@ -83,8 +84,8 @@ pub refused_later : (U : Type 0) (limits : Limits) (bytes more : List ℕ) (refu
     (recorder : RecorderReading)
     → ((stop : Stop) → Traces {U = U} limits bytes stop (Err refused) recorder)
     → (stop : Stop) → Traces {U = U} limits (bytes ++ more) stop (Err refused) recorder
-refused_later U limits bytes more NoMemory recorder told stop =
-    let now = told End in
+refused_later U limits bytes more NoMemory recorder reported stop =
+    let now = reported End in
     record {
       front = now.front;
       so_far = now.so_far;
@@ -98,11 +99,11 @@ refused_later U limits bytes more NoMemory recorder told stop =
       of_piece = now.of_piece;
       wants = now.wants;
     }
-refused_later U limits bytes more WriteFault recorder told stop = absurd (told End).judges
-refused_later U limits bytes more ReadFault recorder told stop =
-    absurd (let e = (told End).judges.0 in let g : ⊥ = cc in g)
-refused_later U limits bytes more refused recorder told stop =
-    let now = told Full in
+refused_later U limits bytes more WriteFault recorder reported stop = absurd (reported End).judges
+refused_later U limits bytes more ReadFault recorder reported stop =
+    absurd (let e = (reported End).judges.0 in let g : ⊥ = cc in g)
+refused_later U limits bytes more refused recorder reported stop =
+    let now = reported Full in
     let no_end : IsOfEnd refused → ⊥ = λ ended.
     (let e = now.judges.1 ended in let g : ⊥ = cc in g) in
     record {

@@ -11,7 +11,7 @@ use Rattle.dap_frame.proofs.Frames.{frame_grammar, open_at_first}
 use Rattle.dap_recording.proofs.TracePieces.{one_piece, piece_grammar}
 use Rattle.dap_frame.specs.declared.fault.FrameFault.TheVariants.{Cut}
 use Rattle.dap_frame.specs.declared.limits.FrameLimits.{FrameLimits}
-use Rattle.dap_frame.specs.Frame.{Shows}
+use Rattle.dap_frame.specs.Frame.{FailsAt}
 use Rattle.dap_recording.specs.declared.recorder_fault.RecorderFault.TheVariants.{Frame}
 use Rattle.dap_recording.specs.declared.trace_fault.TraceCause.{TraceCause}
 use Rattle.dap_recording.specs.declared.trace_fault.TraceCause.TheVariants as trace_cause
@@ -83,9 +83,9 @@ module _ (limits : FrameLimits) (bytes others : List ℕ) (same : bytes
       (of_frame s other f {place = j} has shown) =
       let one = one_in_raw a.rest side s raw other is
       (subst (λ r. IsInRaw r s other) (sym split.1) has) in
-      let later : Shows limits (a.rests side ++ byte ∷ []) f j =
-      subst (λ r. Shows limits (r ++ byte ∷ []) f j) (sym (same_rests side))
-      (subst (λ t. Shows limits (b.rests t ++ byte ∷ []) f j) (sym one.0) shown) in
+      let later : FailsAt limits (a.rests side ++ byte ∷ []) f j =
+      subst (λ r. FailsAt limits (r ++ byte ∷ []) f j) (sym (same_rests side))
+      (subst (λ t. FailsAt limits (b.rests t ++ byte ∷ []) f j) (sym one.0) shown) in
       let fault_is =
       (one_fault (frame_grammar limits) (a.rests side ++ byte ∷ []) fault f i j shows later).0
       in

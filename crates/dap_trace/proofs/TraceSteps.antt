@@ -14,7 +14,7 @@ use Rattle.dap_recording.proofs.TracePieces.{parts_of, piece_grammar}
 use Rattle.dap_frame.specs.declared.fault.FrameFault.{FrameFault}
 use Rattle.dap_frame.specs.declared.fault.FrameFault.TheVariants.{Cut}
 use Rattle.dap_frame.specs.declared.limits.FrameLimits.{FrameLimits}
-use Rattle.dap_frame.specs.Frame.{HasFrame, IsOpen, Shows, Stream}
+use Rattle.dap_frame.specs.Frame.{HasFrame, IsOpen, FailsAt, Stream}
 use Rattle.dap_frame.specs.Limits.{IsSound}
 use Rattle.dap_frame.specs.Lines.{number_of}
 use Rattle.dap_recording.specs.declared.recorder_fault.RecorderFault.TheVariants.{Frame}
@@ -63,7 +63,7 @@ module _ (limits : FrameLimits) (taken : List (Side × ℕ)) (messages : List (S
   pub faulty_later : (side : Side) (byte : ℕ) (others : List (Side × ℕ))
       (more : List (Side × List ℕ)) (later : Side → List ℕ) (fault : FrameFault) (place : ℕ)
       → AreRecorded limits (taken ++ (side, byte) ∷ others) more later → IsOpen limits (later side)
-      → Shows limits (rests side ++ byte ∷ []) fault place → ⊥
+      → FailsAt limits (rests side ++ byte ∷ []) fault place → ⊥
   faulty_later side byte others more later fault place recorded is_open shows =
       let tail : List ℕ = byte ∷ of_side side others in
       let grown : of_side side (taken ++ (side, byte) ∷ others) ≡ of_side side taken ++ tail =
@@ -71,8 +71,8 @@ module _ (limits : FrameLimits) (taken : List (Side × ℕ)) (messages : List (S
       ∙ ap (λ xs. of_side side taken ++ xs) (of_side-append side ((side, byte) ∷ []) others
       ∙ ap (λ xs. xs ++ of_side side others) (same_side side (byte ∷ []))) in
       let longer = fault_stays (rests side ++ byte ∷ []) (of_side side others) fault place shows in
-      let shown : Shows limits (rests side ++ tail) fault place =
-      subst (λ xs. Shows limits xs fault place)
+      let shown : FailsAt limits (rests side ++ tail) fault place =
+      subst (λ xs. FailsAt limits xs fault place)
       (append_assoc (rests side) (byte ∷ []) (of_side side others)) longer in
       let stream : Stream limits (of_side side taken ++ tail) (of_side side messages) (rests side
       ++ tail) = record {
@@ -87,7 +87,7 @@ module _ (limits : FrameLimits) (taken : List (Side × ℕ)) (messages : List (S
       (subst (λ xs. Stream limits xs (of_side side more) (later side)) grown
       (recorded.all side))).1 in
       open_not_faulty (frame_grammar limits) (later side) fault place is_open
-      (subst (λ xs. Shows limits xs fault place) same shown)
+      (subst (λ xs. FailsAt limits xs fault place) same shown)
 
   -- The bytes that the sides sent, after one more byte.
   pub record SentLater (side : Side) (byte : ℕ) : Type 0 where
@@ -99,7 +99,8 @@ module _ (limits : FrameLimits) (taken : List (Side × ℕ)) (messages : List (S
   module _ (sound : IsSound limits) (are_open : (s : Side)
       → IsOpen limits (rests s)) (side : Side) (byte : ℕ) where
     pub sent_later : SentLater side byte
-        ⊎ ((fault : FrameFault) × (place : ℕ) × Shows limits (rests side ++ byte ∷ []) fault place)
+        ⊎ ((fault : FrameFault) × (place : ℕ)
+        × FailsAt limits (rests side ++ byte ∷ []) fault place)
     sent_later =
         elim (one_more (frame_grammar limits) (rests side) byte (are_open side)) [
           | inl has ↦ inl (record {

@@ -22,13 +22,13 @@ use Rattle.dap_recording.specs.declared.trace_state.TraceState.{TraceState}
 use Rattle.dap_recording.specs.declared.trace_state.TraceState.TheVariants as state
 use Rattle.dap_recording.specs.Marker.{marker}
 use Rattle.dap_recording.specs.RecordedTraces.{AreRecorded, bytes_of}
-use Rattle.dap_recording.specs.RecorderReading.{RecorderReading, StandsForRests, recorder_limits}
+use Rattle.dap_recording.specs.RecorderReading.{RecorderReading, RepresentsRests, recorder_limits}
 use Rattle.dap_recording.specs.RecorderReading.{text_of}
 use Rattle.dap_recording.specs.RecordReading.{next_number}
 use Rattle.dap_recording.specs.Trace.{IsCount, IsPiece, ShowsTraceFault}
 use Rattle.dap_recording.specs.declared.fed_trace.FedTrace.{FedTrace}
 use Rattle.dap_recording.specs.declared.fed_trace.TracePart.{TracePart}
-use Rattle.dap_recording.specs.TraceReading.{TraceReading, StandsForPiece, IsKeptOfPiece}
+use Rattle.dap_recording.specs.TraceReading.{TraceReading, RepresentsPiece, IsKeptOfPiece}
 use Rattle.dap_recording.specs.TraceReading.{GivesFedTrace, GivesRun, GivesTraceFault}
 use Rattle.dap_recording.proofs.Fronts.{heads, not_empty as not_begun}
 use Rattle.dap_recording.proofs.Markers.{marker_one}
@@ -43,9 +43,9 @@ use Rattle.dap_input.specs.declared.refused.Refused.{Refused}
 use Rattle.dap_input.specs.declared.refused.Refused.TheVariants.{TraceTooLong, Trace, Recorder}
 use Rattle.dap_input.specs.declared.refused.Refused.TheVariants.{ReadFault, WriteFault}
 use Rattle.dap_input.specs.declared.refused.Refused.TheVariants.{Memory as NoMemory}
-use Rattle.dap_device.specs.Written.{AllSent, FrontWritten}
+use Rattle.dap_device.specs.Written.{AllSent, PrefixWritten}
 use Rattle.dap_input.specs.Limits.{AreSound}
-use Rattle.dap_device.specs.Reading.{HasCome}
+use Rattle.dap_device.specs.Reading.{HasReadInput}
 use Rattle.dap_trace.specs.Tracing.{EndsInside, IsInRaw, IsOfEnd, IsOpenWith, IsRecordedAs}
 use Rattle.dap_trace.specs.Tracing.{IsTraceRefused, SoFar, TakesMemory, before_marker, in_count}
 use Rattle.dap_trace.specs.Tracing.{in_raw}
@@ -57,13 +57,13 @@ use Rattle.dap_trace.specs.TracingSteps.{Traces, Tracing}
 use Rattle.dap_trace.proofs.TraceOutcomes.{nothing_came, refusal_stays}
 use Rattle.dap_trace.proofs.TracePieces.{no_raw, open_of, opened}
 use Rattle.dap_trace.proofs.TraceSteps.{at_the_end, recorded_whole, sent_on, with_piece, with_raw}
-use Rattle.dap_trace.proofs.RawRunLoop.{stands_open}
+use Rattle.dap_trace.proofs.RawRunLoop.{represented_is_incomplete}
 
 pub start : (limits : Limits) (whole : List ℕ) (reader : TraceReading) (recorder : RecorderReading)
-    → AreSound limits → length whole ≤ limits.input → StandsForPiece reader 1 [] []
-    → StandsForRests recorder (λ side. []) → text_of recorder ≡ []
+    → AreSound limits → length whole ≤ limits.input → RepresentsPiece reader 1 [] []
+    → RepresentsRests recorder (λ side. []) → text_of recorder ≡ []
     → recorder_limits recorder ≡ limits.frame → Tracing limits whole whole reader recorder 0
-start limits whole reader recorder sound short reads stands text its_limits = record {
+start limits whole reader recorder sound short reads represents text its_limits = record {
   done = [];
   so_far = nothing_came limits sound;
   whole_is = refl;
@@ -72,7 +72,7 @@ start limits whole reader recorder sound short reads stands text its_limits = re
   raw_is = λ s tail more e. refl;
   no_raw = λ e. refl;
   reads = reads;
-  stands = stands;
+  represents = represents;
   its_limits = its_limits;
   text = text;
   last_is = λ e. refl;
@@ -123,7 +123,7 @@ module _ (number : ℕ) (bytes raw input : List ℕ) (fed : FedTrace) (new : Tra
     (gives : GivesFedTrace number bytes raw input fed new) where
   abbrev ByRun : Option TracePart → Type 0
   ByRun part = MatchOption part
-      ((fed.used ≡ length input) × StandsForPiece new number (bytes ++ input) raw)
+      ((fed.used ≡ length input) × RepresentsPiece new number (bytes ++ input) raw)
       (λ p. (p.piece ≡ number) × GivesRun number bytes raw input fed.used p.side p.bytes.now new)
 
   pub fed_run : (part : TracePart) → fed.part ≡ Some part
@@ -132,7 +132,7 @@ module _ (number : ℕ) (bytes raw input : List ℕ) (fed : FedTrace) (new : Tra
   fed_run part is = subst ByRun is gives.1
 
   pub fed_none : fed.part ≡ None
-      → (fed.used ≡ length input) × StandsForPiece new number (bytes ++ input) raw
+      → (fed.used ≡ length input) × RepresentsPiece new number (bytes ++ input) raw
   fed_none is = subst ByRun is gives.1
 
 not_of_end : (n place : ℕ) (bytes : List ℕ) (cause : TraceCause) → ShowsTraceFault bytes cause place
@@ -163,7 +163,7 @@ module _ (limits : Limits) (sound : AreSound limits) (whole rest : List ℕ) (re
       raw_is = was.raw_is;
       no_raw = was.no_raw;
       reads = was.reads;
-      stands = was.stands;
+      represents = was.represents;
       its_limits = was.its_limits;
       text = was.text;
       last_is = was.last_is;
@@ -184,17 +184,17 @@ module _ (limits : Limits) (sound : AreSound limits) (whole rest : List ℕ) (re
       messages = was.so_far.messages;
       rests = was.so_far.rests;
       recorded = was.so_far.recorded;
-      stands = was.stands;
+      represents = was.represents;
       its_limits = was.its_limits;
       text = was.text;
     }
 
     -- The call returned no run.
     pub no_run : (used : ℕ) (new : TraceReading) → used ≡ length rest
-        → StandsForPiece new (next_piece was.so_far) (was.so_far.rest ++ rest) was.raw
+        → RepresentsPiece new (next_piece was.so_far) (was.so_far.rest ++ rest) was.raw
         → 0 < length rest
         → Tracing limits whole (drop used rest) new recorder last
-    no_run used new all stands some =
+    no_run used new all represents some =
         let over : drop used rest ≡ [] =
         nil_from_length (drop used rest) (omega (arith, all, length-drop used rest)) in
         record {
@@ -208,7 +208,7 @@ module _ (limits : Limits) (sound : AreSound limits) (whole rest : List ℕ) (re
                 ∙ append_assoc was.so_far.front was.so_far.rest rest;
             raw = was.so_far.raw;
             of_rest = kept_open new.state (was.so_far.rest ++ rest) was.raw was.so_far.raw
-                stands.kept
+                represents.kept
                 was.no_raw (λ s more. was.raw_is s rest more);
             messages = was.so_far.messages;
             rests = was.so_far.rests;
@@ -222,8 +222,8 @@ module _ (limits : Limits) (sound : AreSound limits) (whole rest : List ℕ) (re
           raw_is = λ s tail more e. was.raw_is s (rest ++ tail) more
               (sym (append_assoc was.so_far.rest rest tail) ∙ e);
           no_raw = was.no_raw;
-          reads = stands;
-          stands = was.stands;
+          reads = represents;
+          represents = was.represents;
           its_limits = was.its_limits;
           text = was.text;
           last_is = λ none. absurd
@@ -268,13 +268,13 @@ module _ (limits : Limits) (sound : AreSound limits) (whole rest : List ℕ) (re
               recorded.recorded
 
           are_open : (s : Side) → IsOpen limits.frame (recorded.rests s)
-          are_open = stands_open limits.frame after recorded.rests recorded.stands
+          are_open = represented_is_incomplete limits.frame after recorded.rests recorded.represents
               recorded.its_limits
 
           piece_ended : IsPiece (was.so_far.rest ++ take used rest) side (was.raw ++ run)
-              → StandsForPiece new (next_number (next_piece was.so_far)) [] []
+              → RepresentsPiece new (next_number (next_piece was.so_far)) [] []
               → Tracing limits whole (drop used rest) new after (next_piece was.so_far)
-          piece_ended is stands =
+          piece_ended is represents =
               let last_piece : List ℕ = was.so_far.rest ++ take used rest in
               let pieces : List (Side × List ℕ) = was.so_far.pieces ++ (side, was.raw ++ run)
               ∷ [] in
@@ -294,25 +294,25 @@ module _ (limits : Limits) (sound : AreSound limits) (whole rest : List ℕ) (re
                 raw = [];
                 raw_is = λ s tail more e. refl;
                 no_raw = λ e. refl;
-                reads = subst (λ n. StandsForPiece new n [] []) number stands;
-                stands = recorded.stands;
+                reads = subst (λ n. RepresentsPiece new n [] []) number represents;
+                represents = recorded.represents;
                 its_limits = recorded.its_limits;
                 text = recorded.text;
                 last_is = λ e. sym more;
               }
 
           piece_goes_on : used ≡ length rest → 0 < length run
-              → StandsForPiece new (next_piece was.so_far) (was.so_far.rest ++ rest)
+              → RepresentsPiece new (next_piece was.so_far) (was.so_far.rest ++ rest)
               (was.raw ++ run)
               → Tracing limits whole (drop used rest) new after (next_piece was.so_far)
-          piece_goes_on all some stands =
+          piece_goes_on all some represents =
               let over : drop used rest ≡ [] =
               nil_from_length (drop used rest) (omega (arith, all, length-drop used rest)) in
               let long : 0 < length (was.raw ++ run) = omega
               (arith, some, length-append was.raw run) in
               let is = kept_raw new.state (was.so_far.rest ++ rest) (was.raw ++ run) gives.begins.0
               side
-              stands.kept long gives.begins.1 in
+              represents.kept long gives.begins.1 in
               record {
                 done = was.so_far.front ++ (was.so_far.rest ++ rest);
                 so_far = with_raw limits.frame (was.so_far.front ++ (was.so_far.rest ++ rest))
@@ -331,8 +331,8 @@ module _ (limits : Limits) (sound : AreSound limits) (whole rest : List ℕ) (re
                     (sym (ap (λ t. t ++ tail) gives.begins.1) ∙ e) in
                     ap (λ t. sent_by t (was.raw ++ run)) (marker_one side s same.0);
                 no_raw = λ none. absurd (omega (arith, long, ap length none));
-                reads = stands;
-                stands = recorded.stands;
+                reads = represents;
+                represents = recorded.represents;
                 its_limits = recorded.its_limits;
                 text = recorded.text;
                 last_is = λ none. absurd
@@ -540,9 +540,9 @@ module _ (limits : Limits) (sound : AreSound limits) (whole rest : List ℕ) (re
             side run (Err fault)
             → HasTraced {U = U} limits bytes stop (Err (Recorder number fault)) after
         run_faulty bytes is_front stop after number Memory U number_is some
-            told = absurd (some refl)
-        run_faulty bytes is_front stop after number (Frame s cause) U number_is some told =
-            fault_in_run bytes is_front stop after number s cause {U = U} number_is told
+            reported = absurd (some refl)
+        run_faulty bytes is_front stop after number (Frame s cause) U number_is some reported =
+            fault_in_run bytes is_front stop after number s cause {U = U} number_is reported
 
     module _ (bytes : List ℕ) (is_front : whole ≡ take limits.input bytes) where
       all_bytes : bytes ≡ was.so_far.front ++ ((was.so_far.rest ++ rest) ++ drop limits.input bytes)
@@ -727,12 +727,12 @@ module _ (limits : Limits) (sound : AreSound limits) (whole rest : List ℕ) (re
             cut_in_frame U {V} result fault is not_both client adapter =
                 by_client (was.so_far.rests Client) refl
               where
-                told : (s : Side) → result ≡ Err (Frame s frame_fault.Cut)
+                reported : (s : Side) → result ≡ Err (Frame s frame_fault.Cut)
                     → IsTraceRefused limits bytes
                     (Recorder (length was.so_far.pieces) (Frame s frame_fault.Cut))
                     was.so_far.messages
                     → HasTraced {U = U} limits bytes End (Err (Recorder last fault)) recorder
-                told s e refused =
+                reported s e refused =
                     let same : fault ≡ Frame s frame_fault.Cut =
                     (let both : ◌≡◌ {A = Result V RecorderFault} (Err fault)
                     (Err (Frame s frame_fault.Cut)) = sym is ∙ e in cc) in
@@ -758,7 +758,7 @@ module _ (limits : Limits) (sound : AreSound limits) (whole rest : List ℕ) (re
                 by_adapter [] e empty = absurd (not_both (empty, e))
                 by_adapter (b ∷ r) e empty =
                     let some = some_byte (was.so_far.rests Adapter) r b e in
-                    told Adapter (adapter empty some)
+                    reported Adapter (adapter empty some)
                     (at_end short come (an_adapter_frame over empty some))
 
                 by_client : (r : List ℕ) → was.so_far.rests Client ≡ r
@@ -766,7 +766,7 @@ module _ (limits : Limits) (sound : AreSound limits) (whole rest : List ℕ) (re
                 by_client [] e = by_adapter (was.so_far.rests Adapter) refl e
                 by_client (b ∷ r) e =
                     let some = some_byte (was.so_far.rests Client) r b e in
-                    told Client (client some) (at_end short come (a_client_frame over some))
+                    reported Client (client some) (at_end short come (a_client_frame over some))
 
     -- The number of pieces is far below 2 ^ 63.
     pub last_small : was.so_far.rest ≡ [] → last + 1 < 2 ^ 63

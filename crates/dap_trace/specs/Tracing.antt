@@ -6,7 +6,7 @@ use Rattle.std.specs.Prelude.{◌≡◌, ◌≢◌, ◌⊎◌, ℕ, ◌+◌, ◌
 use Rattle.dap_frame.specs.declared.fault.FrameFault.{FrameFault}
 use Rattle.dap_frame.specs.declared.fault.FrameFault.TheVariants.{Cut}
 use Rattle.dap_frame.specs.declared.limits.FrameLimits.{FrameLimits}
-use Rattle.dap_frame.specs.Frame.{IsOpen, Shows}
+use Rattle.dap_frame.specs.Frame.{IsOpen, FailsAt}
 use Rattle.dap_frame.specs.Lines.{number_of}
 use Rattle.dap_recording.specs.declared.recorder_fault.RecorderFault.TheVariants.{Frame}
 use Rattle.dap_recording.specs.declared.trace_fault.TraceCause.{TraceCause}
@@ -93,7 +93,7 @@ pub data ByteShows {limits : FrameLimits} {bytes : List ℕ} (so_far : SoFar lim
       → ShowsTraceFault (so_far.rest ++ byte ∷ []) cause place
       → ByteShows so_far byte (Trace (next_piece so_far) cause)
   of_frame : (side : Side) (raw : List ℕ) (fault : FrameFault) {place : ℕ}
-      → IsInRaw so_far.rest side raw → Shows limits (so_far.rests side ++ byte ∷ []) fault place
+      → IsInRaw so_far.rest side raw → FailsAt limits (so_far.rests side ++ byte ∷ []) fault place
       → ByteShows so_far byte (Recorder (next_piece so_far) (Frame side fault))
 
 -- The trace ends inside a piece; otherwise, after its last piece, inside a frame of the client;

@@ -9,8 +9,8 @@ use Rattle.dap_device.specs.declared.reading.Stop.{Stop}
 use Rattle.dap_device.specs.declared.reading.Stop.TheVariants.{End, Failed}
 use Rattle.dap_input.specs.declared.refused.Refused.{Refused}
 use Rattle.dap_input.specs.declared.refused.Refused.TheVariants.{ReadFault, WriteFault, Memory}
-use Rattle.dap_device.specs.Written.{AllSent, FrontWritten}
-use Rattle.dap_device.specs.Reading.{HasCome}
+use Rattle.dap_device.specs.Written.{AllSent, PrefixWritten}
+use Rattle.dap_device.specs.Reading.{HasReadInput}
 use Rattle.dap_trace.specs.Tracing.{IsRecordedAs, IsTraceRefused, IsOfEnd, TakesMemory}
 
 -- The bytes received contain no error other than being incomplete.
@@ -35,31 +35,31 @@ JudgesTrace limits bytes stop (Err refused) messages = IsTraceRefused limits byt
 module _ {R W : Type 0} (source : Source R) (sink : Sink W) (limits : Limits) where
   -- This is the result for the bytes received from the reader, and these are the messages to be
   -- written.
-  pub record HasJudgedTrace {U : Type 0} (old new : R) (answer : Result U Refused) : Type 0 where
+  pub record HasJudgedTrace {U : Type 0} (old new : R) (outcome : Result U Refused) : Type 0 where
     pub bytes : List ℕ
     pub stop : Stop
-    pub came : HasCome source old new limits.input bytes stop
+    pub came : HasReadInput source old new limits.input bytes stop
     pub messages : List (Side × List ℕ)
-    pub judges : JudgesTrace limits bytes stop answer messages
+    pub judges : JudgesTrace limits bytes stop outcome messages
 
   -- The records of the messages were written and flushed, whether the trace is recorded or
   -- rejected.
   pub record HasWrittenRecords {U : Type 0} (old new : R) (before after : W)
-      (answer : Result U Refused) : Type 0 where
-    pub judged : HasJudgedTrace old new answer
+      (outcome : Result U Refused) : Type 0 where
+    pub judged : HasJudgedTrace old new outcome
     pub written : AllSent sink before after (recording_text judged.messages)
 
   -- A prefix of the records was written, possibly all of them, and the writer failed.
   pub record HasNotWrittenRecords (U : Type 0) (old new : R) (before after : W) : Type 0 where
-    pub answer : Result U Refused
-    pub judged : HasJudgedTrace old new answer
-    pub written : FrontWritten sink before after (recording_text judged.messages)
+    pub outcome : Result U Refused
+    pub judged : HasJudgedTrace old new outcome
+    pub written : PrefixWritten sink before after (recording_text judged.messages)
 
   -- The bytes received from the reader require an allocation, which failed.
   pub record HasRunOut (old new : R) : Type 0 where
     pub bytes : List ℕ
     pub stop : Stop
-    pub came : HasCome source old new limits.input bytes stop
+    pub came : HasReadInput source old new limits.input bytes stop
     pub takes : TakesMemory limits.frame bytes
 
   -- After a failed allocation nothing was written, and either nothing or the whole input was read.
@@ -68,4 +68,4 @@ module _ {R W : Type 0} (source : Source R) (sink : Sink W) (limits : Limits) wh
       HasNotWrittenRecords U old new before after
   RecordsTrace old new before after (Err Memory) =
       ((new ≡ old) ⊎ HasRunOut old new) × (after ≡ before)
-  RecordsTrace old new before after answer = HasWrittenRecords old new before after answer
+  RecordsTrace old new before after outcome = HasWrittenRecords old new before after outcome

@@ -3,27 +3,27 @@ use Rattle.std.specs.Prelude.{◌≡◌, ◌⊎◌, ℕ, ◌+◌, ◌≤◌, Lis
 use Rattle.std.specs.Prelude.{Result, Ok, Err}
 use Rattle.dap_frame.specs.declared.fault.FrameFault.{FrameFault}
 use Rattle.dap_frame.specs.declared.limits.FrameLimits.{FrameLimits}
-use Rattle.dap_frame.specs.Frame.{IsOpen, Shows}
+use Rattle.dap_frame.specs.Frame.{IsOpen, FailsAt}
 use Rattle.dap_recording.specs.declared.recorder_fault.RecorderFault.{RecorderFault}
 use Rattle.dap_recording.specs.declared.recorder_fault.RecorderFault.TheVariants.{Frame}
 use Rattle.dap_recording.specs.declared.recorder_fault.RecorderFault.TheVariants.{Memory as NoRoom}
 use Rattle.dap_recording.specs.RecordedTraces.{AreRecorded}
-use Rattle.dap_recording.specs.RecorderReading.{RecorderReading, StandsForRests, recorder_limits}
+use Rattle.dap_recording.specs.RecorderReading.{RecorderReading, RepresentsRests, recorder_limits}
 use Rattle.dap_recording.specs.RecorderReading.{text_of}
 use Rattle.dap_recording.specs.Marker.{marker}
 use Rattle.dap_recording.specs.Recording.{recording_text}
-use Rattle.dap_recording.specs.TraceReading.{StandsForPiece, TraceReading}
+use Rattle.dap_recording.specs.TraceReading.{RepresentsPiece, TraceReading}
 use Rattle.dap_tree.specs.declared.side.Side.{Side}
 use Rattle.dap_input.specs.declared.limits.Limits.{Limits}
 use Rattle.dap_device.specs.declared.device.Sink.{Ghosts as Sink}
 use Rattle.dap_device.specs.declared.device.Source.{Ghosts as Source}
 use Rattle.dap_device.specs.declared.reading.Stop.{Stop}
-use Rattle.dap_device.specs.Pieces.{HasComeSoFar, Window}
-use Rattle.dap_device.specs.Reading.{HasCome}
+use Rattle.dap_device.specs.Pieces.{HasReadSoFar, Window}
+use Rattle.dap_device.specs.Reading.{HasReadInput}
 use Rattle.dap_input.specs.RecordSteps.{IsWithin}
 use Rattle.dap_input.specs.declared.refused.Refused.{Refused}
 use Rattle.dap_input.specs.declared.refused.Refused.TheVariants.{WriteFault, Memory}
-use Rattle.dap_device.specs.Written.{AllSent, FrontWritten}
+use Rattle.dap_device.specs.Written.{AllSent, PrefixWritten}
 use Rattle.dap_recording.specs.OneSide.{WantsMemory}
 use Rattle.dap_trace.specs.Tracing.{SoFar, TakesMemory, next_piece, sent_by}
 use Rattle.dap_trace.specs.TracingRun.{JudgesTrace}
@@ -35,7 +35,7 @@ pub record HasRecorded (limits : FrameLimits) (recorder : RecorderReading)
   pub messages : List (Side × List ℕ)
   pub rests : Side → List ℕ
   pub recorded : AreRecorded limits taken messages rests
-  pub stands : StandsForRests recorder rests
+  pub represents : RepresentsRests recorder rests
   pub its_limits : recorder_limits recorder ≡ limits
   pub text : text_of recorder ≡ recording_text messages
 
@@ -52,7 +52,7 @@ pub record ShowsInRun (limits : FrameLimits) (recorder : RecorderReading) (taken
   pub recorded : AreRecorded limits (taken ++ sent_by side front) messages rests
   pub are_open : (s : Side) → IsOpen limits (rests s)
   pub place : ℕ
-  pub shows : Shows limits (rests side ++ byte ∷ []) fault place
+  pub shows : FailsAt limits (rests side ++ byte ∷ []) fault place
   pub text : text_of recorder ≡ recording_text messages
 
 -- Some bytes of the run were recorded after the bytes consumed before, and the remaining bytes of
@@ -80,16 +80,16 @@ RecordsRun limits new taken side run (Err NoRoom) = TakesMemoryInRun limits take
 -- This is the result for the bytes that were read, and the recorder's text consists of the records
 -- of the messages.
 pub record HasTraced {U : Type 0} (limits : Limits) (bytes : List ℕ) (stop : Stop)
-    (answer : Result U Refused) (recorder : RecorderReading) : Type 0 where
+    (outcome : Result U Refused) (recorder : RecorderReading) : Type 0 where
   pub messages : List (Side × List ℕ)
-  pub judges : JudgesTrace limits bytes stop answer messages
+  pub judges : JudgesTrace limits bytes stop outcome messages
   pub text : text_of recorder ≡ recording_text messages
 
 -- The same, except that after a failed allocation the bytes require an allocation.
 abbrev pub Traces : {U : Type 0} → Limits → List ℕ → Stop → Result U Refused → RecorderReading
     → Type 0
 Traces limits bytes stop (Err Memory) recorder = TakesMemory limits.frame bytes
-Traces limits bytes stop answer recorder = HasTraced limits bytes stop answer recorder
+Traces limits bytes stop outcome recorder = HasTraced limits bytes stop outcome recorder
 
 -- All of the bytes `whole` received so far except `rest` have been consumed. The trace reader and
 -- the recorder represent the rests of the consumed bytes. If these end between two pieces, `last`
@@ -104,8 +104,8 @@ pub record Tracing (limits : Limits) (whole rest : List ℕ) (reader : TraceRead
   pub raw_is : (s : Side) (tail more : List ℕ) → so_far.rest ++ tail ≡ marker s ∷ more
       → so_far.raw ≡ sent_by s raw
   pub no_raw : raw ≡ [] → so_far.raw ≡ []
-  pub reads : StandsForPiece reader (next_piece so_far) so_far.rest raw
-  pub stands : StandsForRests recorder so_far.rests
+  pub reads : RepresentsPiece reader (next_piece so_far) so_far.rest raw
+  pub represents : RepresentsRests recorder so_far.rests
   pub its_limits : recorder_limits recorder ≡ limits.frame
   pub text : text_of recorder ≡ recording_text so_far.messages
   pub last_is : so_far.rest ≡ [] → last ≡ length so_far.pieces
@@ -122,17 +122,17 @@ module _ {R : Type 0} (source : Source R) where
   -- The rest of the input was read, up to one byte past the limit.
   pub record HasReadOn (old : Window) (before after : R) (stop : Stop) : Type 0 where
     pub more : List ℕ
-    pub came : HasComeSoFar source before after more (Some stop)
+    pub came : HasReadSoFar source before after more (Some stop)
     pub within : IsWithin (old.taken + length more) old.limit (Some stop)
 
   -- This is the result for the bytes received from the reader, and the recorder's text consists of
   -- the records of the messages.
-  pub record TracesInput {U : Type 0} (limits : Limits) (old new : R) (answer : Result U Refused)
+  pub record TracesInput {U : Type 0} (limits : Limits) (old new : R) (outcome : Result U Refused)
       (recorder : RecorderReading) : Type 0 where
     pub bytes : List ℕ
     pub stop : Stop
-    pub came : HasCome source old new limits.input bytes stop
-    pub traces : Traces limits bytes stop answer recorder
+    pub came : HasReadInput source old new limits.input bytes stop
+    pub traces : Traces limits bytes stop outcome recorder
 
 -- For every result except `Memory`, the records are written and flushed and the result is returned,
 -- or the writer fails. After `Memory` nothing is written.
@@ -140,6 +140,6 @@ abbrev pub HasSentRecords : {W U : Type 0} → Sink W → List ℕ → Result U 
     → Result U Refused → Type 0
 HasSentRecords sink records (Err Memory) before after result = (result ≡ Err Memory)
     × (after ≡ before)
-HasSentRecords sink records answer before after result =
-    ((result ≡ answer) × AllSent sink before after records)
-    ⊎ ((result ≡ Err WriteFault) × FrontWritten sink before after records)
+HasSentRecords sink records outcome before after result =
+    ((result ≡ outcome) × AllSent sink before after records)
+    ⊎ ((result ≡ Err WriteFault) × PrefixWritten sink before after records)

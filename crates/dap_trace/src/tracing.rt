@@ -2,7 +2,7 @@
 ghost use Rattle.std.specs.Prelude.{[], ◌≡◌, ◌+◌, ◌-◌, ◌<◌, ◌≤◌, ◌^◌, List, ℕ, ◌++◌, length};
 ghost use Rattle.std.specs.Prelude.{take};
 ghost use Rattle.dap_frame.specs.declared.limits.FrameLimits.{FrameLimits};
-ghost use Rattle.dap_recording.specs.RecorderReading.{StandsForRests, recorder_limits, text_of};
+ghost use Rattle.dap_recording.specs.RecorderReading.{RepresentsRests, recorder_limits, text_of};
 ghost use Rattle.dap_tree.specs.declared.side.Side.{Side};
 ghost use Rattle.dap_input.specs.Limits.{AreSound};
 ghost use Rattle.dap_device.specs.Reading.{FitsStop};
@@ -74,7 +74,7 @@ fn end_trace(
     limits: Limits,
 ) -> Result<(), Refused>
     requires sound { AreSound limits }
-    requires stands { (whole : List ℕ) × Tracing limits whole [] trace.now recorder.now last }
+    requires represents { (whole : List ℕ) × Tracing limits whole [] trace.now recorder.now last }
     ensures { (whole bytes : List ℕ) → Tracing limits whole [] trace.now recorder.now last
         → whole ≡ take limits.input bytes → FitsStop limits.input bytes stop
         → Traces limits bytes stop result recorder.now }
@@ -121,7 +121,7 @@ fn record_input<R: Source>(
     requires at_start { pieces.old ≡ record { unread = []; taken = 0; limit = limits.input } }
     requires given { R.given reader.old < 2 ^ 62 }
     requires failures { R.failures reader.old < 2 ^ 62 }
-    requires new { StandsForRests recorder.old (λ side. []) }
+    requires new { RepresentsRests recorder.old (λ side. []) }
     requires empty { text_of recorder.old ≡ [] }
     requires its_limits { recorder_limits recorder.old ≡ limits.frame }
     ensures { TracesInput R.Source limits reader.old reader.new result recorder.new }
@@ -149,15 +149,15 @@ fn record_input<R: Source>(
 fn write_records<W: Sink>(
     writer: &mut W,
     records: &[u8],
-    answer: Result<(), Refused>,
+    outcome: Result<(), Refused>,
 ) -> Result<(), Refused>
     requires { W.failures writer.old < 2 ^ 62 }
-    ensures { HasSentRecords W.Sink records.now answer writer.old writer.new result }
+    ensures { HasSentRecords W.Sink records.now outcome writer.old writer.new result }
 {
-    match answer {
+    match outcome {
         Err(Refused::Memory) => Err(Refused::Memory),
         _ => match write_and_flush(writer, records) {
-            Ok(()) => answer,
+            Ok(()) => outcome,
             Err(_) => Err(Refused::WriteFault),
         },
     }
@@ -197,7 +197,7 @@ pub fn record<R: Source, W: Sink>(
     // The records of the frames that ended are written and flushed, even after a rejection. After
     // `Memory` nothing is written. `WriteFault` is returned if and only if the writer failed,
     // `ReadFault` only if the reader failed: a read that fails after a rejection is not reported.
-    ensures answer { RecordsTrace R.Source W.Sink limits reader.old reader.new
+    ensures outcome { RecordsTrace R.Source W.Sink limits reader.old reader.new
         writer.old writer.new result }
 
     // At most one byte past the limit is read.
@@ -208,6 +208,6 @@ pub fn record<R: Source, W: Sink>(
         Err(_) => return Err(Refused::Memory),
     };
     let mut recorder = Recorder::new(alloc, limits.frame);
-    let answer = record_input(&mut pieces, reader, &mut recorder, limits);
-    write_records(writer, recorder.text(), answer)
+    let outcome = record_input(&mut pieces, reader, &mut recorder, limits);
+    write_records(writer, recorder.text(), outcome)
 }

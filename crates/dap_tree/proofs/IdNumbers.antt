@@ -376,25 +376,26 @@ numbers-append [] ys more = refl
 numbers-append (x ∷ xs) ys more = ap (λ ns. x.1 ∷ ns) (numbers-append xs ys more)
 
 mutual
-  told : (d e : Doc) (xs ys : List ℤ) → skeleton d ≡ skeleton e
+  reported : (d e : Doc) (xs ys : List ℤ) → skeleton d ≡ skeleton e
       → numbers_of (ids d) ++ xs ≡ numbers_of (ids e) ++ ys → (d ≡ e) × (xs ≡ ys)
-  told null null xs ys h k = (refl, k)
-  told (boolean a) (boolean b) xs ys h k = (cc, k)
-  told (whole a) (whole b) xs ys h k = (cc, k)
-  told (text a) (text b) xs ys h k = (cc, k)
-  told (list ds) (list es) xs ys h k = let r = items_told ds es xs ys (cc) k in (ap list r.0, r.1)
-  told (object ms) (object ns) xs ys h k = let r =
+  reported null null xs ys h k = (refl, k)
+  reported (boolean a) (boolean b) xs ys h k = (cc, k)
+  reported (whole a) (whole b) xs ys h k = (cc, k)
+  reported (text a) (text b) xs ys h k = (cc, k)
+  reported (list ds) (list es) xs ys h k = let r = items_told ds es xs ys (cc) k in
+      (ap list r.0, r.1)
+  reported (object ms) (object ns) xs ys h k = let r =
       members_told ms ns xs ys (cc) k in (ap object r.0, r.1)
-  told (id s a) (id t b) xs ys h k =
+  reported (id s a) (id t b) xs ys h k =
       (let sort : s ≡ t = cc in let number : a ≡ b = cc in rw (sort, number) refl, cc)
-  told d e xs ys h k = absurd cc
+  reported d e xs ys h k = absurd cc
 
   items_told : (ds es : Items) (xs ys : List ℤ) → items_skeleton ds ≡ items_skeleton es
       → numbers_of (items_ids ds) ++ xs ≡ numbers_of (items_ids es) ++ ys → (ds ≡ es) × (xs ≡ ys)
   items_told no_items no_items xs ys h k = (refl, k)
   items_told (item d ds) (item e es) xs ys h k =
       let first =
-      told d e (numbers_of (items_ids ds) ++ xs) (numbers_of (items_ids es) ++ ys) (cc)
+      reported d e (numbers_of (items_ids ds) ++ xs) (numbers_of (items_ids es) ++ ys) (cc)
       (sym (numbers-append (ids d) (items_ids ds) xs) ∙ k
       ∙ numbers-append (ids e) (items_ids es) ys) in
       let rest = items_told ds es xs ys (cc) first.1 in
@@ -407,7 +408,7 @@ mutual
   members_told no_members no_members xs ys h k = (refl, k)
   members_told (member a d ms) (member b e ns) xs ys h k =
       let first =
-      told d e (numbers_of (members_ids ms) ++ xs) (numbers_of (members_ids ns) ++ ys) (cc)
+      reported d e (numbers_of (members_ids ms) ++ xs) (numbers_of (members_ids ns) ++ ys) (cc)
       (sym (numbers-append (ids d) (members_ids ms) xs) ∙ k
       ∙ numbers-append (ids e) (members_ids ns) ys) in
       let rest = members_told ms ns xs ys (cc) first.1 in
@@ -416,7 +417,7 @@ mutual
   members_told ms ns xs ys h k = absurd cc
 
 pub same_from_skeleton : (d e : Doc) → skeleton d ≡ skeleton e → ids d ≡ ids e → d ≡ e
-same_from_skeleton d e h k = (told d e [] [] h (ap (λ is. numbers_of is ++ []) k)).0
+same_from_skeleton d e h k = (reported d e [] [] h (ap (λ is. numbers_of is ++ []) k)).0
 
 -- replacing the numbers by the document's own numbers does not change it
 pub with_own : (d : Doc) → with_ids d (numbers_of (ids d)) ≡ d

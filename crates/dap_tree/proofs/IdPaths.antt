@@ -17,7 +17,7 @@ use Rattle.dap_tree.specs.Doc.{Doc, null, boolean, whole, text, list, object, id
 use Rattle.dap_tree.specs.Doc.{item, Members, no_members, member, get_member, is_below_all}
 use Rattle.dap_tree.specs.Doc.{is_ordered, items_ordered, members_ordered}
 use Rattle.dap_tree.specs.Ids.{ids, items_ids, members_ids}
-use Rattle.dap_tree.specs.Path.{Step, name, place, step, get_item, at, StandsBefore, IsBefore}
+use Rattle.dap_tree.specs.Path.{Step, name, place, step, get_item, at, StepPrecedes, IsBefore}
 use Rattle.dap_tree.specs.Path.{AreIdPaths}
 use Rattle.dap_tree.proofs.Booleans.{and_left, and_right}
 use Rattle.dap_tree.proofs.Comparisons.{less}
@@ -144,14 +144,14 @@ AreOrdered (p ∷ ps) = AllByRecursion (IsBefore p) ps × AreOrdered ps
 
 abbrev BeginsAfter : Step → Path → Type 0
 BeginsAfter s [] = ⊥
-BeginsAfter s (t ∷ p) = StandsBefore s t
+BeginsAfter s (t ∷ p) = StepPrecedes s t
 
 each-append : (P : Path → Type 0) (ps qs : List Path) → AllByRecursion P ps → AllByRecursion P qs
     → AllByRecursion P (ps ++ qs)
 each-append P [] qs h k = k
 each-append P (p ∷ ps) qs h k = (h.0, each-append P ps qs h.1 k)
 
-after_step : (s t : Step) → StandsBefore s t → (ps : List Path)
+after_step : (s t : Step) → StepPrecedes s t → (ps : List Path)
     → AllByRecursion (BeginsAfter s) (map (λ p. t ∷ p) ps)
 after_step s t h [] = tt
 after_step s t h (p ∷ ps) = (h, after_step s t h ps)

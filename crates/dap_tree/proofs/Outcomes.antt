@@ -20,7 +20,7 @@ use Rattle.dap_tree.specs.Doc.{members_have_id, depth, is_sound, is_plain}
 use Rattle.dap_tree.specs.Ids.{without_ids, items_without_ids, members_without_ids}
 use Rattle.dap_tree.specs.Json.{data_of, items_data, members_data, Reads, IsRead, HasFraction}
 use Rattle.dap_tree.specs.Json.{Outcome, document, no_reading, fraction, HasOutcome, ExplainsText}
-use Rattle.dap_tree.specs.Json.{ExplainsData, Tells}
+use Rattle.dap_tree.specs.Json.{ExplainsData, FaultMatches}
 use Rattle.dap_tree.specs.View.{view}
 use Rattle.dap_tree.specs.declared.tree.Tree.{Tree}
 use Rattle.dap_tree.specs.declared.fault.TreeFault.{TreeFault}
@@ -235,7 +235,7 @@ pub document_answers : (bytes : List ℕ) (t : Tree) (o : Outcome) → IsRead by
 document_answers bytes t o h has = one_outcome bytes o (document (view t)) has h
 
 pub fault_answers : (bytes : List ℕ) (f : TreeFault) (o : Outcome) → ExplainsText bytes f
-    → HasOutcome bytes o → Tells o f
+    → HasOutcome bytes o → FaultMatches o f
 fault_answers bytes Json o h has = one_outcome bytes o no_reading has h
 fault_answers bytes Fraction o h has = one_outcome bytes o fraction has h
 fault_answers bytes Memory o h has = tt
@@ -259,7 +259,7 @@ plain_answers bytes (Err f) ok = tt
 
 pub answers : (bytes : List ℕ) (r : Result Tree TreeFault) (o : Outcome)
     → IfOk r (λ t. IsRead bytes (view t)) → IfErr r (ExplainsText bytes) → HasOutcome bytes o
-    → MatchResult r (λ t. o ≡ document (view t)) (Tells o)
+    → MatchResult r (λ t. o ≡ document (view t)) (FaultMatches o)
 answers bytes (Ok t) o ok err has = document_answers bytes t o ok has
 answers bytes (Err f) o ok err has = fault_answers bytes f o err has
 

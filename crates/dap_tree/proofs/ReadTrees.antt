@@ -15,8 +15,9 @@ use Rattle.serde_json.specs.declared.value.Value.{Value}
 use Rattle.serde_json.proofs.Views.{Entry as Pair, put_last as pair_last}
 use Rattle.dap_tree.specs.Doc.{Doc, Members, no_members, member, put, has_id, items_have_id}
 use Rattle.dap_tree.specs.Doc.{members_have_id}
-use Rattle.dap_tree.specs.Json.{data_of, items_data, members_data, Explains, Stands, ItemsStand}
-use Rattle.dap_tree.specs.Json.{MembersStand}
+use Rattle.dap_tree.specs.Json.{data_of, items_data, members_data, Explains, ValueMatches}
+use Rattle.dap_tree.specs.Json.{ItemsMatch}
+use Rattle.dap_tree.specs.Json.{MembersMatch}
 use Rattle.dap_tree.specs.View.{view, items_view, members_view}
 use Rattle.dap_tree.specs.declared.tree.Tree.{Tree}
 use Rattle.dap_tree.specs.declared.fault.TreeFault.{TreeFault}
@@ -71,8 +72,8 @@ no_id_pushed (x ∷ ts) t h k =
     (no_id_pushed ts t (or_right (has_id (view x)) _ h) k)
 
 pub stand_push : (vs : List Value) (ts : List Tree) (v : Value) (t : Tree)
-    → ItemsStand (values_view vs) (items_view ts) → Stands (value_view v) (view t)
-    → ItemsStand (values_view (vs ++ v ∷ [])) (items_view (ts ++ t ∷ []))
+    → ItemsMatch (values_view vs) (items_view ts) → ValueMatches (value_view v) (view t)
+    → ItemsMatch (values_view (vs ++ v ∷ [])) (items_view (ts ++ t ∷ []))
 stand_push vs ts v t done one = (
   values_snoc vs v ∙ ap₂ snoc done.0 one.0
       ∙ sym (items_snoc ts t),
@@ -111,8 +112,8 @@ no_id_put k d (member l e ms) h g =
 
 pub stand_insert : (done : List Pair) (p : Pair) (left : List Pair) (es : List Entry) (t : Tree)
     → IsStrictlySortedBy string_cmp (keys_of (done ++ p ∷ left))
-    → MembersStand (pairs_view done) (members_view es) → Stands (value_view p.1) (view t)
-    → MembersStand (pairs_view (done ++ p ∷ []))
+    → MembersMatch (pairs_view done) (members_view es) → ValueMatches (value_view p.1) (view t)
+    → MembersMatch (pairs_view (done ++ p ∷ []))
     (members_view (insert_entry string_cmp es p.0 t))
 stand_insert done p left es t ordered before one =
     let name = string_bytes p.0 in

@@ -72,21 +72,21 @@ ExplainsText bytes Fraction = HasFraction bytes
 ExplainsText bytes Memory = Unit {0}
 
 -- What an error implies for the outcome of the content.
-abbrev pub Tells : Outcome → TreeFault → Type 0
-Tells o Json = o ≡ no_reading
-Tells o Fraction = o ≡ fraction
-Tells o Memory = Unit {0}
+abbrev pub FaultMatches : Outcome → TreeFault → Type 0
+FaultMatches o Json = o ≡ no_reading
+FaultMatches o Fraction = o ≡ fraction
+FaultMatches o Memory = Unit {0}
 
 -- ---- for private clauses: a document and the value that it was read from
 
-abbrev pub Stands : json.Data → Doc → Type 0
-Stands v d = (v ≡ data_of d) × (has_id d ≡ false)
+abbrev pub ValueMatches : json.Data → Doc → Type 0
+ValueMatches v d = (v ≡ data_of d) × (has_id d ≡ false)
 
-abbrev pub ItemsStand : json.Items → Items → Type 0
-ItemsStand vs ds = (vs ≡ items_data ds) × (items_have_id ds ≡ false)
+abbrev pub ItemsMatch : json.Items → Items → Type 0
+ItemsMatch vs ds = (vs ≡ items_data ds) × (items_have_id ds ≡ false)
 
-abbrev pub MembersStand : json.Members → Members → Type 0
-MembersStand vs ms = (vs ≡ members_data ms) × (members_have_id ms ≡ false)
+abbrev pub MembersMatch : json.Members → Members → Type 0
+MembersMatch vs ms = (vs ≡ members_data ms) × (members_have_id ms ≡ false)
 
 -- What an error implies for a value: whether it has a float.
 abbrev pub Explains : Bool → TreeFault → Type 0

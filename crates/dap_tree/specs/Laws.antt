@@ -97,8 +97,8 @@ abbrev pub DiffersInNumbers : Type 0
 DiffersInNumbers = (d e : Doc) → skeleton d ≡ skeleton e → with_ids d (numbers_of (ids e)) ≡ e
 
 -- Two documents with the same skeleton and the same ids are equal.
-abbrev pub SkeletonTells : Type 0
-SkeletonTells = (d e : Doc) → skeleton d ≡ skeleton e → ids d ≡ ids e → d ≡ e
+abbrev pub SkeletonIffSameButIds : Type 0
+SkeletonIffSameButIds = (d e : Doc) → skeleton d ≡ skeleton e → ids d ≡ ids e → d ≡ e
 
 -- Documents with the same skeleton have ids of the same kinds, in the same order.
 abbrev pub SkeletonHasSorts : Type 0

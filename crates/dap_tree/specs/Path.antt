@@ -36,18 +36,18 @@ at (p ∷ ps) d = option_and_then (at ps) (step p d)
 -- ---- the order of paths
 
 -- A step precedes another (own): its name is less in byte order, or its index is less.
-abbrev pub StandsBefore : Step → Step → Type 0
-StandsBefore (name k) (name l) = is_lt (slice_cmp nat_cmp k l) ≡ true
-StandsBefore (name k) (place n) = ⊥
-StandsBefore (place m) (name l) = ⊥
-StandsBefore (place m) (place n) = m < n
+abbrev pub StepPrecedes : Step → Step → Type 0
+StepPrecedes (name k) (name l) = is_lt (slice_cmp nat_cmp k l) ≡ true
+StepPrecedes (name k) (place n) = ⊥
+StepPrecedes (place m) (name l) = ⊥
+StepPrecedes (place m) (place n) = m < n
 
 -- A path precedes another (own): at the first step in which they differ, its step precedes that of
 -- the other.
 abbrev pub IsBefore : List Step → List Step → Type 0
 IsBefore [] qs = ⊥
 IsBefore (p ∷ ps) [] = ⊥
-IsBefore (p ∷ ps) (q ∷ qs) = StandsBefore p q ⊎ ((p ≡ q) × IsBefore ps qs)
+IsBefore (p ∷ ps) (q ∷ qs) = StepPrecedes p q ⊎ ((p ≡ q) × IsBefore ps qs)
 
 -- The paths to the ids of a document (own): the i-th path leads to the i-th id, each path precedes
 -- the later ones, and no other path leads to an id.

@@ -4,7 +4,8 @@ ghost use Rattle.dap_tree.specs.Laws.{SomeOutcome, OneOutcome, ReadIsPlain, Read
 ghost use Rattle.dap_tree.specs.Laws.{ReadIsUtf8, ChangesMember, KeepsMembers, ChangesPaths};
 ghost use Rattle.dap_tree.specs.Laws.{KeepsPaths, ChangesItems, LeavesMembers};
 ghost use Rattle.dap_tree.specs.Laws.{FindsNoIds, CountsIds, NumbersIds, TakesIds, KeepsOwnIds};
-ghost use Rattle.dap_tree.specs.Laws.{KeepsSound, KeepsSkeleton, DiffersInNumbers, SkeletonTells};
+ghost use Rattle.dap_tree.specs.Laws.{KeepsSound, KeepsSkeleton, DiffersInNumbers};
+ghost use Rattle.dap_tree.specs.Laws.{SkeletonIffSameButIds};
 ghost use Rattle.dap_tree.specs.Laws.{SkeletonHasSorts, SkeletonHasCount, SkeletonHasDepth};
 ghost use Rattle.dap_tree.specs.Laws.{SkeletonIsAsSound, SkeletonIsAsOrdered, SkeletonIsAsUtf8};
 ghost use Rattle.dap_tree.specs.Laws.{WithoutIdsIsPlain, WithoutIdsIsSame, HasSameText, TextIsRead};
@@ -56,7 +57,7 @@ pub fn numbers_ids()
 pub fn skeletons_are_all_but_numbers()
     ensures same { KeepsSkeleton }
     ensures differ { DiffersInNumbers }
-    ensures told { SkeletonTells }
+    ensures reported { SkeletonIffSameButIds }
     ensures sorts { SkeletonHasSorts }
     ensures count { SkeletonHasCount }
     ensures depth { SkeletonHasDepth }

@@ -4,9 +4,10 @@ ghost use Rattle.serde_json.specs.Data.{number as json_number};
 ghost use Rattle.serde_json.specs.View.{number_view, view as value_view, items_view as values_view};
 ghost use Rattle.serde_json.specs.View.{members_view as pairs_view};
 ghost use Rattle.dap_tree.specs.Doc.{is_plain};
-ghost use Rattle.dap_tree.specs.Json.{IsRead, Outcome, document, HasOutcome, ExplainsText, Tells};
-ghost use Rattle.dap_tree.specs.Json.{ExplainsData, ExplainsItems, ExplainsMembers, Stands};
-ghost use Rattle.dap_tree.specs.Json.{ItemsStand, MembersStand};
+ghost use Rattle.dap_tree.specs.Json.{IsRead, Outcome, document, HasOutcome, ExplainsText};
+ghost use Rattle.dap_tree.specs.Json.{FaultMatches};
+ghost use Rattle.dap_tree.specs.Json.{ExplainsData, ExplainsItems, ExplainsMembers, ValueMatches};
+ghost use Rattle.dap_tree.specs.Json.{ItemsMatch, MembersMatch};
 ghost use Rattle.dap_tree.specs.View.{view, items_view, members_view};
 ghost use Rattle.dap_tree.specs.declared.fault.TreeFault.{TreeFault};
 
@@ -34,7 +35,7 @@ pub fn read_tree(alloc: Global, content: &[u8]) -> Result<Tree, TreeFault>
 
     // Conversely, the result agrees with the outcome of the content.
     ensures exactly { (o : Outcome) → HasOutcome content.now o
-        → MatchResult result (λ t. o ≡ document (view t)) (Tells o) }
+        → MatchResult result (λ t. o ≡ document (view t)) (FaultMatches o) }
 {
     let mut scratch = Scratch::new(alloc);
     read_tree_with(alloc, content, &mut scratch)
@@ -55,7 +56,7 @@ pub fn read_tree_with(
 
     // Conversely, the result agrees with the outcome of the content.
     ensures exactly { (o : Outcome) → HasOutcome content.now o
-        → MatchResult result (λ t. o ≡ document (view t)) (Tells o) }
+        → MatchResult result (λ t. o ≡ document (view t)) (FaultMatches o) }
 {
     match parse(alloc, content, scratch) {
         Ok(tree) => Ok(tree),
@@ -80,7 +81,7 @@ fn read_value(alloc: Global, content: &[u8]) -> Result<Tree, TreeFault>
 
 #[cycle(tree_of)]
 fn tree_of(alloc: Global, value: Value) -> Result<Tree, TreeFault>
-    ensures ok { IfOk result (λ t. Stands (value_view value) (view t)) }
+    ensures ok { IfOk result (λ t. ValueMatches (value_view value) (view t)) }
     ensures err { IfErr result (ExplainsData (value_view value)) }
 {
     match value {
@@ -94,7 +95,7 @@ fn tree_of(alloc: Global, value: Value) -> Result<Tree, TreeFault>
 }
 
 fn whole(number: &Number) -> Result<Tree, TreeFault>
-    ensures ok { IfOk result (λ t. Stands (json_number (number_view number.now)) (view t)) }
+    ensures ok { IfOk result (λ t. ValueMatches (json_number (number_view number.now)) (view t)) }
     ensures err { IfErr result (ExplainsData (json_number (number_view number.now))) }
 {
     if let Some(n) = number.as_u64() {
@@ -108,7 +109,7 @@ fn whole(number: &Number) -> Result<Tree, TreeFault>
 
 #[cycle(tree_of)]
 fn items_of(alloc: Global, values: Vec<Value>) -> Result<Vec<Tree>, TreeFault>
-    ensures ok { IfOk result (λ v. ItemsStand (values_view values.items) (items_view v.items)) }
+    ensures ok { IfOk result (λ v. ItemsMatch (values_view values.items) (items_view v.items)) }
     ensures err { IfErr result (ExplainsItems (values_view values.items)) }
 {
     let mut items = Vec::with_capacity(alloc, values.len())?;
@@ -125,7 +126,7 @@ fn members_of(
     values: Map<String, Value>,
 ) -> Result<BTreeMap<String, Tree>, TreeFault>
     ensures ok { IfOk result
-        (λ m. MembersStand (pairs_view values.entries) (members_view m.entries)) }
+        (λ m. MembersMatch (pairs_view values.entries) (members_view m.entries)) }
     ensures err { IfErr result (ExplainsMembers (pairs_view values.entries)) }
 {
     let mut members = BTreeMap::new(alloc);

@@ -3,12 +3,12 @@ use Rattle.std.specs.Prelude.{ℕ, List, [], ◌++◌, Result}
 use Rattle.dap_compare.specs.declared.verdict.CompareRefused.{CompareRefused}
 use Rattle.dap_device.specs.declared.device.Source.{Ghosts as Source}
 use Rattle.dap_device.specs.declared.device.Sink.{Ghosts as Sink}
-use Rattle.dap_diff.specs.Diffs.{TellsDifference}
-use Rattle.dap_diff.specs.declared.answer.Diff.{Diff}
-use Rattle.dap_diff.specs.declared.answer.Diff.TheVariants.{Same, Differ}
+use Rattle.dap_diff.specs.Diffs.{DescribesDifference}
+use Rattle.dap_diff.specs.declared.outcome.Diff.{Diff}
+use Rattle.dap_diff.specs.declared.outcome.Diff.TheVariants.{Same, Differ}
 use Rattle.dap_rename.specs.declared.mode.Mode.{Mode}
 use Rattle.dap_input.specs.declared.limits.Limits.{Limits}
-use Rattle.dap_runs.specs.ComparingRun.{ComparisonIsTold, differ_line, same_line}
+use Rattle.dap_runs.specs.ComparingRun.{ComparisonIsReported, differ_line, same_line}
 
 -- the first line, as `compare` prints it, and the lines after it that show the differences
 abbrev pub first_line : Diff → List ℕ
@@ -29,11 +29,12 @@ diff_status Same = 0
 diff_status (Differ number lines) = 1
 
 -- What `diff` answers of the readers is printed or told.
-pub record DiffIsTold {R S W E : Type 0} (source_a : Source R) (source_b : Source S)
+pub record DiffIsReported {R S W E : Type 0} (source_a : Source R) (source_b : Source S)
     (sink : Sink W) (errors : Sink E) (limits : Limits) (mode : Mode) (old_a new_a : R) (old_b new_b
     : S)
     (before after : W) (silent spoken : E) (status : ℕ) : Type 0 where
-  pub answer : Result Diff CompareRefused
-  pub differs : TellsDifference source_a source_b limits mode old_a new_a old_b new_b answer
-  pub tells : ComparisonIsTold sink errors diff_text diff_status answer before after silent spoken
+  pub outcome : Result Diff CompareRefused
+  pub differs : DescribesDifference source_a source_b limits mode old_a new_a old_b new_b outcome
+  pub tells : ComparisonIsReported sink errors diff_text diff_status outcome before after silent
+      spoken
       status

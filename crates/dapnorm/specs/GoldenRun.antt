@@ -1,7 +1,7 @@
 -- What the program prints of `golden`. Source: own.
 use Rattle.std.specs.Prelude.{◌≡◌, ◌⊎◌, ℕ, ◌==◌, ◌++◌, Bool, List, [], Option, Some, None}
 use Rattle.std.specs.Prelude.{Result, Ok, Err, cond, codes, decimal, is_some}
-use Rattle.dap_device.specs.Written.{AllSent, FrontWritten}
+use Rattle.dap_device.specs.Written.{AllSent, PrefixWritten}
 use Rattle.dap_device.specs.declared.device.Sink.{Ghosts as Sink}
 use Rattle.dap_device.specs.declared.device.Source.{Ghosts as Source}
 use Rattle.dap_file.specs.declared.file.Replaceable.{Ghosts as Replaceable}
@@ -118,7 +118,7 @@ module _ {W E : Type 0} (sink : Sink W) (errors : Sink E) (has_rules : Bool) (na
   Reports (Ok one) run =
       (AllSent sink before after (done_text name one) × (spoken ≡ silent)
       × (run ≡ record { status = done_status one; stop = None }))
-      ⊎ (FrontWritten sink before after (done_text name one)
+      ⊎ (PrefixWritten sink before after (done_text name one)
       × HasSent errors silent spoken (fault_line (refused_text WriteFault))
       × (run ≡ record { status = 4; stop = None }))
   Reports (Err why) run = (after ≡ before)
@@ -130,6 +130,6 @@ pub record GoldenIsReported {I F W E : Type 0} (source : Source I) (file : Repla
     (sink : Sink W) (errors : Sink E) (limits : Limits) (mask : Option Mask)
     (request : GoldenRequest) (name : List ℕ) (old_input new_input : I) (old new : F) (before after : W)
     (silent spoken : E) (run : GoldenRun) : Type 0 where
-  pub answer : Result GoldenDone GoldenStop
-  pub answers : Answers source file limits mask request old_input new_input old new answer
-  pub reports : Reports sink errors (is_some mask) name before after silent spoken answer run
+  pub outcome : Result GoldenDone GoldenStop
+  pub answers : Answers source file limits mask request old_input new_input old new outcome
+  pub reports : Reports sink errors (is_some mask) name before after silent spoken outcome run

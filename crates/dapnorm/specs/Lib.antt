@@ -24,7 +24,7 @@ pub use Rattle.dap_golden.specs.GoldenFiles
 pub use Rattle.dap_golden.specs.GoldenUpdates
 pub use Rattle.dap_input.specs.Engine
 pub use Rattle.dap_input.specs.Inputs
-pub use Rattle.dap_input.specs.Judging
+pub use Rattle.dap_input.specs.Validation
 pub use Rattle.dap_input.specs.Limits
 pub use Rattle.dap_input.specs.ReadTo
 pub use Rattle.dap_mask.specs.Mask

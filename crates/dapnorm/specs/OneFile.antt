@@ -15,14 +15,14 @@ use Rattle.dap_input.specs.declared.refused.Refused.TheVariants.{Memory, ReadFau
 use Rattle.dap_normal.specs.Streaming.{Streams}
 use Rattle.dap_rows.specs.RowLines.{lines_of}
 use Rattle.dap_runs.specs.FaultLine.{fault_line, refused_text}
-use Rattle.dap_runs.specs.Reporting.{Answered, HasSent, IsTold, refused_status}
-use Rattle.dap_runs.specs.RowsRun.{TellsRows}
+use Rattle.dap_runs.specs.Reporting.{Answered, HasSent, IsReported, refused_status}
+use Rattle.dap_runs.specs.RowsRun.{ReportsRows}
 use Rattle.dap_show.specs.Showing.{IsShownBy, showing}
 use Rattle.dap_show.specs.Viewing.{ShowsInput}
 use Rattle.dap_show.specs.declared.detail.ShowRequest.{ShowRequest}
 use Rattle.dap_show.specs.declared.detail.ShowRequest.TheVariants as request
 use Rattle.dap_trace.specs.TracingRun.{RecordsTrace}
-use Rattle.dapnorm.specs.Run.{CheckIsTold}
+use Rattle.dapnorm.specs.Run.{CheckIsReported}
 use Rattle.dapnorm.specs.ViewRun.{FaultyIsReported, RecordIsReported}
 use Rattle.dap_runs.specs.declared.files.OpenFault.{OpenFault}
 use Rattle.dap_runs.specs.declared.files.OpenFault.TheVariants as fault
@@ -43,16 +43,16 @@ module _ {R W E : Type 0} (source : Source R) (sink : Sink W) (errors : Sink E) 
   -- The job is done over the reader: what it prints, what it reports, and its status.
   abbrev pub JobIsDone : Job → Type 0
   JobIsDone job.Compact = Answered (Answers source sink limits.input (Compacts limits)
-      (IsRefused (compacting limits)) old new before after) (IsTold errors silent spoken) status
+      (IsRefused (compacting limits)) old new before after) (IsReported errors silent spoken) status
   JobIsDone job.Record = Answered (RecordsTrace source sink limits old new before after)
-      (IsTold errors silent spoken) status
+      (IsReported errors silent spoken) status
   JobIsDone (job.Normalise per_stop) = Answered (Streams source sink limits (mode_for per_stop)
-      old new before after) (IsTold errors silent spoken) status
-  JobIsDone (job.Check complete per_stop) = CheckIsTold source sink errors limits
+      old new before after) (IsReported errors silent spoken) status
+  JobIsDone (job.Check complete per_stop) = CheckIsReported source sink errors limits
       (mode_for per_stop) complete old new before after silent spoken status
   JobIsDone job.Show = Answered (Answers source sink limits.input (IsShownBy limits)
-      (IsRefused (showing limits)) old new before after) (IsTold errors silent spoken) status
-  JobIsDone (job.Rows number) = (new ≡ old) × TellsRows sink errors
+      (IsRefused (showing limits)) old new before after) (IsReported errors silent spoken) status
+  JobIsDone (job.Rows number) = (new ≡ old) × ReportsRows sink errors
       (lines_of (option_map (λ s. s.now) number)) before after silent spoken status
   JobIsDone (job.Mask rules) = ⊥
   JobIsDone (job.Compare a b per_stop) = ⊥
@@ -61,7 +61,7 @@ module _ {R W E : Type 0} (source : Source R) (sink : Sink W) (errors : Sink E) 
   -- What is requested of `show` is done over the reader.
   abbrev pub ViewIsDone : ShowRequest → Type 0
   ViewIsDone (request.Lines detail) = Answered (ShowsInput detail limits source sink old new before
-      after) (IsTold errors silent spoken) status
+      after) (IsReported errors silent spoken) status
   ViewIsDone (request.Faulty detail) = FaultyIsReported source sink errors limits detail old new
       before after silent spoken status
   ViewIsDone (request.Record number) = RecordIsReported source sink errors limits number old new

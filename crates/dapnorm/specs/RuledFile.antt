@@ -4,7 +4,7 @@ use Rattle.std.specs.Prelude.{ℕ, Bool, List, Option, Some, None}
 use Rattle.dap_device.specs.declared.device.Sink.{Ghosts as Sink}
 use Rattle.dap_device.specs.declared.device.Source.{Ghosts as Source}
 use Rattle.dap_input.specs.declared.limits.Limits.{Limits}
-use Rattle.dap_runs.specs.MaskRun.{MaskIsTold, TellsAlone}
+use Rattle.dap_runs.specs.MaskRun.{MaskIsReported, ReportsOnly}
 use Rattle.dap_runs.specs.OrderRun.{OrderIsReported}
 use Rattle.dap_runs.specs.UnopenedRules.{unopened_rules_line, unopened_rules_status}
 use Rattle.dap_runs.specs.TwoInputs.{is_standard}
@@ -33,12 +33,13 @@ module _ {J R W E : Type 0} (opened : List ℕ → J → Type 0)
   abbrev pub RunsByRules : (J → J → Type 0) → ℕ → Option RulesOpenFault → Type 0
   RunsByRules Runs status None = RunByRules Runs
   RunsByRules Runs status (Some why) = unopened rules is_input_standard why
-      × TellsAlone source sink errors limits old new before after silent spoken status
+      × ReportsOnly source sink errors limits old new before after silent spoken status
       (unopened_rules_line why) (unopened_rules_status why)
 
   -- The recording is masked by the rules of the name.
   abbrev pub IsMaskedBy : RuledRun → Type 0
-  IsMaskedBy run = RunsByRules (λ old_rules new_rules. MaskIsTold rules_source source sink errors
+  IsMaskedBy run = RunsByRules
+      (λ old_rules new_rules. MaskIsReported rules_source source sink errors
       limits old_rules new_rules old new before after silent spoken run.status) run.status
       run.unopened
 

@@ -5,13 +5,13 @@ use Rattle.dap_device.specs.declared.device.Sink.{Ghosts as Sink}
 use Rattle.dap_device.specs.declared.device.Source.{Ghosts as Source}
 use Rattle.dap_input.specs.declared.limits.Limits.{Limits}
 use Rattle.dap_rename.specs.declared.mode.Mode.{Mode}
-use Rattle.dap_runs.specs.ComparingRun.{CompareIsTold}
+use Rattle.dap_runs.specs.ComparingRun.{CompareIsReported}
 use Rattle.dap_runs.specs.RuledRuns.{RunsTexts}
 use Rattle.dap_runs.specs.TextsByRules.{memory}
 use Rattle.dap_runs.specs.declared.files.OpenFault.{OpenFault}
 use Rattle.dap_runs.specs.declared.rules_files.RulesOpenFault.{RulesOpenFault}
 use Rattle.dap_runs.specs.declared.rules_texts.RuledPairRun.{RuledPairRun}
-use Rattle.dapnorm.specs.DiffRun.{DiffIsTold}
+use Rattle.dapnorm.specs.DiffRun.{DiffIsReported}
 
 -- `opened` and `opened_rules` say to which input and to which file of rules a name leads, and
 -- `unopened` and `unopened_rules` why it leads to none.
@@ -24,12 +24,13 @@ module _ {I J W E : Type 0} (opened : List ℕ → I → Type 0)
   abbrev pub AreComparedByRules : RuledPairRun I → Type 0
   AreComparedByRules run = RunsTexts opened unopened opened_rules unopened_rules source rules_source
       errors limits mode rules a b before after silent spoken
-      (λ old_a new_a old_b new_b. CompareIsTold memory memory sink errors limits mode old_a new_a
+      (λ old_a new_a old_b new_b. CompareIsReported memory memory sink errors limits mode old_a
+      new_a
       old_b new_b before after silent spoken run.status) run.status run.stop
 
   -- How what the rules make of the two recordings differs is printed.
   abbrev pub AreDiffedByRules : RuledPairRun I → Type 0
   AreDiffedByRules run = RunsTexts opened unopened opened_rules unopened_rules source rules_source
       errors limits mode rules a b before after silent spoken
-      (λ old_a new_a old_b new_b. DiffIsTold memory memory sink errors limits mode old_a new_a
+      (λ old_a new_a old_b new_b. DiffIsReported memory memory sink errors limits mode old_a new_a
       old_b new_b before after silent spoken run.status) run.status run.stop

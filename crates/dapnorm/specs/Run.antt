@@ -8,12 +8,12 @@ use Rattle.dap_device.specs.declared.device.Sink.{Ghosts as Sink}
 use Rattle.dap_normal.specs.declared.checked.Checked.{Checked}
 use Rattle.dap_rename.specs.declared.mode.Mode.{Mode}
 use Rattle.dap_runs.specs.FaultLine.{fault_line, refused_text}
-use Rattle.dap_runs.specs.Reporting.{HasSent, IsSent, IsTold, status_of}
+use Rattle.dap_runs.specs.Reporting.{HasSent, IsSent, IsReported, status_of}
 use Rattle.dap_input.specs.declared.limits.Limits.{Limits}
 use Rattle.dap_input.specs.declared.refused.Refused.{Refused}
 use Rattle.dap_input.specs.declared.refused.Refused.TheVariants.{WriteFault, Memory}
 use Rattle.dap_normal.specs.Checking.{Checks}
-use Rattle.dap_device.specs.Written.{AllSent, FrontWritten}
+use Rattle.dap_device.specs.Written.{AllSent, PrefixWritten}
 
 -- the line that tells the numbers of an accepted recording
 abbrev pub accepted_line : Checked → List ℕ
@@ -28,30 +28,30 @@ module _ {W : Type 0} (sink : Sink W) where
   CheckIsPrinted (Ok checked) before after (Ok done) =
       AllSent sink before after (accepted_line checked)
   CheckIsPrinted (Ok checked) before after (Err WriteFault) =
-      FrontWritten sink before after (accepted_line checked)
+      PrefixWritten sink before after (accepted_line checked)
   CheckIsPrinted (Ok checked) before after (Err refused) = ⊥
   CheckIsPrinted (Err refused) before after ended = (after ≡ before) × (ended ≡ Err refused)
 
 -- What `check` answers of the reader is printed. Where it is refused, or cannot be printed, that is
 -- told.
-pub record CheckIsTold {R W E : Type 0} (source : Source R) (sink : Sink W) (errors : Sink E)
+pub record CheckIsReported {R W E : Type 0} (source : Source R) (sink : Sink W) (errors : Sink E)
     (limits : Limits) (mode : Mode) (complete : Bool) (old new : R) (before after : W) (silent
     spoken : E)
     (status : ℕ) : Type 0 where
-  pub answer : Result Checked Refused
-  pub checks : Checks source limits mode complete old new answer
+  pub outcome : Result Checked Refused
+  pub checks : Checks source limits mode complete old new outcome
   pub ended : Result (Unit {0}) Refused
-  pub printed : CheckIsPrinted sink answer before after ended
-  pub tells : IsTold errors silent spoken ended
+  pub printed : CheckIsPrinted sink outcome before after ended
+  pub tells : IsReported errors silent spoken ended
   pub status_is : status ≡ status_of ended
 
 module _ {W E : Type 0} (sink : Sink W) (errors : Sink E) where
   -- Help is written to the output, and the error of a user to the errors, as well as the line that
   -- an allocation failed.
-  abbrev pub TellsUsage : UsageFault → W → W → E → E → ℕ → Type 0
-  TellsUsage (usage.Help text) before after old new status =
+  abbrev pub ReportsUsage : UsageFault → W → W → E → E → ℕ → Type 0
+  ReportsUsage (usage.Help text) before after old new status =
       IsSent sink before after (string_bytes text) 0 status × (new ≡ old)
-  TellsUsage (usage.Usage text) before after old new status = (status ≡ 3)
+  ReportsUsage (usage.Usage text) before after old new status = (status ≡ 3)
       × HasSent errors old new (string_bytes text) × (after ≡ before)
-  TellsUsage usage.Memory before after old new status = (status ≡ 5)
+  ReportsUsage usage.Memory before after old new status = (status ≡ 5)
       × HasSent errors old new (fault_line (refused_text Memory)) × (after ≡ before)

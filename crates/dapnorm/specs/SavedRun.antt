@@ -48,10 +48,10 @@ abbrev pub no_text : WrittenBytes
 no_text = record { out = []; unflushed = false; failures = 0 }
 
 module _ {O E : Type 0} (file : Replaceable O) (errors : Sink E) (name : List ℕ)
-    (text told : WrittenBytes) (old new : O) (silent spoken : E) where
+    (text lines : WrittenBytes) (old new : O) (silent spoken : E) where
   -- An allocation failed. The file is as before, and that is reported.
   pub record HasNoMemory (status : ℕ) : Type 0 where
-    pub failed : 0 < text.failures + told.failures
+    pub failed : 0 < text.failures + lines.failures
     pub kept : new ≡ old
     pub reported : HasSent errors silent spoken (fault_line (refused_text Memory))
     pub status_is : status ≡ 5
@@ -59,16 +59,16 @@ module _ {O E : Type 0} (file : Replaceable O) (errors : Sink E) (name : List �
   -- The run did not end with status 0. The file is as before, and what the run reported is
   -- reported.
   pub record HasStopped (held status : ℕ) : Type 0 where
-    pub complete : text.failures + told.failures ≡ 0
+    pub complete : text.failures + lines.failures ≡ 0
     pub not_done : 0 < held
     pub kept : new ≡ old
-    pub reported : HasSent errors silent spoken told.out
+    pub reported : HasSent errors silent spoken lines.out
     pub status_is : status ≡ held
 
   -- The run ended with status 0. Its output is saved, or a line says that it is not. A crash at any
   -- moment leaves what it could have left before, or the output, whole.
   pub record HasSaved (held status : ℕ) : Type 0 where
-    pub complete : text.failures + told.failures ≡ 0
+    pub complete : text.failures + lines.failures ≡ 0
     pub done : held ≡ 0
     pub saves : Saves file errors name text.out old new silent spoken status
     pub any_moment : file.is_known old
@@ -90,12 +90,12 @@ module _ {J R O E : Type 0} (opened : List ℕ → J → Type 0)
   -- then.
   pub record IsHeld (run : RuledRun) : Type 0 where
     pub text : WrittenBytes
-    pub told : WrittenBytes
+    pub reported : WrittenBytes
     pub held : RuledRun
     pub done : TaskIsDone opened unopened rules_source source text_sink text_sink limits
-        is_input_standard old new no_text text no_text told task held
+        is_input_standard old new no_text text no_text reported task held
     pub finishes :
-        Finishes file errors name text told before after silent spoken held.status run.status
+        Finishes file errors name text reported before after silent spoken held.status run.status
     pub rules : run.unopened ≡ held.unopened
 
 module _ {I J O E : Type 0} (opened : List ℕ → I → Type 0)

@@ -4,11 +4,11 @@ use Rattle.dap_device.specs.declared.device.Sink.{Ghosts as Sink}
 use Rattle.dap_device.specs.declared.device.Source.{Ghosts as Source}
 use Rattle.dap_input.specs.declared.limits.Limits.{Limits}
 use Rattle.dap_rename.specs.declared.mode.Mode.{Mode}
-use Rattle.dap_runs.specs.ComparingRun.{CompareIsTold}
+use Rattle.dap_runs.specs.ComparingRun.{CompareIsReported}
 use Rattle.dap_runs.specs.TwoInputs.{RunsFiles}
 use Rattle.dap_runs.specs.declared.files.OpenFault.{OpenFault}
 use Rattle.dap_runs.specs.declared.two_inputs.TwoFilesRun.{TwoFilesRun}
-use Rattle.dapnorm.specs.DiffRun.{DiffIsTold}
+use Rattle.dapnorm.specs.DiffRun.{DiffIsReported}
 
 -- `opened` says to which input a name leads, and `unopened` why it leads to none.
 module _ {I W E : Type 0} (opened : List ℕ → I → Type 0) (unopened : List ℕ → OpenFault → Type 0)
@@ -17,11 +17,11 @@ module _ {I W E : Type 0} (opened : List ℕ → I → Type 0) (unopened : List 
   -- The recordings of the two files are compared.
   abbrev pub FilesAreCompared : Type 0
   FilesAreCompared = RunsFiles opened unopened a b errors before after silent spoken
-      (λ old_a new_a old_b new_b. CompareIsTold source source sink errors limits mode
+      (λ old_a new_a old_b new_b. CompareIsReported source source sink errors limits mode
       old_a new_a old_b new_b before after silent spoken run.status) run.status run.inputs
 
   -- How the recordings of the two files differ is printed.
   abbrev pub FilesAreDiffed : Type 0
   FilesAreDiffed = RunsFiles opened unopened a b errors before after silent spoken
-      (λ old_a new_a old_b new_b. DiffIsTold source source sink errors limits mode
+      (λ old_a new_a old_b new_b. DiffIsReported source source sink errors limits mode
       old_a new_a old_b new_b before after silent spoken run.status) run.status run.inputs

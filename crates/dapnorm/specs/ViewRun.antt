@@ -11,7 +11,7 @@ use Rattle.dap_show.specs.declared.detail.Detail.{Detail}
 use Rattle.dap_show.specs.declared.one_record.RecordShown.{RecordShown}
 use Rattle.dap_show.specs.declared.one_record.RecordShown.TheVariants.{Shown, Missing}
 use Rattle.dap_runs.specs.FaultLine.{fault_line, refused_text}
-use Rattle.dap_runs.specs.Reporting.{HasSent, IsTold, refused_status, status_of}
+use Rattle.dap_runs.specs.Reporting.{HasSent, IsReported, refused_status, status_of}
 
 -- the first refusal of an answer: one that is marked, or one that is returned
 abbrev pub first_of : Result (Option Refused) Refused → Result (Unit {0}) Refused
@@ -41,14 +41,14 @@ module _ {R W E : Type 0} (source : Source R) (sink : Sink W) (errors : Sink E) 
     -- The input is shown with its faults, and the first refusal is reported.
     pub record FaultyIsReported (detail : Detail) (old new : R) (before after : W)
         (silent spoken : E) (status : ℕ) : Type 0 where
-      pub answer : Result (Option Refused) Refused
-      pub views : ViewsInput true detail limits source sink old new before after answer
-      pub tells : IsTold errors silent spoken (first_of answer)
-      pub status_is : status ≡ status_of (first_of answer)
+      pub outcome : Result (Option Refused) Refused
+      pub views : ViewsInput true detail limits source sink old new before after outcome
+      pub tells : IsReported errors silent spoken (first_of outcome)
+      pub status_is : status ≡ status_of (first_of outcome)
 
     -- A record is shown, or it is reported why not.
     pub record RecordIsReported (number : ℕ) (old new : R) (before after : W) (silent spoken : E)
         (status : ℕ) : Type 0 where
-      pub answer : Result RecordShown Refused
-      pub shows : ShowsRecord limits source sink number old new before after answer
-      pub reports : RecordReports errors number silent spoken status answer
+      pub outcome : Result RecordShown Refused
+      pub shows : ShowsRecord limits source sink number old new before after outcome
+      pub reports : RecordReports errors number silent spoken status outcome

@@ -1,6 +1,7 @@
 //! Compares two inputs, and tells how they differ: lines and a status.
 ghost use Rattle.std.specs.Prelude.{◌≡◌, ◌+◌, ◌<◌, ◌≤◌, ◌^◌};
-ghost use Rattle.dapnorm.specs.DiffRun.{DiffIsTold, diff_status, diff_text, first_line, lines_in};
+ghost use Rattle.dapnorm.specs.DiffRun.{DiffIsReported, diff_status, diff_text, first_line};
+ghost use Rattle.dapnorm.specs.DiffRun.{lines_in};
 ghost use Rattle.dap_device.specs.Written.{HasSentAll};
 ghost use Rattle.dap_input.specs.Limits.{AreSound};
 ghost use Rattle.dap_normal.specs.NameTables.{AreReady};
@@ -83,7 +84,8 @@ pub fn run_diff<A: Source, B: Source, W: Sink, E: Sink>(
 
     // The output is the lines, flushed, a refusal is told, and so is a writer that failed; and the
     // status is that of what was answered or told.
-    ensures told { DiffIsTold A.Source B.Source W.Sink E.Sink limits mode reader_a.old reader_a.new
+    ensures reported { DiffIsReported A.Source B.Source W.Sink E.Sink limits mode reader_a.old
+        reader_a.new
         reader_b.old reader_b.new writer.old writer.new errors.old errors.new result }
 
     // It takes at most one byte past the limit of each.
@@ -127,20 +129,21 @@ pub fn run_diff_with<A: Source, B: Source, W: Sink, E: Sink, T: NameTable + Drop
     requires error_failures { E.failures errors.old < 2 ^ 62 }
 
     // What `run_diff` promises, whatever the tables are.
-    ensures told { DiffIsTold A.Source B.Source W.Sink E.Sink limits mode reader_a.old reader_a.new
+    ensures reported { DiffIsReported A.Source B.Source W.Sink E.Sink limits mode reader_a.old
+        reader_a.new
         reader_b.old reader_b.new writer.old writer.new errors.old errors.new result }
     ensures taken_a { A.given reader_a.new ≤ A.given reader_a.old + limits.input + 1 }
     ensures taken_b { B.given reader_b.new ≤ B.given reader_b.old + limits.input + 1 }
 {
-    let answer = match diff_with(alloc, reader_a, reader_b, limits, tables_a, tables_b, mode) {
-        Ok(answer) => answer,
+    let outcome = match diff_with(alloc, reader_a, reader_b, limits, tables_a, tables_b, mode) {
+        Ok(outcome) => outcome,
         Err(refused) => {
             tell_of_input(errors, refused);
             return refusal_status(refused);
         }
     };
-    match print(writer, &answer) {
-        Ok(()) => status(&answer),
+    match print(writer, &outcome) {
+        Ok(()) => status(&outcome),
         Err(_) => {
             tell(errors, Refused::WriteFault);
             FAULT

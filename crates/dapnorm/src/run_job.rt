@@ -9,11 +9,11 @@ ghost use Rattle.dap_input.specs.Refusals.{IsRefused};
 ghost use Rattle.dap_normal.specs.NameTables.{AreReady};
 ghost use Rattle.dap_normal.specs.Streaming.{Streams};
 ghost use Rattle.dap_rows.specs.RowLines.{lines_of};
-ghost use Rattle.dap_runs.specs.RowsRun.{TellsRows};
-ghost use Rattle.dap_runs.specs.Reporting.{Answered, IsTold};
-ghost use Rattle.dapnorm.specs.Run.{CheckIsPrinted, CheckIsTold};
+ghost use Rattle.dap_runs.specs.RowsRun.{ReportsRows};
+ghost use Rattle.dap_runs.specs.Reporting.{Answered, IsReported};
+ghost use Rattle.dapnorm.specs.Run.{CheckIsPrinted, CheckIsReported};
 ghost use Rattle.dap_runs.specs.Reporting.{status_of};
-ghost use Rattle.dapnorm.specs.Run.{TellsUsage, accepted_line};
+ghost use Rattle.dapnorm.specs.Run.{ReportsUsage, accepted_line};
 ghost use Rattle.dap_show.specs.Showing.{IsShownBy, showing};
 ghost use Rattle.dap_trace.specs.TracingRun.{RecordsTrace};
 
@@ -47,11 +47,11 @@ fn accepted_line(checked: &Checked) -> ArrayString<LINE>
 }
 
 /// Prints the line of an accepted recording.
-fn print<W: Sink>(writer: &mut W, answer: Result<Checked, Refused>) -> Result<(), Refused>
+fn print<W: Sink>(writer: &mut W, outcome: Result<Checked, Refused>) -> Result<(), Refused>
     requires { W.failures writer.old < 2 ^ 62 }
-    ensures { CheckIsPrinted W.Sink answer writer.old writer.new result }
+    ensures { CheckIsPrinted W.Sink outcome writer.old writer.new result }
 {
-    let line = accepted_line(&answer?);
+    let line = accepted_line(&outcome?);
     match write_and_flush(writer, line.as_bytes()) {
         Ok(()) => Ok(()),
         Err(_) => Err(Refused::WriteFault),
@@ -88,33 +88,33 @@ pub fn run_stream<R: Source, W: Sink, E: Sink>(
     ensures compact { job.now ≡ Job.Compact
         → Answered (Answers R.Source W.Sink limits.input (Compacts limits)
         (IsRefused (compacting limits)) reader.old reader.new writer.old writer.new)
-        (IsTold E.Sink errors.old errors.new) result }
+        (IsReported E.Sink errors.old errors.new) result }
 
     // The output is the records that `record` writes, and the status that of its answer.
     ensures record_trace { job.now ≡ Job.Record
         → Answered (RecordsTrace R.Source W.Sink limits reader.old reader.new writer.old writer.new)
-        (IsTold E.Sink errors.old errors.new) result }
+        (IsReported E.Sink errors.old errors.new) result }
 
     // The output is the normal text that `normalise` writes, and the status that of its answer.
     ensures normalise { (per_stop : Bool) → job.now ≡ Job.Normalise per_stop
         → Answered (Streams R.Source W.Sink limits (mode_for per_stop) reader.old reader.new
-        writer.old writer.new) (IsTold E.Sink errors.old errors.new) result }
+        writer.old writer.new) (IsReported E.Sink errors.old errors.new) result }
 
     // The output is the line of what `check` accepts, and the status that of its answer or of a
     // writer that failed.
     ensures check { (complete per_stop : Bool) → job.now ≡ Job.Check complete per_stop
-        → CheckIsTold R.Source W.Sink E.Sink limits (mode_for per_stop) complete reader.old
+        → CheckIsReported R.Source W.Sink E.Sink limits (mode_for per_stop) complete reader.old
         reader.new writer.old writer.new errors.old errors.new result }
 
     // The output is the lines that `show` writes, and the status that of its answer.
     ensures show { job.now ≡ Job.Show
         → Answered (Answers R.Source W.Sink limits.input (IsShownBy limits)
         (IsRefused (showing limits)) reader.old reader.new writer.old writer.new)
-        (IsTold E.Sink errors.old errors.new) result }
+        (IsReported E.Sink errors.old errors.new) result }
 
     // The output is the lines of the rows that are asked for, and nothing is read.
     ensures rows { (number : Option (Bor (List ℕ))) → job.now ≡ Job.Rows number
-        → (reader.new ≡ reader.old) × TellsRows W.Sink E.Sink
+        → (reader.new ≡ reader.old) × ReportsRows W.Sink E.Sink
         (lines_of (option_map (λ s. s.now) number)) writer.old writer.new errors.old errors.new
         result }
 
@@ -157,27 +157,27 @@ pub fn run_stream_with<R: Source, W: Sink, E: Sink, T: NameTable + Drop>(
     ensures compact { job.now ≡ Job.Compact
         → Answered (Answers R.Source W.Sink limits.input (Compacts limits)
         (IsRefused (compacting limits)) reader.old reader.new writer.old writer.new)
-        (IsTold E.Sink errors.old errors.new) result }
+        (IsReported E.Sink errors.old errors.new) result }
     ensures record_trace { job.now ≡ Job.Record
         → Answered (RecordsTrace R.Source W.Sink limits reader.old reader.new writer.old writer.new)
-        (IsTold E.Sink errors.old errors.new) result }
+        (IsReported E.Sink errors.old errors.new) result }
     ensures normalise { (per_stop : Bool) → job.now ≡ Job.Normalise per_stop
         → Answered (Streams R.Source W.Sink limits (mode_for per_stop) reader.old reader.new
-        writer.old writer.new) (IsTold E.Sink errors.old errors.new) result }
+        writer.old writer.new) (IsReported E.Sink errors.old errors.new) result }
     ensures check { (complete per_stop : Bool) → job.now ≡ Job.Check complete per_stop
-        → CheckIsTold R.Source W.Sink E.Sink limits (mode_for per_stop) complete reader.old
+        → CheckIsReported R.Source W.Sink E.Sink limits (mode_for per_stop) complete reader.old
         reader.new writer.old writer.new errors.old errors.new result }
     ensures show { job.now ≡ Job.Show
         → Answered (Answers R.Source W.Sink limits.input (IsShownBy limits)
         (IsRefused (showing limits)) reader.old reader.new writer.old writer.new)
-        (IsTold E.Sink errors.old errors.new) result }
+        (IsReported E.Sink errors.old errors.new) result }
     ensures rows { (number : Option (Bor (List ℕ))) → job.now ≡ Job.Rows number
-        → (reader.new ≡ reader.old) × TellsRows W.Sink E.Sink
+        → (reader.new ≡ reader.old) × ReportsRows W.Sink E.Sink
         (lines_of (option_map (λ s. s.now) number)) writer.old writer.new errors.old errors.new
         result }
     ensures taken { R.given reader.new ≤ R.given reader.old + limits.input + 1 }
 {
-    let answer = match *job {
+    let outcome = match *job {
         Job::Compact => compact(alloc, reader, writer, limits),
         Job::Record => record(alloc, reader, writer, limits),
         Job::Normalise { .. } => normalise_with(alloc, reader, writer, limits, tables, job.mode()),
@@ -189,7 +189,7 @@ pub fn run_stream_with<R: Source, W: Sink, E: Sink, T: NameTable + Drop>(
         Job::Rows { number } => return tell_rows(alloc, number, writer, errors),
         Job::Mask { .. } | Job::Compare { .. } | Job::Diff { .. } => unreachable!(),
     };
-    tell_answer(errors, answer)
+    tell_answer(errors, outcome)
 }
 
 /// Prints why the arguments name no job, and returns the program's status.
@@ -200,7 +200,7 @@ pub fn run_stream_with<R: Source, W: Sink, E: Sink, T: NameTable + Drop>(
 pub fn run_usage<W: Sink, E: Sink>(fault: &UsageFault, writer: &mut W, errors: &mut E) -> u8
     requires write_failures { W.failures writer.old < 2 ^ 62 }
     requires error_failures { E.failures errors.old < 2 ^ 62 }
-    ensures { TellsUsage W.Sink E.Sink fault.now writer.old writer.new errors.old errors.new
+    ensures { ReportsUsage W.Sink E.Sink fault.now writer.old writer.new errors.old errors.new
         result }
 {
     match fault {

@@ -89,11 +89,11 @@ fn send_bytes<E: Sink>(errors: &mut E, bytes: &[u8])
 }
 
 /// Reports what a run reported, which was held in memory.
-fn report_held<E: Sink>(errors: &mut E, told: TextSink)
+fn report_held<E: Sink>(errors: &mut E, reported: TextSink)
     requires { E.failures errors.old < 2 ^ 62 }
-    ensures { HasSent E.Sink errors.old errors.new told.out }
+    ensures { HasSent E.Sink errors.old errors.new reported.out }
 {
-    let bytes = told.into_bytes();
+    let bytes = reported.into_bytes();
     send_bytes(errors, bytes.as_slice());
 }
 
@@ -121,7 +121,7 @@ fn save_held<O: Replaceable, E: Sink>(
 /// The output and what the run reported were held in memory.
 fn finish<O: Replaceable, E: Sink>(
     text: TextSink,
-    told: TextSink,
+    reported: TextSink,
     status: u8,
     output: &mut O,
     name: &str,
@@ -130,15 +130,15 @@ fn finish<O: Replaceable, E: Sink>(
     requires few { O.failures output.old < 2 ^ 62 }
     requires none { O.is_known output.old → O.temporary output.old ≡ None }
     requires error_failures { E.failures errors.old < 2 ^ 62 }
-    ensures { Finishes O.Replaceable E.Sink name.now text told output.old output.new errors.old
+    ensures { Finishes O.Replaceable E.Sink name.now text reported output.old output.new errors.old
         errors.new status result }
 {
-    if text.failures() > 0 || told.failures() > 0 {
+    if text.failures() > 0 || reported.failures() > 0 {
         tell(errors, Refused::Memory);
         return MEMORY;
     }
     if status != DONE {
-        report_held(errors, told);
+        report_held(errors, reported);
         return status;
     }
     save_held(text, output, name, errors)
@@ -178,7 +178,7 @@ fn run_held<
     ensures taken { R.given reader.new ≤ R.given reader.old + LIMITS.input + 1 }
 {
     let mut text = TextSink::new(alloc);
-    let mut told = TextSink::new(alloc);
+    let mut reported = TextSink::new(alloc);
     let run = run_task::<J, G, R, TextSink, TextSink, T>(
         alloc,
         rules_files,
@@ -186,11 +186,11 @@ fn run_held<
         is_input_standard,
         reader,
         &mut text,
-        &mut told,
+        &mut reported,
         tables,
     );
     RuledRun {
-        status: finish(text, told, run.status, output, name, errors),
+        status: finish(text, reported, run.status, output, name, errors),
         unopened: run.unopened,
     }
 }

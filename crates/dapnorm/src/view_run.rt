@@ -3,7 +3,7 @@ ghost use Rattle.std.specs.Prelude.{◌≡◌, ℕ, ◌+◌, ◌<◌, ◌≤◌,
 ghost use Rattle.dap_input.specs.Limits.{AreSound};
 ghost use Rattle.dap_show.specs.Viewing.{ShowsInput};
 ghost use Rattle.dap_show.specs.declared.detail.Detail.{Detail};
-ghost use Rattle.dap_runs.specs.Reporting.{Answered, HasSent, IsTold};
+ghost use Rattle.dap_runs.specs.Reporting.{Answered, HasSent, IsReported};
 ghost use Rattle.dapnorm.specs.ViewRun.{FaultyIsReported, RecordIsReported, first_of};
 ghost use Rattle.dapnorm.specs.ViewRun.{no_record_line, RecordReports};
 
@@ -16,10 +16,10 @@ use itoa::Buffer;
 use std::alloc::Global;
 
 /// The first refusal that an answer reports.
-fn first_of(answer: Result<Option<Refused>, Refused>) -> Result<(), Refused>
-    ensures { result ≡ first_of answer }
+fn first_of(outcome: Result<Option<Refused>, Refused>) -> Result<(), Refused>
+    ensures { result ≡ first_of outcome }
 {
-    match answer {
+    match outcome {
         Ok(None) => Ok(()),
         Ok(Some(refused)) => Err(refused),
         Err(refused) => Err(refused),
@@ -49,11 +49,11 @@ fn tell_missing<E: Sink>(errors: &mut E, number: u64, count: u64)
 }
 
 /// Reports in one line that a record was not printed, and returns the program's status.
-fn tell_record<E: Sink>(errors: &mut E, number: u64, answer: Result<RecordShown, Refused>) -> u8
+fn tell_record<E: Sink>(errors: &mut E, number: u64, outcome: Result<RecordShown, Refused>) -> u8
     requires { E.failures errors.old < 2 ^ 63 }
-    ensures { RecordReports E.Sink number errors.old errors.new result answer }
+    ensures { RecordReports E.Sink number errors.old errors.new result outcome }
 {
-    match answer {
+    match outcome {
         Ok(RecordShown::Shown) => DONE,
         Ok(RecordShown::Missing(count)) => {
             tell_missing(errors, number, count);
@@ -90,7 +90,7 @@ pub fn run_view<R: Source, W: Sink, E: Sink>(
     // that of the answer.
     ensures lines { (detail : Detail) → request ≡ ShowRequest.Lines detail
         → Answered (ShowsInput detail limits R.Source W.Sink reader.old reader.new writer.old
-        writer.new) (IsTold E.Sink errors.old errors.new) result }
+        writer.new) (IsReported E.Sink errors.old errors.new) result }
 
     // The output is the lines that `show_faulty` writes; the first refusal that it marks or returns
     // is reported, with its status.
@@ -109,16 +109,16 @@ pub fn run_view<R: Source, W: Sink, E: Sink>(
 {
     match request {
         ShowRequest::Lines(detail) => {
-            let answer = show_with(alloc, reader, writer, limits, detail);
-            tell_answer(errors, answer)
+            let outcome = show_with(alloc, reader, writer, limits, detail);
+            tell_answer(errors, outcome)
         }
         ShowRequest::Faulty(detail) => {
-            let answer = show_faulty(alloc, reader, writer, limits, detail);
-            tell_answer(errors, first_of(answer))
+            let outcome = show_faulty(alloc, reader, writer, limits, detail);
+            tell_answer(errors, first_of(outcome))
         }
         ShowRequest::Record(number) => {
-            let answer = show_record(alloc, reader, writer, limits, number);
-            tell_record(errors, number, answer)
+            let outcome = show_record(alloc, reader, writer, limits, number);
+            tell_record(errors, number, outcome)
         }
     }
 }

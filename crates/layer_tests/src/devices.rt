@@ -107,7 +107,7 @@ const FAULT: DeviceFault = DeviceFault {};
 /// The result of a read of four bytes, the buffer after it, and the counts of the source.
 #[derive(Clone, Copy, PartialEq, Eq)]
 struct Seen {
-    answer: Result<usize, DeviceFault>,
+    outcome: Result<usize, DeviceFault>,
     bytes: [u8; 4],
     given: u64,
     failures: u64,
@@ -120,9 +120,9 @@ fn next_read<R: Source>(source: &mut R) -> Option<Seen> {
         return None;
     }
     let mut bytes = [0; 4];
-    let answer = source.read(&mut bytes);
+    let outcome = source.read(&mut bytes);
     Some(Seen {
-        answer,
+        outcome,
         bytes,
         given: source.given(),
         failures: source.failures(),
@@ -151,13 +151,13 @@ const INTERRUPTED_READS: [Read; 3] = [
 /// A read of two bytes, then the end.
 const TWO_BYTES: [Seen; 2] = [
     Seen {
-        answer: Ok(2),
+        outcome: Ok(2),
         bytes: [b'a', b'b', 0, 0],
         given: 2,
         failures: 0,
     },
     Seen {
-        answer: Ok(0),
+        outcome: Ok(0),
         bytes: [0; 4],
         given: 2,
         failures: 0,
@@ -180,13 +180,13 @@ const FAILED_READS: [&[Read]; 4] = [
 /// A read that fails, then a read of two bytes.
 const FAILED_AND_TWO_BYTES: [Seen; 2] = [
     Seen {
-        answer: Err(FAULT),
+        outcome: Err(FAULT),
         bytes: [0; 4],
         given: 0,
         failures: 1,
     },
     Seen {
-        answer: Ok(2),
+        outcome: Ok(2),
         bytes: [b'a', b'b', 0, 0],
         given: 2,
         failures: 1,
@@ -229,7 +229,7 @@ fn a_whole_input_stops_at_an_error(rt: HostRuntime) {
 struct Written {
     steps: &'static [Write],
     failing_flushes: &'static [ErrorKind],
-    answer: Result<(), DeviceFault>,
+    outcome: Result<(), DeviceFault>,
     out: &'static [u8],
     flushes: u64,
     failures: u64,
@@ -240,9 +240,9 @@ struct Written {
 fn writes(alloc: Global, written: &Written) -> bool {
     let mut writer = Writer::new(alloc, written.steps, written.failing_flushes);
     let mut sink = StdSink::new(&mut writer);
-    let answer = write_and_flush(&mut sink, b"abcd");
+    let outcome = write_and_flush(&mut sink, b"abcd");
     let failures = sink.failures();
-    answer == written.answer
+    outcome == written.outcome
         && failures == written.failures
         && writer.bytes.as_slice() == written.out
         && writer.flushes == written.flushes
@@ -256,7 +256,7 @@ const ONE_BYTE_AT_A_TIME: Written = Written {
         Write::Takes(1),
     ],
     failing_flushes: &[],
-    answer: Ok(()),
+    outcome: Ok(()),
     out: b"abcd",
     flushes: 1,
     failures: 0,
@@ -269,7 +269,7 @@ const INTERRUPTED: Written = Written {
         Write::Fails(ErrorKind::Interrupted),
     ],
     failing_flushes: &[],
-    answer: Ok(()),
+    outcome: Ok(()),
     out: b"abcd",
     flushes: 1,
     failures: 0,
@@ -278,7 +278,7 @@ const INTERRUPTED: Written = Written {
 const FULL: Written = Written {
     steps: &[Write::Takes(2), Write::Fails(ErrorKind::StorageFull)],
     failing_flushes: &[],
-    answer: Err(FAULT),
+    outcome: Err(FAULT),
     out: b"ab",
     flushes: 0,
     failures: 1,
@@ -287,7 +287,7 @@ const FULL: Written = Written {
 const TAKES_NOTHING: Written = Written {
     steps: &[Write::Takes(3), Write::Takes(0)],
     failing_flushes: &[],
-    answer: Err(FAULT),
+    outcome: Err(FAULT),
     out: b"abc",
     flushes: 0,
     failures: 1,
@@ -296,7 +296,7 @@ const TAKES_NOTHING: Written = Written {
 const NOT_FLUSHED: Written = Written {
     steps: &[],
     failing_flushes: &[ErrorKind::BrokenPipe],
-    answer: Err(FAULT),
+    outcome: Err(FAULT),
     out: b"abcd",
     flushes: 1,
     failures: 1,

@@ -70,7 +70,7 @@ fn answers(framer: &mut Framer, step: Step) -> bool {
         Step::Gives(piece, used, content) => gives(framer, piece, used, content),
         Step::Refuses(piece, fault) => refuses(framer, piece, fault),
         Step::Holds(count) => framer.held() == count,
-        Step::Ends(answer) => framer.finish() == answer,
+        Step::Ends(outcome) => framer.finish() == outcome,
     }
 }
 
@@ -148,7 +148,7 @@ fn after_a_fault(rt: HostRuntime) {
 fn writes(
     alloc: Global,
     (before, content, most): (&[u8], &[u8], usize),
-    answer: Result<(), FrameFault>,
+    outcome: Result<(), FrameFault>,
     after: &[u8],
 ) -> bool {
     let limits = FrameLimits {
@@ -158,7 +158,7 @@ fn writes(
     let Ok(mut out) = Vec::from_slice(alloc, before) else {
         return false;
     };
-    limits.sound() && write_frame(&mut out, content, limits) == answer && out.as_slice() == after
+    limits.sound() && write_frame(&mut out, content, limits) == outcome && out.as_slice() == after
 }
 
 /// The buffer before a frame, the content of the frame, and the buffer with the frame.
@@ -180,8 +180,8 @@ fn written_frames(rt: HostRuntime) {
 
 #[test]
 fn written_content_too_long(rt: HostRuntime) {
-    let answer = Err(FrameFault::ContentTooLong);
-    assert!(rt; writes(rt.alloc(), (b"before", b"abc", 2), answer, b"before"));
+    let outcome = Err(FrameFault::ContentTooLong);
+    assert!(rt; writes(rt.alloc(), (b"before", b"abc", 2), outcome, b"before"));
 }
 
 const LIMITS_AND_WHETHER_SOUND: [(usize, usize, bool); 5] = [

@@ -63,8 +63,8 @@ const NARROW: FrameLimits = FrameLimits {
 #[test]
 fn written_content_too_long(rt: HostRuntime) {
     let mut out = Vec::from_slice(rt.alloc(), b"before").expect(&rt, "no memory");
-    let answer = write_record(&mut out, Side::Client, b"{}", NARROW);
-    assert!(rt; answer == Err(FrameFault::ContentTooLong));
+    let outcome = write_record(&mut out, Side::Client, b"{}", NARROW);
+    assert!(rt; outcome == Err(FrameFault::ContentTooLong));
     assert!(rt; out.as_slice() == b"before".as_slice());
 }
 
@@ -196,8 +196,8 @@ const PIECES: [Piece; 3] = [
 ];
 
 fn answers(recorder: &mut Recorder, piece: &Piece) -> bool {
-    let (side, bytes, answer) = piece;
-    recorder.piece(*side, bytes) == *answer
+    let (side, bytes, outcome) = piece;
+    recorder.piece(*side, bytes) == *outcome
 }
 
 fn has_stopped(recorder: &Recorder) -> bool {

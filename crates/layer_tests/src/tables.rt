@@ -34,8 +34,8 @@ fn cuts<T: NameTable>(table: &mut T, keep: usize) -> bool {
 
 fn answers<T: NameTable>(table: &mut T, step: Step) -> bool {
     match step {
-        Step::Name(number, answer) => table.name(number) == answer,
-        Step::Find(number, answer) => table.find(number) == answer,
+        Step::Name(number, outcome) => table.name(number) == outcome,
+        Step::Find(number, outcome) => table.find(number) == outcome,
         Step::Len(len) => table.len() == len,
         Step::At(place, number) => has_at(table, place, number),
         Step::Cut(keep) => cuts(table, keep),

@@ -1,7 +1,7 @@
 use Rattle.callers.proofs.same_session.are_same.Goals as goal
 
-pub returns-clause-told : goal.returns-clause-told
-returns-clause-told c =
+pub returns-clause-reported : goal.returns-clause-reported
+returns-clause-reported c =
     let a = c.in_ok-a.ensures.ok.normalises in
     let b = c.in_ok-b.ensures.ok.normalises in
     record {
@@ -9,6 +9,6 @@ returns-clause-told c =
       messages_b = b.messages;
       accepts_a = a.accepts;
       accepts_b = b.accepts;
-      told = c.same.ensures.recordings c.args.limits c.args.mode c.requires c.args.a.now
+      reported = c.same.ensures.recordings c.args.limits c.args.mode c.requires c.args.a.now
           c.args.b.now a b;
     }

@@ -2,7 +2,7 @@ use Rattle.std.proofs.Common.{ap, codes, ◌∙◌}
 use Rattle.std.proofs.lemmas.Result.{IfOk-weaker}
 use Rattle.clap.specs.Words.{with_subcommand}
 use Rattle.dap_command_line.specs.CommandLine.{checker, masker, normaliser, of_two_files, plain}
-use Rattle.dap_command_line.specs.CommandLine.{row_teller}
+use Rattle.dap_command_line.specs.CommandLine.{rows_app}
 use Rattle.dap_command_line.proofs.definition.command.Goals as goal
 
 pub returns : goal.returns
@@ -20,7 +20,7 @@ returns c =
     let showing =
     c.in_ok-showing.ensures ∙ ap (λ a. with_subcommand a (plain (codes "show")).top) judged in
     let masking = c.in_ok-masking.ensures ∙ ap (λ a. with_subcommand a masker.top) showing in
-    let telling = c.in_ok-telling.ensures ∙ ap (λ a. with_subcommand a row_teller.top) masking in
+    let telling = c.in_ok-telling.ensures ∙ ap (λ a. with_subcommand a rows_app.top) masking in
     let comparing =
     c.in_ok-comparing.ensures
     ∙ ap (λ a. with_subcommand a (of_two_files (codes "compare")).top) telling in

@@ -3,7 +3,7 @@ use Rattle.clap.specs.Simple.{is_simple}
 use Rattle.clap.specs.Words.{HasKind, fault_of as faults_of, is_simple_and_free, subcommand_of}
 use Rattle.clap.specs.Words.{takes}
 use Rattle.clap.proofs.WalkLemmas.{both}
-use Rattle.dap_command_line.specs.CommandLine.{IsToldFor, job_named, program, told}
+use Rattle.dap_command_line.specs.CommandLine.{IsUsageErrorFor, job_named, program, job_spec}
 use Rattle.dap_command_line.proofs.CommandFiles.{takes_job}
 use Rattle.dap_command_line.proofs.FirstWords.{first_decides, program_splits}
 use Rattle.dap_command_line.proofs.ToldWords.{told_for}
@@ -22,25 +22,25 @@ returns-in-Ok-try_get_matches_from-clause-err c = λ taken named.
     let rows = (c.in-Ok-try_get_matches_from.ensures.matches simple).1
     ∙ ap (λ a. subcommand_of a (map (λ w. w.now) c.args.words.now)) c.in-Ok.ensures in
     let none = ap job_named (sym rows) ∙ sym c.told_by.ensures
-    ∙ ap (option_map told) c.in-None.is in
+    ∙ ap (option_map job_spec) c.in-None.is in
     absurd (true≢false (sym (takes_job (map (λ w. w.now) c.args.words.now) taken named)
     ∙ ap is_some none))
 
-pub returns-clause-told : goal.returns-clause-told
-returns-clause-told c =
+pub returns-clause-reported : goal.returns-clause-reported
+returns-clause-reported c =
     let words = map (λ w. w.now) c.args.words.now in
     let kinds = c.in-Err.ensures.kinds (ap is_simple_and_free c.in-Ok.ensures ∙ refl) in
     told_for (faults_of program words) c.in-Err.error c.fault_of.result
     (subst (λ a. HasKind (faults_of a words) c.in-Err.error) c.in-Ok.ensures kinds)
-    c.fault_of.ensures.memory c.fault_of.ensures.told
+    c.fault_of.ensures.memory c.fault_of.ensures.reported
 
-pub returns-in-Ok-try_get_matches_from-clause-told :
-    goal.returns-in-Ok-try_get_matches_from-clause-told
-returns-in-Ok-try_get_matches_from-clause-told c =
+pub returns-in-Ok-try_get_matches_from-clause-reported :
+    goal.returns-in-Ok-try_get_matches_from-clause-reported
+returns-in-Ok-try_get_matches_from-clause-reported c =
     let words = map (λ w. w.now) c.args.words.now in
     let none = c.in-Ok-try_get_matches_from.ensures.kinds
     (ap is_simple_and_free c.in-Ok.ensures ∙ refl) in
-    subst (λ kinds. IsToldFor kinds c.no_job.result)
+    subst (λ kinds. IsUsageErrorFor kinds c.no_job.result)
     (sym (ap (λ a. faults_of a words) (sym c.in-Ok.ensures) ∙ none)) c.no_job.ensures
 
 pub returns-in-Some-clause-ok : goal.returns-in-Some-clause-ok
@@ -48,7 +48,7 @@ returns-in-Some-clause-ok c =
     let simple = ap is_simple c.in-Ok.ensures ∙ refl in
     let rows = (c.in-Ok-try_get_matches_from.ensures.matches simple).1
     ∙ ap (λ a. subcommand_of a (map (λ w. w.now) c.args.words.now)) c.in-Ok.ensures in
-    ap job_named (sym rows) ∙ sym c.told_by.ensures ∙ ap (option_map told) c.in-Some.is
+    ap job_named (sym rows) ∙ sym c.told_by.ensures ∙ ap (option_map job_spec) c.in-Some.is
 
 pub returns-in-Some-clause-taken : goal.returns-in-Some-clause-taken
 returns-in-Some-clause-taken c =
@@ -58,11 +58,11 @@ returns-in-Some-clause-taken c =
 pub returns-clause-first : goal.returns-clause-first
 returns-clause-first c =
     first_decides program (map (λ w. w.now) c.args.words.now)
-    (λ kinds. IsToldFor kinds c.fault_of.result) (returns-clause-told c) program_splits
+    (λ kinds. IsUsageErrorFor kinds c.fault_of.result) (returns-clause-reported c) program_splits
 
 pub returns-in-Ok-try_get_matches_from-clause-first :
     goal.returns-in-Ok-try_get_matches_from-clause-first
 returns-in-Ok-try_get_matches_from-clause-first c =
     first_decides program (map (λ w. w.now) c.args.words.now)
-    (λ kinds. IsToldFor kinds c.no_job.result)
-    (returns-in-Ok-try_get_matches_from-clause-told c) program_splits
+    (λ kinds. IsUsageErrorFor kinds c.no_job.result)
+    (returns-in-Ok-try_get_matches_from-clause-reported c) program_splits

@@ -4,8 +4,8 @@ use Rattle.dap_compact.specs.Compacting.{compacting, text}
 use Rattle.dap_compact.proofs.CompactingLoop.{reads_frames}
 use Rattle.dap_compact.proofs.compacting.compact.Goals as goal
 
-pub returns-clause-answer : goal.returns-clause-answer
-returns-clause-answer g c =
+pub returns-clause-outcome : goal.returns-clause-outcome
+returns-clause-outcome g c =
     refused_answer (compacting c.args.limits) g.R.Source
     text c.args.reader.now c.drain.new.reader g.W.Sink c.args.writer.now
     c.in-Err-compact_records.refused

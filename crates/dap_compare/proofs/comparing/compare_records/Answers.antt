@@ -21,37 +21,37 @@ records-init g c =
       alike = refl;
     }
 
-pub returns-in_err-some_a-clause-answer : goal.returns-in_err-some_a-clause-answer
-returns-in_err-some_a-clause-answer g c =
+pub returns-in_err-some_a-clause-outcome : goal.returns-in_err-some_a-clause-outcome
+returns-in_err-some_a-clause-outcome g c =
     let because = err_from_is_err_and c.from_residual.result c.from_residual.ensures.1 in
-    let told = (c.in_err-some_a.ensures c.args.limits c.args.mode c.records.invariant.a.bytes
+    let reported = (c.in_err-some_a.ensures c.args.limits c.args.mode c.records.invariant.a.bytes
     c.records.invariant.a.messages c.records.invariant.a.normal
-    c.records.invariant.a.stands) in
+    c.records.invariant.a.represents) in
     rw (because.1, because.2)
     (told_by_a g.A.Source
     g.B.Source c.args.limits c.args.mode
     c.args.reader_a.now c.records.reader_a c.records.records_a c.records.invariant.a
     c.args.reader_b.now c.records.reader_b c.records.records_b c.records.invariant.b
-    c.records.invariant.alike c.next_text.new.records c.next_text.new.reader told.0 _ told.2
-    told.1)
+    c.records.invariant.alike c.next_text.new.records c.next_text.new.reader reported.0 _ reported.2
+    reported.1)
 
 pub returns-in_err-some_a-clause-taken_a : goal.returns-in_err-some_a-clause-taken_a
 returns-in_err-some_a-clause-taken_a g c =
-    let told = (c.in_err-some_a.ensures c.args.limits c.args.mode c.records.invariant.a.bytes
+    let reported = (c.in_err-some_a.ensures c.args.limits c.args.mode c.records.invariant.a.bytes
     c.records.invariant.a.messages c.records.invariant.a.normal
-    c.records.invariant.a.stands) in
+    c.records.invariant.a.represents) in
     few_taken g.A.Source c.args.limits c.args.mode
     c.args.reader_a.now c.records.reader_a c.records.records_a c.records.invariant.a
-    c.next_text.new.reader c.next_text.new.records _ told.1
+    c.next_text.new.reader c.next_text.new.records _ reported.1
 
-pub returns-in_err-some_b-clause-answer : goal.returns-in_err-some_b-clause-answer
-returns-in_err-some_b-clause-answer g c =
+pub returns-in_err-some_b-clause-outcome : goal.returns-in_err-some_b-clause-outcome
+returns-in_err-some_b-clause-outcome g c =
     let because =
     err_from_is_err_and c.from_residual-in_err-some_b.result
     c.from_residual-in_err-some_b.ensures.1 in
-    let told = (c.in_err-some_b.ensures c.args.limits c.args.mode c.records.invariant.b.bytes
+    let reported = (c.in_err-some_b.ensures c.args.limits c.args.mode c.records.invariant.b.bytes
     c.records.invariant.b.messages c.records.invariant.b.normal
-    c.records.invariant.b.stands) in
+    c.records.invariant.b.represents) in
     let passed = passed_by g.A.Source
     g.B.Source c.args.limits c.args.mode
     c.args.reader_a.now c.records.reader_a c.records.records_a c.records.invariant.a
@@ -60,15 +60,15 @@ returns-in_err-some_b-clause-answer g c =
     c.in_ok-some_a.some_a (c.in_ok-some_a.ensures c.args.limits c.args.mode
     c.records.invariant.a.bytes
     c.records.invariant.a.messages c.records.invariant.a.normal
-    c.records.invariant.a.stands) in
+    c.records.invariant.a.represents) in
     rw (because.1, because.2)
     (told_by_b g.A.Source
     g.B.Source c.args.limits c.args.mode
     c.args.reader_a.now c.records.reader_a c.records.records_a c.records.invariant.a
     c.args.reader_b.now c.records.reader_b c.records.records_b c.records.invariant.b
     c.records.invariant.alike c.next_text.new.reader passed.0 passed.1 passed.2
-    c.next_text-in-records.new.records c.next_text-in-records.new.reader told.0 _ told.2
-    told.1)
+    c.next_text-in-records.new.records c.next_text-in-records.new.reader reported.0 _ reported.2
+    reported.1)
 
 pub returns-in_err-some_b-clause-taken_a : goal.returns-in_err-some_b-clause-taken_a
 returns-in_err-some_b-clause-taken_a g c =
@@ -77,17 +77,17 @@ returns-in_err-some_b-clause-taken_a g c =
     c.next_text.new.records c.next_text.new.reader _ _ c.in_ok-some_a.some_a
     (c.in_ok-some_a.ensures c.args.limits c.args.mode c.records.invariant.a.bytes
     c.records.invariant.a.messages c.records.invariant.a.normal
-    c.records.invariant.a.stands)
+    c.records.invariant.a.represents)
 
 pub returns-in_err-some_b-clause-taken_b : goal.returns-in_err-some_b-clause-taken_b
 returns-in_err-some_b-clause-taken_b g c =
-    let told = (c.in_err-some_b.ensures c.args.limits c.args.mode c.records.invariant.b.bytes
+    let reported = (c.in_err-some_b.ensures c.args.limits c.args.mode c.records.invariant.b.bytes
     c.records.invariant.b.messages c.records.invariant.b.normal
-    c.records.invariant.b.stands) in
+    c.records.invariant.b.represents) in
     few_taken g.B.Source c.args.limits c.args.mode
     c.args.reader_b.now c.records.reader_b c.records.records_b c.records.invariant.b
     c.next_text-in-records.new.reader
-    c.next_text-in-records.new.records _ told.1
+    c.next_text-in-records.new.records _ reported.1
 
 pub returns-in-Apart-clause-taken_a : goal.returns-in-Apart-clause-taken_a
 returns-in-Apart-clause-taken_a g c =
@@ -96,7 +96,7 @@ returns-in-Apart-clause-taken_a g c =
     c.next_text.new.records c.next_text.new.reader _ _ c.in_ok-some_a.some_a
     (c.in_ok-some_a.ensures c.args.limits c.args.mode c.records.invariant.a.bytes
     c.records.invariant.a.messages c.records.invariant.a.normal
-    c.records.invariant.a.stands)
+    c.records.invariant.a.represents)
 
 pub returns-in-Apart-clause-taken_b : goal.returns-in-Apart-clause-taken_b
 returns-in-Apart-clause-taken_b g c =
@@ -106,7 +106,7 @@ returns-in-Apart-clause-taken_b g c =
     c.in_ok-some_b.some_b
     (c.in_ok-some_b.ensures c.args.limits c.args.mode c.records.invariant.b.bytes
     c.records.invariant.b.messages c.records.invariant.b.normal
-    c.records.invariant.b.stands)
+    c.records.invariant.b.represents)
 
 pub returns-in_default-clause-taken_a : goal.returns-in_default-clause-taken_a
 returns-in_default-clause-taken_a g c =
@@ -115,7 +115,7 @@ returns-in_default-clause-taken_a g c =
     c.next_text.new.records c.next_text.new.reader _ _ c.in_ok-some_a.some_a
     (c.in_ok-some_a.ensures c.args.limits c.args.mode c.records.invariant.a.bytes
     c.records.invariant.a.messages c.records.invariant.a.normal
-    c.records.invariant.a.stands)
+    c.records.invariant.a.represents)
 
 pub returns-in_default-clause-taken_b : goal.returns-in_default-clause-taken_b
 returns-in_default-clause-taken_b g c =
@@ -125,7 +125,7 @@ returns-in_default-clause-taken_b g c =
     c.in_ok-some_b.some_b
     (c.in_ok-some_b.ensures c.args.limits c.args.mode c.records.invariant.b.bytes
     c.records.invariant.b.messages c.records.invariant.b.normal
-    c.records.invariant.b.stands)
+    c.records.invariant.b.represents)
 
 pub returns-in-NoneLeft-clause-taken_a : goal.returns-in-NoneLeft-clause-taken_a
 returns-in-NoneLeft-clause-taken_a g c =
@@ -134,7 +134,7 @@ returns-in-NoneLeft-clause-taken_a g c =
     c.next_text.new.records c.next_text.new.reader _ _ c.in_ok-some_a.some_a
     (c.in_ok-some_a.ensures c.args.limits c.args.mode c.records.invariant.a.bytes
     c.records.invariant.a.messages c.records.invariant.a.normal
-    c.records.invariant.a.stands)
+    c.records.invariant.a.represents)
 
 pub returns-in-NoneLeft-clause-taken_b : goal.returns-in-NoneLeft-clause-taken_b
 returns-in-NoneLeft-clause-taken_b g c =
@@ -144,7 +144,7 @@ returns-in-NoneLeft-clause-taken_b g c =
     c.in_ok-some_b.some_b
     (c.in_ok-some_b.ensures c.args.limits c.args.mode c.records.invariant.b.bytes
     c.records.invariant.b.messages c.records.invariant.b.normal
-    c.records.invariant.b.stands)
+    c.records.invariant.b.represents)
 
 pub records-smaller : goal.records-smaller
 records-smaller g c = (gone g.A.Source c.args.limits c.args.mode
@@ -152,7 +152,7 @@ records-smaller g c = (gone g.A.Source c.args.limits c.args.mode
     c.next_text.new.records c.next_text.new.reader _ _ _
     (c.in_ok-some_a.ensures c.args.limits c.args.mode c.records.invariant.a.bytes
     c.records.invariant.a.messages c.records.invariant.a.normal
-    c.records.invariant.a.stands) c.in-Alike.ensures.0).shorter
+    c.records.invariant.a.represents) c.in-Alike.ensures.0).shorter
 
 pub records-preserved : goal.records-preserved
 records-preserved g c =
@@ -161,13 +161,13 @@ records-preserved g c =
     c.next_text.new.records c.next_text.new.reader _ _ _
     (c.in_ok-some_a.ensures c.args.limits c.args.mode c.records.invariant.a.bytes
     c.records.invariant.a.messages c.records.invariant.a.normal
-    c.records.invariant.a.stands) c.in-Alike.ensures.0 in
+    c.records.invariant.a.represents) c.in-Alike.ensures.0 in
     let two = gone g.B.Source c.args.limits c.args.mode
     c.args.reader_b.now c.records.reader_b c.records.records_b c.records.invariant.b
     c.next_text-in-records.new.records c.next_text-in-records.new.reader _ _ _
     (c.in_ok-some_b.ensures c.args.limits c.args.mode c.records.invariant.b.bytes
     c.records.invariant.b.messages c.records.invariant.b.normal
-    c.records.invariant.b.stands) c.in-Alike.ensures.1 in
+    c.records.invariant.b.represents) c.in-Alike.ensures.1 in
     record {
       a = on g.A.Source c.args.limits c.args.mode
           c.args.reader_a.now c.records.reader_a c.records.records_a
@@ -189,8 +189,8 @@ records-preserved g c =
           ∙ c.as_slice-in-records.ensures.value);
     }
 
-pub returns-in-Apart-clause-answer : goal.returns-in-Apart-clause-answer
-returns-in-Apart-clause-answer g c =
+pub returns-in-Apart-clause-outcome : goal.returns-in-Apart-clause-outcome
+returns-in-Apart-clause-outcome g c =
     told_apart g.A.Source
     g.B.Source c.args.limits c.args.mode
     c.args.reader_a.now c.records.reader_a c.records.records_a c.records.invariant.a
@@ -200,10 +200,10 @@ returns-in-Apart-clause-answer g c =
     c.in_ok-some_a.some_a c.in_ok-some_b.some_b
     (c.in_ok-some_a.ensures c.args.limits c.args.mode c.records.invariant.a.bytes
     c.records.invariant.a.messages c.records.invariant.a.normal
-    c.records.invariant.a.stands)
+    c.records.invariant.a.represents)
     (c.in_ok-some_b.ensures c.args.limits c.args.mode c.records.invariant.b.bytes
     c.records.invariant.b.messages c.records.invariant.b.normal
-    c.records.invariant.b.stands) refl refl
+    c.records.invariant.b.represents) refl refl
     (rw (c.as_slice.ensures.value, c.as_slice-in-records.ensures.value) at c.in-Apart.ensures)
     _ c.number-number.ensures
 
@@ -220,28 +220,28 @@ renaming_to-requires g c =
     c.next_text.new.records c.next_text.new.reader _ _ _
     (c.in_ok-some_a.ensures c.args.limits c.args.mode c.records.invariant.a.bytes
     c.records.invariant.a.messages c.records.invariant.a.normal
-    c.records.invariant.a.stands) c.in-NoneLeft.ensures.0)
+    c.records.invariant.a.represents) c.in-NoneLeft.ensures.0)
     (ended g.B.Source c.args.limits c.args.mode
     c.args.reader_b.now c.records.reader_b c.records.records_b c.records.invariant.b
     c.next_text-in-records.new.records c.next_text-in-records.new.reader _ _ _
     (c.in_ok-some_b.ensures c.args.limits c.args.mode c.records.invariant.b.bytes
     c.records.invariant.b.messages c.records.invariant.b.normal
-    c.records.invariant.b.stands) c.in-NoneLeft.ensures.1)
+    c.records.invariant.b.represents) c.in-NoneLeft.ensures.1)
 
-pub returns-in-NoneLeft-clause-answer : goal.returns-in-NoneLeft-clause-answer
-returns-in-NoneLeft-clause-answer g c =
+pub returns-in-NoneLeft-clause-outcome : goal.returns-in-NoneLeft-clause-outcome
+returns-in-NoneLeft-clause-outcome g c =
     let one = ended g.A.Source c.args.limits c.args.mode
     c.args.reader_a.now c.records.reader_a c.records.records_a c.records.invariant.a
     c.next_text.new.records c.next_text.new.reader _ _ _
     (c.in_ok-some_a.ensures c.args.limits c.args.mode c.records.invariant.a.bytes
     c.records.invariant.a.messages c.records.invariant.a.normal
-    c.records.invariant.a.stands) c.in-NoneLeft.ensures.0 in
+    c.records.invariant.a.represents) c.in-NoneLeft.ensures.0 in
     let two = ended g.B.Source c.args.limits c.args.mode
     c.args.reader_b.now c.records.reader_b c.records.records_b c.records.invariant.b
     c.next_text-in-records.new.records c.next_text-in-records.new.reader _ _ _
     (c.in_ok-some_b.ensures c.args.limits c.args.mode c.records.invariant.b.bytes
     c.records.invariant.b.messages c.records.invariant.b.normal
-    c.records.invariant.b.stands) c.in-NoneLeft.ensures.1 in
+    c.records.invariant.b.represents) c.in-NoneLeft.ensures.1 in
     both_ended g.A.Source
     g.B.Source c.args.limits c.args.mode
     c.args.reader_a.now c.records.reader_a c.records.records_a c.records.invariant.a
@@ -269,7 +269,7 @@ returns-in-Apart-clause-text_a g c =
     c.next_text.new.records c.next_text.new.reader [] _ c.in_ok-some_a.some_a
     (c.in_ok-some_a.ensures c.args.limits c.args.mode c.records.invariant.a.bytes
     c.records.invariant.a.messages c.records.invariant.a.normal
-    c.records.invariant.a.stands) refl _ c.number-number.ensures
+    c.records.invariant.a.represents) refl _ c.number-number.ensures
 
 pub returns-in-Apart-clause-text_b : goal.returns-in-Apart-clause-text_b
 returns-in-Apart-clause-text_b g c =
@@ -279,15 +279,15 @@ returns-in-Apart-clause-text_b g c =
     c.in_ok-some_b.some_b
     (c.in_ok-some_b.ensures c.args.limits c.args.mode c.records.invariant.b.bytes
     c.records.invariant.b.messages c.records.invariant.b.normal
-    c.records.invariant.b.stands) refl _
+    c.records.invariant.b.represents) refl _
     (c.number-number.ensures
     ∙ sym (one_number g.A.Source g.B.Source c.args.limits c.args.mode
     c.args.reader_a.now c.records.reader_a c.records.records_a c.records.invariant.a
     c.args.reader_b.now c.records.reader_b c.records.records_b c.records.invariant.b
     c.records.invariant.alike))
 
-pub returns-in_default-clause-answer : goal.returns-in_default-clause-answer
-returns-in_default-clause-answer g c =
+pub returns-in_default-clause-outcome : goal.returns-in_default-clause-outcome
+returns-in_default-clause-outcome g c =
     gave_up_at_end g.A.Source
     g.B.Source c.args.limits c.args.mode
     c.args.reader_a.now c.records.reader_a c.records.records_a c.records.invariant.a
@@ -299,10 +299,10 @@ returns-in_default-clause-answer g c =
     c.next_text.new.records c.next_text.new.reader _ _ _
     (c.in_ok-some_a.ensures c.args.limits c.args.mode c.records.invariant.a.bytes
     c.records.invariant.a.messages c.records.invariant.a.normal
-    c.records.invariant.a.stands) c.in-NoneLeft.ensures.0)
+    c.records.invariant.a.represents) c.in-NoneLeft.ensures.0)
     (ended g.B.Source c.args.limits c.args.mode
     c.args.reader_b.now c.records.reader_b c.records.records_b c.records.invariant.b
     c.next_text-in-records.new.records c.next_text-in-records.new.reader _ _ _
     (c.in_ok-some_b.ensures c.args.limits c.args.mode c.records.invariant.b.bytes
     c.records.invariant.b.messages c.records.invariant.b.normal
-    c.records.invariant.b.stands) c.in-NoneLeft.ensures.1)
+    c.records.invariant.b.represents) c.in-NoneLeft.ensures.1)

@@ -1,12 +1,12 @@
 use Rattle.dap_compare.proofs.StreamComparing.{none_compared}
 use Rattle.dap_compare.proofs.comparing.compare_texts_with.Goals as goal
 
-pub returns-in_default-clause-answer : goal.returns-in_default-clause-answer
-returns-in_default-clause-answer g c =
+pub returns-in_default-clause-outcome : goal.returns-in_default-clause-outcome
+returns-in_default-clause-outcome g c =
     none_compared g.A.Source g.B.Source c.args.limits c.args.mode c.args.reader_a.now
     c.args.reader_b.now
 
-pub returns-in_default-new-clause-answer : goal.returns-in_default-new-clause-answer
-returns-in_default-new-clause-answer g c =
+pub returns-in_default-new-clause-outcome : goal.returns-in_default-new-clause-outcome
+returns-in_default-new-clause-outcome g c =
     none_compared g.A.Source g.B.Source c.args.limits c.args.mode c.args.reader_a.now
     c.args.reader_b.now

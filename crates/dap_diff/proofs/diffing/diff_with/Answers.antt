@@ -1,11 +1,11 @@
 use Rattle.std.proofs.Common.{sym, subst}
-use Rattle.dap_diff.specs.Texts.{IsLeftText, TellsTexts}
+use Rattle.dap_diff.specs.Texts.{IsLeftText, DescribesTexts}
 use Rattle.dap_diff.proofs.Texts.{gave_up_after, is_left, tells_record}
 use Rattle.dap_diff.proofs.diffing.diff_with.Goals as goal
 
-pub returns-in-Same-clause-answer : goal.returns-in-Same-clause-answer
-returns-in-Same-clause-answer g c =
-    (c.in-Same.field-0, rw c.in-Same.is at c.in_ok-verdict.ensures.answer)
+pub returns-in-Same-clause-outcome : goal.returns-in-Same-clause-outcome
+returns-in-Same-clause-outcome g c =
+    (c.in-Same.field-0, rw c.in-Same.is at c.in_ok-verdict.ensures.outcome)
 
 pub lines_of-requires-clause-is_left_a : goal.lines_of-requires-clause-is_left_a
 lines_of-requires-clause-is_left_a g c =
@@ -21,12 +21,12 @@ lines_of-requires-clause-is_left_b g c =
     c.compare_texts_with.new.reader_b c.in-Differ.record c.compare_texts_with.new.text_b.items
     (rw c.in-Differ.is at c.in_ok-verdict.ensures.text_b))
 
-pub returns-in-Ok-clause-answer : goal.returns-in-Ok-clause-answer
-returns-in-Ok-clause-answer g c =
-    let tells : TellsTexts c.args.limits c.compare_texts_with.new.text_a.items
+pub returns-in-Ok-clause-outcome : goal.returns-in-Ok-clause-outcome
+returns-in-Ok-clause-outcome g c =
+    let tells : DescribesTexts c.args.limits c.compare_texts_with.new.text_a.items
     c.compare_texts_with.new.text_b.items c.in-Ok.lines.items =
     rw (c.as_slice.ensures.value, c.as_slice-in-Differ.ensures.value) at c.in-Ok.ensures in (
-      rw c.in-Differ.is at c.in_ok-verdict.ensures.answer,
+      rw c.in-Differ.is at c.in_ok-verdict.ensures.outcome,
       tells_record c.args.limits c.args.mode c.requires.limits g.A.Source g.B.Source
           c.args.reader_a.now
           c.compare_texts_with.new.reader_a c.args.reader_b.now c.compare_texts_with.new.reader_b
@@ -34,8 +34,8 @@ returns-in-Ok-clause-answer g c =
           (rw c.in-Differ.is at c.in_ok-verdict.ensures.text_b) tells,
     )
 
-pub returns-clause-answer : goal.returns-clause-answer
-returns-clause-answer g c =
+pub returns-clause-outcome : goal.returns-clause-outcome
+returns-clause-outcome g c =
     gave_up_after g.A.Source g.B.Source c.args.limits c.args.mode c.args.reader_a.now
     c.compare_texts_with.new.reader_a c.args.reader_b.now c.compare_texts_with.new.reader_b
-    c.in-Differ.record (rw c.in-Differ.is at c.in_ok-verdict.ensures.answer)
+    c.in-Differ.record (rw c.in-Differ.is at c.in_ok-verdict.ensures.outcome)

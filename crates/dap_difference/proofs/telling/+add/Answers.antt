@@ -3,7 +3,7 @@ use Rattle.std.proofs.Common.{sym, ap, ◌∙◌}
 use Rattle.std.proofs.Common.{Some, None, ◌≤◌, subst, arith, add-one}
 use Rattle.dap_tree.specs.Path.{name}
 use Rattle.dap_tree.specs.View.{view, items_view, members_view}
-use Rattle.dap_difference.specs.Shown.{path_of, told}
+use Rattle.dap_difference.specs.Shown.{path_of, shown_differences}
 use Rattle.dap_difference.specs.Telling.{below, behind, only_a, differences, items_differences}
 use Rattle.dap_difference.specs.Telling.{members_differences}
 use Rattle.dap_difference.specs.TellingSteps.{PassesLower, HasNoLower, TakesNamed}
@@ -35,11 +35,12 @@ add_items-loop-place-preserved t c =
           let pushed = w.in_ok-push-in-Some.ensures.items in
           let added = w.in_ok-add-in-Some.ensures in
           record {
-            told_so_far = ap (λ v. told v.items ++ map (below (path_of root)) rest) w.found-is
+            told_so_far = ap (λ v. shown_differences v.items ++ map (below (path_of root)) rest)
+                w.found-is
                 ∙ appended_behind root l.path.items w.push.new.self.items (Item i) l.found.items
                 w.add.new.found.items (differences (view item) (view other)) rest l.invariant.path
                 pushed added.found
-                ∙ ap (λ ys. told l.found.items ++ map (below (path_of root)) ys)
+                ∙ ap (λ ys. shown_differences l.found.items ++ map (below (path_of root)) ys)
                 (sym (items_both ds es i (i + 1) item other (add-one i) first second))
                 ∙ l.invariant.told_so_far;
             path = ap (λ v. v.items) w.path-is
@@ -53,10 +54,11 @@ add_items-loop-place-preserved t c =
           let past = subst (λ xs. length xs ≤ i) c.deref.ensures.value w.in-None.ensures.lookup.3 in
           let added = w.in_ok-add_behind-in-None.ensures in
           record {
-            told_so_far = ap (λ v. told v.items ++ map (below (path_of root)) rest) w.found-is
+            told_so_far = ap (λ v. shown_differences v.items ++ map (below (path_of root)) rest)
+                w.found-is
                 ∙ appended_one root l.path.items (Item i) (Some (view item)) None l.found.items
                 w.add_behind.new.found.items rest l.invariant.path added.found
-                ∙ ap (λ ys. told l.found.items ++ map (below (path_of root)) ys)
+                ∙ ap (λ ys. shown_differences l.found.items ++ map (below (path_of root)) ys)
                 (sym (items_only_a ds es i (i + 1) item (add-one i) first past))
                 ∙ l.invariant.told_so_far;
             path = ap (λ v. v.items) w.path-is ∙ added.path ∙ l.invariant.path;
@@ -89,7 +91,7 @@ add_members-loop-name-preserved-in-Some-2 t c =
           l.left lower.left c.next_named.new.left l.found.items lower.found.items
           c.add.new.found.items c.in-Some.ensures.steps l.invariant.path passes
           (taken.1 ∙ c.as_str-in-loop-name.ensures.value) taken.2
-          (next ∙ ap (λ k. told lower.found.items ++ map (below (path_of root))
+          (next ∙ ap (λ k. shown_differences lower.found.items ++ map (below (path_of root))
           (map (behind (name k)) (differences (view tree) (view other)) ++ rest))
           c.as_str-in-Some-2.ensures.value)
           ∙ l.invariant.told_so_far;
@@ -127,7 +129,7 @@ add_members-loop-name-preserved t c =
       told_so_far = members_only_a root l.path.items key tree l.name-iterator more l.left
           lower.left c.next_named.new.left l.found.items lower.found.items
           c.add_behind.new.found.items c.in-Some.ensures.steps l.invariant.path passes low none
-          (next ∙ ap (λ k. told lower.found.items ++ map (below (path_of root))
+          (next ∙ ap (λ k. shown_differences lower.found.items ++ map (below (path_of root))
           (only_a (name k) (view tree) ∷ rest)) c.as_str-in-None-2.ensures.value)
           ∙ l.invariant.told_so_far;
       path = added.path ∙ at_root;

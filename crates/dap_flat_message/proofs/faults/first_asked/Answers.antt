@@ -1,5 +1,5 @@
 use Rattle.std.proofs.lemmas.Result.{IfOk-weaker}
-use Rattle.dap_profile.specs.Stretches.{rows_in}
+use Rattle.dap_profile.specs.RowRanges.{rows_in}
 use Rattle.dap_flat_message.specs.Heads.{IsFirst, IsFault}
 use Rattle.dap_flat_message.proofs.Named.{asked_fault}
 use Rattle.dap_flat_message.proofs.faults.first_asked.Goals as goal

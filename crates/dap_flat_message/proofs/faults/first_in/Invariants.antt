@@ -1,5 +1,5 @@
 use Rattle.std.proofs.Common.{drop}
-use Rattle.dap_profile.specs.Stretches.{rows_in}
+use Rattle.dap_profile.specs.RowRanges.{rows_in}
 use Rattle.dap_flat_message.specs.Heads.{AreRowsLeft}
 use Rattle.dap_flat_message.proofs.faults.first_in.Given as goal
 

@@ -8,7 +8,7 @@ first_broken-requires c = record {
   named = λ d shows.
       let tells = tells_whole c.args.nodes.now c.args.found.now c.requires d shows in (
         sym (c.in_ok-kind.ensures d tells) ∙ c.in-Some.is,
-        sym (c.in_ok-name_told-in-Some.ensures d tells),
+        sym (c.in_ok-name_of_tree-in-Some.ensures d tells),
       );
   places = c.requires;
 }

@@ -1,5 +1,5 @@
 use Rattle.std.proofs.lemmas.Result.{on_ok_weaker}
-use Rattle.dap_profile.specs.Stretches.{rows_in}
+use Rattle.dap_profile.specs.RowRanges.{rows_in}
 use Rattle.dap_flat_message.proofs.Shown.{asked_marks}
 use Rattle.dap_flat_message.proofs.row_marks.mark_message.Goals as goal
 

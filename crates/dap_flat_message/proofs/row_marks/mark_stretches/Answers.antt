@@ -1,6 +1,6 @@
 use Rattle.std.proofs.Common.{ap}
 use Rattle.std.proofs.Math.ListN.{drop_of_length-le}
-use Rattle.dap_profile.specs.Stretches.{rows_in}
+use Rattle.dap_profile.specs.RowRanges.{rows_in}
 use Rattle.dap_flat_message.proofs.Shown.{none_marked, stretch_marked, all_marked}
 use Rattle.dap_flat_message.proofs.row_marks.mark_stretches.Goals as goal
 

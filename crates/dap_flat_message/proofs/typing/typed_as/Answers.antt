@@ -1,4 +1,4 @@
-use Rattle.dap_profile.specs.Stretches.{rows_in}
+use Rattle.dap_profile.specs.RowRanges.{rows_in}
 use Rattle.dap_flat_message.specs.Heads.{text_in}
 use Rattle.dap_flat_message.proofs.Named.{named_asked}
 use Rattle.dap_flat_message.proofs.typing.typed_as.Goals as goal

@@ -12,7 +12,7 @@ unreachable-requires c =
     c.new-reader_b.result c.diff.new.reader_b
     (ap (λ (s : GivenBytes). s.left) c.new-reader_a.ensures)
     (ap (λ (s : GivenBytes). s.left) c.new-reader_b.ensures ∙ c.as_slice-text.ensures.value)
-    c.diff.result c.diff.ensures.answer c.in-Err-Input-B-default.field-0-1 (cc)
+    c.diff.result c.diff.ensures.outcome c.in-Err-Input-B-default.field-0-1 (cc)
 
 pub returns-in-Ok-Same-clause-not_normal : goal.returns-in-Ok-Same-clause-not_normal
 returns-in-Ok-Same-clause-not_normal c =
@@ -23,7 +23,7 @@ returns-in-Ok-Same-clause-not_normal c =
           c.new-reader_b.result c.diff.new.reader_b
           (ap (λ (s : GivenBytes). s.left) c.new-reader_a.ensures)
           (ap (λ (s : GivenBytes). s.left) c.new-reader_b.ensures ∙ c.as_slice-text.ensures.value)
-          c.diff.result c.diff.ensures.answer (cc);
+          c.diff.result c.diff.ensures.outcome (cc);
       other = search rules;
     } in
     ((λ same. is), (λ same. refl))
@@ -35,7 +35,7 @@ returns-in-Ok-Same-clause-verdict c = record {
       c.new-reader_b.result c.diff.new.reader_b
       (ap (λ (s : GivenBytes). s.left) c.new-reader_a.ensures)
       (ap (λ (s : GivenBytes). s.left) c.new-reader_b.ensures ∙ c.as_slice-text.ensures.value)
-      c.diff.result c.diff.ensures.answer (cc);
+      c.diff.result c.diff.ensures.outcome (cc);
   other = search rules;
 }
 
@@ -49,7 +49,7 @@ returns-in-Ok-Differ-clause-not_normal c = (
       c.new-reader_b.result c.diff.new.reader_b
       (ap (λ (s : GivenBytes). s.left) c.new-reader_a.ensures)
       (ap (λ (s : GivenBytes). s.left) c.new-reader_b.ensures ∙ c.as_slice-text.ensures.value)
-      c.diff.result c.diff.ensures.answer c.in-Ok-Differ.record c.in-Ok-Differ.lines (cc))
+      c.diff.result c.diff.ensures.outcome c.in-Ok-Differ.record c.in-Ok-Differ.lines (cc))
       is.normalises)),
 )
 
@@ -60,7 +60,7 @@ returns-in-Ok-Differ-clause-verdict c =
     c.new-reader_b.result c.diff.new.reader_b
     (ap (λ (s : GivenBytes). s.left) c.new-reader_a.ensures)
     (ap (λ (s : GivenBytes). s.left) c.new-reader_b.ensures ∙ c.as_slice-text.ensures.value)
-    c.diff.result c.diff.ensures.answer c.in-Ok-Differ.record c.in-Ok-Differ.lines (cc)
+    c.diff.result c.diff.ensures.outcome c.in-Ok-Differ.record c.in-Ok-Differ.lines (cc)
 
 pub returns-in-Err-Input-A-default-clause-err : goal.returns-in-Err-Input-A-default-clause-err
 returns-in-Err-Input-A-default-clause-err c =
@@ -69,4 +69,4 @@ returns-in-Err-Input-A-default-clause-err c =
     c.new-reader_b.result c.diff.new.reader_b
     (ap (λ (s : GivenBytes). s.left) c.new-reader_a.ensures)
     (ap (λ (s : GivenBytes). s.left) c.new-reader_b.ensures ∙ c.as_slice-text.ensures.value)
-    c.diff.result c.diff.ensures.answer c.in-Err-Input-A-default.refused (cc)
+    c.diff.result c.diff.ensures.outcome c.in-Err-Input-A-default.refused (cc)

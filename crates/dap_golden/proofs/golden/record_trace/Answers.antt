@@ -15,7 +15,7 @@ returns-in-Ok-clause-ok c =
     (subst (IsRecordingOf c.args.limits c.new-reader.result.left) (sym c.into_bytes.ensures)
     (recorded_whole c.new-reader.result c.record.new.reader c.new-writer.result
     c.record.new.writer c.args.limits (ap (λ (sink : WrittenBytes). sink.out) c.new-writer.ensures)
-    (subst IsTraceHead (sym all) c.requires.trace) c.in-Ok.ensures.answer))
+    (subst IsTraceHead (sym all) c.requires.trace) c.in-Ok.ensures.outcome))
 
 pub returns-clause-err : goal.returns-clause-err
 returns-clause-err c = (
@@ -26,5 +26,5 @@ returns-clause-err c = (
       (trace_refused c.new-reader.result c.record.new.reader c.new-writer.result
       c.record.new.writer c.args.limits c.in-Err.refused
       (λ out. true≢false (sym (c.is_out_of_memory.ensures.1 out) ∙ c.if-is_out_of_memory.false))
-      c.in-Err.ensures.answer),
+      c.in-Err.ensures.outcome),
 )

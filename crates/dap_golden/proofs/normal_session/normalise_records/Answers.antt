@@ -1,7 +1,7 @@
 use Rattle.std.proofs.Common.{◌++◌, [], None, false, refl, sym, ◌∙◌, ap, subst, arith}
 use Rattle.std.proofs.lemmas.Bool.{true≢false}
 use Rattle.std.proofs.lemmas.Result.{err_from_is_err_and}
-use Rattle.dap_device.specs.Pieces.{HasComeSoFar}
+use Rattle.dap_device.specs.Pieces.{HasReadSoFar}
 use Rattle.dap_input.proofs.Coming.{nothing_came}
 use Rattle.dap_normal.specs.JudgingSteps.{record_of}
 use Rattle.dap_normal.proofs.JudgedRecords.{text_push}
@@ -17,11 +17,11 @@ loop-bytes-init g c =
     record {
       going = record {
         bytes = [];
-        came = subst (λ r. HasComeSoFar memory first r [] None) (sym c.new-reader.ensures)
+        came = subst (λ r. HasReadSoFar memory first r [] None) (sym c.new-reader.ensures)
             (nothing_came memory first);
         messages = [];
         normal = [];
-        stands = c.requires.stands;
+        represents = c.requires.represents;
       };
       text_is = c.new-bytes.ensures.items;
     }
@@ -33,7 +33,7 @@ loop-bytes-smaller g c =
     (start c.args.limits c.args.mode c.requires.limits c.args.recording.now) c.loop-bytes.reader
     c.loop-bytes.records was c.next.new.self c.next.new.reader _ _ _
     (c.in_ok-next.ensures.next c.args.limits c.args.mode was.bytes was.messages was.normal
-    was.stands)
+    was.represents)
     c.if-branch.true).shorter
 
 pub loop-bytes-preserved : goal.loop-bytes-preserved
@@ -43,7 +43,7 @@ loop-bytes-preserved g c =
     let more = gone memory c.args.limits c.args.mode first c.loop-bytes.reader
     c.loop-bytes.records was c.next.new.self c.next.new.reader _ _ _
     (c.in_ok-next.ensures.next c.args.limits c.args.mode was.bytes was.messages was.normal
-    was.stands)
+    was.represents)
     c.if-branch.true in
     record {
       going = on memory c.args.limits c.args.mode first c.loop-bytes.reader c.loop-bytes.records
@@ -60,7 +60,7 @@ returns-in_err-next-clause-err g c =
     (refuses_bytes c.args.limits c.args.mode c.requires.limits c.args.recording.now
     c.loop-bytes.reader c.loop-bytes.records was c.next.new.reader c.next.new.self _
     (c.in_err-next.ensures.next c.args.limits c.args.mode was.bytes was.messages was.normal
-    was.stands))
+    was.represents))
 
 pub overflow_sub-counts : goal.overflow_sub-counts
 overflow_sub-counts g c =
@@ -69,7 +69,7 @@ overflow_sub-counts g c =
     let end = ended memory c.args.limits c.args.mode first c.loop-bytes.reader
     c.loop-bytes.records was c.next.new.self c.next.new.reader _ _ _
     (c.in_ok-next.ensures.next c.args.limits c.args.mode was.bytes was.messages was.normal
-    was.stands)
+    was.represents)
     c.if-branch.false in
     let some = some_records memory c.args.limits c.args.mode first c.loop-bytes.reader
     c.loop-bytes.records was c.next.new.self c.next.new.reader false _ _ end in
@@ -83,7 +83,7 @@ returns-clause-ok g c =
     let end = ended memory c.args.limits c.args.mode first c.loop-bytes.reader
     c.loop-bytes.records was c.next.new.self c.next.new.reader _ _ _
     (c.in_ok-next.ensures.next c.args.limits c.args.mode was.bytes was.messages was.normal
-    was.stands)
+    was.represents)
     c.if-branch.false in
     let some = some_records memory c.args.limits c.args.mode first c.loop-bytes.reader
     c.loop-bytes.records was c.next.new.self c.next.new.reader false _ _ end in

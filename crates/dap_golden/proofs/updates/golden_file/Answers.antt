@@ -14,8 +14,8 @@ leaves_either moment left_since P Q old new so_far follows = record {
   before = λ t c le left. ⊎_elim inl (λ has. inr (follows c has)) (so_far.before t c le left);
 }
 
-pub returns-then-request-clause-answer : goal.returns-then-request-clause-answer
-returns-then-request-clause-answer g c = inr (
+pub returns-then-request-clause-outcome : goal.returns-then-request-clause-outcome
+returns-then-request-clause-outcome g c = inr (
   c.in_ok-text.text,
   c.in_ok-text.ensures.text,
   subst (λ update. RunsOn g.I.Source g.F.Replaceable c.args.limits (mask_given c.args.rules)
@@ -30,8 +30,8 @@ returns-then-request-clause-any_moment g c = λ known. leaves_either _ _ _ _ _ _
     (λ content left. ⊎_elim inl
     (λ is. inr (c.if-request.true, (c.in_ok-text.text, c.in_ok-text.ensures.text, is))) left)
 
-pub returns-clause-answer : goal.returns-clause-answer
-returns-clause-answer g c = inr (
+pub returns-clause-outcome : goal.returns-clause-outcome
+returns-clause-outcome g c = inr (
   c.in_ok-text.text,
   c.in_ok-text.ensures.text,
   subst (λ update. RunsOn g.I.Source g.F.Replaceable c.args.limits (mask_given c.args.rules)

@@ -2,7 +2,7 @@ use Rattle.std.proofs.Common.{None, Some}
 use Rattle.dap_tree.specs.View.{view}
 use Rattle.dap_mask.specs.KeptRules.{mask_of}
 use Rattle.dap_mask.specs.Loose.{IsLeftOf, LeavesFraction}
-use Rattle.dap_normal.specs.JudgingSteps.{held_of}
+use Rattle.dap_normal.specs.JudgingSteps.{payload_of}
 use Rattle.dap_mask_input.proofs.MaskedRecords.{fraction_left, left_out, recorded}
 use Rattle.dap_mask_input.proofs.masking.append_masked.Goals as goal
 
@@ -11,7 +11,7 @@ returns-in-Ok-Some-clause-masked c messages fits count =
     let mask = mask_of c.args.rules.now in
     let is : IsLeftOf mask c.args.whole.now.content (Some (view c.in-Ok-Some.tree)) =
     rw (c.as_slice.ensures, c.in-Ok-Some.field-0-is) at c.in-Ok-Some.ensures.ok in
-    recorded c.args.limits mask messages (held_of c.args.whole.now) c.args.number c.args.written
+    recorded c.args.limits mask messages (payload_of c.args.whole.now) c.args.number c.args.written
     fits count (view c.in-Ok-Some.tree) is c.args.out.now.items c.append_record.new.out.items
     c.append_record.result c.append_record.ensures.writes
 
@@ -20,7 +20,7 @@ returns-in-Ok-None-clause-masked c messages fits count =
     let mask = mask_of c.args.rules.now in
     let is : IsLeftOf mask c.args.whole.now.content None =
     rw (c.as_slice.ensures, c.in-Ok-None.field-0-is) at c.in-Ok-None.ensures.ok in
-    left_out c.args.limits mask messages (held_of c.args.whole.now) c.args.number c.args.written
+    left_out c.args.limits mask messages (payload_of c.args.whole.now) c.args.number c.args.written
     fits count c.args.out.now.items is
 
 pub returns-in-Err-Fraction-clause-masked : goal.returns-in-Err-Fraction-clause-masked
@@ -28,5 +28,5 @@ returns-in-Err-Fraction-clause-masked c messages fits count =
     let mask = mask_of c.args.rules.now in
     let is : LeavesFraction mask c.args.whole.now.content =
     rw (c.as_slice.ensures, c.in-Err-Fraction.field-0-is) at c.in-Err-Fraction.ensures.err in
-    fraction_left c.args.limits mask messages (held_of c.args.whole.now) c.args.number
+    fraction_left c.args.limits mask messages (payload_of c.args.whole.now) c.args.number
     c.args.written fits count is

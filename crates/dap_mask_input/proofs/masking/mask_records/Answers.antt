@@ -1,5 +1,5 @@
 use Rattle.std.proofs.Common.{Err, Ok, sym, ◌∙◌, subst}
-use Rattle.dap_device.specs.Written.{AllWritten, FrontWritten}
+use Rattle.dap_device.specs.Written.{AllWritten, PrefixWritten}
 use Rattle.dap_input.proofs.StreamEnds.{all_written, front_written}
 use Rattle.dap_normal.specs.Streaming.{Ends}
 use Rattle.dap_mask_input.proofs.MaskingLoop.{all_masked, failed_to_write, fewer, none_read}
@@ -14,8 +14,8 @@ records-init g c =
     (none_read c.args.rules.now c.args.limits c.requires.limits g.R.Source g.W.Sink
     c.args.reader.now c.args.writer.now c.args.records.now c.requires.start)
 
-pub returns-in-Ok-None-clause-answer : goal.returns-in-Ok-None-clause-answer
-returns-in-Ok-None-clause-answer g c =
+pub returns-in-Ok-None-clause-outcome : goal.returns-in-Ok-None-clause-outcome
+returns-in-Ok-None-clause-outcome g c =
     all_masked c.args.rules.now c.args.limits c.requires.limits g.R.Source g.W.Sink
     c.args.reader.now c.args.writer.now c.records.reader c.records.writer c.records.records
     c.records.written c.records.text.items c.records.invariant c.next.new.self c.next.new.reader
@@ -25,8 +25,8 @@ returns-in-Ok-None-clause-answer g c =
     (subst (λ t. Ends g.W.Sink t c.records.writer c.ended.new.writer (Ok tt) c.ended.result)
     c.as_slice.ensures.value c.ended.ensures)
 
-pub returns-in-Err-clause-answer : goal.returns-in-Err-clause-answer
-returns-in-Err-clause-answer g c =
+pub returns-in-Err-clause-outcome : goal.returns-in-Err-clause-outcome
+returns-in-Err-clause-outcome g c =
     not_read c.args.rules.now c.args.limits c.requires.limits g.R.Source g.W.Sink
     c.args.reader.now c.args.writer.now c.records.reader c.records.writer c.records.records
     c.records.written c.records.text.items c.records.invariant c.next.new.self c.next.new.reader
@@ -68,8 +68,8 @@ returns-in-Err-append_masked-clause-given_up g c = λ memory.
     (c.as_slice-in-Err-append_masked.ensures.value ∙ c.in-Err-append_masked.ensures.kept)
     c.ended-in-Err-append_masked.ensures) memory
 
-pub returns-in-Err-append_masked-clause-answer : goal.returns-in-Err-append_masked-clause-answer
-returns-in-Err-append_masked-clause-answer g c =
+pub returns-in-Err-append_masked-clause-outcome : goal.returns-in-Err-append_masked-clause-outcome
+returns-in-Err-append_masked-clause-outcome g c =
     not_masked c.args.rules.now c.args.limits c.requires.limits g.R.Source g.W.Sink
     c.args.reader.now c.args.writer.now c.records.reader c.records.writer c.records.records
     c.records.written c.records.text.items c.records.invariant c.next.new.self c.next.new.reader
@@ -84,8 +84,8 @@ returns-in-Err-append_masked-clause-answer g c =
     (c.as_slice-in-Err-append_masked.ensures.value ∙ c.in-Err-append_masked.ensures.kept)
     c.ended-in-Err-append_masked.ensures)
 
-pub returns-then-is_err-clause-answer : goal.returns-then-is_err-clause-answer
-returns-then-is_err-clause-answer g c =
+pub returns-then-is_err-clause-outcome : goal.returns-then-is_err-clause-outcome
+returns-then-is_err-clause-outcome g c =
     failed_to_write c.args.rules.now c.args.limits c.requires.limits g.R.Source g.W.Sink
     c.args.reader.now c.args.writer.now c.records.reader c.records.writer c.records.records
     c.records.written c.records.text.items c.records.invariant c.next.new.self c.next.new.reader
@@ -95,7 +95,7 @@ returns-then-is_err-clause-answer g c =
     (c.in-Ok.ensures.masked c.records.invariant.values c.records.invariant.fits
     c.records.invariant.count)
     c.write_all.new.writer
-    (subst (FrontWritten g.W.Sink c.records.writer c.write_all.new.writer)
+    (subst (PrefixWritten g.W.Sink c.records.writer c.write_all.new.writer)
     c.as_slice-then-len-ge-PIECE.ensures.value
     (front_written g.W.Sink c.records.writer c.write_all.new.writer c.write_all.result
     c.as_slice-then-len-ge-PIECE.result.now c.write_all.ensures

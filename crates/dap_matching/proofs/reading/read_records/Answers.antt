@@ -13,19 +13,19 @@ use Rattle.dap_matching.proofs.reading.read_records.Goals as goal
 pub records-init : goal.records-init
 records-init g c = record {
   going = at_start g.R.Source c.args.limits c.args.mode c.args.reader.now c.args.records.now
-      c.requires.stands;
+      c.requires.represents;
   text_is = c.requires.empty;
 }
 
-pub returns-in-Ok-false-clause-answer : goal.returns-in-Ok-false-clause-answer
-returns-in-Ok-false-clause-answer g c =
+pub returns-in-Ok-false-clause-outcome : goal.returns-in-Ok-false-clause-outcome
+returns-in-Ok-false-clause-outcome g c =
     let was = c.records.invariant in
     accepted g.R.Source c.args.limits c.args.mode c.args.reader.now c.records.reader
     c.records.records _ was c.next.new.self c.next.new.reader _ _
     (ended g.R.Source c.args.limits c.args.mode c.args.reader.now c.records.reader
     c.records.records was.going c.next.new.self c.next.new.reader _ _ _
     (c.in-Ok-false.ensures.next c.args.limits c.args.mode was.going.bytes was.going.messages
-    was.going.normal was.going.stands)
+    was.going.normal was.going.represents)
     c.in-Ok-false.field-0-test)
 
 pub returns-in-Ok-false-clause-taken : goal.returns-in-Ok-false-clause-taken
@@ -36,17 +36,17 @@ returns-in-Ok-false-clause-taken g c =
     (ended g.R.Source c.args.limits c.args.mode c.args.reader.now c.records.reader
     c.records.records was.going c.next.new.self c.next.new.reader _ _ _
     (c.in-Ok-false.ensures.next c.args.limits c.args.mode was.going.bytes was.going.messages
-    was.going.normal was.going.stands)
+    was.going.normal was.going.represents)
     c.in-Ok-false.field-0-test)
 
-pub returns-in-Err-clause-answer : goal.returns-in-Err-clause-answer
-returns-in-Err-clause-answer g c =
+pub returns-in-Err-clause-outcome : goal.returns-in-Err-clause-outcome
+returns-in-Err-clause-outcome g c =
     let was = c.records.invariant in
     refused g.R.Source c.args.limits c.args.mode c.args.reader.now c.records.reader
     c.records.records _ was c.next.new.self c.next.new.reader c.args.which c.in-Err.refused
     c.refusal_of.result
     (c.in-Err.ensures.next c.args.limits c.args.mode was.going.bytes was.going.messages
-    was.going.normal was.going.stands)
+    was.going.normal was.going.represents)
     c.refusal_of.ensures c.records.recording.text.items
 
 pub returns-in-Err-clause-taken : goal.returns-in-Err-clause-taken
@@ -55,13 +55,13 @@ returns-in-Err-clause-taken g c =
     few_taken g.R.Source c.args.limits c.args.mode c.args.reader.now c.records.reader
     c.records.records was.going c.next.new.reader c.next.new.self _
     (c.in-Err.ensures.next c.args.limits c.args.mode was.going.bytes was.going.messages
-    was.going.normal was.going.stands)
+    was.going.normal was.going.represents)
 
 pub add_record-requires-clause-is_record : goal.add_record-requires-clause-is_record
 add_record-requires-clause-is_record g c =
     let was = c.records.invariant in
     let next = c.in-Ok-true.ensures.next c.args.limits c.args.mode was.going.bytes
-    was.going.messages was.going.normal was.going.stands in
+    was.going.messages was.going.normal was.going.represents in
     let more = gone g.R.Source c.args.limits c.args.mode c.args.reader.now c.records.reader
     c.records.records was.going c.next.new.self c.next.new.reader _ _ _ next
     c.in-Ok-true.field-0-test in
@@ -82,7 +82,7 @@ returns-then-is_err-clause-taken g c =
     (gone g.R.Source c.args.limits c.args.mode c.args.reader.now c.records.reader
     c.records.records was.going c.next.new.self c.next.new.reader _ _ _
     (c.in-Ok-true.ensures.next c.args.limits c.args.mode was.going.bytes was.going.messages
-    was.going.normal was.going.stands)
+    was.going.normal was.going.represents)
     c.in-Ok-true.field-0-test)
 
 pub records-smaller : goal.records-smaller
@@ -91,7 +91,7 @@ records-smaller g c =
     (gone g.R.Source c.args.limits c.args.mode c.args.reader.now c.records.reader
     c.records.records was.going c.next.new.self c.next.new.reader _ _ _
     (c.in-Ok-true.ensures.next c.args.limits c.args.mode was.going.bytes was.going.messages
-    was.going.normal was.going.stands)
+    was.going.normal was.going.represents)
     c.in-Ok-true.field-0-test).shorter
 
 pub records-preserved : goal.records-preserved
@@ -100,7 +100,7 @@ records-preserved g c =
     let more = gone g.R.Source c.args.limits c.args.mode c.args.reader.now c.records.reader
     c.records.records was.going c.next.new.self c.next.new.reader _ _ _
     (c.in-Ok-true.ensures.next c.args.limits c.args.mode was.going.bytes was.going.messages
-    was.going.normal was.going.stands)
+    was.going.normal was.going.represents)
     c.in-Ok-true.field-0-test in
     let kept : c.add_record.new.recording.text.items
     ≡ c.records.recording.text.items ++ c.as_slice.result.now = search rules in

@@ -1,6 +1,6 @@
 use Rattle.dap_tree.specs.View.{view}
 use Rattle.std.proofs.Common.{◌∙◌, sym, ap, Some}
-use Rattle.dap_profile.specs.Stretches.{rows_asked}
+use Rattle.dap_profile.specs.RowRanges.{rows_asked}
 use Rattle.dap_message.proofs.AskedRows.{asked-rows, any_name}
 use Rattle.dap_message.proofs.asked_rows.asked_rows.Goals as goal
 

@@ -1,6 +1,6 @@
 use Rattle.dap_tree.specs.View.{view}
 use Rattle.std.proofs.Common.{◌≡◌, drop}
-use Rattle.dap_profile.specs.Stretches.{rows_in}
+use Rattle.dap_profile.specs.RowRanges.{rows_in}
 use Rattle.dap_message.specs.AskedRows.{first_by}
 use Rattle.dap_message.proofs.first_fault.first_broken.Given as goal
 

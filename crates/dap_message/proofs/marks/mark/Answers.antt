@@ -1,7 +1,7 @@
 use Rattle.dap_tree.specs.View.{view}
 use Rattle.std.proofs.Common.{◌∙◌, ◌+◌, ap, sym, map, drop, ◌≡◌, []}
 use Rattle.std.proofs.Math.ListN.{drop_of_length-le}
-use Rattle.dap_profile.specs.Stretches.{rows_in}
+use Rattle.dap_profile.specs.RowRanges.{rows_in}
 use Rattle.dap_profile.specs.ProfileRows.{row_of}
 use Rattle.dap_message.specs.AskedRows.{marks_by}
 use Rattle.dap_message.proofs.AskedRows.{marks-drop, mark-asked}

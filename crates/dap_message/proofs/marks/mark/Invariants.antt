@@ -1,6 +1,6 @@
 use Rattle.dap_tree.specs.View.{view}
 use Rattle.std.proofs.Common.{◌≡◌, drop}
-use Rattle.dap_profile.specs.Stretches.{rows_in}
+use Rattle.dap_profile.specs.RowRanges.{rows_in}
 use Rattle.dap_message.specs.AskedRows.{marks_by}
 use Rattle.dap_message.proofs.marks.mark.Given as goal
 

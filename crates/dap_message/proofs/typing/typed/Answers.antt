@@ -17,8 +17,8 @@ use Rattle.dap_message.proofs.LeastBroken.{no_memory}
 use Rattle.dap_message.proofs.RowMarks.{mark_is_marked}
 use Rattle.dap_message.proofs.typing.typed.Goals as goal
 
-pub new-requires-clause-told : goal.new-requires-clause-told
-new-requires-clause-told c =
+pub new-requires-clause-reported : goal.new-requires-clause-reported
+new-requires-clause-reported c =
     rw (c.mark.ensures, c.in_ok-fill.ensures.ok)
     (kind-message c.args.side (view c.args.tree) c.in_ok-kind.kind c.in_ok-kind.ensures.kind)
 
@@ -61,24 +61,24 @@ mark-requires c =
 
 pub returns-in_err-kind-clause-memory_fits : goal.returns-in_err-kind-clause-memory_fits
 returns-in_err-kind-clause-memory_fits c = λ memory.
-    let told : fault (view c.args.tree) ≡ Some Memory = grind (arith, common_steps) in
-    absurd (no_memory (view c.args.tree) told)
+    let reported : fault (view c.args.tree) ≡ Some Memory = grind (arith, common_steps) in
+    absurd (no_memory (view c.args.tree) reported)
 
 pub returns-in-Some-clause-memory_fits : goal.returns-in-Some-clause-memory_fits
 returns-in-Some-clause-memory_fits c = λ memory.
-    let told : fault (view c.args.tree) ≡ Some c.in-Some.fault = search rules in
+    let reported : fault (view c.args.tree) ≡ Some c.in-Some.fault = search rules in
     let is : c.in-Some.fault ≡ Memory = cc in
-    absurd (no_memory (view c.args.tree) (told ∙ ap Some is))
+    absurd (no_memory (view c.args.tree) (reported ∙ ap Some is))
 
 pub returns-in_err-kind-clause-memory_for_capabilities :
     goal.returns-in_err-kind-clause-memory_for_capabilities
 returns-in_err-kind-clause-memory_for_capabilities c = λ memory.
-    let told : fault (view c.args.tree) ≡ Some Memory = grind (arith, common_steps) in
-    absurd (no_memory (view c.args.tree) told)
+    let reported : fault (view c.args.tree) ≡ Some Memory = grind (arith, common_steps) in
+    absurd (no_memory (view c.args.tree) reported)
 
 pub returns-in-Some-clause-memory_for_capabilities :
     goal.returns-in-Some-clause-memory_for_capabilities
 returns-in-Some-clause-memory_for_capabilities c = λ memory.
-    let told : fault (view c.args.tree) ≡ Some c.in-Some.fault = search rules in
+    let reported : fault (view c.args.tree) ≡ Some c.in-Some.fault = search rules in
     let is : c.in-Some.fault ≡ Memory = cc in
-    absurd (no_memory (view c.args.tree) (told ∙ ap Some is))
+    absurd (no_memory (view c.args.tree) (reported ∙ ap Some is))

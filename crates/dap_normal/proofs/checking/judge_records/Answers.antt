@@ -5,8 +5,8 @@ use Rattle.dap_normal.proofs.StreamAnswers.{ended, gone, check_refuses, check_ac
 use Rattle.dap_normal.proofs.StreamLoop.{all_taken, few_taken, on}
 use Rattle.dap_normal.proofs.checking.judge_records.Goals as goal
 
-pub returns-in_err-next-clause-answer : goal.returns-in_err-next-clause-answer
-returns-in_err-next-clause-answer g c =
+pub returns-in_err-next-clause-outcome : goal.returns-in_err-next-clause-outcome
+returns-in_err-next-clause-outcome g c =
     let was = c.loop-text.invariant in
     let because = err_from_is_err_and c.from_residual.result c.from_residual.ensures.1 in
     rw (because.1, because.2)
@@ -14,7 +14,7 @@ returns-in_err-next-clause-answer g c =
     c.args.reader.now c.loop-text.reader c.loop-text.records was c.next.new.self
     c.next.new.reader false _
     (c.in_err-next.ensures.next c.args.limits c.args.mode was.bytes was.messages was.normal
-    was.stands))
+    was.represents))
 
 pub returns-in_err-next-clause-taken : goal.returns-in_err-next-clause-taken
 returns-in_err-next-clause-taken g c =
@@ -22,7 +22,7 @@ returns-in_err-next-clause-taken g c =
     few_taken g.R.Source c.args.limits c.args.mode c.args.reader.now
     c.loop-text.reader c.loop-text.records was c.next.new.reader c.next.new.self _
     (c.in_err-next.ensures.next c.args.limits c.args.mode was.bytes was.messages was.normal
-    was.stands)
+    was.represents)
 
 pub loop-text-smaller : goal.loop-text-smaller
 loop-text-smaller g c =
@@ -30,7 +30,7 @@ loop-text-smaller g c =
     (gone g.R.Source c.args.limits c.args.mode c.args.reader.now
     c.loop-text.reader c.loop-text.records was c.next.new.self c.next.new.reader _ _ _
     (c.in_ok-next.ensures.next c.args.limits c.args.mode was.bytes was.messages was.normal
-    was.stands)
+    was.represents)
     c.if-branch.true).shorter
 
 pub loop-text-preserved : goal.loop-text-preserved
@@ -41,7 +41,7 @@ loop-text-preserved g c =
     (gone g.R.Source c.args.limits c.args.mode c.args.reader.now
     c.loop-text.reader c.loop-text.records was c.next.new.self c.next.new.reader _ _ _
     (c.in_ok-next.ensures.next c.args.limits c.args.mode was.bytes was.messages was.normal
-    was.stands)
+    was.represents)
     c.if-branch.true)
 
 pub overflow_sub-result : goal.overflow_sub-result
@@ -51,7 +51,7 @@ overflow_sub-result g c =
     c.args.reader.now c.loop-text.reader c.loop-text.records was c.next.new.self
     c.next.new.reader _ _ _
     (c.in_ok-next.ensures.next c.args.limits c.args.mode was.bytes was.messages was.normal
-    was.stands)
+    was.represents)
     c.if-branch.false in
     let some = some_records g.R.Source c.args.limits c.args.mode
     c.args.reader.now c.loop-text.reader c.loop-text.records was c.next.new.self
@@ -59,14 +59,14 @@ overflow_sub-result g c =
     let is = c.number.ensures in
     omega (arith, some, is)
 
-pub returns-clause-answer : goal.returns-clause-answer
-returns-clause-answer g c =
+pub returns-clause-outcome : goal.returns-clause-outcome
+returns-clause-outcome g c =
     let was = c.loop-text.invariant in
     let end = ended g.R.Source c.args.limits c.args.mode
     c.args.reader.now c.loop-text.reader c.loop-text.records was c.next.new.self
     c.next.new.reader _ _ _
     (c.in_ok-next.ensures.next c.args.limits c.args.mode was.bytes was.messages was.normal
-    was.stands)
+    was.represents)
     c.if-branch.false in
     let some = some_records g.R.Source c.args.limits c.args.mode
     c.args.reader.now c.loop-text.reader c.loop-text.records was c.next.new.self
@@ -86,5 +86,5 @@ returns-clause-taken g c =
     (ended g.R.Source c.args.limits c.args.mode c.args.reader.now
     c.loop-text.reader c.loop-text.records was c.next.new.self c.next.new.reader _ _ _
     (c.in_ok-next.ensures.next c.args.limits c.args.mode was.bytes was.messages was.normal
-    was.stands)
+    was.represents)
     c.if-branch.false)

@@ -17,7 +17,7 @@ returns-clause-writes c message side text =
     c.in-Ok.ensures.ok
     ∙ ap₂ (λ s bytes. c.args.out.now.items ++ record_text s bytes) (sym side) (sym text) in
     let short : length c.args.content.now ≤ c.args.limits.frame.content =
-    ⊎_elim (λ long. absurd (let told = c.in-Ok.ensures.too_long.1 long in cc))
+    ⊎_elim (λ long. absurd (let reported = c.in-Ok.ensures.too_long.1 long in cc))
     (λ le. le) (cases_lt c.args.limits.frame.content (length c.args.content.now)) in (
       subst (λ bytes. length bytes ≤ c.args.limits.frame.content) (sym text) short,
       wrote,

@@ -1,6 +1,6 @@
 use Rattle.std.proofs.Common.{◌++◌, [], None, sym, ◌∙◌, ap, subst}
 use Rattle.std.proofs.lemmas.Result.{err_from_is_err_and}
-use Rattle.dap_device.specs.Pieces.{HasComeSoFar}
+use Rattle.dap_device.specs.Pieces.{HasReadSoFar}
 use Rattle.dap_normal.specs.Accepting.{text}
 use Rattle.dap_normal.specs.JudgingSteps.{record_of}
 use Rattle.dap_normal.specs.Normalised.{HoldsSome, NormalText}
@@ -17,14 +17,14 @@ loop-text-init g c = record {
   going = record {
     bytes = [];
     came = subst
-        (λ r. HasComeSoFar memory
+        (λ r. HasReadSoFar memory
         (start c.args.limits c.args.mode c.requires.limits c.args.bytes.now) r [] None)
         (sym c.new-reader.ensures)
         (nothing_came memory
         (start c.args.limits c.args.mode c.requires.limits c.args.bytes.now));
     messages = [];
     normal = [];
-    stands = c.requires.stands;
+    represents = c.requires.represents;
   };
   text_is = c.new-text.ensures.items;
 }
@@ -36,7 +36,7 @@ loop-text-smaller g c =
     (start c.args.limits c.args.mode c.requires.limits c.args.bytes.now) c.loop-text.reader
     c.loop-text.records was c.next.new.self c.next.new.reader _ _ _
     (c.in_ok-next.ensures.next c.args.limits c.args.mode was.bytes was.messages was.normal
-    was.stands)
+    was.represents)
     c.if-branch.true).shorter
 
 pub loop-text-preserved : goal.loop-text-preserved
@@ -46,7 +46,7 @@ loop-text-preserved g c =
     (start c.args.limits c.args.mode c.requires.limits c.args.bytes.now) c.loop-text.reader
     c.loop-text.records was c.next.new.self c.next.new.reader _ _ _
     (c.in_ok-next.ensures.next c.args.limits c.args.mode was.bytes was.messages was.normal
-    was.stands)
+    was.represents)
     c.if-branch.true in
     record {
       going = on memory c.args.limits c.args.mode
@@ -64,7 +64,7 @@ returns-in_err-next-clause-err g c =
     (refuses_bytes c.args.limits c.args.mode c.requires.limits c.args.bytes.now c.loop-text.reader
     c.loop-text.records was c.next.new.reader c.next.new.self _
     (c.in_err-next.ensures.next c.args.limits c.args.mode was.bytes was.messages was.normal
-    was.stands))
+    was.represents))
 
 pub new-requires : goal.new-requires
 new-requires g c =
@@ -73,7 +73,7 @@ new-requires g c =
     (start c.args.limits c.args.mode c.requires.limits c.args.bytes.now) c.loop-text.reader
     c.loop-text.records was c.next.new.self c.next.new.reader _ _ _
     (c.in_ok-next.ensures.next c.args.limits c.args.mode was.bytes was.messages was.normal
-    was.stands)
+    was.represents)
     c.if-branch.false in
     let kept = end.kept ∙ c.loop-text.invariant.text_is in
     subst (λ t. HoldsSome record { mode = c.args.mode; bytes = t }) (sym kept)
@@ -89,7 +89,7 @@ returns-clause-ok g c =
     (start c.args.limits c.args.mode c.requires.limits c.args.bytes.now) c.loop-text.reader
     c.loop-text.records was c.next.new.self c.next.new.reader _ _ _
     (c.in_ok-next.ensures.next c.args.limits c.args.mode was.bytes was.messages was.normal
-    was.stands)
+    was.represents)
     c.if-branch.false in
     canonical_whole c.args.limits c.args.mode c.requires.limits c.args.bytes.now c.loop-text.reader
     c.loop-text.records was c.next.new.reader c.next.new.self _ _ end _

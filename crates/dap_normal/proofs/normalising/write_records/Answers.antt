@@ -1,5 +1,5 @@
 use Rattle.std.proofs.Common.{ℕ, List, ◌++◌, ◌∷◌, [], Err, Ok, sym, ◌∙◌, subst}
-use Rattle.dap_device.specs.Written.{AllWritten, FrontWritten}
+use Rattle.dap_device.specs.Written.{AllWritten, PrefixWritten}
 use Rattle.dap_device.proofs.Sending.{all_then_all}
 use Rattle.dap_input.proofs.Coming.{came_on}
 use Rattle.dap_input.proofs.StreamEnds.{all_written, front_written, nothing_written}
@@ -16,7 +16,7 @@ use Rattle.dap_normal.proofs.normalising.write_records.Goals as goal
 pub records-init : goal.records-init
 records-init g c =
     let start = at_start g.R.Source c.args.limits c.args.mode c.args.reader.now c.args.records.now
-    c.requires.stands in
+    c.requires.represents in
     record {
       going = start;
       sent = [];
@@ -27,16 +27,16 @@ records-init g c =
           c.args.records.now start);
     }
 
-pub returns-then-is_err-clause-answer : goal.returns-then-is_err-clause-answer
-returns-then-is_err-clause-answer g c =
+pub returns-then-is_err-clause-outcome : goal.returns-then-is_err-clause-outcome
+returns-then-is_err-clause-outcome g c =
     let was = c.records.invariant.going in
     let here = gone g.R.Source c.args.limits c.args.mode c.args.reader.now c.records.reader
     c.records.records
     was c.next.new.self c.next.new.reader _ _ _
     (c.in-Ok-true.ensures.next c.args.limits c.args.mode was.bytes was.messages was.normal
-    was.stands)
+    was.represents)
     c.in-Ok-true.field-0-test in
-    let front = subst (FrontWritten g.W.Sink c.records.writer c.write_all.new.writer)
+    let front = subst (PrefixWritten g.W.Sink c.records.writer c.write_all.new.writer)
     c.as_slice.ensures.value
     (front_written g.W.Sink c.records.writer c.write_all.new.writer c.write_all.result
     c.as_slice.result.now c.write_all.ensures (sym c.is_err.ensures.value ∙ c.if-is_err.true)) in
@@ -50,7 +50,7 @@ returns-then-is_err-clause-answer g c =
     c.records.invariant.sent c.records.text.items c.records.invariant.waits c.next.new.self
     c.next.new.reader c.next.new.text.items here
     (c.in-Ok-true.ensures.at_hand c.args.limits c.args.mode was.bytes was.messages was.normal
-    was.stands)
+    was.represents)
     front.count front.within)
 
 pub returns-then-is_err-clause-taken : goal.returns-then-is_err-clause-taken
@@ -63,7 +63,7 @@ returns-then-is_err-clause-taken g c =
     was
     c.next.new.self c.next.new.reader _ _ _
     (c.in-Ok-true.ensures.next c.args.limits c.args.mode was.bytes was.messages was.normal
-    was.stands)
+    was.represents)
     c.in-Ok-true.field-0-test)
 
 pub records-smaller-in-Ok-true : goal.records-smaller-in-Ok-true
@@ -73,7 +73,7 @@ records-smaller-in-Ok-true g c =
     was
     c.next.new.self c.next.new.reader _ _ _
     (c.in-Ok-true.ensures.next c.args.limits c.args.mode was.bytes was.messages was.normal
-    was.stands)
+    was.represents)
     c.in-Ok-true.field-0-test).shorter
 
 pub records-preserved-in-Ok-true : goal.records-preserved-in-Ok-true
@@ -83,7 +83,7 @@ records-preserved-in-Ok-true g c =
     c.records.records
     was c.next.new.self c.next.new.reader _ _ _
     (c.in-Ok-true.ensures.next c.args.limits c.args.mode was.bytes was.messages was.normal
-    was.stands)
+    was.represents)
     c.in-Ok-true.field-0-test in
     let all = subst (AllWritten g.W.Sink c.records.writer c.write_all.new.writer)
     c.as_slice.ensures.value
@@ -100,7 +100,7 @@ records-preserved-in-Ok-true g c =
           c.records.records was c.records.invariant.sent c.records.text.items
           c.records.invariant.waits c.next.new.self c.next.new.reader c.next.new.text.items here
           (c.in-Ok-true.ensures.at_hand c.args.limits c.args.mode was.bytes was.messages was.normal
-          was.stands)))
+          was.represents)))
           (all_then_all g.W.Sink c.args.writer.now c.records.writer c.write_all.new.writer
           c.records.invariant.sent c.next.new.text.items c.records.invariant.written all);
       waits = subst (Waiting c.args.limits c.args.mode c.next.new.self now.bytes (text now.normal)
@@ -116,7 +116,7 @@ records-smaller g c =
     was
     c.next.new.self c.next.new.reader _ _ _
     (c.in-Ok-true.ensures.next c.args.limits c.args.mode was.bytes was.messages was.normal
-    was.stands)
+    was.represents)
     c.in-Ok-true.field-0-test).shorter
 
 pub records-preserved : goal.records-preserved
@@ -126,7 +126,7 @@ records-preserved g c =
     c.records.records
     was c.next.new.self c.next.new.reader _ _ _
     (c.in-Ok-true.ensures.next c.args.limits c.args.mode was.bytes was.messages was.normal
-    was.stands)
+    was.represents)
     c.in-Ok-true.field-0-test in
     record {
       going = on g.R.Source c.args.limits c.args.mode c.args.reader.now c.records.reader
@@ -138,27 +138,27 @@ records-preserved g c =
           c.records.records was c.records.invariant.sent c.records.text.items
           c.records.invariant.waits c.next.new.self c.next.new.reader c.next.new.text.items here
           (c.in-Ok-true.ensures.at_hand c.args.limits c.args.mode was.bytes was.messages was.normal
-          was.stands)
+          was.represents)
           (c.has_next.ensures c.args.limits c.args.mode (was.bytes ++ here.more)
-          (was.messages ++ here.message ∷ []) (was.normal ++ here.named ∷ []) here.stands
+          (was.messages ++ here.message ∷ []) (was.normal ++ here.named ∷ []) here.represents
           c.if-not-has_next.false);
     }
 
-pub returns-in-Ok-false-clause-answer : goal.returns-in-Ok-false-clause-answer
-returns-in-Ok-false-clause-answer g c =
+pub returns-in-Ok-false-clause-outcome : goal.returns-in-Ok-false-clause-outcome
+returns-in-Ok-false-clause-outcome g c =
     let was = c.records.invariant.going in
     let end = ended g.R.Source c.args.limits c.args.mode c.args.reader.now c.records.reader
     c.records.records
     was c.next.new.self c.next.new.reader _ _ _
     (c.in-Ok-false.ensures.next c.args.limits c.args.mode was.bytes was.messages was.normal
-    was.stands)
+    was.represents)
     c.in-Ok-false.field-0-test in
     all_streamed g.R.Source g.W.Sink c.args.limits c.args.mode c.args.reader.now c.args.writer.now
     c.records.reader c.records.records was c.records.writer c.records.invariant.sent
     c.records.text.items c.records.invariant.written c.records.invariant.waits c.next.new.self
     c.next.new.reader
     (c.in-Ok-false.ensures.at_hand c.args.limits c.args.mode was.bytes was.messages was.normal
-    was.stands)
+    was.represents)
     c.requires.limits _ _ end c.ended.new.writer c.ended.result
     (subst (λ t. Ends g.W.Sink t c.records.writer c.ended.new.writer (Ok tt) c.ended.result)
     (c.as_slice-in-Ok-false.ensures.value ∙ end.kept) c.ended.ensures)
@@ -178,20 +178,21 @@ returns-in-Ok-false-clause-taken g c =
     was
     c.next.new.self c.next.new.reader _ _ _
     (c.in-Ok-false.ensures.next c.args.limits c.args.mode was.bytes was.messages was.normal
-    was.stands)
+    was.represents)
     c.in-Ok-false.field-0-test)
 
-pub returns-in-Err-clause-answer : goal.returns-in-Err-clause-answer
-returns-in-Err-clause-answer g c =
+pub returns-in-Err-clause-outcome : goal.returns-in-Err-clause-outcome
+returns-in-Err-clause-outcome g c =
     let was = c.records.invariant.going in
     all_refused g.R.Source g.W.Sink c.args.limits c.args.mode c.args.reader.now c.args.writer.now
     c.records.reader c.records.records was c.records.writer c.records.invariant.sent
     c.records.text.items c.records.invariant.written c.records.invariant.waits c.next.new.self
     c.next.new.reader
     (c.in-Err.ensures.at_hand c.args.limits c.args.mode was.bytes was.messages was.normal
-    was.stands)
+    was.represents)
     c.in-Err.refused
-    (c.in-Err.ensures.next c.args.limits c.args.mode was.bytes was.messages was.normal was.stands)
+    (c.in-Err.ensures.next c.args.limits c.args.mode was.bytes was.messages was.normal
+    was.represents)
     c.ended-in-Err.new.writer c.ended-in-Err.result
     (subst (λ t. Ends g.W.Sink t c.records.writer c.ended-in-Err.new.writer
     (Err c.in-Err.refused) c.ended-in-Err.result)
@@ -205,9 +206,10 @@ returns-in-Err-clause-given_up g c = λ memory.
     c.records.text.items c.records.invariant.written c.records.invariant.waits c.next.new.self
     c.next.new.reader
     (c.in-Err.ensures.at_hand c.args.limits c.args.mode was.bytes was.messages was.normal
-    was.stands)
+    was.represents)
     c.in-Err.refused
-    (c.in-Err.ensures.next c.args.limits c.args.mode was.bytes was.messages was.normal was.stands)
+    (c.in-Err.ensures.next c.args.limits c.args.mode was.bytes was.messages was.normal
+    was.represents)
     c.ended-in-Err.new.writer c.ended-in-Err.result
     (subst (λ t. Ends g.W.Sink t c.records.writer c.ended-in-Err.new.writer
     (Err c.in-Err.refused) c.ended-in-Err.result)
@@ -219,7 +221,8 @@ returns-in-Err-clause-taken g c =
     few_taken g.R.Source c.args.limits c.args.mode c.args.reader.now c.records.reader
     c.records.records was
     c.next.new.reader c.next.new.self _
-    (c.in-Err.ensures.next c.args.limits c.args.mode was.bytes was.messages was.normal was.stands)
+    (c.in-Err.ensures.next c.args.limits c.args.mode was.bytes was.messages was.normal
+    was.represents)
 
 pub returns-in-Ok-false-clause-memory : goal.returns-in-Ok-false-clause-memory
 returns-in-Ok-false-clause-memory g c = λ memory.
@@ -231,6 +234,7 @@ returns-in-Err-clause-memory g c = λ memory.
     let was = c.records.invariant.going in
     unfailed g.R.Source c.args.limits c.args.mode c.args.reader.now c.records.reader
     c.records.records was c.next.new.self c.next.new.reader c.in-Err.refused
-    (c.in-Err.ensures.next c.args.limits c.args.mode was.bytes was.messages was.normal was.stands)
+    (c.in-Err.ensures.next c.args.limits c.args.mode was.bytes was.messages was.normal
+    was.represents)
     (memory_of g.W.Sink c.as_slice-in-Err.result.now c.records.writer c.ended-in-Err.new.writer
     c.in-Err.refused c.ended-in-Err.result c.ended-in-Err.ensures memory)

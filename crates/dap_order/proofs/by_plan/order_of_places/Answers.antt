@@ -10,7 +10,7 @@ loop-place-init c =
     let starts = c.in_ok-progress.ensures.starts in
     let freed = c.in_ok-release_all.ensures in
     record {
-      stands = freed.stands;
+      represents = freed.represents;
       released = freed.done;
       listed = λ place low. freed.listed place low
           (λ unwritten below followed. absurd
@@ -31,7 +31,7 @@ loop-place-smaller c =
     ∙ wrote.written in
     subst (λ w. length (pending w) < length (pending old)) (sym e)
     (pending_fewer old c.in-Some.place
-    (omega (arith, wrote.was_ready.in_range, c.loop-place.invariant.stands.written_len))
+    (omega (arith, wrote.was_ready.in_range, c.loop-place.invariant.represents.written_len))
     wrote.was_ready.not_written)
 
 pub loop-place-preserved : goal.loop-place-preserved
@@ -47,7 +47,7 @@ loop-place-preserved c =
     let mid = c.write_next.new.self in
     let place = c.in-Some.place in
     record {
-      stands = freed.stands;
+      represents = freed.represents;
       released = freed.done;
       listed = λ other low. freed.listed other low
           (listed_after plan links are_links old mid c.consider_followers.new.self place wrote
@@ -56,7 +56,7 @@ loop-place-preserved c =
           (sym (freed.written ∙ considered.written))
           (subst (λ xs. Goes plan s xs mid.written.items) (sym c.in_ok-push.ensures.items)
           (goes_more plan c.requires s are is links are_links old mid c.loop-place.places.items
-          place (so_far.goes s are is) so_far.stands.written_len so_far.released so_far.listed
+          place (so_far.goes s are is) so_far.represents.written_len so_far.released so_far.listed
           wrote));
     }
 
@@ -66,6 +66,6 @@ returns c =
     record {
       ordered = λ s are is. goes_all c.args.plan.now c.requires s are is c.in_ok-links.links
           c.loop-place.progress c.loop-place.places.items
-          (so_far.goes s are is) so_far.stands.written_len so_far.released so_far.listed
+          (so_far.goes s are is) so_far.represents.written_len so_far.released so_far.listed
           c.in_default.ensures;
     }

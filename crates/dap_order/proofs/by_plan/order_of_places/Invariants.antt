@@ -8,7 +8,7 @@ use Rattle.dap_order.proofs.by_plan.order_of_places.Given as goal
 
 abbrev pub invariant-loop-place : goal.invariant-loop-place
 invariant-loop-place l = record {
-  stands : Stands l.plan l.progress;
+  represents : Stands l.plan l.progress;
   released : (group : ℕ) → group < length l.plan.blocks.items → IsReleased l.plan l.progress group;
   listed : (place : ℕ) → place < place_count l.plan → IsListed l.plan l.links l.progress place;
   goes : (s : Swaps ℕ) → AreSwaps s → IsPlan s l.plan

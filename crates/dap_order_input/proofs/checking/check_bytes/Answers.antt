@@ -10,11 +10,11 @@ returns-in-Ok-clause-ok c =
     subst (IsSession c.args.limits c.args.mode)
     (ap (λ (source : GivenBytes). source.left) c.new-reader.ensures)
     (session_checked c.new-reader.result c.check.new.reader c.args.limits c.args.mode _
-    c.in-Ok.ensures.answer)
+    c.in-Ok.ensures.outcome)
 
 pub returns-in-Err-clause-err : goal.returns-in-Err-clause-err
 returns-in-Err-clause-err c =
     subst (λ bytes. RefusesBytes c.args.limits c.args.mode bytes c.in-Err.refused)
     (ap (λ (source : GivenBytes). source.left) c.new-reader.ensures)
     (check_refuses c.new-reader.result c.check.new.reader c.args.limits c.args.mode
-    c.in-Err.refused c.in-Err.ensures.answer)
+    c.in-Err.refused c.in-Err.ensures.outcome)

@@ -6,8 +6,8 @@ use Rattle.dap_order_input.specs.Ordering.{Orders, RefusesToOrder}
 use Rattle.dap_order_input.proofs.InputAnswers.{returns_error}
 use Rattle.dap_order_input.proofs.ordering.order.Goals as goal
 
-pub returns-in_err-text-clause-answer : goal.returns-in_err-text-clause-answer
-returns-in_err-text-clause-answer g c =
+pub returns-in_err-text-clause-outcome : goal.returns-in_err-text-clause-outcome
+returns-in_err-text-clause-outcome g c =
     let because = err_from_is_err_and c.from_residual.result c.from_residual.ensures.1 in
     let rules = swaps_of c.args.rules.now in
     rw (because.1, because.2)

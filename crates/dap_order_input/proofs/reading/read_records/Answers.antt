@@ -2,10 +2,10 @@ use Rattle.std.proofs.Common.{◌≡◌, ◌∷◌, ◌++◌, [], Ok, map, sym, 
 use Rattle.std.proofs.lemmas.List.{map-append}
 use Rattle.std.proofs.lemmas.Result.{err_from_is_err_and}
 use Rattle.dap_message.specs.Message.{sent}
-use Rattle.dap_input.specs.ItemReading.{StandsForRecord, record_items}
+use Rattle.dap_input.specs.ItemReading.{RepresentsRecord, record_items}
 use Rattle.dap_input.specs.RecordSteps.{ReadsNext}
 use Rattle.dap_normal.specs.Accepting.{IsMessage}
-use Rattle.dap_normal.specs.JudgingSteps.{held_of}
+use Rattle.dap_normal.specs.JudgingSteps.{payload_of}
 use Rattle.dap_normal.proofs.WholeInput.{memory}
 use Rattle.dap_order_input.proofs.ReadMessages.{Reading, fewer}
 use Rattle.dap_order_input.proofs.ReadMessages.{no_message, none_read, not_read, one_more}
@@ -35,7 +35,7 @@ returns-in_err-message-clause-only c =
     let was = c.loop-messages.invariant in
     let ms = map sent c.loop-messages.messages.items in
     let read = subst
-    (λ o. ReadsNext (record_items c.args.limits.frame) (StandsForRecord c.args.limits.frame)
+    (λ o. ReadsNext (record_items c.args.limits.frame) (RepresentsRecord c.args.limits.frame)
     memory c.loop-messages.records c.next.new.self
     c.loop-messages.reader c.next.new.reader (Ok o)) c.in-Some.is
     (c.in_ok-whole.ensures c.args.limits.frame was.behind.between) in
@@ -53,7 +53,7 @@ loop-messages-smaller c =
     (fewer c.args.limits c.args.mode c.args.recording.now c.requires.session.0 c.requires.session.1
     c.loop-messages.reader c.loop-messages.records (map sent c.loop-messages.messages.items) was
     c.next.new.self c.next.new.reader c.in-Some.whole
-    (subst (λ o. ReadsNext (record_items c.args.limits.frame) (StandsForRecord c.args.limits.frame)
+    (subst (λ o. ReadsNext (record_items c.args.limits.frame) (RepresentsRecord c.args.limits.frame)
     memory c.loop-messages.records c.next.new.self
     c.loop-messages.reader c.next.new.reader (Ok o)) c.in-Some.is
     (c.in_ok-whole.ensures c.args.limits.frame was.behind.between)))
@@ -63,11 +63,11 @@ loop-messages-preserved c =
     let was = c.loop-messages.invariant in
     let old = c.loop-messages.messages.items in
     let read = subst
-    (λ o. ReadsNext (record_items c.args.limits.frame) (StandsForRecord c.args.limits.frame)
+    (λ o. ReadsNext (record_items c.args.limits.frame) (RepresentsRecord c.args.limits.frame)
     memory c.loop-messages.records c.next.new.self
     c.loop-messages.reader c.next.new.reader (Ok o)) c.in-Some.is
     (c.in_ok-whole.ensures c.args.limits.frame was.behind.between) in
-    let is : IsMessage (held_of c.in-Some.whole) (sent c.in_ok-message.message) =
+    let is : IsMessage (payload_of c.in-Some.whole) (sent c.in_ok-message.message) =
     rw c.as_slice-content.ensures at c.in_ok-message.ensures.ok in
     let pushed : map sent c.push.new.self.items
     ≡ map sent old ++ sent c.in_ok-message.message ∷ [] =

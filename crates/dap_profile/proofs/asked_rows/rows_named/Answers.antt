@@ -1,7 +1,7 @@
 use Rattle.std.proofs.Common.{◌+◌, ◌∙◌, List, ap, drop, map, option_map, sym}
 use Rattle.std.specs.List.{filter}
 use Rattle.dap_profile.specs.ProfileRows.{row_of}
-use Rattle.dap_profile.specs.Stretches.{are_runs, has_name, rows_named}
+use Rattle.dap_profile.specs.RowRanges.{are_runs, has_name, rows_named}
 use Rattle.dap_profile.specs.declared.profile.Row.{Row}
 use Rattle.dap_profile.proofs.AskedRows.{next-run, next-fits, later-runs}
 use Rattle.dap_profile.proofs.asked_rows.rows_named.Goals as goal

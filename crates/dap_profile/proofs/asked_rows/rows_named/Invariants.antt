@@ -1,6 +1,6 @@
 use Rattle.std.proofs.Common.{◌≡◌, true, drop, map, option_map}
 use Rattle.std.specs.List.{filter}
-use Rattle.dap_profile.specs.Stretches.{are_runs, has_name}
+use Rattle.dap_profile.specs.RowRanges.{are_runs, has_name}
 use Rattle.dap_profile.specs.ProfileRows.{row_of}
 use Rattle.dap_profile.proofs.asked_rows.rows_named.Given as goal
 

@@ -10,5 +10,5 @@ returns c = record {
       λ front more side raw. items.item_not_faulty piece_grammar front more (side, raw);
   piece_not_open = λ front more side raw. items.item_not_open piece_grammar front more (side, raw);
   open_not_faulty = items.open_not_faulty piece_grammar;
-  stands_open = stands_open_piece;
+  represented_is_incomplete = stands_open_piece;
 }

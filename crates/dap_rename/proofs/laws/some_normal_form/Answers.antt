@@ -7,6 +7,6 @@ pub returns : goal.returns
 returns c = record {
   named = named_is_normal;
   some = some_normal;
-  told = whole_is_told;
+  reported = whole_is_told;
   told_in_mode = mode_is_told;
 }

@@ -9,9 +9,9 @@ returns-in-Event g c =
     ∙ sym (named_event (g.M.AnyMessage.sent c.args.message.now) c.name.result.now
     (sym c.in-Event.is ∙ c.kind.ensures.same)
     (subst (λ k. is_of_kind k (g.M.AnyMessage.sent c.args.message.now).doc ≡ true) c.in-Event.is
-    c.kind.ensures.told) c.name.ensures)
+    c.kind.ensures.reported) c.name.ensures)
 
 pub returns-in-Request : goal.returns-in-Request
 returns-in-Request g c =
-    sym (other_event (g.M.AnyMessage.sent c.args.message.now) c.kind.result c.kind.ensures.told
+    sym (other_event (g.M.AnyMessage.sent c.args.message.now) c.kind.result c.kind.ensures.reported
     (λ e. elim c.in-Request.is [ inl h ↦ cc (sym h ∙ e) | inr h ↦ cc (sym h ∙ e) ]))

@@ -15,7 +15,7 @@ returns-in-Ok-clause-ok c =
     (subst (IsMaskedTo c.args.limits mask c.new-reader.result.left) (sym c.into_bytes.ensures)
     (masked_whole c.new-reader.result c.mask.new.reader c.new-writer.result c.mask.new.writer
     c.args.limits mask (ap (λ (sink : WrittenBytes). sink.out) c.new-writer.ensures)
-    c.in-Ok.ensures.answer))
+    c.in-Ok.ensures.outcome))
 
 pub returns-clause-err : goal.returns-clause-err
 returns-clause-err c =
@@ -25,4 +25,4 @@ returns-clause-err c =
     (mask_refused c.new-reader.result c.mask.new.reader c.new-writer.result c.mask.new.writer
     c.args.limits mask c.in-Err.refused
     (λ out. true≢false (sym (c.is_out_of_memory.ensures.1 out) ∙ c.if-is_out_of_memory.false))
-    c.in-Err.ensures.answer)
+    c.in-Err.ensures.outcome)

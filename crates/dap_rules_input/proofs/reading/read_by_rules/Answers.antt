@@ -5,8 +5,8 @@ use Rattle.dap_rules_input.specs.Applying.{AppliesRules, IsRefusedByRules}
 use Rattle.dap_rules_input.proofs.InputAnswers.{answers}
 use Rattle.dap_rules_input.proofs.reading.read_by_rules.Goals as goal
 
-pub returns-clause-answer : goal.returns-clause-answer
-returns-clause-answer g c =
+pub returns-clause-outcome : goal.returns-clause-outcome
+returns-clause-outcome g c =
     let mask = mask_of c.args.rules.now in
     answers g.R.Source c.args.limits c.args.mode mask c.args.reader.now c.read_all.new.reader
     c.in-Ok.input.bytes.items c.apply_rules.result c.text_of_input.result c.in-Ok.input.stop

@@ -2,7 +2,7 @@ use Rattle.std.proofs.Common.{◌∙◌, subst}
 use Rattle.std.specs.List.{flat_map}
 use Rattle.std.proofs.lemmas.Result.{err_from_is_err_and}
 use Rattle.dap_runs.specs.ComparingRun.{first_line, pair_line, pairs_in}
-use Rattle.dap_device.specs.Written.{AllWritten, FrontWritten}
+use Rattle.dap_device.specs.Written.{AllWritten, PrefixWritten}
 use Rattle.dap_device.proofs.Sending.{all_then_all, all_then_flush, all_then_front}
 use Rattle.dap_runs.proofs.compare_run.print.Goals as goal
 
@@ -19,7 +19,7 @@ returns-in_err-write_pairs g c =
     (all_then_front g.W.Sink c.args.writer.now c.write_all.new.writer
     c.write_pairs.new.writer (first_line c.args.verdict.now)
     (flat_map (pair_line c.args.mode) (pairs_in c.args.verdict.now)) line
-    (subst (λ ps. FrontWritten g.W.Sink c.write_all.new.writer
+    (subst (λ ps. PrefixWritten g.W.Sink c.write_all.new.writer
     c.write_pairs.new.writer (flat_map (pair_line c.args.mode) ps)) c.pairs.ensures
     c.in_err-write_pairs.ensures))
 

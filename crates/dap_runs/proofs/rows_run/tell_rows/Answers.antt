@@ -10,12 +10,12 @@ no_ok (Err e) other is_ok = true≢false (sym is_ok)
 
 pub returns-in_default : goal.returns-in_default
 returns-in_default g c = inl record {
-  answer = Err Memory;
+  outcome = Err Memory;
   leaves = (
     λ none. no_ok c.row_lines.result c.in_default.not-Ok (c.row_lines.ensures.none none),
     refl,
   );
-  tells = c.tell_answer.ensures.told;
+  tells = c.tell_answer.ensures.reported;
   status_is = c.tell_answer.ensures.status;
 }
 

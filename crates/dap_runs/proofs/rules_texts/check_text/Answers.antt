@@ -9,5 +9,5 @@ pub returns-in-Err : goal.returns-in-Err
 returns-in-Err g c = (
   c.check_with.new.reader,
   subst (λ (reader : GivenBytes). Checks memory LIMITS c.args.mode false reader
-      c.check_with.new.reader (Err c.in-Err.refused)) c.new-reader.ensures c.in-Err.ensures.answer,
+      c.check_with.new.reader (Err c.in-Err.refused)) c.new-reader.ensures c.in-Err.ensures.outcome,
 )

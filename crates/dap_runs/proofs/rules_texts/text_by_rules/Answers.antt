@@ -6,7 +6,7 @@ use Rattle.dap_runs.proofs.rules_texts.text_by_rules.Goals as goal
 pub returns-in-Err-clause-text : goal.returns-in-Err-clause-text
 returns-in-Err-clause-text g c = inr record {
   text = c.in_ok-text.text;
-  reads = c.in_ok-text.ensures.answer;
+  reads = c.in_ok-text.ensures.outcome;
   no_order = c.has_no_order.ensures.0 c.if-has_no_order.true;
   refuses = subst (λ (bytes : List ℕ). ChecksText LIMITS c.args.mode bytes (Err c.in-Err.refused))
       c.as_slice.ensures.value c.in-Err.ensures;

@@ -1,45 +1,45 @@
 use Rattle.std.proofs.Common.{Err, sym, ◌∙◌, ap, subst}
 use Rattle.dap_message.specs.Message.{sent}
-use Rattle.dap_show.specs.ShowingSteps.{held_of}
+use Rattle.dap_show.specs.ShowingSteps.{payload_of}
 use Rattle.dap_show.specs.Viewing.{kept}
 use Rattle.dap_tree.specs.Json.{IsRead}
 use Rattle.dap_show.proofs.EntryLines.{entered_typed, grown_detail, grown_typed}
 use Rattle.dap_show.proofs.entries.append_message.Goals as goal
 
 pub returns-in-Err-Full : goal.returns-in-Err-Full
-returns-in-Err-Full c = λ before stands lines_are number_is.
+returns-in-Err-Full c = λ before represents lines_are number_is.
     let d = c.requires.1.0 in
     let reads = c.requires.1.1 in
     grown_detail c.args.view.detail c.args.limits before c.args.number number_is
-    c.args.lines.now.items lines_are c.args.view.marks_faults (held_of c.args.whole.now)
+    c.args.lines.now.items lines_are c.args.view.marks_faults (payload_of c.args.whole.now)
     (sent c.args.message.now) d c.in-Ok.rule c.judge.new.session c.requires reads
-    (c.in-Ok.ensures (kept before) stands) c.push_head.new.lines.items c.in-Ok-push_head.ensures
+    (c.in-Ok.ensures (kept before) represents) c.push_head.new.lines.items c.in-Ok-push_head.ensures
     (c.in-Err-Full.ensures.full d
     (subst (λ t. IsRead t d) (sym c.as_slice-content.ensures) reads)
     (ap Err c.in-Err-Full.field-0-is))
 
 pub returns-then-not-fits : goal.returns-then-not-fits
-returns-then-not-fits c = λ before stands lines_are number_is.
+returns-then-not-fits c = λ before represents lines_are number_is.
     let d = c.requires.1.0 in
     let reads = c.requires.1.1 in
     grown_typed c.args.view.detail c.args.limits before c.args.number number_is
-    c.args.lines.now.items lines_are c.args.view.marks_faults (held_of c.args.whole.now)
+    c.args.lines.now.items lines_are c.args.view.marks_faults (payload_of c.args.whole.now)
     (sent c.args.message.now) d c.in-Ok.rule c.judge.new.session c.requires reads
-    (c.in-Ok.ensures (kept before) stands) c.push_head.new.lines.items c.in-Ok-push_head.ensures
+    (c.in-Ok.ensures (kept before) represents) c.push_head.new.lines.items c.in-Ok-push_head.ensures
     c.push_detail.new.lines.items
     (c.in-Ok-push_detail.ensures.lines d
     (subst (λ t. IsRead t d) (sym c.as_slice-content.ensures) reads))
     (sym c.fits.ensures ∙ c.if-not-fits.true)
 
 pub returns : goal.returns
-returns c = λ before stands lines_are number_is.
+returns c = λ before represents lines_are number_is.
     let d = c.requires.1.0 in
     let reads = c.requires.1.1 in
     rw c.rule_refusal.ensures
     (entered_typed c.args.view.detail c.args.limits before c.args.number number_is
-    c.args.lines.now.items lines_are c.args.view.marks_faults (held_of c.args.whole.now)
+    c.args.lines.now.items lines_are c.args.view.marks_faults (payload_of c.args.whole.now)
     (sent c.args.message.now) d c.in-Ok.rule c.judge.new.session c.requires reads
-    (c.in-Ok.ensures (kept before) stands) c.push_head.new.lines.items c.in-Ok-push_head.ensures
+    (c.in-Ok.ensures (kept before) represents) c.push_head.new.lines.items c.in-Ok-push_head.ensures
     c.push_detail.new.lines.items
     (c.in-Ok-push_detail.ensures.lines d
     (subst (λ t. IsRead t d) (sym c.as_slice-content.ensures) reads))

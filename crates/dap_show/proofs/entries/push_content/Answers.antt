@@ -9,9 +9,9 @@ use Rattle.dap_show.proofs.entries.push_content.Goals as goal
 
 pub unreachable-requires-in-Err-Fraction : goal.unreachable-requires-in-Err-Fraction
 unreachable-requires-in-Err-Fraction c =
-    let told : HasFraction c.args.content.now =
+    let reported : HasFraction c.args.content.now =
     rw c.in-Err-Fraction.field-0-is at c.in-Err-Fraction.ensures.err in
-    whole_or_fraction c.args.content.now c.requires.0 c.requires.1 told
+    whole_or_fraction c.args.content.now c.requires.0 c.requires.1 reported
 
 pub returns-in-Ok-clause-lines : goal.returns-in-Ok-clause-lines
 returns-in-Ok-clause-lines c = λ d reads.

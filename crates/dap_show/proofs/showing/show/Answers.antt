@@ -2,7 +2,7 @@ use Rattle.std.proofs.Common.{◌∙◌}
 use Rattle.dap_input.proofs.WholeInputs.{all_read, drained, refused_answer}
 use Rattle.dap_input.specs.ItemReading.{record_items}
 use Rattle.dap_show.specs.Showing.{lines_from, showing}
-use Rattle.dap_show.specs.ShowingSteps.{held_of}
+use Rattle.dap_show.specs.ShowingSteps.{payload_of}
 use Rattle.dap_show.proofs.ShowingLoop.{reads_records}
 use Rattle.dap_show.proofs.ShownInputs.{accepted_taken, finished, not_written, refused_taken}
 use Rattle.dap_show.proofs.ShownInputs.{rest_counts, rest_failures}
@@ -13,14 +13,14 @@ show_records-requires-clause-start g c = (
   c.args.limits,
   c.requires.limits,
   c.in-Ok.ensures c.args.limits.frame
-      (c.new-record_reader.ensures.limits, (1, c.new-record_reader.ensures.stands)),
+      (c.new-record_reader.ensures.limits, (1, c.new-record_reader.ensures.represents)),
 )
 
-pub returns-in-Ok-write_and_flush-clause-answer : goal.returns-in-Ok-write_and_flush-clause-answer
-returns-in-Ok-write_and_flush-clause-answer g c =
+pub returns-in-Ok-write_and_flush-clause-outcome : goal.returns-in-Ok-write_and_flush-clause-outcome
+returns-in-Ok-write_and_flush-clause-outcome g c =
     let shown = c.in-Ok-show_records.ensures c.args.limits
     (c.in-Ok.ensures c.args.limits.frame
-    (c.new-record_reader.ensures.limits, (1, c.new-record_reader.ensures.stands))) in
+    (c.new-record_reader.ensures.limits, (1, c.new-record_reader.ensures.represents))) in
     finished c.args.limits g.R.Source c.args.reader.now
     c.show_records.new.reader shown.0 shown.1 g.W.Sink c.args.writer.now
     c.write_and_flush.new.writer _ (c.as_bytes.ensures.value ∙ shown.2)
@@ -30,15 +30,15 @@ pub returns-in-Ok-write_and_flush-clause-taken : goal.returns-in-Ok-write_and_fl
 returns-in-Ok-write_and_flush-clause-taken g c =
     let shown = c.in-Ok-show_records.ensures c.args.limits
     (c.in-Ok.ensures c.args.limits.frame
-    (c.new-record_reader.ensures.limits, (1, c.new-record_reader.ensures.stands))) in
+    (c.new-record_reader.ensures.limits, (1, c.new-record_reader.ensures.represents))) in
     accepted_taken c.args.limits g.R.Source
     c.args.reader.now c.show_records.new.reader shown.0 shown.1
 
-pub returns-in-Ok-show_records-clause-answer : goal.returns-in-Ok-show_records-clause-answer
-returns-in-Ok-show_records-clause-answer g c =
+pub returns-in-Ok-show_records-clause-outcome : goal.returns-in-Ok-show_records-clause-outcome
+returns-in-Ok-show_records-clause-outcome g c =
     let shown = c.in-Ok-show_records.ensures c.args.limits
     (c.in-Ok.ensures c.args.limits.frame
-    (c.new-record_reader.ensures.limits, (1, c.new-record_reader.ensures.stands))) in
+    (c.new-record_reader.ensures.limits, (1, c.new-record_reader.ensures.represents))) in
     not_written c.args.limits g.R.Source
     c.args.reader.now c.show_records.new.reader shown.0 shown.1 g.W.Sink
     c.args.writer.now c.write_and_flush.new.writer _ (c.as_bytes.ensures.value ∙ shown.2)
@@ -48,7 +48,7 @@ pub returns-in-Ok-show_records-clause-taken : goal.returns-in-Ok-show_records-cl
 returns-in-Ok-show_records-clause-taken g c =
     let shown = c.in-Ok-show_records.ensures c.args.limits
     (c.in-Ok.ensures c.args.limits.frame
-    (c.new-record_reader.ensures.limits, (1, c.new-record_reader.ensures.stands))) in
+    (c.new-record_reader.ensures.limits, (1, c.new-record_reader.ensures.represents))) in
     accepted_taken c.args.limits g.R.Source
     c.args.reader.now c.show_records.new.reader shown.0 shown.1
 
@@ -56,7 +56,7 @@ pub drain-requires-clause-given : goal.drain-requires-clause-given
 drain-requires-clause-given g c = λ goes_on.
     let refused = c.in-Err-show_records.ensures c.args.limits
     (c.in-Ok.ensures c.args.limits.frame
-    (c.new-record_reader.ensures.limits, (1, c.new-record_reader.ensures.stands))) in
+    (c.new-record_reader.ensures.limits, (1, c.new-record_reader.ensures.represents))) in
     rest_counts c.args.limits g.R.Source
     c.args.reader.now c.show_records.new.reader c.show_records.new.records
     c.in-Err-show_records.refused refused goes_on c.requires.limits.input c.requires.given
@@ -65,20 +65,20 @@ pub drain-requires-clause-failures : goal.drain-requires-clause-failures
 drain-requires-clause-failures g c = λ goes_on.
     let refused = c.in-Err-show_records.ensures c.args.limits
     (c.in-Ok.ensures c.args.limits.frame
-    (c.new-record_reader.ensures.limits, (1, c.new-record_reader.ensures.stands))) in
+    (c.new-record_reader.ensures.limits, (1, c.new-record_reader.ensures.represents))) in
     rest_failures c.args.limits g.R.Source
     c.args.reader.now c.show_records.new.reader c.show_records.new.records
     c.in-Err-show_records.refused refused goes_on c.requires.read_failures
 
-pub returns-clause-answer : goal.returns-clause-answer
-returns-clause-answer g c =
+pub returns-clause-outcome : goal.returns-clause-outcome
+returns-clause-outcome g c =
     let refused = c.in-Err-show_records.ensures c.args.limits
     (c.in-Ok.ensures c.args.limits.frame
-    (c.new-record_reader.ensures.limits, (1, c.new-record_reader.ensures.stands))) in
+    (c.new-record_reader.ensures.limits, (1, c.new-record_reader.ensures.represents))) in
     refused_answer (showing c.args.limits) g.R.Source
     (lines_from 1) c.args.reader.now c.drain.new.reader g.W.Sink
     c.args.writer.now c.in-Err-show_records.refused
-    (drained (showing c.args.limits) (record_items c.args.limits.frame) held_of
+    (drained (showing c.args.limits) (record_items c.args.limits.frame) payload_of
     (reads_records c.args.limits) g.R.Source
     c.args.reader.now c.show_records.new.reader c.drain.new.reader c.show_records.new.records
     c.in-Err-show_records.refused refused c.drain.ensures.over c.drain.ensures.rest)
@@ -87,10 +87,10 @@ pub returns-clause-taken : goal.returns-clause-taken
 returns-clause-taken g c =
     let refused = c.in-Err-show_records.ensures c.args.limits
     (c.in-Ok.ensures c.args.limits.frame
-    (c.new-record_reader.ensures.limits, (1, c.new-record_reader.ensures.stands))) in
+    (c.new-record_reader.ensures.limits, (1, c.new-record_reader.ensures.represents))) in
     refused_taken c.args.limits g.R.Source
     c.args.reader.now c.drain.new.reader c.in-Err-show_records.refused
-    (drained (showing c.args.limits) (record_items c.args.limits.frame) held_of
+    (drained (showing c.args.limits) (record_items c.args.limits.frame) payload_of
     (reads_records c.args.limits) g.R.Source
     c.args.reader.now c.show_records.new.reader c.drain.new.reader c.show_records.new.records
     c.in-Err-show_records.refused refused c.drain.ensures.over c.drain.ensures.rest)
@@ -99,10 +99,10 @@ pub returns-clause-memory : goal.returns-clause-memory
 returns-clause-memory g c = λ _.
     let refused = c.in-Err-show_records.ensures c.args.limits
     (c.in-Ok.ensures c.args.limits.frame
-    (c.new-record_reader.ensures.limits, (1, c.new-record_reader.ensures.stands))) in
+    (c.new-record_reader.ensures.limits, (1, c.new-record_reader.ensures.represents))) in
     all_read (showing c.args.limits) g.R.Source
     (lines_from 1) c.args.reader.now c.drain.new.reader c.in-Err-show_records.refused
-    (drained (showing c.args.limits) (record_items c.args.limits.frame) held_of
+    (drained (showing c.args.limits) (record_items c.args.limits.frame) payload_of
     (reads_records c.args.limits) g.R.Source
     c.args.reader.now c.show_records.new.reader c.drain.new.reader c.show_records.new.records
     c.in-Err-show_records.refused refused c.drain.ensures.over c.drain.ensures.rest)

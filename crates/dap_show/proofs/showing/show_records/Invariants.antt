@@ -1,5 +1,5 @@
 use Rattle.std.proofs.Common.{◌+◌, ◌-◌, length, string_bytes}
-use Rattle.dap_input.specs.ItemReading.{StandsForRecord}
+use Rattle.dap_input.specs.ItemReading.{RepresentsRecord}
 use Rattle.dap_input.specs.RecordSteps.{IsAtStart}
 use Rattle.dap_input.specs.declared.limits.Limits.{Limits}
 use Rattle.dap_show.proofs.ShowingLoop.{Showing}
@@ -7,7 +7,7 @@ use Rattle.dap_show.proofs.showing.show_records.Given as goal
 
 abbrev pub invariant-loop-out : goal.invariant-loop-out
 invariant-loop-out g l =
-    (limits : Limits) → IsAtStart (StandsForRecord limits.frame) limits.input l.fn.records
+    (limits : Limits) → IsAtStart (RepresentsRecord limits.frame) limits.input l.fn.records
     → Showing limits g.R.Source l.fn.reader l.reader
     l.records (string_bytes l.out)
 

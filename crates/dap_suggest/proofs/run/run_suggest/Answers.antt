@@ -4,8 +4,8 @@ use Rattle.dap_suggest.proofs.run.run_suggest.Goals as goal
 
 pub returns-in-Ok : goal.returns-in-Ok
 returns-in-Ok g c = record {
-  told = record {
-    answer = Ok c.in-Ok.found;
+  reported = record {
+    outcome = Ok c.in-Ok.found;
     suggests = c.in-Ok.ensures.ok;
     tells = subst (IsPrinted g.W.Sink g.E.Sink c.args.writer.now c.print.new.writer
         c.args.errors.now c.print.new.errors c.print.result) c.as_slice.ensures.value
@@ -15,8 +15,8 @@ returns-in-Ok g c = record {
 
 pub returns-in-Err : goal.returns-in-Err
 returns-in-Err g c = record {
-  told = record {
-    answer = Err c.in-Err.refused;
+  reported = record {
+    outcome = Err c.in-Err.refused;
     suggests = c.in-Err.ensures.err;
     tells = (refl, c.report.ensures);
   };

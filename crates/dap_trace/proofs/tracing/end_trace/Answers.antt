@@ -10,7 +10,7 @@ use Rattle.dap_trace.proofs.tracing.end_trace.Goals as goal
 
 pub overflow_add-result : goal.overflow_add-result
 overflow_add-result c =
-    let was = c.requires.stands.1 in
+    let was = c.requires.represents.1 in
     let over = (c.in-Ok.ensures.ok _ _ _ was.reads).0 refl in
     let small =
     last_small c.args.limits c.requires.sound _ [] c.args.trace.now
@@ -57,13 +57,13 @@ returns-in-Ok-finish c = λ whole bytes was is fits.
     (all_recorded c.args.limits c.requires.sound _ [] c.args.trace.now
     c.args.recorder.now c.args.last was bytes is
     refl short over tt
-    ((c.in-Ok-finish.ensures.ok _ was.stands).0 refl))
+    ((c.in-Ok-finish.ensures.ok _ was.represents).0 refl))
 
 pub returns-in-Err-finish : goal.returns-in-Err-finish
 returns-in-Err-finish c = λ whole bytes was is fits.
     let short = subst (FitsStop c.args.limits.input bytes) c.in-End.is fits in
     let over = (c.in-Ok-ended.ensures.ok _ _ _ was.reads).0 refl in
-    let stands = was.stands in
+    let represents = was.represents in
     subst (λ s. HasTraced {U = Unit {0}} c.args.limits bytes s
     (Err (Recorder c.args.last c.in-Err-finish.fault)) c.args.recorder.now)
     (sym c.in-End.is)
@@ -71,9 +71,9 @@ returns-in-Err-finish c = λ whole bytes was is fits.
     c.args.recorder.now c.args.last was bytes is
     refl short over (Unit {0}) c.finish.result
     c.in-Err-finish.fault c.in-Err-finish.is
-    (λ both. false≢true ((c.in-Err-finish.ensures.ok _ stands).1 both))
-    (λ some. c.finish.ensures.client _ stands some)
-    (λ none some. c.finish.ensures.adapter _ stands none some))
+    (λ both. false≢true ((c.in-Err-finish.ensures.ok _ represents).1 both))
+    (λ some. c.finish.ensures.client _ represents some)
+    (λ none some. c.finish.ensures.adapter _ represents none some))
 
 pub returns-in-Err-ended : goal.returns-in-Err-ended
 returns-in-Err-ended c = λ whole bytes was is fits.

@@ -26,8 +26,8 @@ fill-requires-clause-failures g c =
     c.loop-stop.trace c.loop-stop.recorder c.loop-stop.last c.loop-stop.invariant
     c.requires.failures
 
-pub end_trace-requires-clause-stands : goal.end_trace-requires-clause-stands
-end_trace-requires-clause-stands g c =
+pub end_trace-requires-clause-represents : goal.end_trace-requires-clause-represents
+end_trace-requires-clause-represents g c =
     (c.loop-stop.invariant.bytes, c.loop-stop.invariant.traced)
 
 pub returns-in-Err : goal.returns-in-Err

@@ -7,7 +7,7 @@ pub returns : goal.returns
 returns c = record {
   same = skeleton-with;
   differ = with_others;
-  told = same_from_skeleton;
+  reported = same_from_skeleton;
   sorts = sorts_alike;
   count = count_alike;
   depth = depth-skeleton;

@@ -1,16 +1,17 @@
 use Rattle.std.proofs.Common.{◌∙◌, ap, Some}
 use Rattle.std.proofs.lemmas.Result.{IfOk-weaker}
 use Rattle.serde_json.specs.View.{view as value_view}
-use Rattle.dap_tree.specs.Json.{IsRead, Stands}
+use Rattle.dap_tree.specs.Json.{IsRead, ValueMatches}
 use Rattle.dap_tree.specs.View.{view}
 use Rattle.dap_tree.proofs.Outcomes.{explained, some_byte}
 use Rattle.dap_tree.proofs.read.read_value.Goals as goal
 
 pub returns-in-Ok-clause-ok : goal.returns-in-Ok-clause-ok
 returns-in-Ok-clause-ok c =
-    IfOk-weaker c.tree_of.result (λ t. Stands (value_view c.in-Ok.value) (view t))
+    IfOk-weaker c.tree_of.result (λ t. ValueMatches (value_view c.in-Ok.value) (view t))
     (λ t. IsRead c.args.content.now (view t))
-    (λ t stands. ((c.in-Ok.ensures.ok.0, c.in-Ok.ensures.ok.1 ∙ ap Some stands.0), stands.1))
+    (λ t represents.
+    ((c.in-Ok.ensures.ok.0, c.in-Ok.ensures.ok.1 ∙ ap Some represents.0), represents.1))
     c.tree_of.ensures.ok
 
 pub returns-in-Ok-clause-err : goal.returns-in-Ok-clause-err

@@ -8,8 +8,8 @@ use Rattle.dap_tree.proofs.write.write_tree.Goals as goal
 
 pub returns-clause-text : goal.returns-clause-text
 returns-clause-text c =
-    let told = rw c.unwrap.ensures at c.from_utf8.ensures.ok in
-    let is = ap (λ v. v.items) told ∙ c.into_inner.ensures.items in
+    let reported = rw c.unwrap.ensures at c.from_utf8.ensures.ok in
+    let is = ap (λ v. v.items) reported ∙ c.into_inner.ensures.items in
     let empty = c.in_ok-write.ensures.before ∙ c.new-out.ensures.before ∙ c.new.ensures.items in
     text_of_tokens (view c.args.tree.now) c.new-out.result.tokens c.write.new.out.tokens _
     (string_bytes c.unwrap.result) c.new-out.ensures.tokens empty c.in_ok-write.ensures.ok is
@@ -17,8 +17,8 @@ returns-clause-text c =
 pub returns-clause-reads_back : goal.returns-clause-reads_back
 returns-clause-reads_back c =
     let d = view c.args.tree.now in
-    let told = rw c.unwrap.ensures at c.from_utf8.ensures.ok in
-    let is = ap (λ v. v.items) told ∙ c.into_inner.ensures.items in
+    let reported = rw c.unwrap.ensures at c.from_utf8.ensures.ok in
+    let is = ap (λ v. v.items) reported ∙ c.into_inner.ensures.items in
     let empty = c.in_ok-write.ensures.before ∙ c.new-out.ensures.before ∙ c.new.ensures.items in
     let reads =
     tokens_read_back d c.new-out.result.tokens c.write.new.out.tokens _

@@ -1,7 +1,7 @@
 use Rattle.std.proofs.Common.{◌∙◌, subst}
 use Rattle.std.proofs.lemmas.Result.{err_from_is_err_and}
 use Rattle.dapnorm.specs.DiffRun.{first_line, lines_in}
-use Rattle.dap_device.specs.Written.{AllWritten, FrontWritten}
+use Rattle.dap_device.specs.Written.{AllWritten, PrefixWritten}
 use Rattle.dap_device.proofs.Sending.{all_then_all, all_then_flush, all_then_front}
 use Rattle.dapnorm.proofs.diff_run.print.Goals as goal
 
@@ -17,7 +17,7 @@ returns-in_err-write_all-2 g c =
     rw (because.1)
     (all_then_front g.W.Sink c.args.writer.now c.write_all.new.writer
     c.write_all-2.new.writer (first_line c.args.diff.now) (lines_in c.args.diff.now) line
-    (subst (FrontWritten g.W.Sink c.write_all.new.writer c.write_all-2.new.writer)
+    (subst (PrefixWritten g.W.Sink c.write_all.new.writer c.write_all-2.new.writer)
     c.lines.ensures c.in_err-write_all-2.ensures))
 
 pub returns : goal.returns

@@ -11,8 +11,8 @@ some_of_map f None = refl
 
 pub returns-in-Err-clause-reported : goal.returns-in-Err-clause-reported
 returns-in-Err-clause-reported g c = record {
-  answer = Err c.in-Err.stop;
-  answers = c.in-Err.ensures.answer;
+  outcome = Err c.in-Err.stop;
+  answers = c.in-Err.ensures.outcome;
   reports = (
     refl,
     subst (λ has_rules. HasSent g.E.Sink c.args.errors.now c.report_stop.new.errors

@@ -1,6 +1,6 @@
 use Rattle.std.proofs.Common.{◌≡◌, ◌∙◌, ap, subst}
 use Rattle.dap_device.specs.Memory.{GivenBytes}
-use Rattle.dap_runs.specs.ComparingRun.{CompareIsTold}
+use Rattle.dap_runs.specs.ComparingRun.{CompareIsReported}
 use Rattle.dap_runs.specs.TextsByRules.{bytes_of, memory}
 use Rattle.dap_runs.specs.declared.program_limits.TheConstants.{LIMITS}
 use Rattle.dapnorm.proofs.ruled_pair.compare_by_rules.Goals as goal
@@ -17,13 +17,14 @@ returns g c =
       has = c.in-Ok.ensures;
       new_a = ran.new.reader_a;
       new_b = ran.new.reader_b;
-      runs = subst (λ (reader : GivenBytes). CompareIsTold memory memory g.W.Sink g.E.Sink LIMITS
+      runs = subst
+          (λ (reader : GivenBytes). CompareIsReported memory memory g.W.Sink g.E.Sink LIMITS
           c.args.mode (bytes_of c.in-Ok.texts.a.items) ran.new.reader_a reader
           ran.new.reader_b c.args.writer.now ran.new.writer
           c.args.errors.now ran.new.errors ran.result) two
-          (subst (λ (reader : GivenBytes). CompareIsTold memory memory g.W.Sink g.E.Sink LIMITS
+          (subst (λ (reader : GivenBytes). CompareIsReported memory memory g.W.Sink g.E.Sink LIMITS
           c.args.mode reader ran.new.reader_a c.new-2.result
           ran.new.reader_b c.args.writer.now ran.new.writer
           c.args.errors.now ran.new.errors ran.result) one
-          ran.ensures.told);
+          ran.ensures.reported);
     }

@@ -25,9 +25,9 @@ overflow_sub-left c =
     omega (arith, within)
 
 pub returns-then-missing-left-clause-ends : goal.returns-then-missing-left-clause-ends
-returns-then-missing-left-clause-ends c = λ rest stands.
+returns-then-missing-left-clause-ends c = λ rest represents.
     let kept = kept_of c.self.inside c.args.self.now c.in-Open.progress rest c.self.view_is
-    c.in-Open.is stands in
+    c.in-Open.is represents in
     let begun = rw c.in-Ok-Ended.field-0-is at c.in-Ok-Ended.ensures in
     let got = ends_in c.self.inside.limits c.self.inside.bytes.items rest c.args.piece.now
     _ c.in-Ok-Ended.content_len c.in-Ok-Ended.used (begun c.self.inside.bytes.items rest kept)
@@ -38,9 +38,9 @@ returns-then-missing-left-clause-ends c = λ rest stands.
     )
 
 pub returns-then-missing-left-clause-len : goal.returns-then-missing-left-clause-len
-returns-then-missing-left-clause-len c = λ rest content used stands frame.
+returns-then-missing-left-clause-len c = λ rest content used represents frame.
     let kept = kept_of c.self.inside c.args.self.now c.in-Open.progress rest c.self.view_is
-    c.in-Open.is stands in
+    c.in-Open.is represents in
     let begun = rw c.in-Ok-Ended.field-0-is at c.in-Ok-Ended.ensures in
     ap Some (content_len_is c.self.inside.limits c.self.inside.bytes.items rest c.args.piece.now
     _ c.in-Ok-Ended.content_len c.in-Ok-Ended.used (begun c.self.inside.bytes.items rest kept)
@@ -58,9 +58,9 @@ returns-then-missing-left-clause-within c =
     omega (arith, small, ap (λ (r : Reading). r.limits.content) c.self.view_is)
 
 pub returns-else-missing-left-clause-len : goal.returns-else-missing-left-clause-len
-returns-else-missing-left-clause-len c = λ rest content used stands frame.
+returns-else-missing-left-clause-len c = λ rest content used represents frame.
     let kept = kept_of c.self.inside c.args.self.now c.in-Open.progress rest c.self.view_is
-    c.in-Open.is stands in
+    c.in-Open.is represents in
     let begun = rw c.in-Ok-Ended.field-0-is at c.in-Ok-Ended.ensures in
     absurd (not_short c.self.inside.limits c.self.inside.bytes.items rest c.args.piece.now
     _ c.in-Ok-Ended.content_len c.in-Ok-Ended.used (begun c.self.inside.bytes.items rest kept)
@@ -69,9 +69,9 @@ returns-else-missing-left-clause-len c = λ rest content used stands frame.
     (sym (ap (λ (r : Reading). r.limits) c.self.view_is)) frame) (omega arith))
 
 pub returns-in-Ok-Unfinished-clause-len : goal.returns-in-Ok-Unfinished-clause-len
-returns-in-Ok-Unfinished-clause-len c = λ rest content used stands frame.
+returns-in-Ok-Unfinished-clause-len c = λ rest content used represents frame.
     let kept = kept_of c.self.inside c.args.self.now c.in-Open.progress rest c.self.view_is
-    c.in-Open.is stands in
+    c.in-Open.is represents in
     let begun = rw c.in-Ok-Unfinished.field-0-is at c.in-Ok-Unfinished.ensures in
     absurd (not_unfinished c.self.inside.limits rest c.args.piece.now content used
     (subst (λ l. IsFrame l (rest ++ take used c.args.piece.now) content)
@@ -79,9 +79,9 @@ returns-in-Ok-Unfinished-clause-len c = λ rest content used stands frame.
     (begun c.self.inside.bytes.items rest kept).1)
 
 pub returns-in-Err-clause-len : goal.returns-in-Err-clause-len
-returns-in-Err-clause-len c = λ rest content used stands frame.
+returns-in-Err-clause-len c = λ rest content used represents frame.
     let kept = kept_of c.self.inside c.args.self.now c.in-Open.progress rest c.self.view_is
-    c.in-Open.is stands in
+    c.in-Open.is represents in
     absurd (not_faulty c.self.inside.limits rest c.args.piece.now content used
     (subst (λ l. IsFrame l (rest ++ take used c.args.piece.now) content)
     (sym (ap (λ (r : Reading). r.limits) c.self.view_is)) frame) _

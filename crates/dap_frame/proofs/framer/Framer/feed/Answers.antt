@@ -22,9 +22,9 @@ invariant_of-self-then-len-content_len c =
     record { sound = c.self.invariant.sound; kept = (whole.0 ++ c.args.piece.now, got.0) }
 
 pub returns-then-len-content_len-clause-gives : goal.returns-then-len-content_len-clause-gives
-returns-then-len-content_len-clause-gives c = λ rest stands.
+returns-then-len-content_len-clause-gives c = λ rest represents.
     let kept = kept_of c.self.inside c.args.self.now c.in-Open.progress rest c.self.view_is
-    c.in-Open.is stands in
+    c.in-Open.is represents in
     let begun = rw c.in-Ok-Ended.field-0-is at c.in-Ok-Ended.ensures in
     let took = rw (take_rest c.args.piece.now c.in-Ok-Ended.used) at c.in-Ok.ensures.ok in
     let got = fed_open c.self.inside.limits c.self.inside.bytes.items rest c.args.piece.now
@@ -34,9 +34,9 @@ returns-then-len-content_len-clause-gives c = λ rest stands.
     (omega arith, (refl, record { going = refl; kept = got.0; is_open = got.1 }))
 
 pub returns-in_default-clause-memory_for_content : goal.returns-in_default-clause-memory_for_content
-returns-in_default-clause-memory_for_content c = λ memory rest stands.
+returns-in_default-clause-memory_for_content c = λ memory rest represents.
     let kept = kept_of c.self.inside c.args.self.now c.in-Open.progress rest c.self.view_is
-    c.in-Open.is stands in
+    c.in-Open.is represents in
     let limits : c.self.inside.limits ≡ c.args.self.now.limits =
     ap (λ (r : Reading). r.limits) c.self.view_is in
     let begun = rw c.in-Ok-Ended.field-0-is at c.in-Ok-Ended.ensures in
@@ -47,14 +47,14 @@ returns-in_default-clause-memory_for_content c = λ memory rest stands.
     (begun c.self.inside.bytes.items rest kept) (omega (arith, c.in_default.ensures.wanted)) some)
 
 pub returns-in_default-clause-memory_for_bytes : goal.returns-in_default-clause-memory_for_bytes
-returns-in_default-clause-memory_for_bytes c = λ memory rest stands.
+returns-in_default-clause-memory_for_bytes c = λ memory rest represents.
     let some = rw (take_rest c.args.piece.now c.in-Ok-Ended.used) at c.in_default.ensures.refused in
     omega (arith, some, length-drop c.in-Ok-Ended.used c.args.piece.now)
 
 pub returns-clause-gives : goal.returns-clause-gives
-returns-clause-gives c = λ rest stands.
+returns-clause-gives c = λ rest represents.
     let kept = kept_of c.self.inside c.args.self.now c.in-Open.progress rest c.self.view_is
-    c.in-Open.is stands in
+    c.in-Open.is represents in
     let limits : c.self.inside.limits ≡ c.args.self.now.limits =
     ap (λ (r : Reading). r.limits) c.self.view_is in
     let begun = rw c.in-Ok-Ended.field-0-is at c.in-Ok-Ended.ensures in

@@ -10,7 +10,7 @@ pub loop-stop-init : goal.loop-stop-init
 loop-stop-init g c = record {
   counted = record { room = omega arith; no_failure = refl; number_is = refl };
   looking = λ limits between.
-      at_start (g.I.ItemReader.items limits) (g.I.ItemReader.stands limits)
+      at_start (g.I.ItemReader.items limits) (g.I.ItemReader.represents limits)
       (g.met.I.ItemReader.is_open limits) g.R.Source
       c.args.self.now c.args.reader.now between;
 }
@@ -19,7 +19,7 @@ pub returns-in-Err : goal.returns-in-Err
 returns-in-Err g c = λ limits between.
     let was = c.loop-stop.invariant.looking limits between in
     let none = c.in-Err.ensures in
-    stopped (g.I.ItemReader.items limits) (g.I.ItemReader.stands limits)
+    stopped (g.I.ItemReader.items limits) (g.I.ItemReader.represents limits)
     (g.met.I.ItemReader.is_open limits) g.R.Source
     c.args.self.now c.args.reader.now c.loop-stop.self c.loop-stop.reader was
     _ c.fill.new.reader none.0 none.1 refl refl refl c.in-Err.stop _ none.2
@@ -28,47 +28,47 @@ returns-in-Err g c = λ limits between.
 pub returns-in-Memory : goal.returns-in-Memory
 returns-in-Memory g c = λ limits between.
     let now : Records _ = record c.loop-stop.self { pieces = c.fill.new.self } in
-    let was = filled (g.I.ItemReader.items limits) (g.I.ItemReader.stands limits)
+    let was = filled (g.I.ItemReader.items limits) (g.I.ItemReader.represents limits)
     (g.met.I.ItemReader.is_open limits) g.R.Source
     c.args.self.now c.args.reader.now c.loop-stop.self c.loop-stop.reader
     (c.loop-stop.invariant.looking limits between)
     now c.fill.new.reader c.in_default.ensures refl refl refl in
-    no_memory (g.I.ItemReader.items limits) (g.I.ItemReader.stands limits)
+    no_memory (g.I.ItemReader.items limits) (g.I.ItemReader.represents limits)
     (g.met.I.ItemReader.is_open limits) g.R.Source
     c.args.self.now c.args.reader.now now c.fill.new.reader was _ refl refl refl
 
 pub returns-in_default-cause : goal.returns-in_default-cause
 returns-in_default-cause g c = λ limits between.
     let now : Records _ = record c.loop-stop.self { pieces = c.fill.new.self } in
-    let was = filled (g.I.ItemReader.items limits) (g.I.ItemReader.stands limits)
+    let was = filled (g.I.ItemReader.items limits) (g.I.ItemReader.represents limits)
     (g.met.I.ItemReader.is_open limits) g.R.Source
     c.args.self.now c.args.reader.now c.loop-stop.self c.loop-stop.reader
     (c.loop-stop.invariant.looking limits between)
     now c.fill.new.reader c.in_default.ensures refl refl refl in
     faulty
-    (g.I.ItemReader.items limits) (g.I.ItemReader.stands limits)
+    (g.I.ItemReader.items limits) (g.I.ItemReader.represents limits)
     (g.met.I.ItemReader.is_open limits) g.R.Source
     c.args.self.now c.args.reader.now now c.fill.new.reader was _ refl refl
     c.in-Err-feed.cause c.feed.new.self c.in_default-cause.not-Memory
-    (subst (λ piece. (held : List ℕ) → g.I.ItemReader.stands limits c.loop-stop.self.reader held
-    → GivesItem (g.I.ItemReader.items limits) (g.I.ItemReader.stands limits) held piece
+    (subst (λ piece. (held : List ℕ) → g.I.ItemReader.represents limits c.loop-stop.self.reader held
+    → GivesItem (g.I.ItemReader.items limits) (g.I.ItemReader.represents limits) held piece
     (Err c.in-Err-feed.cause) c.feed.new.self) c.unread.ensures
     (c.in-Err-feed.ensures.gives limits))
 
 pub returns-then-is_some : goal.returns-then-is_some
 returns-then-is_some g c = λ limits between.
     let now : Records _ = record c.loop-stop.self { pieces = c.fill.new.self } in
-    let was = filled (g.I.ItemReader.items limits) (g.I.ItemReader.stands limits)
+    let was = filled (g.I.ItemReader.items limits) (g.I.ItemReader.represents limits)
     (g.met.I.ItemReader.is_open limits) g.R.Source
     c.args.self.now c.args.reader.now c.loop-stop.self c.loop-stop.reader
     (c.loop-stop.invariant.looking limits between)
     now c.fill.new.reader c.in_default.ensures refl refl refl in
     let fed = subst (λ piece. (held : List ℕ)
-    → g.I.ItemReader.stands limits c.loop-stop.self.reader held
-    → GivesFedItem (g.I.ItemReader.items limits) (g.I.ItemReader.stands limits) held piece
+    → g.I.ItemReader.represents limits c.loop-stop.self.reader held
+    → GivesFedItem (g.I.ItemReader.items limits) (g.I.ItemReader.represents limits) held piece
     c.in-Ok.fed c.feed.new.self) c.unread.ensures (c.in-Ok.ensures.gives limits) in
     found
-    (g.I.ItemReader.items limits) (g.I.ItemReader.stands limits)
+    (g.I.ItemReader.items limits) (g.I.ItemReader.represents limits)
     (g.met.I.ItemReader.is_open limits) g.R.Source
     c.args.self.now c.args.reader.now now c.fill.new.reader was c.in-Ok.fed _ fed c.skip.ensures
     refl (sym c.is_some.ensures ∙ c.if-is_some.true) refl
@@ -83,17 +83,17 @@ loop-stop-preserved g c =
           (ap (λ (w : Window). w.limit) c.skip.ensures) refl;
       looking = λ limits between.
           let now : Records _ = record c.loop-stop.self { pieces = c.fill.new.self } in
-          let was = filled (g.I.ItemReader.items limits) (g.I.ItemReader.stands limits)
+          let was = filled (g.I.ItemReader.items limits) (g.I.ItemReader.represents limits)
           (g.met.I.ItemReader.is_open limits) g.R.Source
           c.args.self.now c.args.reader.now c.loop-stop.self c.loop-stop.reader
           (c.loop-stop.invariant.looking limits between)
           now c.fill.new.reader c.in_default.ensures refl refl refl in
           let fed = subst (λ piece. (held : List ℕ)
-          → g.I.ItemReader.stands limits c.loop-stop.self.reader held
-          → GivesFedItem (g.I.ItemReader.items limits) (g.I.ItemReader.stands limits) held piece
+          → g.I.ItemReader.represents limits c.loop-stop.self.reader held
+          → GivesFedItem (g.I.ItemReader.items limits) (g.I.ItemReader.represents limits) held piece
           c.in-Ok.fed c.feed.new.self) c.unread.ensures (c.in-Ok.ensures.gives limits) in
           read_all
-          (g.I.ItemReader.items limits) (g.I.ItemReader.stands limits)
+          (g.I.ItemReader.items limits) (g.I.ItemReader.represents limits)
           (g.met.I.ItemReader.is_open limits) g.R.Source
           c.args.self.now c.args.reader.now now c.fill.new.reader was c.in-Ok.fed _ fed
           c.skip.ensures refl

@@ -1,6 +1,6 @@
 use Rattle.dap_frame.specs.declared.limits.FrameLimits.{FrameLimits}
 use Rattle.std.proofs.Common.{◌+◌, ◌-◌, length}
-use Rattle.dap_input.specs.RecordSteps.{StandsBetween}
+use Rattle.dap_input.specs.RecordSteps.{IsBetweenRecords}
 use Rattle.dap_input.proofs.RecordLoop.{AreCounted, Looking}
 use Rattle.dap_input.proofs.records.Records.next.Given as goal
 
@@ -9,8 +9,9 @@ invariant-loop-stop g l =
     let source = g.R.Source in
     record {
       counted : AreCounted source l.fn.self l.self l.fn.reader l.reader;
-      looking : (limits : FrameLimits) → StandsBetween (g.I.ItemReader.stands limits) l.fn.self
-          → Looking (g.I.ItemReader.items limits) (g.I.ItemReader.stands limits) source
+      looking : (limits : FrameLimits)
+          → IsBetweenRecords (g.I.ItemReader.represents limits) l.fn.self
+          → Looking (g.I.ItemReader.items limits) (g.I.ItemReader.represents limits) source
           l.fn.self l.self l.fn.reader l.reader;
     }
 

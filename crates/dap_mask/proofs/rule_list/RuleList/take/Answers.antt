@@ -4,7 +4,7 @@ use Rattle.std.specs.Result.{is_ok}
 use Rattle.dap_mask.specs.Ids.{leave_ids}
 use Rattle.dap_mask.specs.ListedRules.{listed_mask, listed_changes}
 use Rattle.dap_mask.specs.Mask.{statement_of}
-use Rattle.dap_mask.specs.Rules.{rule_of, are_safe, are_settled}
+use Rattle.dap_mask.specs.Rules.{rule_of, are_safe, are_idempotent}
 use Rattle.dap_mask.specs.RulesFile.{cause_against}
 use Rattle.dap_mask.proofs.RulesBehind.{MayStand, change_may_stand, pushed_keeps, safe_more}
 use Rattle.dap_mask.proofs.RulesBehind.{settled_more, leave_more}
@@ -25,7 +25,7 @@ invariant_of-self c =
       safe = pushed_keeps ok old.changes.items c.in-Change.rule c.push.new.self.items
           c.push.ensures.items are_safe old.safe (safe_more rules rule old.safe may.safe);
       settled = pushed_keeps ok old.changes.items c.in-Change.rule c.push.new.self.items
-          c.push.ensures.items are_settled old.settled
+          c.push.ensures.items are_idempotent old.settled
           (settled_more rules rule old.settled may.settled);
       leave = pushed_keeps ok old.changes.items c.in-Change.rule c.push.new.self.items
           c.push.ensures.items leave_ids old.leave (leave_more rules rule old.leave may.leaves);

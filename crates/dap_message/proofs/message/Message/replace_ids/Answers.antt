@@ -7,8 +7,8 @@ use Rattle.dap_message.proofs.ListedElements.{shows_all-with}
 use Rattle.dap_message.proofs.RenumberedMessages.{ids-with, proper-with, envelope-with}
 use Rattle.dap_message.proofs.message.Message.replace_ids.Goals as goal
 
-pub new-requires-clause-told : goal.new-requires-clause-told
-new-requires-clause-told c =
+pub new-requires-clause-reported : goal.new-requires-clause-reported
+new-requires-clause-reported c =
     rw c.replace_ids.ensures.replaced
     (kind-with c.args.self.kind (view c.args.self.tree) c.args.numbers.now
     ∙ c.args.self.kind_told)

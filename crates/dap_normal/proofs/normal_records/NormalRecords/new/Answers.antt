@@ -4,8 +4,8 @@ use Rattle.dap_normal.proofs.normal_records.NormalRecords.new.Goals as goal
 pub returns : goal.returns
 returns g c =
     record {
-      stands = none_read c.args.limits c.args.mode _
+      represents = none_read c.args.limits c.args.mode _
           (c.in_ok-new.ensures c.args.limits.frame
-          (c.new-reader.ensures.limits, (1, c.new-reader.ensures.stands)))
-          c.new-2.ensures.stands c.new-2.ensures.limits c.new-2.ensures.mode;
+          (c.new-reader.ensures.limits, (1, c.new-reader.ensures.represents)))
+          c.new-2.ensures.represents c.new-2.ensures.limits c.new-2.ensures.mode;
     }

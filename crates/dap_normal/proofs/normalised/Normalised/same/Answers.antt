@@ -6,9 +6,10 @@ use Rattle.dap_normal.proofs.HeldMessages.{equal_hold, hold_equal, equal_recordi
 use Rattle.dap_normal.proofs.normalised.Normalised.same.Goals as goal
 
 -- what the comparison of the bytes implies for the outputs
-told : (xs ys bytes others : List ℕ) (r : Bool) → r ≡ pointwise eqb xs ys → xs ≡ bytes → ys ≡ others
+reported : (xs ys bytes others : List ℕ) (r : Bool) → r ≡ pointwise eqb xs ys → xs ≡ bytes → ys
+    ≡ others
     → (r ≡ true) ↔ (bytes ≡ others)
-told xs ys bytes others r is one two =
+reported xs ys bytes others r is one two =
     let decides = slice_eq-Decides unsigned_Decides xs ys (pointwise eqb xs ys) refl in (
       (λ yes. sym one ∙ decides.0 (sym is ∙ yes) ∙ two),
       (λ same. is ∙ decides.1 (one ∙ same ∙ sym two)),
@@ -16,7 +17,7 @@ told xs ys bytes others r is one two =
 
 pub returns-clause-holds : goal.returns-clause-holds
 returns-clause-holds c =
-    let so = told c.bytes.result.now c.bytes-2.result.now c.args.self.now.bytes
+    let so = reported c.bytes.result.now c.bytes-2.result.now c.args.self.now.bytes
     c.args.other.now.bytes
     c.eq.result c.eq.ensures c.bytes.ensures.same c.bytes-2.ensures.same in (
       (λ yes. equal_hold c.args.self.now c.args.other.now c.requires.mode c.bytes.ensures.holds
@@ -26,7 +27,7 @@ returns-clause-holds c =
 
 pub returns-clause-recordings : goal.returns-clause-recordings
 returns-clause-recordings c = λ limits mode sound bytes others a b.
-    let so = told c.bytes.result.now c.bytes-2.result.now c.args.self.now.bytes
+    let so = reported c.bytes.result.now c.bytes-2.result.now c.args.self.now.bytes
     c.args.other.now.bytes
     c.eq.result c.eq.ensures c.bytes.ensures.same c.bytes-2.ensures.same in
     let tells = equal_recordings limits mode sound bytes others

@@ -7,7 +7,7 @@ pub returns-then-is_held : goal.returns-then-is_held
 returns-then-is_held c =
     let so_far = c.loop-place.invariant in
     record {
-      stands = so_far.stands;
+      represents = so_far.represents;
       written = so_far.written;
       others = so_far.others;
       done = released_held c.args.plan.now c.loop-place.self c.args.group c.loop-place.place
@@ -22,12 +22,12 @@ loop-place-preserved c =
     let was = c.loop-place.self.released.items in
     let next = c.loop-place.place + 1 in
     record {
-      stands = one.stands;
+      represents = one.represents;
       written = one.written ∙ so_far.written;
       others = λ other apart. ap (λ v. get_or v other 0) one.released
           ∙ get_or-set_other was c.args.group other next 0 apart ∙ so_far.others other apart;
       here = ap (λ v. get_or v c.args.group 0) one.released
           ∙ get_or-set_same was c.args.group next 0
-          (omega (arith, so_far.stands.released_len, c.requires.in_range));
+          (omega (arith, so_far.represents.released_len, c.requires.in_range));
       listed = λ other low was. one.listed other low (so_far.listed other low was);
     }

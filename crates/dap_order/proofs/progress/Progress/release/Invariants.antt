@@ -6,7 +6,7 @@ use Rattle.dap_order.proofs.progress.Progress.release.Given as goal
 
 abbrev pub invariant-loop-place : goal.invariant-loop-place
 invariant-loop-place l = record {
-  stands : Stands l.plan l.self;
+  represents : Stands l.plan l.self;
   written : l.self.written.items ≡ l.fn.self.written.items;
   others : (other : ℕ) → other ≢ l.group
       → slice_index l.self.released.items other ≡ slice_index l.fn.self.released.items other;

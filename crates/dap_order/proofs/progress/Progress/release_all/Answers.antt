@@ -10,7 +10,7 @@ loop-group-preserved c =
     let one = c.in_ok-release.ensures in
     let plan = c.args.plan.now in
     record {
-      stands = one.stands;
+      represents = one.represents;
       written = one.written ∙ so_far.written;
       done = λ group below. elim (cases_eq group c.loop-group.group) [
         | inl same ↦ subst (IsReleased plan c.release.new.self) (sym same) one.done

@@ -2,7 +2,7 @@ use Rattle.std.proofs.Common.{◌≡◌, ◌+◌, ◌<◌, [], ◌∷◌, ◌++�
 use Rattle.std.proofs.Common.{arith}
 use Rattle.std.proofs.lemmas.List.{take_all}
 use Rattle.dap_frame.specs.Frame.{IsFrame}
-use Rattle.dap_frame.specs.Reading.{Stands, limits_of}
+use Rattle.dap_frame.specs.Reading.{Represents, limits_of}
 use Rattle.dap_recording.specs.Marker.{marker}
 use Rattle.dap_recording.specs.RecordReading.{RecordReading}
 use Rattle.dap_recording.specs.RecordReading.{record_limits}
@@ -10,7 +10,7 @@ use Rattle.dap_recording.proofs.RecordSteps.{bad_line_end, good_line_end, line_e
 use Rattle.dap_recording.proofs.record_reader.RecordReader.read_line_end.Goals as goal
 
 pub returns-then-from-piece-clause-gives : goal.returns-then-from-piece-clause-gives
-returns-then-from-piece-clause-gives c = λ number bytes frame num stands front is.
+returns-then-from-piece-clause-gives c = λ number bytes frame num represents front is.
     let same : c.args.self.now.framer ≡ c.self.inside.framer =
     ap (λ (reader : RecordReading). reader.framer) (sym c.self.view_is) in
     let all : bytes ++ c.args.piece.now ≡ marker c.args.whole.side ∷ frame =
@@ -25,14 +25,14 @@ returns-then-from-piece-clause-gives c = λ number bytes frame num stands front 
             frame,
             all,
             subst (λ framer. IsFrame (limits_of framer) frame c.args.whole.content) same is,
-            subst (λ framer. Stands framer []) same stands,
+            subst (λ framer. Represents framer []) same represents,
           );
         },
       ),
     )
 
 pub returns-then-piece-from-ne10-clause-gives : goal.returns-then-piece-from-ne10-clause-gives
-returns-then-piece-from-ne10-clause-gives c = λ number bytes frame num stands front is.
+returns-then-piece-from-ne10-clause-gives c = λ number bytes frame num represents front is.
     let inside : c.args.from < length c.args.piece.now = omega arith in
     record {
       number_is = ap (λ (reader : RecordReading). reader.number) c.self.view_is ∙ num;
@@ -46,7 +46,7 @@ returns-then-piece-from-ne10-clause-gives c = λ number bytes frame num stands f
     }
 
 pub returns-clause-gives : goal.returns-clause-gives
-returns-clause-gives c = λ number bytes frame num stands front is.
+returns-clause-gives c = λ number bytes frame num represents front is.
     let inside : c.args.from < length c.args.piece.now = omega arith in
     let same : c.self.inside.framer ≡ c.args.self.now.framer =
     ap (λ (reader : RecordReading). reader.framer) c.self.view_is in
@@ -61,7 +61,7 @@ returns-clause-gives c = λ number bytes frame num stands front is.
           number_is =
               c.saturating_add-self-inside.ensures
               ∙ ap (λ n. min (n + 1) 18446744073709551615) count;
-          kept = (refl, subst (λ framer. Stands framer []) (sym same) stands);
+          kept = (refl, subst (λ framer. Represents framer []) (sym same) represents);
         },
       ),
     )

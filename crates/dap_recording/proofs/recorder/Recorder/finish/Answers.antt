@@ -1,7 +1,7 @@
 use Rattle.std.proofs.Common.{◌≡◌, refl, sym, ap, ◌∙◌, subst}
 use Rattle.std.specs.Result.{IsOk}
 use Rattle.dap_frame.specs.declared.fault.FrameFault.{FrameFault}
-use Rattle.dap_frame.specs.Reading.{Stands}
+use Rattle.dap_frame.specs.Reading.{Represents}
 use Rattle.dap_tree.specs.declared.side.Side.TheVariants.{Client, Adapter}
 use Rattle.dap_recording.specs.RecorderReading.{RecorderReading}
 use Rattle.dap_recording.proofs.RecorderSteps.{is_ok}
@@ -15,7 +15,7 @@ returns-then-is_err-2-clause-client c = λ rests was some.
     is_ok FrameFault c.finish.result (sym c.is_err.ensures.value ∙ c.if-is_err.false) in
     absurd (some
     ((c.finish.ensures.ok (rests Client)
-    (subst (λ f. Stands f (rests Client)) (sym same) (was.each Client))).0 fine))
+    (subst (λ f. Represents f (rests Client)) (sym same) (was.each Client))).0 fine))
 
 pub returns-clause-ok : goal.returns-clause-ok
 returns-clause-ok c = λ rests was.
@@ -28,10 +28,10 @@ returns-clause-ok c = λ rests was.
     let fine-2 : IsOk c.finish-2.result =
     is_ok FrameFault c.finish-2.result (sym c.is_err-2.ensures.value ∙ c.if-is_err-2.false) in
     let none = (c.finish.ensures.ok (rests Client)
-    (subst (λ f. Stands f (rests Client)) (sym same) (was.each Client))).0 fine in
+    (subst (λ f. Represents f (rests Client)) (sym same) (was.each Client))).0 fine in
     let none-2 =
     (c.finish-2.ensures.ok (rests Adapter)
-    (subst (λ f. Stands f (rests Adapter)) (sym same-2) (was.each Adapter))).0 fine-2 in
+    (subst (λ f. Represents f (rests Adapter)) (sym same-2) (was.each Adapter))).0 fine-2 in
     (λ _. (none, none-2), λ _. refl)
 
 pub returns-clause-client : goal.returns-clause-client
@@ -42,7 +42,7 @@ returns-clause-client c = λ rests was some.
     is_ok FrameFault c.finish.result (sym c.is_err.ensures.value ∙ c.if-is_err.false) in
     absurd (some
     ((c.finish.ensures.ok (rests Client)
-    (subst (λ f. Stands f (rests Client)) (sym same) (was.each Client))).0 fine))
+    (subst (λ f. Represents f (rests Client)) (sym same) (was.each Client))).0 fine))
 
 pub returns-clause-adapter : goal.returns-clause-adapter
 returns-clause-adapter c = λ rests was none some.
@@ -52,4 +52,4 @@ returns-clause-adapter c = λ rests was none some.
     is_ok FrameFault c.finish-2.result (sym c.is_err-2.ensures.value ∙ c.if-is_err-2.false) in
     absurd (some
     ((c.finish-2.ensures.ok (rests Adapter)
-    (subst (λ f. Stands f (rests Adapter)) (sym same-2) (was.each Adapter))).0 fine-2))
+    (subst (λ f. Represents f (rests Adapter)) (sym same-2) (was.each Adapter))).0 fine-2))

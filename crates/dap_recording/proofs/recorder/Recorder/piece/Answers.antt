@@ -2,7 +2,7 @@ use Rattle.std.proofs.Common.{◌≡◌, inl, inr, Ok, refl, sym, ap, ◌∙◌,
 use Rattle.dap_tree.specs.declared.side.Side.TheVariants.{Client, Adapter}
 use Rattle.dap_recording.specs.declared.recorder_fault.RecorderFault.TheVariants.{Frame}
 use Rattle.dap_recording.specs.OneSide.{WantsMemory}
-use Rattle.dap_recording.specs.RecorderReading.{RecorderReading, StandsForRests, GivesPiece}
+use Rattle.dap_recording.specs.RecorderReading.{RecorderReading, RepresentsRests, GivesPiece}
 use Rattle.dap_recording.specs.RecorderReading.{HasNotRecorded, text_of}
 use Rattle.dap_recording.specs.Recorder.{reading, IsConsistent}
 use Rattle.dap_recording.proofs.RecorderSteps.{Took, took_by, failed_with, gives_used, gives_fault}
@@ -71,7 +71,7 @@ returns-in-Ok-clause-gives c = λ rests was.
     (gives_used c.args.side c.args.piece.now (reading c.self.inside)
     (reading c.match-side.self-inside) c.match-side.recorded (took_used c) c.in-Ok.used
     c.in-Ok.is
-    rests (subst (λ old. StandsForRests old rests) (sym c.self.view_is) was))
+    rests (subst (λ old. RepresentsRests old rests) (sym c.self.view_is) was))
 
 is_unchanged : (c : goal.In-Memory) → reading c.match-side.self-inside ≡ reading c.self.inside
 is_unchanged c =
@@ -97,7 +97,7 @@ returns-in-Memory-clause-memory_for_record c = λ _ rests was.
     c.self.view_is
     (wants c.args.side c.args.piece.now (reading c.self.inside) (reading c.match-side.self-inside)
     c.match-side.recorded (took_none c) c.in-Err.cause c.in-Err.is c.in-Memory.is rests
-    (subst (λ old. StandsForRests old rests) (sym c.self.view_is) was))
+    (subst (λ old. RepresentsRests old rests) (sym c.self.view_is) was))
 
 pub returns-in_default-cause-clause-gives : goal.returns-in_default-cause-clause-gives
 returns-in_default-cause-clause-gives c = λ rests was.
@@ -107,7 +107,7 @@ returns-in_default-cause-clause-gives c = λ rests was.
     (gives_fault c.args.side c.args.piece.now (reading c.self.inside)
     (reading c.match-side.self-inside) c.match-side.recorded (took_fault c) c.in-Err.cause
     c.in-Err.is c.in_default-cause.not-Memory
-    rests (subst (λ old. StandsForRests old rests) (sym c.self.view_is) was)))
+    rests (subst (λ old. RepresentsRests old rests) (sym c.self.view_is) was)))
 
 pub returns-in_default-cause-clause-kept : goal.returns-in_default-cause-clause-kept
 returns-in_default-cause-clause-kept c =

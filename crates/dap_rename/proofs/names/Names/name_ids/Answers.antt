@@ -1,5 +1,5 @@
 use Rattle.std.proofs.Common.{◌≡◌, ◌∙◌, sym, ap, subst, length}
-use Rattle.dap_rename.specs.Tables.{lists, AllBegin}
+use Rattle.dap_rename.specs.Tables.{lists, AllExtend}
 use Rattle.dap_rename.proofs.ListGrowth.{all_begin, counts_fit, lists_cut}
 use Rattle.dap_rename.proofs.TableContents.{on_err_told, same_classes}
 use Rattle.dap_rename.proofs.names.Names.name_ids.Goals as goal
@@ -10,8 +10,8 @@ cut-requires g c =
     let failed = sym c.is_err.ensures.value ∙ c.if-is_err.true in
     let same : c.begin_again.new.self.tables ≡ c.name_ids.new.self =
     on_err_told c.begin_again.result failed c.begin_again.ensures.tables in
-    let begins : AllBegin (held c.args.self.now.tables) (held c.begin_again.new.self.tables) =
-    subst (AllBegin (held c.args.self.now.tables))
+    let begins : AllExtend (held c.args.self.now.tables) (held c.begin_again.new.self.tables) =
+    subst (AllExtend (held c.args.self.now.tables))
     (sym (ap held same ∙ c.in_ok-names.ensures.grown))
     (all_begin (held c.args.self.now.tables) c.args.ids.now) in
     counts_fit g.T.NameTable.numbers c.args.self.now.tables c.begin_again.new.self.tables
@@ -25,8 +25,8 @@ returns-then-is_err-clause-refused g c =
     on_err_told c.begin_again.result failed c.begin_again.ensures.tables in
     let past : c.begin_again.new.self.past.items ≡ c.args.self.now.past.items =
     on_err_told c.begin_again.result failed c.begin_again.ensures.past in
-    let begins : AllBegin (held c.args.self.now.tables) (held c.begin_again.new.self.tables) =
-    subst (AllBegin (held c.args.self.now.tables))
+    let begins : AllExtend (held c.args.self.now.tables) (held c.begin_again.new.self.tables) =
+    subst (AllExtend (held c.args.self.now.tables))
     (sym (ap held same ∙ c.in_ok-names.ensures.grown))
     (all_begin (held c.args.self.now.tables) c.args.ids.now) in
     let back : held c.cut.new.self ≡ held c.args.self.now.tables =

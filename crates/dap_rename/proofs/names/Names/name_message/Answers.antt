@@ -5,8 +5,8 @@ use Rattle.dap_message.specs.Message.{Sent}
 use Rattle.dap_message.specs.Numbers.{are_proper, renumbered}
 use Rattle.dap_rename.specs.Messages.{HasFewIds, IsRenamed, with_numbers}
 use Rattle.dap_rename.specs.Modes.{stop_in}
-use Rattle.dap_rename.specs.Names.{StandFor, StandWith, AreNamed, limit_in, mode_of}
-use Rattle.dap_rename.specs.Tables.{lists, added_all, names_from, limits, AllFit, SomeIsOver}
+use Rattle.dap_rename.specs.Names.{Represents, RepresentsWith, AreNamed, limit_in, mode_of}
+use Rattle.dap_rename.specs.Tables.{lists, added_all, names_from, limits, AllFit, SomeExceedsLimit}
 use Rattle.dap_rename.proofs.TableContents.{count_names, names_proper, renamed_with, stand_lists}
 use Rattle.dap_rename.proofs.TableContents.{stand_next, few_next, many_next, on_ok_both}
 use Rattle.dap_rename.proofs.names.Names.name_message.Goals as goal
@@ -23,7 +23,7 @@ returns-clause-renamed g c =
     c.as_slice.ensures.value ∙ c.in-Ok.ensures.ok
     ∙ ap (λ xs. xs ++ ids m.doc) c.new-ids.ensures.items in
     IfOk-weaker c.name_ids.result (λ v. v.items ≡ names_from held c.as_slice.result.now)
-    (λ v. (ms : List Sent) → StandFor numbers limit old ms
+    (λ v. (ms : List Sent) → Represents numbers limit old ms
     → IsRenamed stop ms m (with_numbers m v.items))
     (λ v named ms h. renamed_with stop ms m held v.items (named ∙ ap (names_from held) found)
     (stand_lists stop numbers limit old ms h)) c.name_ids.ensures.named
@@ -52,8 +52,8 @@ returns-clause-proper g c =
     (λ v named. ap (λ ns. are_proper (renumbered m.doc ns)) (named ∙ ap (names_from held) found)
     ∙ names_proper (sorts_of (ids m.doc)) held (ids m.doc)) c.name_ids.ensures.named
 
-pub returns-clause-stand : goal.returns-clause-stand
-returns-clause-stand g c =
+pub returns-clause-represents : goal.returns-clause-represents
+returns-clause-represents g c =
     let m = g.M.AnyMessage.sent c.args.message.now in
     let numbers = g.T.NameTable.numbers in
     let limit = g.T.NameTable.limit in
@@ -67,8 +67,10 @@ returns-clause-stand g c =
     ∙ ap (λ xs. xs ++ ids m.doc) c.new-ids.ensures.items in
     let b = c.begin_again_behind-stops.result in
     let next : AreNamed numbers old new given b → AllFit allowed (added_all held given)
-    → (ms : List Sent) → StandFor numbers limit old ms → StandFor numbers limit new (ms ++ m ∷ []) =
-    λ grown fits ms h. subst (λ mode. StandWith (stop_in mode) numbers limit new (ms ++ m ∷ []))
+    → (ms : List Sent) → Represents numbers limit old ms
+    → Represents numbers limit new (ms ++ m ∷ []) =
+    λ grown fits ms h. subst
+    (λ mode. RepresentsWith (stop_in mode) numbers limit new (ms ++ m ∷ []))
     (sym c.name_ids.ensures.mode)
     (stand_next (stop_in (mode_of old)) numbers limit old new ms m b h
     (subst (λ is. AreNamed numbers old new is b) found grown) c.begin_again_behind-stops.ensures
@@ -89,7 +91,7 @@ returns-clause-few g c =
     c.as_slice.ensures.value ∙ c.in-Ok.ensures.ok
     ∙ ap (λ xs. xs ++ ids m.doc) c.new-ids.ensures.items in
     let next : AllFit allowed (added_all held given) → (ms : List Sent)
-    → StandFor numbers limit old ms → HasFewIds stop (limit_in limit old) (ms ++ m ∷ []) =
+    → Represents numbers limit old ms → HasFewIds stop (limit_in limit old) (ms ++ m ∷ []) =
     λ fits ms h. few_next stop numbers limit old ms h m
     (subst (λ is. AllFit allowed (added_all held is)) found fits) in
     on_ok_weaker c.name_ids.result next c.name_ids.ensures.fits
@@ -104,4 +106,5 @@ returns-clause-full g c full ms h =
     c.as_slice.ensures.value ∙ c.in-Ok.ensures.ok
     ∙ ap (λ xs. xs ++ ids m.doc) c.new-ids.ensures.items in
     many_next (stop_in (mode_of old)) g.T.NameTable.numbers g.T.NameTable.limit old ms h m
-    (subst (λ is. SomeIsOver allowed (added_all held is)) found (c.name_ids.ensures.full full))
+    (subst (λ is. SomeExceedsLimit allowed (added_all held is)) found
+    (c.name_ids.ensures.full full))

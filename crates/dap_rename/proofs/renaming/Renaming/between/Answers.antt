@@ -3,7 +3,7 @@ use Rattle.std.proofs.Common.{true≢false}
 use Rattle.std.specs.List.{flat_map}
 use Rattle.dap_rename.specs.Messages.{classes_of_sort}
 use Rattle.dap_rename.specs.Modes.{stop_in}
-use Rattle.dap_rename.specs.Names.{StandWith, mode_of, numbers_at, stops_of}
+use Rattle.dap_rename.specs.Names.{RepresentsWith, mode_of, numbers_at, stops_of}
 use Rattle.dap_rename.specs.Pairs.{entries, equal_names}
 use Rattle.dap_rename.specs.Sorts.{all_sorts}
 use Rattle.dap_rename.proofs.PairFaults.{no_entries, no_names, places_equal, sort_step}
@@ -30,8 +30,8 @@ returns-in_err-indexed-clause-empty g c none =
     ∙ no_names classes (numbers_at numbers from) (numbers_at numbers c.args.to.now) none) in
     absurd (true≢false (sym (c.in_err-indexed.ensures.empty empty)))
 
-pub returns-clause-stand : goal.returns-clause-stand
-returns-clause-stand g c ms ns h k =
+pub returns-clause-represents : goal.returns-clause-represents
+returns-clause-represents g c ms ns h k =
     let numbers = g.T.NameTable.numbers in
     let limit = g.T.NameTable.limit in
     let from = c.args.from.now in
@@ -41,8 +41,8 @@ returns-clause-stand g c ms ns h k =
     ≡ equal_names (stops_of from) (numbers_at numbers from) (numbers_at numbers to) =
     sorts_ended (stops_of from) all_sorts c.loop-sort.sort-index (numbers_at numbers from)
     (numbers_at numbers to) (entries c.loop-sort.pairs.items) ended c.loop-sort.invariant in
-    let other : StandWith (stop_in (mode_of from)) numbers limit to ns =
-    subst (λ m. StandWith (stop_in m) numbers limit to ns) (sym c.requires.mode) k in
+    let other : RepresentsWith (stop_in (mode_of from)) numbers limit to ns =
+    subst (λ m. RepresentsWith (stop_in m) numbers limit to ns) (sym c.requires.mode) k in
     ap entries c.in_ok-indexed.ensures.pairs ∙ e
     ∙ places_equal (stop_in (mode_of from)) (stops_of from) ms ns (numbers_at numbers from)
     (numbers_at numbers to) h.stops h.classes other.classes

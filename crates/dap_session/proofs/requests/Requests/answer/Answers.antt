@@ -5,7 +5,8 @@ use Rattle.std.specs.Map.{lookup, set_value}
 use Rattle.std.specs.BTreeMap.{is_at}
 use Rattle.std.proofs.lemmas.Int.{to_z-of_z}
 use Rattle.dap_session.specs.declared.requests.Request.{Request}
-use Rattle.dap_session.specs.Kept.{Requests, Noted, request_numbered, unanswered, with_answer}
+use Rattle.dap_session.specs.SessionState.{Requests, RequestEntry, request_numbered, unanswered}
+use Rattle.dap_session.specs.SessionState.{with_answer}
 use Rattle.dap_session.specs.View.{entry_of, noted_of}
 use Rattle.dap_session.proofs.Entries.{set_value-map, lookup-map, unanswered-with_answer}
 use Rattle.dap_session.proofs.requests.Requests.answer.Goals as goal
@@ -29,7 +30,7 @@ written : (n : ℤ) (es fs : List (ℤ × Request)) (now : Requests) (command : 
 written n es fs now command w is same put =
     ap (map entry_of) put ∙ set_value-map noted_of (is_at (int_cmp n)) es w
     ∙ ap (λ (xs : Requests). set_value (is_at (int_cmp n)) xs (noted_of w)) is
-    ∙ ap (λ (a : Noted). set_value (is_at (int_cmp n)) now a) same
+    ∙ ap (λ (a : RequestEntry). set_value (is_at (int_cmp n)) now a) same
 
 pub overflow_sub-self : goal.overflow_sub-self
 overflow_sub-self c =
@@ -54,7 +55,8 @@ returns-in-Some c =
     ≡ set_value (is_at (int_cmp c.args.number)) c.self.inside.seen.entries new =
     rw (to_z-of_z w64 c.args.number c.ranges.number) at (c.get_mut.follows.holds new).0 in
     written c.args.number c.self.inside.seen.entries (c.get_mut.follows.lender new).entries
-    c.args.self.now c.args.command.now new c.self.view_is (ap (λ (a : Noted). (a.0, true)) same)
+    c.args.self.now c.args.command.now new c.self.view_is
+    (ap (λ (a : RequestEntry). (a.0, true)) same)
     put
 
 pub invariant_of-self : goal.invariant_of-self
@@ -69,7 +71,8 @@ invariant_of-self c =
     ≡ set_value (is_at (int_cmp c.args.number)) c.self.inside.seen.entries new =
     rw (to_z-of_z w64 c.args.number c.ranges.number) at (c.get_mut.follows.holds new).0 in
     let is = written c.args.number c.self.inside.seen.entries (c.get_mut.follows.lender new).entries
-    c.args.self.now c.args.command.now new c.self.view_is (ap (λ (a : Noted). (a.0, true)) same)
+    c.args.self.now c.args.command.now new c.self.view_is
+    (ap (λ (a : RequestEntry). (a.0, true)) same)
     put in
     let was : c.self.inside.open ≡ unanswered c.args.self.now =
     c.self.invariant ∙ ap unanswered c.self.view_is in

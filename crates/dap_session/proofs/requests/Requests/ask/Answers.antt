@@ -3,7 +3,7 @@ use Rattle.std.specs.Ordering.{int_cmp}
 use Rattle.std.specs.BTreeMap.{insert_entry}
 use Rattle.std.proofs.lemmas.Int.{to_z-of_z}
 use Rattle.dap_session.specs.declared.requests.Request.{Request}
-use Rattle.dap_session.specs.Kept.{Requests, unanswered, with_request}
+use Rattle.dap_session.specs.SessionState.{Requests, unanswered, with_request}
 use Rattle.dap_session.specs.View.{entry_of, noted_of}
 use Rattle.dap_session.proofs.Entries.{insert-map, unanswered-with_request}
 use Rattle.dap_session.proofs.requests.Requests.ask.Goals as goal

@@ -5,7 +5,7 @@ use Rattle.std.specs.BTreeMap.{is_at}
 use Rattle.std.proofs.lemmas.Int.{to_z-of_z}
 use Rattle.std.specs.Map.{lookup}
 use Rattle.dap_session.specs.declared.requests.Request.{Request}
-use Rattle.dap_session.specs.Kept.{Requests, request_numbered}
+use Rattle.dap_session.specs.SessionState.{Requests, request_numbered}
 use Rattle.dap_session.specs.View.{entry_of, noted_of}
 use Rattle.dap_session.proofs.Entries.{lookup-map}
 use Rattle.dap_session.proofs.requests.Requests.find.Goals as goal

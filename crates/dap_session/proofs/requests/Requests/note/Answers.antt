@@ -3,7 +3,7 @@ use Rattle.std.proofs.Common.{of_z, arith}
 use Rattle.std.proofs.lemmas.Bool.{and_from}
 use Rattle.std.proofs.lemmas.Int.{to_z-of_z}
 use Rattle.dap_session.specs.Messages.{name_of, is_response, is_from, other}
-use Rattle.dap_session.specs.Kept.{Requests, with_answer, answered_in}
+use Rattle.dap_session.specs.SessionState.{Requests, with_answer, answered_in}
 use Rattle.dap_session.proofs.Sides.{from_other, no_request}
 use Rattle.dap_session.proofs.RequestsAfter.{after_response}
 use Rattle.dap_session.specs.EnvelopeView.{message_of}

@@ -1,7 +1,7 @@
 use Rattle.std.proofs.Common.{◌≡◌, ℤ, ap, ◌∙◌, w64, to_z, of_z, arith}
 use Rattle.std.proofs.lemmas.Int.{to_z-of_z}
 use Rattle.dap_tree.specs.declared.side.Side.TheVariants.{Client, Adapter}
-use Rattle.dap_session.specs.Kept.{Kept, request_numbered}
+use Rattle.dap_session.specs.SessionState.{SessionState, request_numbered}
 use Rattle.dap_session.proofs.AnsweredRequest.{asked_is}
 use Rattle.dap_session.specs.EnvelopeView.{message_of}
 use Rattle.dap_session.proofs.session.Session.asked_for.Goals as goal
@@ -12,7 +12,7 @@ returns-in-Client g c =
     c.find.ensures ∙ ap (λ (k : ℤ). request_numbered k c.self.inside.adapter) n
     ∙ asked_is c.args.self.now (message_of c.args.message.now) c.in-Some.number Client
     c.self.inside.adapter c.in-Some.ensures c.in-Client.ensures
-    (ap (λ (k : Kept). k.adapter) c.self.view_is)
+    (ap (λ (k : SessionState). k.adapter) c.self.view_is)
 
 pub returns-in-Adapter : goal.returns-in-Adapter
 returns-in-Adapter g c =
@@ -20,4 +20,4 @@ returns-in-Adapter g c =
     c.find-in-Adapter.ensures ∙ ap (λ (k : ℤ). request_numbered k c.self.inside.client) n
     ∙ asked_is c.args.self.now (message_of c.args.message.now) c.in-Some.number Adapter
     c.self.inside.client c.in-Some.ensures c.in-Adapter.ensures
-    (ap (λ (k : Kept). k.client) c.self.view_is)
+    (ap (λ (k : SessionState). k.client) c.self.view_is)

@@ -1,6 +1,6 @@
 use Rattle.std.proofs.Common.{◌∙◌, true, false, ap, sym, refl}
 use Rattle.dap_session.specs.EnvelopeView.{message_of}
-use Rattle.dap_session.specs.Kept.{Kept}
+use Rattle.dap_session.specs.SessionState.{SessionState}
 use Rattle.dap_session.proofs.RulesByKind.{requested}
 use Rattle.dap_session.proofs.session.Session.broken_by_request.Goals as goal
 
@@ -26,7 +26,7 @@ returns-then-not-self g c =
     sym (requested c.args.self.now (message_of c.args.message.now) false false true false _ c.requires
     (sym c.is_late.ensures ∙ c.if-is_late.false) (sym c.has_seq.ensures ∙ c.if-has_seq.false)
     (sym c.is_configuration_done.ensures ∙ c.if-not-is_configuration_done.false)
-    (ap (λ (k : Kept). k.initialized) (sym c.self.view_is) ∙ c.if-not-self.true) refl)
+    (ap (λ (k : SessionState). k.initialized) (sym c.self.view_is) ∙ c.if-not-self.true) refl)
 
 pub returns-then-self : goal.returns-then-self
 returns-then-self g c =
@@ -34,8 +34,8 @@ returns-then-self g c =
     c.requires (sym c.is_late.ensures ∙ c.if-is_late.false)
     (sym c.has_seq.ensures ∙ c.if-has_seq.false)
     (sym c.is_configuration_done.ensures ∙ c.if-not-is_configuration_done.false)
-    (ap (λ (k : Kept). k.initialized) (sym c.self.view_is) ∙ c.if-not-self.false)
-    (ap (λ (k : Kept). k.configured) (sym c.self.view_is) ∙ c.if-self.true))
+    (ap (λ (k : SessionState). k.initialized) (sym c.self.view_is) ∙ c.if-not-self.false)
+    (ap (λ (k : SessionState). k.configured) (sym c.self.view_is) ∙ c.if-self.true))
 
 pub returns-else-self : goal.returns-else-self
 returns-else-self g c =
@@ -43,5 +43,5 @@ returns-else-self g c =
     c.requires (sym c.is_late.ensures ∙ c.if-is_late.false)
     (sym c.has_seq.ensures ∙ c.if-has_seq.false)
     (sym c.is_configuration_done.ensures ∙ c.if-not-is_configuration_done.false)
-    (ap (λ (k : Kept). k.initialized) (sym c.self.view_is) ∙ c.if-not-self.false)
-    (ap (λ (k : Kept). k.configured) (sym c.self.view_is) ∙ c.if-self.false))
+    (ap (λ (k : SessionState). k.initialized) (sym c.self.view_is) ∙ c.if-not-self.false)
+    (ap (λ (k : SessionState). k.configured) (sym c.self.view_is) ∙ c.if-self.false))

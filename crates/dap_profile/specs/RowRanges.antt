@@ -23,8 +23,8 @@ same_kind Event Event = true
 same_kind _ _ = false
 
 -- The row applies to every kind, or to this kind.
-abbrev pub may_ask : Option Kind → ProfileRow → Bool
-may_ask k r = option_map_or (λ j. option_map_or (same_kind j) k false) r.kind true
+abbrev pub may_apply : Option Kind → ProfileRow → Bool
+may_apply k r = option_map_or (λ j. option_map_or (same_kind j) k false) r.kind true
 
 -- The row has this name.
 abbrev pub has_name : Option (List ℕ) → ProfileRow → Bool

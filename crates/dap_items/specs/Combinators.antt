@@ -1,9 +1,9 @@
 -- Grammars made from other grammars: one item after another, mapped errors, a prefix and the byte
 -- that ends it, a fixed number of bytes.
 use Rattle.std.specs.Prelude.{◌≡◌, ℕ, ◌<◌, List, [], ◌∷◌, ◌++◌, length, Result, Ok, Err}
-use Rattle.dap_items.specs.Items.{Items, IsItem}
+use Rattle.dap_items.specs.Grammar.{Grammar, IsItem}
 
-module _ {A B E F : Type 0} (g : Items A E) (h : A → Items B F) (of_first : E → F) where
+module _ {A B E F : Type 0} (g : Grammar A E) (h : A → Grammar B F) (of_first : E → F) where
   -- The first item has an error; or it is complete, and the second one, chosen by its value, ends
   -- after it.
   pub data EndsThen (bytes : List ℕ) (result : Result B F) : Type 0 where
@@ -20,22 +20,22 @@ module _ {A B E F : Type 0} (g : Items A E) (h : A → Items B F) (of_first : E 
         → (h a).IsOpen more → IsOpenThen bytes
 
   -- an item of the first grammar, followed by one of the grammar that its value selects
-  abbrev pub and_then : Items B F
+  abbrev pub and_then : Grammar B F
   and_then = record { Ends = EndsThen; IsOpen = IsOpenThen }
 
-module _ {A E F : Type 0} (of_fault : E → F) (g : Items A E) where
+module _ {A E F : Type 0} (of_fault : E → F) (g : Grammar A E) where
   -- The same ends, with each error mapped by `of_fault`.
   abbrev pub EndsAs : List ℕ → Result A F → Type 0
   EndsAs bytes (Ok value) = g.Ends bytes (Ok value)
-  EndsAs bytes (Err told) = (fault : E) × (told ≡ of_fault fault) × g.Ends bytes (Err fault)
+  EndsAs bytes (Err reported) = (fault : E) × (reported ≡ of_fault fault) × g.Ends bytes (Err fault)
 
   -- the same items, with mapped errors
-  abbrev pub faults_as : Items A F
-  faults_as = record { Ends = EndsAs; IsOpen = g.IsOpen }
+  abbrev pub map_fault : Grammar A F
+  map_fault = record { Ends = EndsAs; IsOpen = g.IsOpen }
 
 -- an admissible prefix, and the byte after it if that byte determines a value or proves an error
 abbrev pub until : {A F : Type 0} → (List ℕ → Type 0) → (List ℕ → ℕ → Result A F → Type 0)
-    → Items A F
+    → Grammar A F
 until IsFront Says = record {
   Ends = λ bytes result. (front : List ℕ) × (byte : ℕ) × (bytes ≡ front ++ byte ∷ [])
       × IsFront front × Says front byte result;
@@ -43,12 +43,12 @@ until IsFront Says = record {
 }
 
 -- one byte, which determines a value or proves an error
-abbrev pub a_byte : {A F : Type 0} → (ℕ → Result A F → Type 0) → Items A F
-a_byte Says = until (λ front. front ≡ []) (λ front. Says)
+abbrev pub one_byte : {A F : Type 0} → (ℕ → Result A F → Type 0) → Grammar A F
+one_byte Says = until (λ front. front ≡ []) (λ front. Says)
 
 -- exactly n bytes of any value, and their value
-abbrev pub so_many : {A F : Type 0} → (List ℕ → A) → ℕ → Items A F
-so_many value n = record {
+abbrev pub take_bytes : {A F : Type 0} → (List ℕ → A) → ℕ → Grammar A F
+take_bytes value n = record {
   Ends = λ bytes result. (result ≡ Ok (value bytes)) × (length bytes ≡ n);
   IsOpen = λ bytes. length bytes < n;
 }

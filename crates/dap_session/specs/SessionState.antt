@@ -1,4 +1,5 @@
--- The state of a session, and its state after one more message. `Kept` is the model of `Session`.
+-- The state of a session, and its state after one more message. `SessionState` is the model of
+-- `Session`.
 use Rattle.std.specs.Prelude.{ℕ, ℤ, Bool, true, false, cond, not, ◌&&◌, ◌||◌, List, Option, Some}
 use Rattle.std.specs.Prelude.{None}
 use Rattle.std.specs.List.{count_by}
@@ -12,18 +13,18 @@ use Rattle.dap_session.specs.declared.phase.Phase.{Phase}
 use Rattle.dap_session.specs.declared.phase.Phase.TheVariants.{Waiting, Asked, Answered}
 use Rattle.dap_session.specs.Messages.{name_of, seq_of, request_seq_of, other, is_request}
 use Rattle.dap_session.specs.Messages.{is_response, is_from, is_response_to, is_client_initialize}
-use Rattle.dap_session.specs.Messages.{is_configuration_done, is_initialized, is_farewell}
+use Rattle.dap_session.specs.Messages.{is_configuration_done, is_initialized, is_disconnect_success}
 
 -- The command of a request, and whether a response has answered it.
-abbrev pub Noted : Type 0
-Noted = List ℕ × Bool
+abbrev pub RequestEntry : Type 0
+RequestEntry = List ℕ × Bool
 
 -- The requests of a side with their numbers, in ascending order.
 abbrev pub Requests : Type 0
-Requests = List (ℤ × Noted)
+Requests = List (ℤ × RequestEntry)
 
 -- The request with this number.
-abbrev pub request_numbered : ℤ → Requests → Option Noted
+abbrev pub request_numbered : ℤ → Requests → Option RequestEntry
 request_numbered n es = lookup (is_at (int_cmp n)) es
 
 -- How many requests have no response.
@@ -40,7 +41,7 @@ with_answer n command es = set_value (is_at (int_cmp n)) es (command, true)
 
 -- The requests of both sides, the phase of the `initialize` request, and whether an `initialized`
 -- event, a `configurationDone` request and a successful `disconnect` response have been received.
-pub record Kept : Type 0 where
+pub record SessionState : Type 0 where
   pub client : Requests
   pub adapter : Requests
   pub phase : Phase
@@ -49,7 +50,7 @@ pub record Kept : Type 0 where
   pub disconnected : Bool
 
 -- The requests of a side.
-abbrev pub requests_of : Side → Kept → Requests
+abbrev pub requests_of : Side → SessionState → Requests
 requests_of Client k = k.client
 requests_of Adapter k = k.adapter
 
@@ -78,12 +79,12 @@ phase_after phase m =
     cond (is_client_initialize m) (Asked (seq_of m)) (cond (answers_asked phase m) Answered phase)
 
 -- The state after one more message.
-abbrev pub kept_after : Kept → Sent → Kept
-kept_after k m = record {
+abbrev pub state_after : SessionState → Sent → SessionState
+state_after k m = record {
   client = requests_after Client k.client m;
   adapter = requests_after Adapter k.adapter m;
   phase = phase_after k.phase m;
   initialized = k.initialized || is_initialized m;
   configured = k.configured || is_configuration_done m;
-  disconnected = k.disconnected || is_farewell m;
+  disconnected = k.disconnected || is_disconnect_success m;
 }

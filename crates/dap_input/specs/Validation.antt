@@ -1,18 +1,18 @@
 -- Inputs validated record by record: the first rejection of an input that is not accepted, for any
 -- kind of record and any validation. Source: own.
 use Rattle.std.specs.Prelude.{◌≡◌, ◌≢◌, ℕ, ◌+◌, ◌<◌, ◌≤◌, List, [], ◌++◌, length}
-use Rattle.dap_items.specs.Items.{Items, IsItem, Shows}
+use Rattle.dap_items.specs.Grammar.{Grammar, IsItem, FailsAt}
 use Rattle.dap_message.specs.Message.{Refusal}
 use Rattle.dap_recording.specs.declared.record_fault.RecordCause.{RecordCause}
 use Rattle.dap_session.specs.declared.rule.Rule.{Rule}
 
 -- Why a complete record is rejected: it does not contain a message, or contains one that violates a
 -- rule; or with it a kind of id has too many values, or the output exceeds a limit.
-pub data Objection : Type 0 where
-  no_message : Refusal → Objection
-  broken : Rule → Objection
-  too_many_ids : Objection
-  grew : Objection
+pub data ContentError : Type 0 where
+  no_message : Refusal → ContentError
+  broken : Rule → ContentError
+  too_many_ids : ContentError
+  grew : ContentError
 
 -- Why a record is rejected: for its bytes, for the position of the byte beyond the limit or of the
 -- end of the input, or for its content.
@@ -20,36 +20,36 @@ pub data Reason : Type 0 where
   faulty : RecordCause → Reason
   input_too_long : Reason
   cut : Reason
-  objected : Objection → Reason
+  objected : ContentError → Reason
 
 -- The definitions that describe a validation.
-pub record Judging : Type 1 where
+pub record Validation : Type 1 where
   -- the content of a complete record, and the value that it is validated as
-  pub Held : Type 0
+  pub Payload : Type 0
   pub Value : Type 0
   -- the maximum number of bytes that are read
   pub input : ℕ
   -- the records of an input
-  pub records : Items Held RecordCause
+  pub records : Grammar Payload RecordCause
   -- after these values, the content of a record is this value, or is rejected
-  pub IsNext : List Value → Held → Value → Type 0
-  pub Objects : List Value → Held → Objection → Type 0
+  pub IsNext : List Value → Payload → Value → Type 0
+  pub Rejects : List Value → Payload → ContentError → Type 0
   -- the complete input is accepted as these values
   pub IsAccepted : List ℕ → List Value → Type 0
 
-module _ (j : Judging) where
+module _ (j : Validation) where
   -- An error of the bytes, at the byte that proves it, which is at most the last byte that is read.
   pub record ShowsInTime (used : ℕ) (rest : List ℕ) (cause : RecordCause) : Type 0 where
     pub place : ℕ
-    pub shows : Shows j.records rest cause place
+    pub shows : FailsAt j.records rest cause place
     pub in_time : used + place ≤ j.input
 
   -- The byte beyond the limit is in the record, before any error of its bytes.
   pub record PassesLimit (used : ℕ) (rest : List ℕ) : Type 0 where
     pub long : j.input < used + length rest
-    pub before_faults : (cause : RecordCause) (place : ℕ) → Shows j.records rest cause place
+    pub before_faults : (cause : RecordCause) (place : ℕ) → FailsAt j.records rest cause place
         → j.input < used + place
-    pub before_end : (front more : List ℕ) (held : j.Held) → rest ≡ front ++ more
+    pub before_end : (front more : List ℕ) (held : j.Payload) → rest ≡ front ++ more
         → IsItem j.records front held → j.input < used + length front
 
   -- The bytes end inside the record.
@@ -60,14 +60,14 @@ module _ (j : Judging) where
 
   -- A complete record is there, and is rejected for its content.
   pub record IsObjectedTo (values : List j.Value) (used : ℕ) (rest : List ℕ)
-      (why : Objection) : Type 0 where
+      (why : ContentError) : Type 0 where
     pub front : List ℕ
     pub more : List ℕ
-    pub held : j.Held
+    pub held : j.Payload
     pub whole : rest ≡ front ++ more
     pub is_record : IsItem j.records front held
     pub in_time : used + length front ≤ j.input
-    pub objects : j.Objects values held why
+    pub objects : j.Rejects values held why
 
   -- After `used` bytes with these values, the record at the start of the rest is rejected.
   abbrev pub Refuses : List j.Value → ℕ → List ℕ → Reason → Type 0

@@ -10,10 +10,10 @@ use Rattle.dap_session.specs.declared.rule.SessionFault.TheVariants.{Broken, Mem
 use Rattle.dap_session.specs.declared.phase.Phase.{Phase}
 use Rattle.dap_session.specs.declared.phase.Phase.TheVariants.{Waiting, Asked, Answered}
 use Rattle.dap_session.specs.Messages.{name_of, seq_of, is_request_of, is_client_initialize}
-use Rattle.dap_session.specs.Messages.{is_configuration_done, is_initialized, is_farewell}
+use Rattle.dap_session.specs.Messages.{is_configuration_done, is_initialized, is_disconnect_success}
 use Rattle.dap_session.specs.Rules.{is_answered, is_initializing, first_broken, KeepsRules}
 use Rattle.dap_session.specs.Rules.{open_requests}
-use Rattle.dap_session.specs.Kept.{Kept, Requests, request_numbered, unanswered}
+use Rattle.dap_session.specs.SessionState.{SessionState, Requests, request_numbered, unanswered}
 
 -- The first request of this side with this number.
 abbrev pub request_at : Side → ℤ → List Sent → Option Sent
@@ -44,18 +44,19 @@ IsPhase (Asked n) ms = (list_any is_client_initialize ms ≡ true) × HaveNumber
 IsPhase Answered ms = (list_any is_client_initialize ms ≡ true) × (is_initializing ms ≡ false)
 
 -- The session represents these messages: they obey the rules, and its state is that after them.
-pub record Stands (k : Kept) (ms : List Sent) : Type 0 where
+pub record Represents (k : SessionState) (ms : List Sent) : Type 0 where
   pub rules : KeepsRules ms
   pub client : AreRequests Client k.client ms
   pub adapter : AreRequests Adapter k.adapter ms
   pub phase : IsPhase k.phase ms
   pub initialized : k.initialized ≡ list_any is_initialized ms
   pub configured : k.configured ≡ list_any is_configuration_done ms
-  pub disconnected : k.disconnected ≡ list_any is_farewell ms
+  pub disconnected : k.disconnected ≡ list_any is_disconnect_success ms
 
 -- The result for the message m of a session that represents ms, and the state after it. A failed
 -- allocation says nothing about m.
-abbrev pub Says : List Sent → Sent → Result (Unit {0}) SessionFault → Kept → Kept → Type 0
-Says ms m (Ok u) old new = (first_broken ms m ≡ None) × Stands new (ms ++ m ∷ [])
-Says ms m (Err (Broken rule)) old new = (first_broken ms m ≡ Some rule) × (new ≡ old)
-Says ms m (Err Memory) old new = new ≡ old
+abbrev pub AcceptOutcome : List Sent → Sent → Result (Unit {0}) SessionFault → SessionState
+    → SessionState → Type 0
+AcceptOutcome ms m (Ok u) old new = (first_broken ms m ≡ None) × Represents new (ms ++ m ∷ [])
+AcceptOutcome ms m (Err (Broken rule)) old new = (first_broken ms m ≡ Some rule) × (new ≡ old)
+AcceptOutcome ms m (Err Memory) old new = new ≡ old

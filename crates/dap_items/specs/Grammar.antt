@@ -3,14 +3,14 @@
 use Rattle.std.specs.Prelude.{◌≡◌, ℕ, ◌⊎◌, List, [], ◌∷◌, ◌++◌, length, Result, Ok, Err}
 
 -- A grammar. An *item* is a byte string that the grammar accepts, such as one frame.
-pub record Items (Value Fault : Type 0) : Type 1 where
+pub record Grammar (Value Fault : Type 0) : Type 1 where
   -- `Ends bytes (Ok v)`: the bytes are one item with value v. `Ends bytes (Err f)`: their last byte
   -- proves error f.
   pub Ends : List ℕ → Result Value Fault → Type 0
   -- The bytes are incomplete: more bytes may turn them into an item.
   pub IsOpen : List ℕ → Type 0
 
-module _ {Value Fault : Type 0} (g : Items Value Fault) where
+module _ {Value Fault : Type 0} (g : Grammar Value Fault) where
   -- The bytes are one item with this value.
   abbrev pub IsItem : List ℕ → Value → Type 0
   IsItem bytes value = g.Ends bytes (Ok value)
@@ -47,7 +47,7 @@ module _ {Value Fault : Type 0} (g : Items Value Fault) where
     pub is_item : IsItem item value
 
   -- Byte i of the bytes, counted from 1, proves this error.
-  pub record Shows (bytes : List ℕ) (fault : Fault) (i : ℕ) : Type 0 where
+  pub record FailsAt (bytes : List ℕ) (fault : Fault) (i : ℕ) : Type 0 where
     pub front : List ℕ
     pub more : List ℕ
     pub bytes_are : bytes ≡ front ++ more
@@ -55,15 +55,15 @@ module _ {Value Fault : Type 0} (g : Items Value Fault) where
     pub place : i ≡ length front
 
   -- The bytes are the concatenation of items with these values.
-  abbrev pub AreItems : List ℕ → List Value → Type 0
-  AreItems bytes [] = bytes ≡ []
-  AreItems bytes (value ∷ values) =
+  abbrev pub ParsesAs : List ℕ → List Value → Type 0
+  ParsesAs bytes [] = bytes ≡ []
+  ParsesAs bytes (value ∷ values) =
       (item : List ℕ) × (more : List ℕ) × IsItem item value × (bytes ≡ item ++ more)
-      × AreItems more values
+      × ParsesAs more values
 
   -- The bytes are items with these values, followed by `rest`, which does not start with an item.
   pub record IsStream (bytes : List ℕ) (values : List Value) (rest : List ℕ) : Type 0 where
     pub front : List ℕ
-    pub items : AreItems front values
+    pub items : ParsesAs front values
     pub whole : bytes ≡ front ++ rest
     pub no_item : HasItem rest → ⊥
