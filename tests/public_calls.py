@@ -103,7 +103,7 @@ def header_end(lines: List[str], at: int, indent: str) -> int:
             i = closed(lines, i)
             if lines[i].endswith("};"):
                 return i
-        elif line in (f"{indent}{{", f"{indent}{{}}") or line.endswith(";") or (i == at and line.endswith(("{", "{}"))):
+        elif line in (f"{indent}{{", f"{indent}{{}}") or line.endswith(";") or ((i == at or line.startswith(f"{indent})")) and line.endswith(("{", "{}"))):
             return i
         i += 1
 
