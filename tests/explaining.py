@@ -354,7 +354,7 @@ TRACES = {
     ),
 }
 RULES = {
-    "a verb": (b"hide event output\n", "line 1: BadRule", ["line 1 is: hide event output", '"hide" is not a verb: write blank, digits, hex, long, uuid, drop or swap']),
+    "a verb": (b"hide event output\n", "line 1: BadRule", ["line 1 is: hide event output", '"hide" is not a verb: write blank, digits, hex, long, uuid, drop, swap or per-stop']),
     "no kind": (b"blank\n", "line 1: BadRule", ["line 1 is: blank", "after the verb comes a kind: request, response or event"]),
     "a kind": (
         b"hex event x y\nblank evnt x y\n", "line 2: BadRule",
@@ -363,13 +363,16 @@ RULES = {
     "no name": (b"blank event # x\n", "line 1: BadRule", ["line 1 is: blank event # x", "after the kind comes a command or an event, or * for any"]),
     "a name": (
         b"blank event a.b c\n", "line 1: BadRule",
-        ["line 1 is: blank event a.b c", '"a.b" is not a name: write letters, digits, _, - and $, or a JSON string'],
+        ["line 1 is: blank event a.b c", '"a.b" is not a name: quote one with other characters than letters, digits, _, - and $'],
     ),
     "dropped requests": (b"drop request x\n", "line 1: BadRule", ["line 1 is: drop request x", '"request" cannot be dropped: write drop event NAME']),
     "no place": (b"blank event stopped", "line 1: BadRule", ["line 1 is: blank event stopped", "after the name comes a place, such as body.reason"]),
     "a place": (
         b"blank event x body[0]\n", "line 1: BadRule",
-        ["line 1 is: blank event x body[0]", '"body[0]" is not a place: write names with dots between them, and [] for elements'],
+        [
+            "line 1 is: blank event x body[0]",
+            '"body[0]" is not a place: write names with dots between them, [] for elements, and quotes as for names',
+        ],
     ),
     "more after the rule": (
         b"blank event x y z\n", "line 1: BadRule", ["line 1 is: blank event x y z", '"z" is after the rule: only a comment may be there'],
@@ -391,12 +394,15 @@ RULES = {
         b"blank response stackTrace body.stackFrames[].id\n", "line 1: BadPlace",
         [
             "line 1 is: blank response stackTrace body.stackFrames[].id",
-            "normalise renames the id that is there, so no rule changes it: leave the rule out",
+            '"body.stackFrames[].id" is an id that normalise renames, so no rule changes it: leave the rule out',
         ],
     ),
     "the type": (
         b"blank event * type\n", "line 1: BadPlace",
-        ["line 1 is: blank event * type", "no rule changes the member by which dapnorm recognises messages: leave the rule out"],
+        [
+            "line 1 is: blank event * type",
+            '"type" is a member by which dapnorm recognises messages: leave the rule out',
+        ],
     ),
     "a rule twice": (
         b"hex event x y\nhex event x y # again\n", "line 2: Repeated",
@@ -421,6 +427,33 @@ RULES = {
         ],
     ),
     "long without a place": (b"long event stopped\n", "line 1: BadRule", ["line 1 is: long event stopped", "after the name comes a place, such as body.reason"]),
+    "no category": (
+        b"drop event output stdout\n", "line 1: BadRule",
+        ["line 1 is: drop event output stdout", '"stdout" is not a category: write category= and a word or a JSON string'],
+    ),
+    "a word that is not a category": (
+        b"drop event output category=a/b\n", "line 1: BadRule",
+        ["line 1 is: drop event output category=a/b", '"category=a/b" is not a category: write category= and a word or a JSON string'],
+    ),
+    "more after a category": (
+        b"drop event output category=a b\n", "line 1: BadRule",
+        ["line 1 is: drop event output category=a b", '"b" is after the rule: only a comment may be there'],
+    ),
+    "more after per-stop": (b"per-stop event\n", "line 1: BadRule", ["line 1 is: per-stop event", '"event" is after the rule: only a comment may be there']),
+    "a category that a rule changes": (
+        b"hex event output body.category\ndrop event * category=a\n", "line 2: Clash",
+        [
+            "line 2 is: drop event * category=a", "line 1 changes the category",
+            "no rule changes the category by which a rule drops events: leave one of them out",
+        ],
+    ),
+    "a change of a category": (
+        b"drop event * category=a\n\nblank event output body.category\n", "line 3: Clash",
+        [
+            "line 3 is: blank event output body.category", "line 1 drops events by this category",
+            "no rule changes the category by which a rule drops events: leave one of them out",
+        ],
+    ),
     "no UTF-8": (b"\n# \xff\n", "line 2: NotUtf8", ['line 2 is not UTF-8 after 2 bytes: "\\xff"', "save the file as UTF-8"]),
     "too many rules": (
         b"".join(b"drop event e%d\n" % number for number in range(1001)), "line 1001: TooMany",

@@ -29,6 +29,31 @@ REFUSED = [
     # The first of two that clash decides.
     (b"uuid event a x\nhex event a x\ndigits event a x\n", "line 3: Clash"),
     (b"hex event a x\nuuid event b x\ndigits event * x\n", "line 3: DigitsBehindHex"),
+    (b"drop event output category", "line 1: BadRule"),
+    (b"drop event output category=", "line 1: BadRule"),
+    (b"drop event output category= telemetry", "line 1: BadRule"),
+    (b"drop event output category =telemetry", "line 1: BadRule"),
+    (b"drop event outputcategory=telemetry x", "line 1: BadRule"),
+    (b"drop event output group=telemetry", "line 1: BadRule"),
+    (b"drop event output categoryx=telemetry", "line 1: BadRule"),
+    (b"drop event output category=a.b", "line 1: BadRule"),
+    (b'drop event output category="a', "line 1: BadRule"),
+    (b"drop event output category=*", "line 1: BadRule"),
+    (b"drop event output category=telemetry category=stdout", "line 1: BadRule"),
+    (b"drop request output category=telemetry", "line 1: BadRule"),
+    (b'drop event output category=a\ndrop event output category="\\u0061" # again\n', "line 2: Repeated"),
+    (b"drop event * category=a\ndrop event a category=a\ndrop event * category=a\n", "line 3: Repeated"),
+    (b"drop event output category=a\nblank event * body.category\n", "line 2: Clash"),
+    (b"digits event output body.category\ndrop event output category=a\n", "line 2: Clash"),
+    (b"hex event output body.category\n\ndrop event * category=a\n", "line 3: Clash"),
+    # A place that no rule may have, and a rule twice, are reported first.
+    (b"digits event output body.category\ndrop event a category=a\ndigits event output body.category\n", "line 3: Repeated"),
+    (b"per-stop\n# again\n\tper-stop # the same\n", "line 3: Repeated"),
+    (b"swap event a event b\nper-stop\nper-stop\n", "line 3: Repeated"),
+    (b"per-stop event stopped", "line 1: BadRule"),
+    (b"per-stops", "line 1: BadRule"),
+    (b"per stop", "line 1: BadRule"),
+    (b"per-stop=1", "line 1: BadRule"),
     (b"long event stopped", "line 1: BadRule"),
     (b"uuid event * command", "line 1: BadPlace"),
     (b"long response * request_seq", "line 1: BadPlace"),
@@ -80,6 +105,38 @@ SWAPS = [
 TOGETHER = [
     b"digits hex", b"digits long", b"long digits", b"long hex", b"uuid hex", b"uuid long", b"blank uuid",
     b"hex blank", b"long blank", b"digits long hex", b"uuid long hex",
+]
+
+# Rules that are accepted beside rules that drop events by their category.
+BESIDE_CATEGORIES = [
+    b"drop event output\ndrop event output category=a\ndrop event output category=b\ndrop event * category=a\ndrop event other category=a\n",
+    b"drop event other category=a\nblank event output body.category\nblank response * body.category\n",
+    b"blank event output body\nblank event output body.categories\nblank event output body.category.x\ndrop event output category=b\n",
+    b'drop event output category="a b" # \n\tdrop  event\t"output"  category="*"\r\ndrop event output category=$-_1#x\n',
+]
+
+# Rules that drop events by their category, and contents that they keep or drop.
+CATEGORIES = b"""drop event output category=telemetry
+drop event * category="a b"
+drop event gone category=""
+digits event output body.output
+"""
+CATEGORISED = [
+    ('{"type":"event","event":"output","body":{"category":"telemetry","output":"a1.5"}}', None),
+    ('{"type":"event","event":"output","body":{"category":"stdout","output":"a15"}}', '{"body":{"category":"stdout","output":"a0"},"event":"output","type":"event"}'),
+    ('{"type":"event","event":"output","body":{"category":"telemetry2"}}', '{"body":{"category":"telemetry2"},"event":"output","type":"event"}'),
+    ('{"type":"event","event":"output","body":{"category":"Telemetry"}}', '{"body":{"category":"Telemetry"},"event":"output","type":"event"}'),
+    ('{"type":"event","event":"output","body":{"category":["telemetry"]}}', '{"body":{"category":["telemetry"]},"event":"output","type":"event"}'),
+    ('{"type":"event","event":"output","body":{"output":"telemetry"}}', '{"body":{"output":"telemetry"},"event":"output","type":"event"}'),
+    ('{"type":"event","event":"output","body":"telemetry"}', '{"body":"telemetry","event":"output","type":"event"}'),
+    ('{"type":"event","event":"output","category":"telemetry"}', '{"category":"telemetry","event":"output","type":"event"}'),
+    ('{"type":"event","event":"others","body":{"category":"telemetry"}}', '{"body":{"category":"telemetry"},"event":"others","type":"event"}'),
+    ('{"type":"event","event":"others","body":{"category":"a b"}}', None),
+    ('{"type":"event","event":"others","body":{"category":"a b","time":1.5}}', None),
+    ('{"type":"event","body":{"category":"a b"}}', None),
+    ('{"type":"response","command":"output","body":{"category":"a b"}}', '{"body":{"category":"a b"},"command":"output","type":"response"}'),
+    ('{"type":"event","event":"gone","body":{"category":""}}', None),
+    ('{"type":"event","event":"gone","body":{"category":null}}', '{"body":{"category":null},"event":"gone","type":"event"}'),
 ]
 
 RULES = b"""# lldb-dap
@@ -179,6 +236,19 @@ def actions_together(report):
         masks(report, f"actions at one place: {verbs.decode()}", rules, OUTPUT, record('<{"event":"output","type":"event"}'))
 
 
+def categories(report):
+    left = record('<{"event":"stopped","type":"event"}')
+    for number, rules in enumerate(BESIDE_CATEGORIES, 1):
+        masks(report, f"rules beside categories, row {number}", rules, left, left)
+    for number, (content, text) in enumerate(CATEGORISED, 1):
+        written = b"" if text is None else record("<" + text)
+        masks(report, f"events of a category, row {number}", CATEGORIES, record("<" + content), written)
+        masks(report, f"events of a category, masked again, row {number}", CATEGORIES, written, written)
+    whole = b"".join(record("<" + content) for content, _ in CATEGORISED)
+    written = b"".join(record("<" + text) for _, text in CATEGORISED if text is not None)
+    masks(report, "events of a category, one after the other", CATEGORIES, whole, written)
+
+
 def refused_rules(report):
     for number, (rules, why) in enumerate(REFUSED, 1):
         masks(report, f"refused rules, row {number}", rules, b"nothing is read of this", b"", f"rules: {why}")
@@ -195,6 +265,12 @@ def a_thousand_rules(report):
     masks(report, "a thousand rules of two sorts", both, b"", b"")
     masks(report, "one rule to drop more", both + rules[500], b"", b"", "rules: line 1001: TooMany")
     masks(report, "one repeated rule for the order more", both + swaps[0], b"", b"", "rules: line 1001: TooMany")
+    dropped = [b"drop event e%d category=c\n" % number for number in range(1001)]
+    masks(report, "a thousand rules for categories", b"".join(dropped[:1000]), b"", b"")
+    masks(report, "one rule for a category more", b"".join(rules[:500] + dropped[:501]), b"", b"", "rules: line 1001: TooMany")
+    masks(report, "per-stop is one of a thousand rules", b"per-stop\n" + b"".join(rules[:999]), b"", b"")
+    masks(report, "one rule more than with per-stop", b"per-stop\n" + b"".join(rules[:1000]), b"", b"", "rules: line 1001: TooMany")
+    masks(report, "per-stop after a thousand rules", b"".join(rules[:1000]) + b"per-stop", b"", b"", "rules: line 1001: TooMany")
 
 
 def masked_contents(report):
@@ -207,6 +283,7 @@ def masked_contents(report):
     written = b"".join(record("<" + text) for _, text in MASKED if text is not None)
     masks(report, "all masked contents, one after the other", RULES, whole, written)
     masks(report, "the same with rules for the order", with_swaps(RULES), whole, written)
+    masks(report, "the same with per-stop", b"  per-stop # of debugpy\r\n" + RULES, whole, written)
 
 
 def masked_recordings(report):
@@ -216,4 +293,4 @@ def masked_recordings(report):
 
 
 if __name__ == "__main__":
-    sys.exit(judged(refused_rules, accepted_swaps, actions_together, a_thousand_rules, masked_contents, masked_recordings))
+    sys.exit(judged(refused_rules, accepted_swaps, actions_together, categories, a_thousand_rules, masked_contents, masked_recordings))

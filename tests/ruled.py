@@ -3,7 +3,7 @@ import sys
 
 from golden import Folder, wrote
 from report import Report
-from worked_runs import BEGUN, DONE, FILLED, INITIALIZE, INITIALIZED, record, recording, refusal
+from worked_runs import BEGUN, DONE, FILLED, INITIALIZE, INITIALIZED, NEW_FRAME, NORMAL_PER_STOP, STOP_PAIRS, TWO_STOPS, record, recording, refusal
 
 CONTINUE = '>{"arguments":{"threadId":1},"command":"continue","seq":2,"type":"request"}'
 CONTINUED = '<{"command":"continue","request_seq":2,"seq":%d,"success":true,"type":"response"}'
@@ -64,6 +64,29 @@ def comparisons(report):
         report.check("another session is not held to it", folder.run("golden", "--rules", "rules", "g", "other")[0] == 1)
 
 
+def per_stop(report):
+    """The line `per-stop` is as the option for `compare`, `diff` and `golden`, and nothing for `mask` and `order`."""
+    files = {"a": recording(TWO_STOPS), "b": recording(NEW_FRAME)}
+    rules = {"rules": b"per-stop # ids\n", "none": b"# per-stop\n", "swap": SWAP + b"per-stop\n"}
+    with Folder(**files, **rules) as folder:
+        report.check("without the line they differ", folder.run("compare", "--rules", "none", "a", "b")[0] == 1)
+        for name in ("rules", "swap"):
+            answer = folder.run("compare", "--rules", name, "a", "b")
+            report.check(f"with the line of {name} they are the same", answer == (0, STOP_PAIRS, b""), repr(answer))
+            report.check("with the option too", folder.run("compare", "--per-stop", "--rules", name, "a", "b") == answer)
+            for words in (["diff"], ["diff", "--all"]):
+                report.check(f"{words} with the line of {name}", folder.run(*words, "--rules", name, "a", "b") == (0, b"same\n", b""))
+            answer = folder.run("golden", "--open", "--rules", name, "--update", f"g-{name}", "a")
+            report.check(f"golden with the line of {name}", answer[0] == 0 and folder.read(f"g-{name}") == recording(NORMAL_PER_STOP), repr(answer))
+            answer = folder.run("golden", "--open", "--rules", name, f"g-{name}", "b")
+            report.check(f"the other run is held to it by {name}", answer == (0, b"same\n", b""), repr(answer))
+            answer = folder.run("golden", "--open", "--per-stop", "--rules", "none", f"g-{name}", "b")
+            report.check(f"the option does what the line of {name} does", answer == (0, b"same\n", b""), repr(answer))
+            report.check("without either it differs", folder.run("golden", "--open", "--rules", "none", f"g-{name}", "b")[0] == 1)
+        report.check("mask leaves ids", folder.run("mask", "rules", "b")[1] == folder.run("mask", "none", "b")[1])
+        report.check("order leaves ids", folder.run("order", "rules", "b") == folder.run("order", "none", "b"))
+
+
 def refusals(report):
     files = {"a": recording(ANSWERED_FIRST), "early": CONFIGURED, "bytes": recording(BEGUN) + b"x", "json": recording(BEGUN) + record("<{")}
     rules = {"drop": b"drop event initialized\n", "both": b"drop event initialized\n" + SWAP, "bad": b"swap\n"}
@@ -93,6 +116,7 @@ def main():
     report = Report()
     order(report)
     comparisons(report)
+    per_stop(report)
     refusals(report)
     return report.close()
 

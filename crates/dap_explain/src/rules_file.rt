@@ -3,11 +3,19 @@ ghost use Rattle.std.specs.Prelude.{IfOk, string_bytes};
 ghost use Rattle.dap_explain.specs.Lines.{AreLines};
 
 use crate::lines::Lines;
-use crate::rules_line::{is_end, place_of};
+use crate::rules_line::{is_drop, is_end, place_of};
 use crate::words::Word;
 use dap_mask::{MaskRules, RulesCause, RulesFault};
 use std::alloc::{AllocError, Global};
 use std::str;
+
+/// The forms of a rule.
+const RULE_FORMS: &str =
+    "a rule is VERB KIND NAME PLACE, drop event NAME, swap KIND NAME KIND NAME, or per-stop";
+
+/// What to do about a rule for the category by which another rule drops events.
+const CATEGORY_ADVICE: &str =
+    "no rule changes the category by which a rule drops events: leave one of them out";
 
 /// Returns the line of a file with this number, counted from 1, without its LF.
 fn line_of(rules: &[u8], number: usize) -> &[u8] {
@@ -46,9 +54,7 @@ fn add_line(lines: &mut Lines, number: usize, line: &[u8]) -> Result<(), AllocEr
 /// Adds the line about a line that is not a rule.
 fn add_bad_rule(lines: &mut Lines, line: &[u8]) -> Result<(), AllocError> {
     let Err(fault) = place_of(line) else {
-        return lines.add(
-            "a rule is VERB KIND NAME PLACE, drop event NAME, or swap KIND NAME KIND NAME",
-        );
+        return lines.add(RULE_FORMS);
     };
     match fault.bytes_and_words() {
         (Some(bytes), words) => lines.add_words(&[Word::Bytes(bytes), Word::Text(words)]),
@@ -58,15 +64,17 @@ fn add_bad_rule(lines: &mut Lines, line: &[u8]) -> Result<(), AllocError> {
 
 /// Adds the lines about a rule with a path that no rule may change.
 fn add_bad_place(lines: &mut Lines, line: &[u8]) -> Result<(), AllocError> {
-    lines.add(match place_of(line) {
-        Ok(place) if is_head_member(place) => {
-            "no rule changes the member by which dapnorm recognises messages: leave the rule out"
-        }
-        Ok(place) if !place.contains(&b'"') => {
-            "normalise renames the id that is there, so no rule changes it: leave the rule out"
-        }
-        _ => "an id is there, or a member by which dapnorm recognises messages: leave the rule out",
-    })
+    let Ok(place) = place_of(line) else {
+        return Ok(());
+    };
+    let words = if is_head_member(place) {
+        " is a member by which dapnorm recognises messages: leave the rule out"
+    } else if place.contains(&b'"') {
+        " is an id, or a member by which dapnorm recognises messages: leave the rule out"
+    } else {
+        " is an id that normalise renames, so no rule changes it: leave the rule out"
+    };
+    lines.add_words(&[Word::Bytes(place), Word::Text(words)])
 }
 
 /// Returns whether a path is a member by which messages are recognised.
@@ -146,6 +154,32 @@ fn add_earlier(
     }
 }
 
+/// Adds the lines about a rule that an earlier one excludes.
+fn add_clash(
+    alloc: Global,
+    lines: &mut Lines,
+    rules: &[u8],
+    fault: RulesFault,
+) -> Result<(), AllocError> {
+    if is_drop(line_of(rules, fault.line)) {
+        add_earlier(alloc, lines, rules, fault, " changes the category")?;
+        return lines.add(CATEGORY_ADVICE);
+    }
+    let earlier = earlier_line(alloc, rules, fault.line, fault.cause)?;
+    if earlier.is_some_and(|number| is_drop(line_of(rules, number))) {
+        add_earlier(alloc, lines, rules, fault, " drops events by this category")?;
+        return lines.add(CATEGORY_ADVICE);
+    }
+    add_earlier(
+        alloc,
+        lines,
+        rules,
+        fault,
+        " has another action for the same place",
+    )?;
+    lines.add("write uuid before long and hex last, and do not join uuid and digits")
+}
+
 /// Adds the lines about why a line is rejected.
 fn add_cause(
     alloc: Global,
@@ -173,16 +207,7 @@ fn add_cause(
             )?;
             lines.add("write the digits rule before the hex rule")
         }
-        RulesCause::Clash => {
-            add_earlier(
-                alloc,
-                lines,
-                rules,
-                fault,
-                " has another action for the same place",
-            )?;
-            lines.add("write uuid before long and hex last, and do not join uuid and digits")
-        }
+        RulesCause::Clash => { add_clash(alloc, lines, rules, fault) }
         RulesCause::NotUtf8 => lines.add("save the file as UTF-8"),
         RulesCause::TooLong | RulesCause::Memory => Ok(()),
     }

@@ -1,5 +1,13 @@
 //! Finds what is wrong with a line of a file of rules that is not a rule.
 
+/// What is said of a word that is not a name.
+const NO_NAME: &str =
+    " is not a name: quote one with other characters than letters, digits, _, - and $";
+
+/// What is said of a word that is not a place.
+const NO_PLACE: &str =
+    " is not a place: write names with dots between them, [] for elements, and quotes as for names";
+
 /// What is wrong with a line that is not a rule, with the bytes that are wrong.
 #[derive(Clone, Copy)]
 pub(crate) enum LineFault<'l> {
@@ -12,6 +20,8 @@ pub(crate) enum LineFault<'l> {
     Name(&'l [u8]),
     /// The rule drops messages that are not events.
     Dropped(&'l [u8]),
+    /// The rule drops events by a word that does not start with `category=`.
+    Category(&'l [u8]),
     NoPlace,
     Place(&'l [u8]),
     /// The rule is followed by further text.
@@ -25,7 +35,7 @@ impl<'l> LineFault<'l> {
             LineFault::Verb(word) => {
                 (
                     Some(word),
-                    " is not a verb: write blank, digits, hex, long, uuid, drop or swap",
+                    " is not a verb: write blank, digits, hex, long, uuid, drop, swap or per-stop",
                 )
             }
             LineFault::NoKind => (
@@ -46,22 +56,18 @@ impl<'l> LineFault<'l> {
                 None,
                 "after the kind comes a command or an event, or * for any",
             ),
-            LineFault::Name(word) => {
-                (
-                    Some(word),
-                    " is not a name: write letters, digits, _, - and $, or a JSON string",
-                )
-            }
+            LineFault::Name(word) => { (Some(word), NO_NAME) }
             LineFault::Dropped(word) => {
                 (Some(word), " cannot be dropped: write drop event NAME")
             }
-            LineFault::NoPlace => (None, "after the name comes a place, such as body.reason"),
-            LineFault::Place(word) => {
+            LineFault::Category(word) => {
                 (
                     Some(word),
-                    " is not a place: write names with dots between them, and [] for elements",
+                    " is not a category: write category= and a word or a JSON string",
                 )
             }
+            LineFault::NoPlace => (None, "after the name comes a place, such as body.reason"),
+            LineFault::Place(word) => { (Some(word), NO_PLACE) }
             LineFault::More(word) => {
                 (
                     Some(word),
@@ -120,6 +126,11 @@ pub(crate) fn is_end(bytes: &[u8]) -> bool {
     matches!(after_blanks(bytes), [] | [b'#', ..])
 }
 
+/// Returns whether the line starts with the verb `drop`.
+pub(crate) fn is_drop(line: &[u8]) -> bool {
+    first_word(after_blanks(line)) == b"drop".as_slice()
+}
+
 /// Returns the bytes after the name of a member, or `None` if there is no name.
 fn after_member(bytes: &[u8]) -> Option<&[u8]> {
     match bytes {
@@ -173,12 +184,15 @@ fn after_step(bytes: &[u8]) -> Option<&[u8]> {
     }
 }
 
-/// Returns the path of a rule, which is empty if the rule drops or swaps messages. For a line that
-/// is not a rule, returns what is wrong with it, if that is recognised.
+/// Returns the path of a rule, which is empty if the rule drops or swaps messages or is `per-stop`.
+/// For a line that is not a rule, returns what is wrong with it, if that is recognised.
 pub(crate) fn place_of(line: &[u8]) -> Result<&[u8], LineFault<'_>> {
     let (verb, rest) = split_run(after_blanks(line), ByteClass::Word);
     if verb == b"swap".as_slice() {
         return after_halves(rest);
+    }
+    if verb == b"per-stop".as_slice() {
+        return nothing_after(rest);
     }
     let is_drop = verb == b"drop".as_slice();
     if !is_drop && !is_change(verb) {
@@ -202,10 +216,15 @@ pub(crate) fn place_of(line: &[u8]) -> Result<&[u8], LineFault<'_>> {
 fn after_halves(text: &[u8]) -> Result<&[u8], LineFault<'_>> {
     let rest = after_half(text, LineFault::NoKind)?;
     let rest = after_half(rest, LineFault::NoHalf)?;
-    if is_end(rest) {
+    nothing_after(rest)
+}
+
+/// Returns no bytes if the line ends here, and otherwise what is wrong.
+fn nothing_after(text: &[u8]) -> Result<&[u8], LineFault<'_>> {
+    if is_end(text) {
         Ok(&[])
     } else {
-        Err(LineFault::More(after_blanks(rest)))
+        Err(LineFault::More(after_blanks(text)))
     }
 }
 
@@ -263,9 +282,27 @@ fn place_after_kind(text: &[u8], is_drop: bool) -> Result<&[u8], LineFault<'_>> 
         return Err(LineFault::Name(first_word(text)));
     }
     if is_drop {
-        return Err(LineFault::More(place));
+        return after_category(place);
     }
     place_at(place)
+}
+
+/// Returns no bytes if this is the category of a rule that drops events, and otherwise what is
+/// wrong.
+fn after_category(text: &[u8]) -> Result<&[u8], LineFault<'_>> {
+    let (word, rest) = split_run(text, ByteClass::Plain);
+    let value = match rest {
+        [b'=', value @ ..] if word == b"category".as_slice() => after_member(value),
+        _ => None,
+    };
+    match value {
+        None => Err(LineFault::Category(first_word(text))),
+        Some(rest) if is_end(rest) => Ok(&[]),
+        Some(rest) if after_blanks(rest).len() < rest.len() => {
+            Err(LineFault::More(after_blanks(rest)))
+        }
+        Some(_) => Err(LineFault::Category(first_word(text))),
+    }
 }
 
 /// Returns the path of a rule, or what is wrong with it or after it.

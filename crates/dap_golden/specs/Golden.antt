@@ -19,6 +19,7 @@ use Rattle.dap_input.specs.Refusals.{IsRefused}
 use Rattle.dap_trace.specs.Tracing.{IsRecordedAs, IsTraceRefused}
 use Rattle.dap_mask_input.specs.MaskedRecordings.{IsMaskedTo}
 use Rattle.dap_rules_input.specs.Applying.{AppliesRules, IsRefusedByRules}
+use Rattle.dap_rules_input.specs.Modes.{mode_by}
 use Rattle.dap_rules_input.specs.declared.fault.ApplyRefused.{ApplyRefused}
 use Rattle.dap_rules_input.specs.declared.fault.ApplyRefused.TheVariants as step
 use Rattle.dap_normal.specs.Accepting.{IsAccepted, accepting}
@@ -33,6 +34,12 @@ use Rattle.dap_golden.specs.TraceHead.{IsTraceHead}
 -- The mask of the rules, if there are any.
 abbrev pub mask_given : Option (Bor MaskRules) → Option Mask
 mask_given rules = option_map (λ r. mask_of r.now) rules
+
+-- The mode in which the ids of the session are numbered: that of the caller, unless there are rules
+-- that want another.
+abbrev pub mode_given : Option Mask → Mode → Mode
+mode_given None mode = mode
+mode_given (Some mask) mode = mode_by mask mode
 
 -- The recording of an input (own): that of the trace if the input starts like a trace, and
 -- otherwise the input itself.

@@ -12,7 +12,7 @@ use Rattle.dap_file.specs.declared.file.Replaceable.{Ghosts as Replaceable}
 use Rattle.dap_input.specs.declared.limits.Limits.{Limits}
 use Rattle.dap_mask.specs.Mask.{Mask}
 use Rattle.dap_rename.specs.declared.mode.Mode.{Mode}
-use Rattle.dap_golden.specs.Golden.{IsGolden, IsRefusedGolden}
+use Rattle.dap_golden.specs.Golden.{IsGolden, IsRefusedGolden, mode_given}
 use Rattle.dap_golden.specs.GoldenFiles.{IsGoldenVerdict, IsRefusedFile}
 use Rattle.dap_golden.specs.declared.golden.GoldenText.{GoldenText}
 use Rattle.dap_golden.specs.declared.updates.GoldenDone.{GoldenDone}
@@ -20,6 +20,10 @@ use Rattle.dap_golden.specs.declared.updates.GoldenDone.TheVariants as done
 use Rattle.dap_golden.specs.declared.updates.GoldenRequest.{GoldenRequest}
 use Rattle.dap_golden.specs.declared.updates.GoldenStop.{GoldenStop}
 use Rattle.dap_golden.specs.declared.updates.GoldenStop.TheVariants as stop
+
+-- The request, in the mode that the rules want.
+abbrev pub request_by : Option Mask → GoldenRequest → GoldenRequest
+request_by mask request = record request { mode = mode_given mask request.mode }
 
 -- ---- the input
 

@@ -6,7 +6,7 @@ ghost use Rattle.dap_mask.specs.KeptRules.{mask_of, swaps_of_mask};
 ghost use Rattle.dap_mask_input.specs.MaskedRecordings.{IsMaskedTo};
 ghost use Rattle.dap_rules_input.specs.Applying.{OrdersBy};
 ghost use Rattle.dap_golden.specs.Golden.{AppliesBy, IsGolden, IsGoldenOf, IsRecordingOf};
-ghost use Rattle.dap_golden.specs.Golden.{IsRefusedGolden, MasksBy, mask_given};
+ghost use Rattle.dap_golden.specs.Golden.{IsRefusedGolden, MasksBy, mask_given, mode_given};
 ghost use Rattle.dap_golden.specs.GoldenFiles.{IsNormalText};
 ghost use Rattle.dap_golden.specs.GoldenSteps.{RefusesGolden, RefusesMask, RefusesMaskBy};
 ghost use Rattle.dap_golden.specs.GoldenSteps.{RefusesOrder, RefusesRulesBy, RefusesTrace};
@@ -21,7 +21,7 @@ use dap_input::{Limits, Refused};
 use dap_mask::MaskRules;
 use dap_normal::Checked;
 use dap_rename::Mode;
-use dap_rules_input::{TextSink, is_out_of_memory, mask_bytes, order_masked};
+use dap_rules_input::{TextSink, is_out_of_memory, mask_bytes, mode_by, order_masked};
 use dap_trace::record;
 use std::alloc::Global;
 use std::borrow::CowSlice;
@@ -214,6 +214,37 @@ fn golden_of_recording(
     }
 }
 
+/// Returns the mode in which the ids of the session are numbered: that of the caller, unless there
+/// are rules that want another.
+pub(crate) fn mode_given(rules: Option<&MaskRules>, mode: Mode) -> Mode
+    ensures { result ≡ mode_given (mask_given rules.entry) mode }
+{
+    match rules {
+        Some(rules) => mode_by(rules, mode),
+        None => mode,
+    }
+}
+
+/// Creates the text of a golden file in this mode, whatever mode the rules want.
+pub(crate) fn golden_text_in(
+    alloc: Global,
+    input: &[u8],
+    rules: Option<&MaskRules>,
+    allow_open: bool,
+    limits: Limits,
+    mode: Mode,
+) -> Result<GoldenText, GoldenRefused>
+    requires limits { AreSound limits }
+    ensures ok { IfOk result (IsGolden limits mode (mask_given rules.entry) allow_open input.now) }
+    ensures err { IfErr result
+        (IsRefusedGolden limits mode (mask_given rules.entry) allow_open input.now) }
+    ensures normal { IfOk result (λ text. IsNormalText limits mode text.bytes.items) }
+{
+    let recording = recording_of(alloc, input, limits)?;
+    let session = session_of(alloc, recording, rules, limits, mode)?;
+    golden_of_recording(alloc, session.as_slice(), allow_open, limits, mode)
+}
+
 /// Creates the text of a golden file from a trace or a recording in memory.
 ///
 /// An input that starts with a marker, decimal digits and LF is a trace, and is recorded. Any other
@@ -221,6 +252,8 @@ fn golden_of_recording(
 /// of the rules are for the order. The resulting session is checked in the same way as by
 /// [`check`](dap_normal::check), and normalised. It must have at least one record. Each request
 /// must have a response, unless `allow_open` is set.
+///
+/// If the rules have the line `per-stop`, the mode is `PerStop`.
 ///
 /// The input is not copied. Each intermediate text is freed after its last use.
 ///
@@ -244,16 +277,17 @@ pub fn golden_text(
 ) -> Result<GoldenText, GoldenRefused>
     requires limits { AreSound limits }
 
-    // The text is that of the input with its rules and mode. An error names the first step that
-    // fails.
-    ensures ok { IfOk result (IsGolden limits mode (mask_given rules.entry) allow_open input.now) }
-    ensures err { IfErr result
-        (IsRefusedGolden limits mode (mask_given rules.entry) allow_open input.now) }
+    // The text is that of the input with its rules, in the mode that they want. An error names the
+    // first step that fails.
+    ensures ok { IfOk result (IsGolden limits (mode_given (mask_given rules.entry) mode)
+        (mask_given rules.entry) allow_open input.now) }
+    ensures err { IfErr result (IsRefusedGolden limits (mode_given (mask_given rules.entry) mode)
+        (mask_given rules.entry) allow_open input.now) }
 
-    // The text satisfies the precondition of `compare_golden`.
-    ensures normal { IfOk result (λ text. IsNormalText limits mode text.bytes.items) }
+    // The text satisfies the precondition of `compare_golden` in that mode.
+    ensures normal { IfOk result (λ text. IsNormalText limits
+        (mode_given (mask_given rules.entry) mode) text.bytes.items) }
 {
-    let recording = recording_of(alloc, input, limits)?;
-    let session = session_of(alloc, recording, rules, limits, mode)?;
-    golden_of_recording(alloc, session.as_slice(), allow_open, limits, mode)
+    let wanted = mode_given(rules, mode);
+    golden_text_in(alloc, input, rules, allow_open, limits, wanted)
 }

@@ -6,11 +6,11 @@ ghost use Rattle.dap_input.specs.Limits.{AreSound};
 ghost use Rattle.dap_golden.specs.Golden.{mask_given};
 ghost use Rattle.dap_golden.specs.GoldenFiles.{IsNormalText};
 ghost use Rattle.dap_golden.specs.GoldenUpdates.{Answers, Compares, Finds, MayBeLeft, ReadsText};
-ghost use Rattle.dap_golden.specs.GoldenUpdates.{Updates};
+ghost use Rattle.dap_golden.specs.GoldenUpdates.{Updates, request_by};
 
 use crate::comparing::{GoldenVerdict, compare_golden};
 use crate::fault::{GoldenFault, GoldenRefused};
-use crate::golden::{GoldenText, golden_text};
+use crate::golden::{GoldenText, golden_text_in, mode_given};
 use dap_device::{Source, Stop, read_all};
 use dap_file::{ReadFault, ReplaceFault, Replaceable, replace};
 use dap_input::{Limits, Refused};
@@ -26,7 +26,8 @@ pub struct GoldenRequest {
     pub update: bool,
     /// Whether to accept a session in which a request has no response.
     pub allow_open: bool,
-    /// The mode in which the ids of the session are numbered.
+    /// The mode in which the ids of the session are numbered, unless the rules have the line
+    /// `per-stop`.
     pub mode: Mode,
 }
 
@@ -86,7 +87,7 @@ fn read_text<I: Source>(
         return Err(GoldenStop::Unread);
     }
     let bytes = read.bytes.as_slice();
-    match golden_text(
+    match golden_text_in(
         alloc,
         bytes,
         rules,
@@ -180,6 +181,46 @@ fn update_file<F: Replaceable>(
     }
 }
 
+/// Returns the request, in the mode that the rules want.
+fn request_by(rules: Option<&MaskRules>, request: GoldenRequest) -> GoldenRequest
+    ensures { result ≡ request_by (mask_given rules.entry) request }
+{
+    GoldenRequest {
+        update: request.update,
+        allow_open: request.allow_open,
+        mode: mode_given(rules, request.mode),
+    }
+}
+
+/// Does the same as [`golden_file`], in the mode of the request.
+fn golden_file_in<I: Source, F: Replaceable>(
+    alloc: Global,
+    input: &mut I,
+    rules: Option<&MaskRules>,
+    file: &mut F,
+    request: GoldenRequest,
+    limits: Limits,
+) -> Result<GoldenDone, GoldenStop>
+    requires limits { AreSound limits }
+    requires given { I.given input.old < 2 ^ 62 }
+    requires failures { I.failures input.old < 2 ^ 62 }
+    requires few { F.failures file.old < 2 ^ 61 }
+    requires none { F.is_known file.old → F.temporary file.old ≡ None }
+    ensures outcome { Answers I.Source F.Replaceable limits (mask_given rules.entry) request
+        input.old input.new file.old file.new result }
+    ensures any_moment { F.is_known file.old
+        → LeavesOnly F.moment F.left_since (MayBeLeft I.Source F.Replaceable limits
+        (mask_given rules.entry) request input.old input.new file.old) file.old file.new }
+    ensures taken { I.given input.new ≤ I.given input.old + limits.input + 1 }
+{
+    let text = read_text(alloc, input, rules, request, limits)?;
+    if request.update {
+        update_file(alloc, file, &text, limits)
+    } else {
+        compare_file(alloc, file, &text, limits, request.mode)
+    }
+}
+
 /// Compares a session with its golden file, or creates or updates the golden file.
 ///
 /// The input is a trace or a recording, as [`golden_text`] describes. It is read to its end before
@@ -210,25 +251,22 @@ pub fn golden_file<I: Source, F: Replaceable>(
     requires few { F.failures file.old < 2 ^ 61 }
     requires none { F.is_known file.old → F.temporary file.old ≡ None }
 
-    // The result is determined by the text of the input and the golden file. The golden file is
-    // written only on an update, after the input was checked.
-    ensures outcome { Answers I.Source F.Replaceable limits (mask_given rules.entry) request
-        input.old input.new file.old file.new result }
+    // The result is determined by the text of the input, in the mode that the rules want, and the
+    // golden file. The golden file is written only on an update, after the input was checked.
+    ensures outcome { Answers I.Source F.Replaceable limits (mask_given rules.entry)
+        (request_by (mask_given rules.entry) request) input.old input.new file.old file.new result }
 
     // A crash, the end of the process or a loss of power may happen at any moment. It leaves a
     // content that it could have left before the call, or, on an update, the complete text of the
     // session.
     ensures any_moment { F.is_known file.old
         → LeavesOnly F.moment F.left_since (MayBeLeft I.Source F.Replaceable limits
-        (mask_given rules.entry) request input.old input.new file.old) file.old file.new }
+        (mask_given rules.entry) (request_by (mask_given rules.entry) request) input.old input.new
+        file.old) file.old file.new }
 
     // At most one byte past the limit is read.
     ensures taken { I.given input.new ≤ I.given input.old + limits.input + 1 }
 {
-    let text = read_text(alloc, input, rules, request, limits)?;
-    if request.update {
-        update_file(alloc, file, &text, limits)
-    } else {
-        compare_file(alloc, file, &text, limits, request.mode)
-    }
+    let wanted = request_by(rules, request);
+    golden_file_in(alloc, input, rules, file, wanted, limits)
 }

@@ -172,7 +172,7 @@ pub left-alike : (rs : List Rule) (d : Doc) (p : List Step) (a b : Option Doc) �
     → Alike (left rs d p a) (left rs d p b)
 left-alike rs d p a b h = top-left rs d p a ∙ ap (left rs d p) h ∙ sym (top-left rs d p b)
 
-at-mask_by : (r : Rule) (d : Doc) (p : List Step)
+pub at-mask_by : (r : Rule) (d : Doc) (p : List Step)
     → Alike (at p (mask_by r d)) (left_by r d p (at p d))
 at-mask_by r d p = go (rule_applies r d)
   where

@@ -1,18 +1,19 @@
 -- A file without rules needs no allocation: each line that needs one adds a rule or is rejected.
 use Rattle.std.proofs.Common.{◌≡◌, ◌≢◌, ◌⊎◌, inl, inr, ℕ, suc, ◌≤◌, ◌<◌, Bool, true, false}
 use Rattle.std.proofs.Common.{cond, List, [], ◌∷◌, length, Option, Some, None, Result, Ok, Err}
-use Rattle.std.proofs.Common.{IfErr, take, refl, sym, ap, ◌∙◌, subst, arith}
+use Rattle.std.proofs.Common.{IfErr, take, nat_le, refl, sym, ap, ◌∙◌, subst, arith}
 use Rattle.std.proofs.lemmas.Bool.{le-ltb}
 use Rattle.std.proofs.lemmas.List.{length_push}
 use Rattle.std.specs.Str.{is_utf8}
 use Rattle.dap_mask.specs.Mask.{Mask, no_rules, rule_count, with_rule, Statement, change, leave_out}
-use Rattle.dap_mask.specs.Mask.{swap, Line, nothing, rule, bad}
+use Rattle.dap_mask.specs.Mask.{leave_out_category, swap, restart, Line, nothing, rule, bad}
 use Rattle.dap_mask.specs.RuleText.{line_said, statement_at, reported}
 use Rattle.dap_mask.specs.RulesFile.{cause_against, outcome_unless, outcome_of, line_outcome}
 use Rattle.dap_mask.specs.RulesFile.{outcome_then, rules_from, last_line, rules_said}
 use Rattle.dap_mask.specs.Runs.{has_class, is_blank, front, behind, lines_of, is_end}
 use Rattle.dap_mask.specs.declared.fault.RulesCause.{RulesCause}
 use Rattle.dap_mask.specs.declared.fault.RulesCause.TheVariants.{NotUtf8, TooLong, Memory}
+use Rattle.dap_mask.specs.declared.fault.RulesCause.TheVariants.{TooMany, Repeated}
 use Rattle.dap_mask.specs.declared.fault.RulesFault.{RulesFault}
 use Rattle.dap_mask.specs.declared.runs.ByteClass.TheVariants.{InLine}
 use Rattle.dap_mask.proofs.Lines.{lines_behind, lines_then}
@@ -30,10 +31,25 @@ says_something l e h =
 
 -- ---- the number of rules
 
-one_more : (m : Mask) (st : Statement) → rule_count (with_rule m st) ≡ suc (rule_count m)
-one_more m (change r) = let more = length_push m.changes r in omega arith
-one_more m (leave_out n) = let more = length_push m.dropped n in omega arith
-one_more m (swap s) = let more = length_push m.swaps s in omega arith
+-- a rule without an error is new
+first_restart : (m : Mask) → cause_against m restart ≡ None → m.per_stop ≡ false
+first_restart m h = go (nat_le 1000 (rule_count m)) m.per_stop h
+  where
+    go : (a b : Bool) → cond a (Some TooMany) (cond b (Some Repeated) None) ≡ None → b ≡ false
+    go true b k = cc
+    go false true k = cc
+    go false false k = refl
+
+one_more : (m : Mask) (st : Statement) → cause_against m st ≡ None
+    → rule_count (with_rule m st) ≡ suc (rule_count m)
+one_more m (change r) h = let more = length_push m.changes r in omega arith
+one_more m (leave_out n) h = let more = length_push m.dropped n in omega arith
+one_more m (leave_out_category c) h = let more = length_push m.categories c in omega arith
+one_more m (swap s) h = let more = length_push m.swaps s in omega arith
+one_more m restart h =
+    let first : ◌≡◌ {A = ℕ} (cond m.per_stop 1 0) 0 =
+    ap (λ (b : Bool). cond b 1 0) (first_restart m h) in
+    omega (arith, first)
 
 same_mask : (m k : Mask) → ◌≡◌ {A = Result Mask RulesCause} (Ok m) (Ok k) → m ≡ k
 same_mask m k h = cc
@@ -45,15 +61,15 @@ no_mask c k h = cc
 abbrev Adds : Mask → Mask → Line → Type 0
 Adds m k l = ((l ≡ nothing) × (m ≡ k)) ⊎ (rule_count k ≡ suc (rule_count m))
 
-rule_adds : (m k : Mask) (st : Statement) (o : Option RulesCause) → outcome_unless m st o ≡ Ok k
-    → rule_count k ≡ suc (rule_count m)
-rule_adds m k st None h = ap rule_count (sym (same_mask (with_rule m st) k h)) ∙ one_more m st
-rule_adds m k st (Some c) h = absurd (no_mask c k h)
+rule_adds : (m k : Mask) (st : Statement) (o : Option RulesCause) → cause_against m st ≡ o
+    → outcome_unless m st o ≡ Ok k → rule_count k ≡ suc (rule_count m)
+rule_adds m k st None e h = ap rule_count (sym (same_mask (with_rule m st) k h)) ∙ one_more m st e
+rule_adds m k st (Some c) e h = absurd (no_mask c k h)
 
 said_adds : (m k : Mask) (l : Line) → outcome_of m l ≡ Ok k → Adds m k l
 said_adds m k nothing h = inl (refl, same_mask m k h)
 said_adds m k bad h = absurd (no_mask _ k h)
-said_adds m k (rule st) h = inr (rule_adds m k st (cause_against m st) h)
+said_adds m k (rule st) h = inr (rule_adds m k st (cause_against m st) refl h)
 
 line_adds : (m k : Mask) (l : List ℕ) → line_outcome m l ≡ Ok k → Adds m k (line_said l)
 line_adds m k l h = go (is_utf8 l) h

@@ -4,6 +4,7 @@ pub mod Edited
 pub mod Relations
 pub mod ByPath
 pub mod Settled
+pub mod Dropping
 pub mod Loosening
 pub mod LooseReading
 pub mod Counterexamples

@@ -28,8 +28,7 @@ use Rattle.dap_tree.proofs.Numbers.{all_kept, items_kept, members_kept, is_kept,
 use Rattle.dap_tree.proofs.Outcomes.{read_is_plain}
 use Rattle.dap_mask.specs.Loose.{loose, loose_items, loose_members, loose_number}
 use Rattle.dap_mask.specs.Loose.{IsLeftOf, IsReadLoosely}
-use Rattle.dap_mask.specs.Mask.{no_rules}
-use Rattle.dap_mask.specs.Rules.{is_dropped}
+use Rattle.dap_mask.specs.Mask.{no_rules, leaves_out}
 use Rattle.dap_message.specs.Rows.{is_of_kind}
 use Rattle.dap_profile.specs.declared.profile.Kind.TheVariants.{Event}
 
@@ -111,7 +110,7 @@ mutual
   members_no_id_loose json.no_members = refl
   members_no_id_loose (json.member k v ms) = or_both _ _ (no_id_loose v) (members_no_id_loose ms)
 
-none_dropped : (d : Doc) → is_dropped [] d ≡ false
+none_dropped : (d : Doc) → leaves_out no_rules d ≡ false
 none_dropped d = nothing_of (is_of_kind Event d)
   where
     nothing_of : (b : Bool) → (b && false) ≡ false

@@ -1,25 +1,29 @@
 -- The result of the parser for a line is correct by the grammar. With the converse, the parser and
 -- the grammar agree.
-use Rattle.std.proofs.Common.{◌≡◌, ℕ, suc, Bool, true, false, cond, ◌==◌, ◌&&◌, List, [], ◌∷◌}
+use Rattle.std.proofs.Common.{◌≡◌, ℕ, suc, Bool, true, false, cond, ◌==◌, List, [], ◌∷◌}
 use Rattle.std.proofs.Common.{◌++◌, length, Option, Some, None, option_map, option_and_then, refl}
 use Rattle.std.proofs.Common.{sym, ap, ap₂, ◌∙◌, subst, true≢false, append_assoc, bytes_eq}
 use Rattle.std.proofs.lemmas.Bool.{eqb-true}
 use Rattle.std.proofs.lemmas.Option.{none-some, same_Some}
 use Rattle.std.proofs.lemmas.Slice.Eq.{bytes_eq-Decides}
 use Rattle.std.specs.Prelude.{zero, codes}
-use Rattle.dap_tree.proofs.Booleans.{and_left, and_right}
 use Rattle.dap_profile.specs.PlaceSteps.{PlaceStep, named, each}
 use Rattle.dap_profile.specs.declared.profile.Kind.{Kind}
 use Rattle.dap_profile.specs.declared.profile.Kind.TheVariants.{Request, Response, Event}
 use Rattle.dap_mask.specs.Grammar.{IsGap, GoesOn, HasWords, IsName, bare, quoted}
 use Rattle.dap_mask.specs.Grammar.{IsNameOrAny, AreSteps, IsPlace, verb_word, kind_word}
 use Rattle.dap_mask.specs.Grammar.{AreWordsOf, SaysRule, Says}
-use Rattle.dap_mask.specs.Mask.{Statement, change, leave_out, swap, Line, nothing, rule, bad}
+use Rattle.dap_mask.specs.Categories.{CategoryRule}
+use Rattle.dap_mask.specs.Mask.{Statement, change, leave_out, leave_out_category, swap, restart}
+use Rattle.dap_mask.specs.Mask.{Line, nothing, rule, bad}
 use Rattle.dap_mask.specs.RuleText.{quoted_at, plain_at, name_at, this_name, any_name, each_step}
 use Rattle.dap_mask.specs.RuleText.{member_step, next_step, step_then, steps_from, place_at}
 use Rattle.dap_mask.specs.RuleText.{verb_named, kind_named, Head, name_behind, kind_then, head_at}
-use Rattle.dap_mask.specs.RuleText.{placed, place_behind, change_at, leave_out_at, half_at}
-use Rattle.dap_mask.specs.RuleText.{swap_with, swap_at, statement_at, reported, line_said}
+use Rattle.dap_mask.specs.RuleText.{placed, place_behind, change_at, text_behind, category_at}
+use Rattle.dap_mask.specs.RuleText.{with_category, category_behind, dropped_at, leave_out_at}
+use Rattle.dap_mask.specs.RuleText.{half_at}
+use Rattle.dap_mask.specs.RuleText.{swap_with, swap_at, restart_at, statement_at, reported}
+use Rattle.dap_mask.specs.RuleText.{line_said}
 use Rattle.dap_mask.specs.Rules.{Rule, same_kind}
 use Rattle.dap_mask.specs.Runs.{is_blank, is_plain, front, behind, gap, is_end}
 use Rattle.dap_mask.specs.Swaps.{Half, SwapRule}
@@ -29,7 +33,7 @@ use Rattle.dap_mask.proofs.Blanks.{run_split, run_all, run_begins, gap_found, en
 use Rattle.dap_mask.proofs.Lines.{Steps}
 use Rattle.dap_mask.proofs.Options.{mapped, bound, if_true, if_false}
 use Rattle.dap_mask.proofs.Parsing.{any_by, place_on, then_step, with_kind, kind_on, change_on}
-use Rattle.dap_mask.proofs.Parsing.{leave_out_on, half_on, swap_on, rule_read}
+use Rattle.dap_mask.proofs.Parsing.{leave_out_on, category_on, half_on, swap_on, rule_read}
 use Rattle.dap_mask.proofs.Quoted.{quoted_found}
 
 -- the result of a parser, and the rest of the text
@@ -338,22 +342,69 @@ same_event Request h = absurd (true≢false (sym h))
 same_event Response h = absurd (true≢false (sym h))
 same_event Event h = refl
 
+-- the words of a rule for events, before other words
+event_goes : (s : List ℕ) (u : Head) (ws : List (List ℕ)) (f : HasHead s u) → u.0 ≡ Event
+    → GoesOn ws u.2 → GoesOn (codes "event" ∷ f.2 ∷ ws) s
+event_goes s u ws f event on =
+    subst (λ (k : Kind). GoesOn (kind_word k ∷ f.2 ∷ ws) s) event (head_goes s u ws f on)
+
+value_found : (s name rest : List ℕ) → text_behind s ≡ Some (name, rest)
+    → (t : List ℕ) × (s ≡ 61 ∷ (t ++ rest)) × IsName t name
+value_found [] name rest h = absurd (none-some {A = NameRest} (name, rest) h)
+value_found (b ∷ s) name rest h =
+    let i = if_true {A = NameRest} (b == 61) (name_at s) (name, rest) h in
+    let f = name_found s name rest i.1 in
+    (f.0, ap₂ (λ x t. x ∷ t) (eqb-true b 61 i.0) f.1, f.2)
+
+category_found : (s name rest : List ℕ) → category_at s ≡ Some (name, rest)
+    → (t : List ℕ) × (s ≡ (codes "category=" ++ t) ++ rest) × IsName t name
+category_found s name rest h =
+    let word = front is_plain s in
+    let i = if_true {A = NameRest} (bytes_eq word (codes "category"))
+    (text_behind (behind is_plain s)) (name, rest) h in
+    let f = value_found (behind is_plain s) name rest i.1 in (
+      f.0,
+      run_split is_plain s ∙ ap₂ (λ v t. v ++ t) (same_word word (codes "category") i.0) f.1,
+      f.2,
+    )
+
+dropped_found : (s : List ℕ) (u : Head) (head : HasHead s u) → u.0 ≡ Event → (ended : Bool)
+    → is_end u.2 ≡ ended → (st : Statement)
+    → cond ended (Some (leave_out u.1)) (category_behind u.1 u.2) ≡ Some st
+    → HasRule (codes "drop") s st
+dropped_found s u head event true e st h = (
+  codes "event" ∷ head.2 ∷ [],
+  event_goes s u [] head event (end_found u.2 e),
+  subst (AreWordsOf (codes "drop" ∷ codes "event" ∷ head.2 ∷ []))
+      (same_Some (leave_out u.1) st h) (head.2, refl, head.6),
+)
+dropped_found s u head event false e st h =
+    let y = bound (category_on u.1) (gap u.2) st h in
+    let q = bound (with_category u.1) (category_at y.0) st y.2 in
+    let r : CategoryRule = record { name = u.1; category = q.0.0 } in
+    let i = if_true (is_end q.0.1) (Some (leave_out_category r)) st q.2 in
+    let before = gap_found u.2 y.0 y.1 in
+    let c = category_found y.0 q.0.0 q.0.1 q.1 in
+    let word : List ℕ = codes "category=" ++ c.0 in
+    let on : GoesOn (word ∷ []) u.2 = (
+      before.blanks,
+      q.0.1,
+      before.whole ∙ ap (λ (t : List ℕ). before.blanks ++ t) c.1,
+      before.is_gap,
+      end_found q.0.1 i.0,
+    ) in (
+      codes "event" ∷ head.2 ∷ word ∷ [],
+      event_goes s u (word ∷ []) head event on,
+      subst (AreWordsOf (codes "drop" ∷ codes "event" ∷ head.2 ∷ word ∷ []))
+          (same_Some (leave_out_category r) st i.1) (head.2, c.0, refl, head.6, c.2),
+    )
+
 leave_out_found : (s : List ℕ) (st : Statement) → leave_out_at s ≡ Some st
     → HasRule (codes "drop") s st
 leave_out_found s st e =
     let u = bound leave_out_on (head_at s) st e in
-    let i = if_true (same_kind u.0.0 Event && is_end u.0.2) (Some (leave_out u.0.1)) st u.2 in
-    let head = head_found s u.0 u.1 in
-    let event = same_event u.0.0 (and_left (same_kind u.0.0 Event) (is_end u.0.2) i.0) in
-    let ended = end_found u.0.2 (and_right (same_kind u.0.0 Event) (is_end u.0.2) i.0) in
-    let words : GoesOn (kind_word Event ∷ head.2 ∷ []) s =
-    subst (λ (k : Kind). GoesOn (kind_word k ∷ head.2 ∷ []) s) event
-    (head_goes s u.0 [] head ended) in (
-      codes "event" ∷ head.2 ∷ [],
-      words,
-      subst (AreWordsOf (codes "drop" ∷ codes "event" ∷ head.2 ∷ []))
-          (same_Some (leave_out u.0.1) st i.1) (head.2, refl, head.6),
-    )
+    let i = if_true (same_kind u.0.0 Event) (dropped_at u.0.1 u.0.2) st u.2 in
+    dropped_found s u.0 (head_found s u.0 u.1) (same_event u.0.0 i.0) (is_end u.0.2) refl st i.1
 
 half_found : (s : List ℕ) (a : Half × List ℕ) → half_at s ≡ Some a
     → HasHead s (a.0.kind, a.0.name, a.1)
@@ -379,6 +430,15 @@ swap_found s st e =
           (same_Some (swap r) st i.1) (one.2, another.2, refl, one.6, another.6),
     )
 
+restart_found : (s : List ℕ) (st : Statement) → restart_at s ≡ Some st
+    → HasRule (codes "per-stop") s st
+restart_found s st e =
+    let i = if_true (is_end s) (Some restart) st e in (
+      [],
+      end_found s i.0,
+      subst (AreWordsOf (codes "per-stop" ∷ [])) (same_Some restart st i.1) refl,
+    )
+
 -- ---- lines
 
 renamed : (w v s : List ℕ) (st : Statement) → w ≡ v → HasRule v s st → HasRule w s st
@@ -388,16 +448,24 @@ renamed w v s st e f =
 abbrev verb_on : List ℕ → Verb → Option Statement
 verb_on s v = change_at v s
 
-statement_is : (w s : List ℕ) (st : Statement) (a b : Bool) → bytes_eq w (codes "drop") ≡ a
-    → bytes_eq w (codes "swap") ≡ b
-    → cond a (leave_out_at s) (cond b (swap_at s) (option_and_then (verb_on s) (verb_named w)))
-    ≡ Some st
+-- whether the first word of a line is one of these
+pub record FirstWord (w : List ℕ) (a b c : Bool) : Type 0 where
+  pub drop : bytes_eq w (codes "drop") ≡ a
+  pub swap : bytes_eq w (codes "swap") ≡ b
+  pub per_stop : bytes_eq w (codes "per-stop") ≡ c
+
+statement_is : (w s : List ℕ) (st : Statement) (a b c : Bool) → FirstWord w a b c
+    → cond a (leave_out_at s) (cond b (swap_at s)
+    (cond c (restart_at s) (option_and_then (verb_on s) (verb_named w)))) ≡ Some st
     → HasRule w s st
-statement_is w s st true b e f h =
-    renamed w (codes "drop") s st (same_word w (codes "drop") e) (leave_out_found s st h)
-statement_is w s st false true e f h =
-    renamed w (codes "swap") s st (same_word w (codes "swap") f) (swap_found s st h)
-statement_is w s st false false e f h =
+statement_is w s st true b c f h =
+    renamed w (codes "drop") s st (same_word w (codes "drop") f.drop) (leave_out_found s st h)
+statement_is w s st false true c f h =
+    renamed w (codes "swap") s st (same_word w (codes "swap") f.swap) (swap_found s st h)
+statement_is w s st false false true f h =
+    renamed w (codes "per-stop") s st (same_word w (codes "per-stop") f.per_stop)
+    (restart_found s st h)
+statement_is w s st false false false f h =
     let v = bound (verb_on s) (verb_named w) st h in
     renamed w (verb_word v.0) s st (verb_found w v.0 v.1) (change_found v.0 s st v.2)
 
@@ -407,8 +475,8 @@ rule_found l st h =
     let text = behind is_blank l in
     let w = front is_plain text in
     let rest = behind is_plain text in
-    let f = statement_is w rest st (bytes_eq w (codes "drop")) (bytes_eq w (codes "swap")) refl
-    refl h in
+    let f = statement_is w rest st (bytes_eq w (codes "drop")) (bytes_eq w (codes "swap"))
+    (bytes_eq w (codes "per-stop")) (record { drop = refl; swap = refl; per_stop = refl }) h in
     let blanks = front is_blank l in
     let has : HasWords (w ∷ f.0) l = (
       blanks,

@@ -12,13 +12,16 @@ use Rattle.dap_profile.specs.declared.profile.Kind.TheVariants.{Request, Respons
 use Rattle.dap_mask.specs.Grammar.{IsGap, GoesOn, HasWords, IsName, bare, quoted}
 use Rattle.dap_mask.specs.Grammar.{IsNameOrAny, AreSteps, IsPlace, verb_word, kind_word}
 use Rattle.dap_mask.specs.Grammar.{AreWordsOf, SaysRule}
-use Rattle.dap_mask.specs.Mask.{Statement, change, leave_out, swap, Line, nothing, rule}
+use Rattle.dap_mask.specs.Categories.{CategoryRule}
+use Rattle.dap_mask.specs.Mask.{Statement, change, leave_out, leave_out_category, swap, restart}
+use Rattle.dap_mask.specs.Mask.{Line, nothing, rule}
 use Rattle.dap_mask.specs.RuleText.{quoted_at, plain_at, name_at, this_name, any_name}
 use Rattle.dap_mask.specs.RuleText.{member_step, next_step, step_then, steps_from, place_at}
 use Rattle.dap_mask.specs.RuleText.{verb_named, kind_named, Head}
 use Rattle.dap_mask.specs.RuleText.{name_behind, kind_then, head_at, placed, place_behind}
-use Rattle.dap_mask.specs.RuleText.{change_at, leave_out_at, half_at, swap_with, swap_at}
-use Rattle.dap_mask.specs.RuleText.{statement_at, reported, line_said}
+use Rattle.dap_mask.specs.RuleText.{change_at, category_at, with_category, category_behind}
+use Rattle.dap_mask.specs.RuleText.{dropped_at, leave_out_at, half_at, swap_with, swap_at}
+use Rattle.dap_mask.specs.RuleText.{restart_at, statement_at, reported, line_said}
 use Rattle.dap_mask.specs.Rules.{Rule, same_kind}
 use Rattle.dap_mask.specs.Runs.{is_blank, is_plain, behind, gap, is_over, is_end}
 use Rattle.dap_mask.specs.Swaps.{Half, SwapRule}
@@ -291,14 +294,36 @@ change_read r n p s on c d =
     ∙ ap (λ (b : Bool). cond b (Some (change r)) None) (end_read next.1 ended)
 
 abbrev pub leave_out_on : Head → Option Statement
-leave_out_on h = cond (same_kind h.0 Event && is_end h.2) (Some (leave_out h.1)) None
+leave_out_on h = cond (same_kind h.0 Event) (dropped_at h.1 h.2) None
 
 leave_out_read : (name : Option (List ℕ)) (n s : List ℕ) → GoesOn (codes "event" ∷ n ∷ []) s
     → IsNameOrAny n name → leave_out_at s ≡ Some (leave_out name)
 leave_out_read name n s on c =
     let h = head_read Event name n [] s on c in
     ap (option_and_then leave_out_on) h.head
-    ∙ ap (λ (b : Bool). cond b (Some (leave_out name)) None) (end_read h.rest h.on)
+    ∙ ap (λ (b : Bool). cond b (Some (leave_out name)) (category_behind name h.rest))
+    (end_read h.rest h.on)
+
+abbrev pub category_on : Option (List ℕ) → List ℕ → Option Statement
+category_on name t = option_and_then (with_category name) (category_at t)
+
+category_read : (c : CategoryRule) (n t s : List ℕ)
+    → GoesOn (codes "event" ∷ n ∷ (codes "category=" ++ t) ∷ []) s → IsNameOrAny n c.name
+    → IsName t c.category → leave_out_at s ≡ Some (leave_out_category c)
+category_read c n t s on is_name is_text =
+    let h = head_read Event c.name n ((codes "category=" ++ t) ∷ []) s on is_name in
+    let next = h.on in
+    let ended = next.4 in
+    let text : List ℕ = (codes "category=" ++ t) ++ next.1 in
+    let more : is_end h.rest ≡ false =
+    ap is_end next.2 ∙ ap is_over (behind_run is_blank next.0 text next.3.1 refl) in
+    let read : category_at text ≡ Some (c.category, next.1) =
+    name_read is_text next.1 (end_stops is_plain next.1 plain_no_end ended) in
+    ap (option_and_then leave_out_on) h.head
+    ∙ ap (λ (b : Bool). cond b (Some (leave_out c.name)) (category_behind c.name h.rest)) more
+    ∙ ap (option_and_then (category_on c.name)) (ap gap next.2 ∙ gap_read next.0 text next.3 refl)
+    ∙ ap (option_and_then (with_category c.name)) read
+    ∙ ap (λ (b : Bool). cond b (Some (leave_out_category c)) None) (end_read next.1 ended)
 
 abbrev pub half_on : Head → Half × List ℕ
 half_on h = (record { kind = h.0; name = h.1 }, h.2)
@@ -316,12 +341,16 @@ swap_read r n m s on c d =
     ∙ ap (option_and_then (swap_with r.one)) (ap (option_map half_on) another.head)
     ∙ ap (λ (b : Bool). cond b (Some (swap r)) None) (end_read another.rest another.on)
 
+restart_read : (s : List ℕ) → GoesOn [] s → restart_at s ≡ Some restart
+restart_read s on = ap (λ (b : Bool). cond b (Some restart) None) (end_read s on)
+
 -- ---- lines
 
 abbrev pub statement_by : List ℕ → List ℕ → Option Statement
 statement_by w s =
     cond (bytes_eq w (codes "drop")) (leave_out_at s) (cond (bytes_eq w (codes "swap")) (swap_at s)
-    (option_and_then (λ v. change_at v s) (verb_named w)))
+    (cond (bytes_eq w (codes "per-stop")) (restart_at s)
+    (option_and_then (λ v. change_at v s) (verb_named w))))
 
 abbrev line_by : List ℕ → Line
 line_by s = cond (is_over s) nothing (reported (statement_at s))
@@ -363,10 +392,17 @@ says_words l (leave_out name) ws (n, is, c) has =
     let on = subst (λ (xs : List (List ℕ)). HasWords xs l) is has in
     words_read l (codes "drop") (codes "event" ∷ n ∷ []) (leave_out name) on refl refl
     (leave_out_read name n on.1 on.4 c)
+says_words l (leave_out_category r) ws (n, t, is, c, d) has =
+    let on = subst (λ (xs : List (List ℕ)). HasWords xs l) is has in
+    words_read l (codes "drop") (codes "event" ∷ n ∷ (codes "category=" ++ t) ∷ [])
+    (leave_out_category r) on refl refl (category_read r n t on.1 on.4 c d)
 says_words l (swap r) ws (n, m, is, c, d) has =
     let on = subst (λ (xs : List (List ℕ)). HasWords xs l) is has in
     words_read l (codes "swap") (kind_word r.one.kind ∷ n ∷ kind_word r.another.kind ∷ m ∷ [])
     (swap r) on refl refl (swap_read r n m on.1 on.4 c d)
+says_words l restart ws is has =
+    let on = subst (λ (xs : List (List ℕ)). HasWords xs l) is has in
+    words_read l (codes "per-stop") [] restart on refl refl (restart_read on.1 on.4)
 
 pub rule_read : (l : List ℕ) (st : Statement) → SaysRule l st → line_said l ≡ rule st
 rule_read l st (ws, has, words) = says_words l st ws words has

@@ -6,13 +6,19 @@ use Rattle.std.proofs.Common.{◌∙◌}
 use Rattle.std.specs.declared.alloc.Global.{Global}
 use Rattle.dap_tree.proofs.Booleans.{and_left, and_right, and_both, or_left, or_right, or_both}
 use Rattle.dap_mask.specs.Ids.{takes_profile_id, leave_ids}
-use Rattle.dap_mask.specs.Mask.{Mask, change, rule_count}
+use Rattle.dap_mask.specs.Categories.{CategoryRule, category_of, categories_of, moves}
+use Rattle.dap_mask.specs.Categories.{moves_one_of, is_moved_by, keep_categories}
+use Rattle.dap_mask.specs.Categories.{is_category_among}
+use Rattle.dap_mask.specs.Mask.{Mask, change, leave_out_category, rule_count}
 use Rattle.dap_mask.specs.Rules.{Rule, rule_of, rules_of, is_telling_place, are_safe}
 use Rattle.dap_mask.specs.Rules.{are_idempotent}
 use Rattle.dap_mask.specs.Rules.{clash, clashes_with, is_clashed_with, is_among}
-use Rattle.dap_mask.specs.RulesFile.{clash_cause, cause_of_pair, change_cause, cause_against}
+use Rattle.dap_mask.specs.RulesFile.{clash_cause, cause_of_pair, change_cause, or_clash}
+use Rattle.dap_mask.specs.RulesFile.{cause_against}
 use Rattle.dap_mask.specs.declared.rules.MaskRule.{MaskRule}
+use Rattle.dap_mask.specs.declared.categories.CategoryRule.{CategoryRule as ReadCategoryRule}
 use Rattle.dap_mask.specs.declared.fault.RulesCause.TheVariants.{TooMany, BadPlace, Repeated}
+use Rattle.dap_mask.specs.declared.fault.RulesCause.TheVariants.{Clash}
 use Rattle.dap_mask.specs.declared.fault.RulesCause.{RulesCause}
 
 not_true : (b : Bool) → not b ≡ true → b ≡ false
@@ -38,6 +44,20 @@ pub pushed_keeps : (b : Bool) (xs : List MaskRule) (x : MaskRule) (ys : List Mas
     → test (rules_of xs ++ rule_of x ∷ []) ≡ true → test (rules_of ys) ≡ true
 pushed_keeps true xs x ys e test h more = ap test (ap rules_of e ∙ rules_push xs x) ∙ more
 pushed_keeps false xs x ys e test h more = ap (λ zs. test (rules_of zs)) e ∙ h
+
+pub categories_push : (xs : List ReadCategoryRule) (x : ReadCategoryRule)
+    → categories_of (xs ++ x ∷ []) ≡ categories_of xs ++ category_of x ∷ []
+categories_push [] x = refl
+categories_push (y ∷ xs) x = ap (λ cs. category_of y ∷ cs) (categories_push xs x)
+
+-- the same for rules that drop the events of one category
+pub pushed_category_keeps : (b : Bool) (xs : List ReadCategoryRule) (x : ReadCategoryRule)
+    (ys : List ReadCategoryRule) → ys ≡ cond b (xs ++ x ∷ []) xs
+    → (test : List CategoryRule → Bool) → test (categories_of xs) ≡ true
+    → test (categories_of xs ++ category_of x ∷ []) ≡ true → test (categories_of ys) ≡ true
+pushed_category_keeps true xs x ys e test h more =
+    ap test (ap categories_of e ∙ categories_push xs x) ∙ more
+pushed_category_keeps false xs x ys e test h more = ap (λ zs. test (categories_of zs)) e ∙ h
 
 -- ---- the invariants hold after adding a rule that has no error
 
@@ -73,6 +93,33 @@ settled_more (q ∷ rs) r h g =
     (settled_more rs r (and_right (not (clashes_with q rs)) (are_idempotent rs) h)
     (or_right (clash q r) (is_clashed_with rs r) g))
 
+moved_more : (rs : List Rule) (r : Rule) (c : CategoryRule) → is_moved_by rs c ≡ false
+    → moves r c ≡ false → is_moved_by (rs ++ r ∷ []) c ≡ false
+moved_more [] r c h g = or_both _ _ g refl
+moved_more (q ∷ rs) r c h g =
+    or_both _ _ (or_left (moves q c) (is_moved_by rs c) h)
+    (moved_more rs r c (or_right (moves q c) (is_moved_by rs c) h) g)
+
+pub kept_more : (rs : List Rule) (r : Rule) (cs : List CategoryRule)
+    → keep_categories rs cs ≡ true → moves_one_of r cs ≡ false
+    → keep_categories (rs ++ r ∷ []) cs ≡ true
+kept_more rs r [] h g = refl
+kept_more rs r (c ∷ cs) h g =
+    let free = not_true (is_moved_by rs c)
+    (and_left (not (is_moved_by rs c)) (keep_categories rs cs) h) in
+    and_both _ _
+    (ap not (moved_more rs r c free (or_left (moves r c) (moves_one_of r cs) g)))
+    (kept_more rs r cs (and_right (not (is_moved_by rs c)) (keep_categories rs cs) h)
+    (or_right (moves r c) (moves_one_of r cs) g))
+
+pub category_kept : (rs : List Rule) (cs : List CategoryRule) (c : CategoryRule)
+    → keep_categories rs cs ≡ true → is_moved_by rs c ≡ false
+    → keep_categories rs (cs ++ c ∷ []) ≡ true
+category_kept rs [] c h g = and_both _ _ (ap not g) refl
+category_kept rs (e ∷ es) c h g =
+    and_both _ _ (and_left (not (is_moved_by rs e)) (keep_categories rs es) h)
+    (category_kept rs es c (and_right (not (is_moved_by rs e)) (keep_categories rs es) h) g)
+
 -- ---- a rule that has no error
 
 pub record MayStand (rs : List Rule) (r : Rule) : Type 0 where
@@ -103,10 +150,39 @@ may_stand rs r h =
     go false false true p q k = cc
     go false false false p q k = record { safe = p; leaves = q; settled = no_clash rs r k }
 
+or_none : (o : Option RulesCause) (b : Bool) → or_clash o b ≡ None → (o ≡ None) × (b ≡ false)
+or_none None true h = cc
+or_none None false h = (refl, refl)
+or_none (Some c) b h = cc
+
+no_cause : (m : Mask) (r : Rule) → cause_against m (change r) ≡ None
+    → (change_cause m.changes r ≡ None) × (moves_one_of r m.categories ≡ false)
+no_cause m r h = go (nat_le 1000 (rule_count m)) h
+  where
+    go : (b : Bool)
+        → cond b (Some TooMany) (or_clash (change_cause m.changes r) (moves_one_of r m.categories))
+        ≡ None
+        → (change_cause m.changes r ≡ None) × (moves_one_of r m.categories ≡ false)
+    go true k = cc
+    go false k = or_none (change_cause m.changes r) (moves_one_of r m.categories) k
+
 pub change_may_stand : (m : Mask) (r : Rule) → cause_against m (change r) ≡ None
     → MayStand m.changes r
-change_may_stand m r h = go (nat_le 1000 (rule_count m)) h
+change_may_stand m r h = let none = no_cause m r h in may_stand m.changes r none.0
+
+pub change_moves_none : (m : Mask) (r : Rule) → cause_against m (change r) ≡ None
+    → moves_one_of r m.categories ≡ false
+change_moves_none m r h = let none = no_cause m r h in none.1
+
+pub category_not_moved : (m : Mask) (c : CategoryRule)
+    → cause_against m (leave_out_category c) ≡ None → is_moved_by m.changes c ≡ false
+category_not_moved m c h =
+    go (nat_le 1000 (rule_count m)) (is_category_among c m.categories) (is_moved_by m.changes c) h
   where
-    go : (b : Bool) → cond b (Some TooMany) (change_cause m.changes r) ≡ None → MayStand m.changes r
-    go true k = cc
-    go false k = may_stand m.changes r k
+    go : (a b d : Bool)
+        → cond a (Some TooMany) (cond b (Some Repeated) (cond d (Some Clash) None)) ≡ None
+        → d ≡ false
+    go true b d k = cc
+    go false true d k = cc
+    go false false true k = cc
+    go false false false k = refl

@@ -12,7 +12,8 @@ use Rattle.dap_tree.proofs.Booleans.{and_left, and_right}
 use Rattle.dap_tree.specs.Json.{Reads}
 use Rattle.dap_mask.specs.Grammar.{IsInside, at_end, escaped, other, bare, quoted}
 use Rattle.dap_mask.specs.Grammar.{GoesOn, Says}
-use Rattle.dap_mask.specs.Mask.{Statement, change, leave_out, swap, nothing, rule, bad}
+use Rattle.dap_mask.specs.Mask.{Statement, change, leave_out, leave_out_category, swap, restart}
+use Rattle.dap_mask.specs.Mask.{nothing, rule, bad}
 use Rattle.dap_mask.specs.RuleText.{line_said, string_of}
 use Rattle.dap_mask.specs.declared.rules.Verb.TheVariants.{Digits}
 use Rattle.dap_mask.proofs.Lines.{string_is}
@@ -157,6 +158,59 @@ drop_parsed : line_said drop_line ≡ rule drop_rule
 unfolding drop_line drop_rule
 drop_parsed = rw drop_string refl
 
+-- ---- an event of one category
+
+category_line : List ℕ
+category_line = codes "drop event output  category=telemetry # of any name"
+
+category_rule : Statement
+category_rule = leave_out_category (record {
+  name = Some (codes "output");
+  category = codes "telemetry";
+})
+
+category_says : Says category_line (rule category_rule)
+unfolding category_line category_rule
+category_says = (
+  codes "drop" ∷ codes "event" ∷ codes "output" ∷ codes "category=telemetry" ∷ [],
+  (
+    [],
+    codes " event output  category=telemetry # of any name",
+    refl,
+    refl,
+    (
+      codes " ",
+      codes " output  category=telemetry # of any name",
+      refl,
+      (refl, refl),
+      (
+        codes " ",
+        codes "  category=telemetry # of any name",
+        refl,
+        (refl, refl),
+        (
+          codes "  ",
+          codes " # of any name",
+          refl,
+          (refl, refl),
+          (codes " ", codes "# of any name", refl, refl, refl),
+        ),
+      ),
+    ),
+  ),
+  (codes "output", codes "telemetry", refl, bare refl refl, bare refl refl),
+)
+
+category_parsed : line_said category_line ≡ rule category_rule
+unfolding category_line category_rule
+category_parsed = refl
+
+no_category_parsed : line_said (codes "drop event output category=") ≡ bad
+no_category_parsed = refl
+
+other_word_parsed : line_said (codes "drop event output group=telemetry") ≡ bad
+other_word_parsed = refl
+
 -- ---- a rule for the order
 
 swap_line : List ℕ
@@ -203,6 +257,32 @@ swap_says = (
 swap_parsed : line_said swap_line ≡ rule swap_rule
 unfolding swap_line swap_rule
 swap_parsed = refl
+
+-- ---- ids that are numbered again from each stop
+
+stop_line : List ℕ
+stop_line = codes " per-stop\t# of debugpy"
+
+stop_says : Says stop_line (rule restart)
+unfolding stop_line
+stop_says = (
+  codes "per-stop" ∷ [],
+  (
+    codes " ",
+    codes "\t# of debugpy",
+    refl,
+    refl,
+    (codes "\t", codes "# of debugpy", refl, refl, refl),
+  ),
+  refl,
+)
+
+stop_parsed : line_said stop_line ≡ rule restart
+unfolding stop_line
+stop_parsed = refl
+
+more_parsed : line_said (codes "per-stop event *") ≡ bad
+more_parsed = refl
 
 -- ---- lines that are not rules: an incomplete place, and `drop` with a request
 

@@ -7,7 +7,8 @@ use Rattle.dap_profile.specs.PlaceSteps.{PlaceStep, named, each}
 use Rattle.dap_profile.specs.declared.profile.Kind.{Kind}
 use Rattle.dap_profile.specs.declared.profile.Kind.TheVariants.{Request, Response, Event}
 use Rattle.dap_tree.specs.Json.{Reads}
-use Rattle.dap_mask.specs.Mask.{Statement, change, leave_out, swap, Line, nothing, rule, bad}
+use Rattle.dap_mask.specs.Mask.{Statement, change, leave_out, leave_out_category, swap, restart}
+use Rattle.dap_mask.specs.Mask.{Line, nothing, rule, bad}
 use Rattle.dap_mask.specs.RuleText.{line_said}
 use Rattle.dap_mask.specs.Runs.{is_blank, is_plain}
 use Rattle.dap_mask.specs.Texts.{all_of, begins_with}
@@ -97,17 +98,21 @@ kind_word Request = codes "request"
 kind_word Response = codes "response"
 kind_word Event = codes "event"
 
--- The words represent this rule: `VERB KIND NAME PLACE`, `drop event NAME`, or
--- `swap KIND NAME KIND NAME`.
+-- The words represent this rule: `VERB KIND NAME PLACE`, `drop event NAME`,
+-- `drop event NAME category=TEXT`, `swap KIND NAME KIND NAME`, or `per-stop`.
 abbrev pub AreWordsOf : List (List ℕ) → Statement → Type 0
 AreWordsOf ws (change r) = (n : List ℕ) × (p : List ℕ)
     × (ws ≡ verb_word r.verb ∷ kind_word r.kind ∷ n ∷ p ∷ []) × IsNameOrAny n r.name
     × IsPlace p r.place
 AreWordsOf ws (leave_out name) = (n : List ℕ) × (ws ≡ codes "drop" ∷ codes "event" ∷ n ∷ [])
     × IsNameOrAny n name
+AreWordsOf ws (leave_out_category c) = (n : List ℕ) × (t : List ℕ)
+    × (ws ≡ codes "drop" ∷ codes "event" ∷ n ∷ (codes "category=" ++ t) ∷ [])
+    × IsNameOrAny n c.name × IsName t c.category
 AreWordsOf ws (swap s) = (n : List ℕ) × (m : List ℕ)
     × (ws ≡ codes "swap" ∷ kind_word s.one.kind ∷ n ∷ kind_word s.another.kind ∷ m ∷ [])
     × IsNameOrAny n s.one.name × IsNameOrAny m s.another.name
+AreWordsOf ws restart = ws ≡ codes "per-stop" ∷ []
 
 -- The line consists of the words of this rule.
 abbrev pub SaysRule : List ℕ → Statement → Type 0

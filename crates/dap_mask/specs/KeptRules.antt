@@ -1,6 +1,8 @@
 -- The mask that a `MaskRules` represents.
-use Rattle.std.specs.Prelude.{List, ℕ, Option}
+use Rattle.std.specs.Prelude.{Bool, List, ℕ, Option}
+use Rattle.dap_mask.specs.Categories.{CategoryRule}
 use Rattle.dap_mask.specs.ListedRules.{listed_changes, listed_dropped, listed_swaps, listed_mask}
+use Rattle.dap_mask.specs.ListedRules.{listed_categories, listed_per_stop}
 use Rattle.dap_mask.specs.Mask.{Mask}
 use Rattle.dap_mask.specs.Rules.{Rule}
 use Rattle.dap_mask.specs.Swaps.{SwapRule}
@@ -12,8 +14,15 @@ changes_of r = listed_changes r.list
 abbrev pub dropped_of : MaskRules → List (Option (List ℕ))
 dropped_of r = listed_dropped r.list
 
+abbrev pub categories_of_mask : MaskRules → List CategoryRule
+categories_of_mask r = listed_categories r.list
+
 abbrev pub swaps_of_mask : MaskRules → List SwapRule
 swaps_of_mask r = listed_swaps r.list
+
+-- The file has the line `per-stop`.
+abbrev pub per_stop_of : MaskRules → Bool
+per_stop_of r = listed_per_stop r.list
 
 abbrev pub mask_of : MaskRules → Mask
 mask_of r = listed_mask r.list

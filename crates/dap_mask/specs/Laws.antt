@@ -1,9 +1,11 @@
 -- The theorems that the functions of `laws` state.
-use Rattle.std.specs.Prelude.{◌≡◌, ◌↔◌, ℕ, true, List, Option, None, option_map}
+use Rattle.std.specs.Prelude.{◌≡◌, ◌↔◌, ℕ, true, false, List, Option, None, option_map}
 use Rattle.dap_tree.specs.Doc.{Doc, is_ordered, is_sound, all_utf8}
 use Rattle.dap_tree.specs.Path.{Step, at}
 use Rattle.dap_message.specs.Marks.{top}
 use Rattle.dap_mask.specs.Rules.{Rule, are_safe, are_idempotent, is_dropped}
+use Rattle.dap_mask.specs.Categories.{keep_categories}
+use Rattle.dap_mask.specs.Mask.{Mask, leaves_out}
 use Rattle.dap_mask.specs.Masked.{IsMasked, AgreeBut, is_apart, masked}
 use Rattle.dap_mask.specs.Texts.{AreDigitsOf, IsHexOf, digits, hex}
 
@@ -33,6 +35,13 @@ NoneNew = (rules : List Rule) (d : Doc) (p : List Step) → are_safe rules ≡ t
 abbrev pub DropsAlike : Type 0
 DropsAlike = (rules : List Rule) (names : List (Option (List ℕ))) (d : Doc) → are_safe rules ≡ true
     → is_dropped names (masked rules d) ≡ is_dropped names d
+
+-- If no rule drops a message, none drops the masked message, if no change may give an event a
+-- category by which a rule drops it.
+abbrev pub StaysIn : Type 0
+StaysIn = (mask : Mask) (d : Doc) → are_safe mask.changes ≡ true
+    → keep_categories mask.changes mask.categories ≡ true → leaves_out mask d ≡ false
+    → leaves_out mask (masked mask.changes d) ≡ false
 
 -- ---- masked again
 

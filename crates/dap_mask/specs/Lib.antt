@@ -1,6 +1,7 @@
 pub mod Texts
 pub mod Rules
 pub mod Swaps
+pub mod Categories
 pub mod Mask
 pub mod Masked
 pub mod Ids

@@ -1,5 +1,6 @@
 -- The mask that a `RuleList` represents.
-use Rattle.std.specs.Prelude.{List, map, ℕ, Option, option_map, string_bytes}
+use Rattle.std.specs.Prelude.{Bool, List, map, ℕ, Option, option_map, string_bytes}
+use Rattle.dap_mask.specs.Categories.{CategoryRule, categories_of}
 use Rattle.dap_mask.specs.Mask.{Mask}
 use Rattle.dap_mask.specs.Rules.{Rule, rules_of}
 use Rattle.dap_mask.specs.Swaps.{SwapRule, swaps_of}
@@ -11,12 +12,20 @@ listed_changes r = rules_of r.changes.items
 abbrev pub listed_dropped : RuleList → List (Option (List ℕ))
 listed_dropped r = map (option_map string_bytes) r.dropped.items
 
+abbrev pub listed_categories : RuleList → List CategoryRule
+listed_categories r = categories_of r.categories.items
+
 abbrev pub listed_swaps : RuleList → List SwapRule
 listed_swaps r = swaps_of r.swaps.items
+
+abbrev pub listed_per_stop : RuleList → Bool
+listed_per_stop r = r.per_stop
 
 abbrev pub listed_mask : RuleList → Mask
 listed_mask r = record {
   changes = listed_changes r;
   dropped = listed_dropped r;
+  categories = listed_categories r;
   swaps = listed_swaps r;
+  per_stop = listed_per_stop r;
 }

@@ -7,9 +7,8 @@ use Rattle.dap_tree.specs.Doc.{Members, no_members, member, is_sound, is_ordered
 use Rattle.dap_tree.specs.Json.{Reads, IsRead, HasNoReading, text_of}
 use Rattle.dap_tree.specs.declared.fault.TreeFault.{TreeFault}
 use Rattle.dap_tree.specs.declared.fault.TreeFault.TheVariants.{Json, Fraction, Memory}
-use Rattle.dap_mask.specs.Mask.{Mask, no_rules}
+use Rattle.dap_mask.specs.Mask.{Mask, no_rules, leaves_out}
 use Rattle.dap_mask.specs.Masked.{masked}
-use Rattle.dap_mask.specs.Rules.{is_dropped}
 
 -- An integer that is out of range and represents each number that is not an integer of 64 bits.
 abbrev pub no_whole : ℤ
@@ -47,13 +46,13 @@ IsReadLoosely bytes d = (v : json.Data) × Reads bytes v × (d ≡ loose v)
 -- The result of masking a document (own): `None` for an event that the rules drop, and otherwise
 -- the masked document, which must be serialisable.
 abbrev pub IsLeft : Mask → Doc → Option Doc → Type 0
-IsLeft mask d None = is_dropped mask.dropped d ≡ true
-IsLeft mask d (Some e) = (is_dropped mask.dropped d ≡ false) × (e ≡ masked mask.changes d)
+IsLeft mask d None = leaves_out mask d ≡ true
+IsLeft mask d (Some e) = (leaves_out mask d ≡ false) × (e ≡ masked mask.changes d)
     × (is_sound e ≡ true)
 
 -- The document is not dropped, and a non-integer number remains in the masked document.
 abbrev pub HasFractionLeft : Mask → Doc → Type 0
-HasFractionLeft mask d = (is_dropped mask.dropped d ≡ false)
+HasFractionLeft mask d = (leaves_out mask d ≡ false)
     × (is_sound (masked mask.changes d) ≡ false)
 
 -- The content is JSON text, and this is the result of masking it.

@@ -1,5 +1,5 @@
 -- The meaning of a line of a rules file, parsed from its start.
-use Rattle.std.specs.Prelude.{ℕ, zero, suc, ◌==◌, false, cond, ◌&&◌, List, [], ◌∷◌}
+use Rattle.std.specs.Prelude.{ℕ, zero, suc, ◌==◌, false, cond, List, [], ◌∷◌}
 use Rattle.std.specs.Prelude.{length, take, drop, Option, Some, None, option_map, option_and_then}
 use Rattle.std.specs.Prelude.{codes, bytes_eq}
 use Rattle.std.specs.Str.{is_utf8}
@@ -8,7 +8,8 @@ use Rattle.serde_json.specs.Read.{read}
 use Rattle.dap_profile.specs.PlaceSteps.{PlaceStep, named, each}
 use Rattle.dap_profile.specs.declared.profile.Kind.{Kind}
 use Rattle.dap_profile.specs.declared.profile.Kind.TheVariants.{Request, Response, Event}
-use Rattle.dap_mask.specs.Mask.{Statement, change, leave_out, swap, Line, nothing, rule, bad}
+use Rattle.dap_mask.specs.Mask.{Statement, change, leave_out, leave_out_category, swap, restart}
+use Rattle.dap_mask.specs.Mask.{Line, nothing, rule, bad}
 use Rattle.dap_mask.specs.Rules.{same_kind}
 use Rattle.dap_mask.specs.Runs.{is_plain, front, behind, closing, is_closed, gap, is_end}
 use Rattle.dap_mask.specs.Runs.{is_blank}
@@ -126,10 +127,33 @@ abbrev pub change_at : Verb → List ℕ → Option Statement
 change_at v s = option_and_then (λ h. option_and_then (place_behind v h.0 h.1) (gap h.2))
     (head_at s)
 
+-- The text after the sign `=` (61), and the rest.
+abbrev pub text_behind : List ℕ → Option (List ℕ × List ℕ)
+text_behind [] = None
+text_behind (b ∷ s) = cond (b == 61) (name_at s) None
+
+-- The category `category=TEXT` with which the text starts, and the rest.
+abbrev pub category_at : List ℕ → Option (List ℕ × List ℕ)
+category_at s = cond (bytes_eq (front is_plain s) (codes "category"))
+    (text_behind (behind is_plain s)) None
+
+-- The rule that drops events of this name and category, if the line ends after the category.
+abbrev pub with_category : Option (List ℕ) → List ℕ × List ℕ → Option Statement
+with_category n c = cond (is_end c.1)
+    (Some (leave_out_category (record { name = n; category = c.0 }))) None
+
+abbrev pub category_behind : Option (List ℕ) → List ℕ → Option Statement
+category_behind n s = option_and_then (λ t. option_and_then (with_category n) (category_at t))
+    (gap s)
+
+-- The rule that drops events of this name, whose category is in the text unless the line ends.
+abbrev pub dropped_at : Option (List ℕ) → List ℕ → Option Statement
+dropped_at n s = cond (is_end s) (Some (leave_out n)) (category_behind n s)
+
 -- The rule that drops events, whose name is in the text.
 abbrev pub leave_out_at : List ℕ → Option Statement
-leave_out_at s = option_and_then (λ h. cond (same_kind h.0 Event && is_end h.2)
-    (Some (leave_out h.1)) None) (head_at s)
+leave_out_at s = option_and_then (λ h. cond (same_kind h.0 Event) (dropped_at h.1 h.2) None)
+    (head_at s)
 
 -- The half of a rule for the order with which the text starts, and the rest of the text.
 abbrev pub half_at : List ℕ → Option (Half × List ℕ)
@@ -143,11 +167,16 @@ swap_with one h = cond (is_end h.1) (Some (swap (record { one = one; another = h
 abbrev pub swap_at : List ℕ → Option Statement
 swap_at s = option_and_then (λ h. option_and_then (swap_with h.0) (half_at h.1)) (half_at s)
 
+-- The rule `per-stop`, if the line ends after its word.
+abbrev pub restart_at : List ℕ → Option Statement
+restart_at s = cond (is_end s) (Some restart) None
+
 abbrev pub statement_at : List ℕ → Option Statement
 statement_at s =
     cond (bytes_eq (front is_plain s) (codes "drop")) (leave_out_at (behind is_plain s))
     (cond (bytes_eq (front is_plain s) (codes "swap")) (swap_at (behind is_plain s))
-    (option_and_then (λ v. change_at v (behind is_plain s)) (verb_named (front is_plain s))))
+    (cond (bytes_eq (front is_plain s) (codes "per-stop")) (restart_at (behind is_plain s))
+    (option_and_then (λ v. change_at v (behind is_plain s)) (verb_named (front is_plain s)))))
 
 abbrev pub reported : Option Statement → Line
 reported None = bad

@@ -2,9 +2,10 @@
 use Rattle.std.specs.Prelude.{ℕ, suc, ◌==◌, Bool, false, cond, ◌||◌, nat_le, nat_lt, List, [], ◌∷◌}
 use Rattle.std.specs.Prelude.{length, take, Option, Some, None, Result, Ok, Err, count_by}
 use Rattle.std.specs.Str.{is_utf8}
+use Rattle.dap_mask.specs.Categories.{is_category_among, is_moved_by, moves_one_of}
 use Rattle.dap_mask.specs.Ids.{takes_profile_id}
 use Rattle.dap_mask.specs.Mask.{Mask, no_rules, rule_count, with_rule, Statement, change, leave_out}
-use Rattle.dap_mask.specs.Mask.{swap, Line, nothing, rule, bad}
+use Rattle.dap_mask.specs.Mask.{leave_out_category, swap, restart, Line, nothing, rule, bad}
 use Rattle.dap_mask.specs.RuleText.{line_said}
 use Rattle.dap_mask.specs.Rules.{Rule, clash, is_among, is_telling_place, same_name}
 use Rattle.dap_mask.specs.Runs.{lines_of}
@@ -38,11 +39,19 @@ change_cause rs r =
     cond (is_telling_place r.place || takes_profile_id r) (Some BadPlace)
     (cond (is_among r rs) (Some Repeated) (clash_cause rs r))
 
+-- The first cause, or `Clash` if there is none and the rules clash.
+abbrev pub or_clash : Option RulesCause → Bool → Option RulesCause
+or_clash None clashes = cond clashes (Some Clash) None
+or_clash (Some c) clashes = Some c
+
 -- Why a rule may not follow the rules of a mask, apart from the limit on their number.
 abbrev pub cause_of : Mask → Statement → Option RulesCause
-cause_of m (change r) = change_cause m.changes r
+cause_of m (change r) = or_clash (change_cause m.changes r) (moves_one_of r m.categories)
 cause_of m (leave_out n) = cond (is_name_among n m.dropped) (Some Repeated) None
+cause_of m (leave_out_category c) = cond (is_category_among c m.categories) (Some Repeated)
+    (cond (is_moved_by m.changes c) (Some Clash) None)
 cause_of m (swap s) = cond (is_swap_among s m.swaps) (Some Repeated) None
+cause_of m restart = cond m.per_stop (Some Repeated) None
 
 -- Why a rule may not follow the rules of a mask; `None` if it may. A mask has at most a thousand
 -- rules.

@@ -23,7 +23,7 @@ pub enum RulesCause {
     ///
     /// - Cause: a missing word, or a name with other characters that is not in quotes.
     /// - Fix: write a verb, a kind, a name and a place, or `swap` with two kinds and names, with
-    ///   spaces between them.
+    ///   spaces between them, or `per-stop` alone.
     #[error("BadRule")]
     BadRule,
     /// A thousand rules precede it.
@@ -53,7 +53,8 @@ pub enum RulesCause {
     #[error("DigitsBehindHex")]
     DigitsBehindHex,
     /// An earlier rule has another action at the same place of messages that may be the same, and
-    /// masking twice by both could change a text again.
+    /// masking twice by both could change a text again. Or one of the two changes `body.category`
+    /// of events that the other drops by their category.
     ///
     /// - Cause: `hex` before `long`, `uuid` after another action, or `uuid` with `digits`.
     /// - Fix: write `uuid` before `long` and `hex` last, and do not use `uuid` and `digits` at one

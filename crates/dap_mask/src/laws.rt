@@ -3,7 +3,7 @@
 ghost use Rattle.dap_mask.specs.Grammar.{ParserFindsLine, LineSaysOne};
 ghost use Rattle.dap_mask.specs.Laws.{MaskedByPath, OneMasked, KeepsOthers, NoneNew, DropsAlike};
 ghost use Rattle.dap_mask.specs.Laws.{MaskedOnce, EqualWhereAgree, KeepsOrder, KeepsSound};
-ghost use Rattle.dap_mask.specs.Laws.{KeepsUtf8, DigitsAre, HexIs};
+ghost use Rattle.dap_mask.specs.Laws.{KeepsUtf8, StaysIn, DigitsAre, HexIs};
 ghost use Rattle.dap_mask.specs.Loose.{UnmaskedIsRead, OneLooseReading, LooseIsOrdered};
 ghost use Rattle.dap_mask.specs.Loose.{LeftIsRead};
 ghost use Rattle.dap_mask.specs.Ids.{LeavesIds};
@@ -15,6 +15,7 @@ pub fn exactly_those_places()
     ensures others { KeepsOthers }
     ensures none_new { NoneNew }
     ensures dropped { DropsAlike }
+    ensures stays { StaysIn }
     ensures ordered { KeepsOrder }
     ensures sound { KeepsSound }
     ensures utf8 { KeepsUtf8 }

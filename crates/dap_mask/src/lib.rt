@@ -2,10 +2,11 @@
 //!
 //! [`MaskRules::read`] reads the rules of a file, and [`mask`] changes the values of a message at
 //! the places of the rules. `specs/` defines the meaning of the rules, and [`laws`] states the
-//! theorems. The file may also contain rules for the order of messages, [`MaskRules::swaps`], which
-//! masking does not use.
+//! theorems. The file may also contain rules for the order of messages, [`MaskRules::swaps`], and
+//! the line `per-stop`, [`MaskRules::per_stop`], which masking does not use.
 #![tactic(auto)]
 
+mod categories;
 mod fault;
 mod index;
 pub mod laws;
@@ -23,6 +24,7 @@ mod statement;
 mod swaps;
 mod texts;
 
+pub use categories::CategoryRule;
 pub use fault::{RulesCause, RulesFault};
 pub use loose::read_masked;
 pub use mask_rules::MaskRules;

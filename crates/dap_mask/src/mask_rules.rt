@@ -5,6 +5,7 @@ ghost use Rattle.dap_profile.specs.declared.profile.Kind.TheVariants.{Request, R
 ghost use Rattle.dap_mask.specs.Index.{IsIndex};
 ghost use Rattle.dap_mask.specs.ListedRules.{listed_changes};
 
+use crate::categories::CategoryRule;
 use crate::fault::{RulesCause, RulesFault};
 use crate::index::KindRules;
 use crate::rule_list::RuleList;
@@ -32,7 +33,8 @@ pub struct MaskRules {
 impl MaskRules {
     ghost use Rattle.dap_mask.specs.Index.{positions};
     ghost use Rattle.dap_mask.specs.KeptRules.{mask_of, changes_of, dropped_of};
-    ghost use Rattle.dap_mask.specs.KeptRules.{swaps_of_mask};
+    ghost use Rattle.dap_mask.specs.Categories.{categories_of};
+    ghost use Rattle.dap_mask.specs.KeptRules.{categories_of_mask, swaps_of_mask, per_stop_of};
     ghost use Rattle.dap_mask.specs.ListedRules.{listed_mask};
     ghost use Rattle.dap_mask.specs.Mask.{no_rules};
     ghost use Rattle.dap_mask.specs.Rules.{rules_of};
@@ -85,11 +87,18 @@ impl MaskRules {
         self.list.changes()
     }
 
-    /// Returns the names of the events that are dropped. `None` is any name.
+    /// Returns the names of the events that are dropped in each category. `None` is any name.
     pub fn dropped(&self) -> &[Option<String>]
         ensures { map (option_map string_bytes) result.now ≡ dropped_of self.now }
     {
         self.list.dropped()
+    }
+
+    /// Returns the rules that drop the events of one category.
+    pub fn categories(&self) -> &[CategoryRule]
+        ensures { categories_of result.now ≡ categories_of_mask self.now }
+    {
+        self.list.categories()
     }
 
     /// Returns the rules for the order of messages, in the order of the file. Masking does not use
@@ -98,6 +107,14 @@ impl MaskRules {
         ensures { swaps_of result.now ≡ swaps_of_mask self.now }
     {
         self.list.swaps()
+    }
+
+    /// Returns whether the file has the line `per-stop`: ids are numbered again from each stop.
+    /// Masking does not use it.
+    pub fn per_stop(&self) -> bool
+        ensures { result ≡ per_stop_of self.now }
+    {
+        self.list.per_stop()
     }
 
     /// Returns the positions of the changes that may apply to messages of this kind and name, in

@@ -1,19 +1,24 @@
 //! Masks the values of a message in place.
-ghost use Rattle.std.specs.Prelude.{◌≡◌, ◌↔◌, true, Some, map, option_map, string_bytes};
+ghost use Rattle.std.specs.Prelude.{◌≡◌, ◌↔◌, true, false, Some, map, option_map, string_bytes};
 ghost use Rattle.std.specs.Prelude.{slice_get};
 ghost use Rattle.dap_tree.specs.Doc.{Doc, is_sound, is_ordered, get, change_child, change_items};
 ghost use Rattle.dap_tree.specs.Doc.{map_items};
+ghost use Rattle.dap_tree.specs.Path.{at};
 ghost use Rattle.dap_tree.specs.View.{view, items_view};
 ghost use Rattle.dap_message.specs.Marks.{edit};
 ghost use Rattle.dap_message.specs.Rows.{is_text, is_of_kind, name_key};
 ghost use Rattle.dap_mask.specs.Ids.{KeepsIds};
 ghost use Rattle.dap_mask.specs.Index.{told_kind, told_name, masked_by, masked_at};
-ghost use Rattle.dap_mask.specs.KeptRules.{changes_of, dropped_of};
+ghost use Rattle.dap_mask.specs.Categories.{category_path, category_of, categories_of, drops};
+ghost use Rattle.dap_mask.specs.Categories.{is_dropped_by};
+ghost use Rattle.dap_mask.specs.KeptRules.{changes_of, dropped_of, mask_of};
+ghost use Rattle.dap_mask.specs.Mask.{leaves_out};
 ghost use Rattle.dap_mask.specs.Masked.{mask_by, masked, IsMasked, AgreeBut, KeepsElsewhere};
 ghost use Rattle.dap_mask.specs.Masked.{HasNoNewPath};
 ghost use Rattle.dap_mask.specs.Rules.{rule_of, rules_of, place_of, of_verb, blank, has_name};
 ghost use Rattle.dap_mask.specs.Rules.{rule_applies, is_event_of, is_dropped};
 
+use crate::categories::CategoryRule;
 use crate::mask_rules::MaskRules;
 use crate::meets::text_of;
 use crate::rules::{MaskRule, Step, Verb};
@@ -46,11 +51,13 @@ pub fn mask(tree: &mut Tree, rules: &MaskRules)
         ↔ AgreeBut (changes_of rules.now) (view tree.old) d }
 
     // The message stays serialisable and keeps its members in order, if it was so before. It is
-    // dropped if and only if it was dropped before.
+    // dropped by its name if and only if it was before. If no rule dropped it, none drops it now.
     ensures sound { is_sound (view tree.old) ≡ true → is_sound (view tree.new) ≡ true }
     ensures ordered { is_ordered (view tree.old) ≡ true → is_ordered (view tree.new) ≡ true }
     ensures dropped { is_dropped (dropped_of rules.now) (view tree.new)
         ≡ is_dropped (dropped_of rules.now) (view tree.old) }
+    ensures stays { leaves_out (mask_of rules.now) (view tree.old) ≡ false
+        → leaves_out (mask_of rules.now) (view tree.new) ≡ false }
 {
     mask_all(tree, rules);
 }
@@ -114,9 +121,37 @@ fn told_name(tree: &Tree, kind: Kind) -> Option<&str>
 
 /// Returns whether a message is an event that the rules drop. Does not allocate.
 pub fn is_dropped(tree: &Tree, rules: &MaskRules) -> bool
-    ensures { result ≡ is_dropped (dropped_of rules.now) (view tree.now) }
+    ensures { result ≡ leaves_out (mask_of rules.now) (view tree.now) }
 {
-    is_of_kind(tree, Kind::Event) && is_event_of(tree, rules.dropped())
+    is_of_kind(tree, Kind::Event)
+        && (is_event_of(tree, rules.dropped()) || is_dropped_by(tree, rules.categories()))
+}
+
+fn is_dropped_by(tree: &Tree, rules: &[CategoryRule]) -> bool
+    ensures { result ≡ is_dropped_by (categories_of rules.now) (view tree.now) }
+{
+    for rule in rules {
+        if drops(tree, rule) {
+            return true;
+        }
+    }
+    false
+}
+
+fn drops(tree: &Tree, rule: &CategoryRule) -> bool
+    ensures { result ≡ drops (category_of rule.now) (view tree.now) }
+{
+    has_name(tree, Kind::Event, text_of(&rule.name)) && has_category(tree, rule.category.as_str())
+}
+
+#[tactic(auto, using(crate::proofs::Dropping::category_in, crate::proofs::Dropping::no_body))]
+fn has_category(tree: &Tree, category: &str) -> bool
+    ensures { result ≡ is_text category.now (at category_path (view tree.now)) }
+{
+    match tree.child("body") {
+        Some(body) => has_text(body, "category", category),
+        None => false,
+    }
 }
 
 fn is_event_of(tree: &Tree, names: &[Option<String>]) -> bool

@@ -51,7 +51,8 @@ fn meets(rule: &MaskRule, row: &Row) -> bool
     }
 }
 
-fn is_at(place: &[Step], row_place: Place) -> bool
+/// Returns whether the place is that of a row.
+pub(crate) fn is_at(place: &[Step], row_place: Place) -> bool
     ensures { result ≡ same_place (place_of place.now) (steps_of row_place) }
 {
     match row_place {

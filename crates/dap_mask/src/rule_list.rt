@@ -2,10 +2,12 @@
 ghost use Rattle.std.specs.Prelude.{◌≡◌, ◌≢◌, ◌≤◌, true, None, Ok, Err, map, option_map};
 ghost use Rattle.std.specs.Prelude.{IfOk, IfErr, OnOk, length, string_bytes, ◌+◌, vec_len};
 ghost use Rattle.std.specs.Str.{is_utf8};
+ghost use Rattle.dap_mask.specs.Categories.{category_of, categories_of, keep_categories};
 ghost use Rattle.dap_mask.specs.Ids.{leave_ids};
 ghost use Rattle.dap_mask.specs.Rules.{rule_of, rules_of, are_safe, are_idempotent};
-ghost use Rattle.dap_mask.specs.RulesFile.{is_name_among, change_cause, last_line};
+ghost use Rattle.dap_mask.specs.RulesFile.{is_name_among, change_cause, or_clash, last_line};
 
+use crate::categories::{CategoryRule, is_category_among, is_moved_by, moves_one_of};
 use crate::fault::{RulesCause, RulesFault};
 use crate::meets::{clash_cause, is_among, is_telling_place, same_name, text_of};
 use crate::profile_ids::takes_profile_id;
@@ -31,17 +33,22 @@ const MAX_RULES: usize = 1_000;
 pub(crate) struct RuleList {
     changes: Vec<MaskRule>,
     dropped: Vec<Option<String>>,
+    categories: Vec<CategoryRule>,
     swaps: Vec<SwapRule>,
-    ghost few: { vec_len changes + vec_len dropped + vec_len swaps ≤ 1000 },
+    per_stop: bool,
+    ghost few: { vec_len changes + vec_len dropped + vec_len categories + vec_len swaps ≤ 1000 },
     ghost safe: { are_safe (rules_of changes.items) ≡ true },
     ghost settled: { are_idempotent (rules_of changes.items) ≡ true },
     ghost leave: { leave_ids (rules_of changes.items) ≡ true },
+    ghost kept: { keep_categories (rules_of changes.items) (categories_of categories.items)
+        ≡ true },
 }
 
 impl RuleList {
     ghost use Rattle.dap_mask.specs.ListedRules.{listed_mask, listed_changes, listed_dropped};
-    ghost use Rattle.dap_mask.specs.ListedRules.{listed_swaps};
-    ghost use Rattle.dap_mask.specs.Mask.{no_rules, with_rule, statement_of, nothing};
+    ghost use Rattle.dap_mask.specs.ListedRules.{listed_categories, listed_swaps, listed_per_stop};
+    ghost use Rattle.dap_mask.specs.Mask.{no_rules, rule_count, with_rule, statement_of, nothing};
+    ghost use Rattle.dap_mask.specs.Mask.{leave_out_category};
     ghost use Rattle.dap_mask.specs.RuleText.{line_said};
     ghost use Rattle.dap_mask.specs.RulesFile.{cause_against, line_outcome, rules_from, rules_said};
     ghost use Rattle.dap_mask.specs.Runs.{lines_of};
@@ -80,7 +87,9 @@ impl RuleList {
         RuleList {
             changes: Vec::new(alloc),
             dropped: Vec::new(alloc),
+            categories: Vec::new(alloc),
             swaps: Vec::new(alloc),
+            per_stop: false,
         }
     }
 
@@ -98,11 +107,34 @@ impl RuleList {
         self.dropped.as_slice()
     }
 
+    /// Returns the rules that drop the events of one category.
+    pub(crate) fn categories(&self) -> &[CategoryRule]
+        ensures { categories_of result.now ≡ listed_categories self.now }
+    {
+        self.categories.as_slice()
+    }
+
     /// Returns the rules for the order of messages, in the order of the file.
     pub(crate) fn swaps(&self) -> &[SwapRule]
         ensures { swaps_of result.now ≡ listed_swaps self.now }
     {
         self.swaps.as_slice()
+    }
+
+    /// Returns whether ids are numbered again from each stop.
+    pub(crate) fn per_stop(&self) -> bool
+        ensures { result ≡ listed_per_stop self.now }
+    {
+        self.per_stop
+    }
+
+    /// Returns the number of rules.
+    fn rule_count(&self) -> usize
+        ensures { result ≡ rule_count (listed_mask self.now) }
+    {
+        let values = self.changes.len() + self.dropped.len() + self.categories.len();
+        let lists = values + self.swaps.len();
+        if self.per_stop { lists + 1 } else { lists }
     }
 
     fn take_lines(&mut self, alloc: Global, text: &[u8]) -> Result<(), RulesFault>
@@ -162,14 +194,28 @@ impl RuleList {
     fn cause_against(&self, statement: &Statement) -> Option<RulesCause>
         ensures { result ≡ cause_against (listed_mask self.now) (statement_of statement.now) }
     {
-        if self.changes.len() + self.dropped.len() + self.swaps.len() >= MAX_RULES {
+        if self.rule_count() >= MAX_RULES {
             return Some(RulesCause::TooMany);
         }
         match statement {
-            Statement::Change(rule) => change_cause(&self.changes, rule),
+            Statement::Change(rule) => {
+                or_clash(
+                    change_cause(&self.changes, rule),
+                    moves_one_of(rule, &self.categories),
+                )
+            }
             Statement::LeaveOut(name) => {
                 if is_name_among(name, &self.dropped) {
                     Some(RulesCause::Repeated)
+                } else {
+                    None
+                }
+            }
+            Statement::LeaveOutCategory(rule) => {
+                if is_category_among(rule, &self.categories) {
+                    Some(RulesCause::Repeated)
+                } else if is_moved_by(&self.changes, rule) {
+                    Some(RulesCause::Clash)
                 } else {
                     None
                 }
@@ -181,7 +227,24 @@ impl RuleList {
                     None
                 }
             }
+            Statement::PerStop => {
+                if self.per_stop {
+                    Some(RulesCause::Repeated)
+                } else {
+                    None
+                }
+            }
         }
+    }
+
+    fn take_category(&mut self, rule: CategoryRule) -> Result<(), AllocError>
+        requires { cause_against (listed_mask self.old) (leave_out_category (category_of rule))
+            ≡ None }
+        ensures { OnOk result (listed_mask self.new
+            ≡ with_rule (listed_mask self.old) (leave_out_category (category_of rule))) }
+    {
+        self.categories.push(rule)?;
+        Ok(())
     }
 
     fn take(&mut self, statement: Statement) -> Result<(), AllocError>
@@ -192,7 +255,9 @@ impl RuleList {
         match statement {
             Statement::Change(rule) => self.changes.push(rule)?,
             Statement::LeaveOut(name) => self.dropped.push(name)?,
+            Statement::LeaveOutCategory(rule) => self.take_category(rule)?,
             Statement::Swap(swap) => self.swaps.push(swap)?,
+            Statement::PerStop => self.per_stop = true,
         }
         Ok(())
     }
@@ -224,6 +289,22 @@ fn change_cause(changes: &[MaskRule], rule: &MaskRule) -> Option<RulesCause>
         Some(RulesCause::Repeated)
     } else {
         clash_cause(changes, rule)
+    }
+}
+
+// Returns the cause, or `Clash` if there is none and the rules clash.
+fn or_clash(cause: Option<RulesCause>, clashes: bool) -> Option<RulesCause>
+    ensures { result ≡ or_clash cause clashes }
+{
+    match cause {
+        Some(cause) => Some(cause),
+        None => {
+            if clashes {
+                Some(RulesCause::Clash)
+            } else {
+                None
+            }
+        }
     }
 }
 

@@ -1,12 +1,15 @@
 //! Parses a line of a rules file.
 ghost use Rattle.std.specs.Prelude.{◌≡◌, ◌≢◌, IfOk, IfErr, option_map, string_bytes};
 ghost use Rattle.dap_mask.specs.Mask.{statement_of, line_of, nothing};
-ghost use Rattle.dap_mask.specs.RuleText.{verb_named, kind_named, head_at, change_at, leave_out_at};
-ghost use Rattle.dap_mask.specs.RuleText.{half_at, swap_at, statement_at, line_said};
+ghost use Rattle.dap_mask.specs.RuleText.{verb_named, kind_named, head_at, change_at, category_at};
+ghost use Rattle.dap_mask.specs.RuleText.{text_behind, category_behind, leave_out_at};
+ghost use Rattle.dap_mask.specs.RuleText.{half_at, swap_at, restart_at};
+ghost use Rattle.dap_mask.specs.RuleText.{statement_at, line_said};
 ghost use Rattle.dap_mask.specs.Swaps.{half_of};
 
+use crate::categories::CategoryRule;
 use crate::meets::same_kind;
-use crate::names::any_name;
+use crate::names::{any_name, name_at};
 use crate::places::place_at;
 use crate::rules::{MaskRule, Verb};
 use crate::runs::{ByteClass, gap, is_end, split_run};
@@ -21,8 +24,12 @@ pub(crate) enum Statement {
     Change(MaskRule),
     /// Drops the events of this name; all events, if `None`.
     LeaveOut(Option<String>),
+    /// Drops the events of a name and a category.
+    LeaveOutCategory(CategoryRule),
     /// Allows two neighbouring messages to be exchanged.
     Swap(SwapRule),
+    /// Numbers ids again from each stop.
+    PerStop,
 }
 
 /// The meaning of a line.
@@ -59,6 +66,9 @@ fn statement_at(alloc: Global, text: &[u8]) -> Result<Option<Statement>, AllocEr
     }
     if word == b"swap".as_slice() {
         return swap_at(alloc, rest);
+    }
+    if word == b"per-stop".as_slice() {
+        return Ok(restart_at(rest));
     }
     match verb_named(word) {
         Some(verb) => change_at(alloc, verb, rest),
@@ -148,10 +158,64 @@ fn leave_out_at(alloc: Global, text: &[u8]) -> Result<Option<Statement>, AllocEr
     let Some((kind, name, text)) = head_at(alloc, text)? else {
         return Ok(None);
     };
-    if same_kind(kind, Kind::Event) && is_end(text) {
-        Ok(Some(Statement::LeaveOut(name)))
+    if !same_kind(kind, Kind::Event) {
+        return Ok(None);
+    }
+    if is_end(text) {
+        return Ok(Some(Statement::LeaveOut(name)));
+    }
+    category_behind(alloc, name, text)
+}
+
+// Returns the rule that drops the events of this name and of the category in the text.
+fn category_behind(
+    alloc: Global,
+    name: Option<String>,
+    text: &[u8],
+) -> Result<Option<Statement>, AllocError>
+    ensures { IfOk result (λ o. option_map statement_of o
+        ≡ category_behind (option_map string_bytes name) text.now) }
+{
+    let Some(text) = gap(text) else {
+        return Ok(None);
+    };
+    let Some((category, rest)) = category_at(alloc, text)? else {
+        return Ok(None);
+    };
+    if is_end(rest) {
+        Ok(Some(Statement::LeaveOutCategory(CategoryRule { name, category })))
     } else {
         Ok(None)
+    }
+}
+
+// Returns the text of `category=TEXT`, with which the text starts, and the rest.
+fn category_at(alloc: Global, text: &[u8]) -> Result<Option<(String, &[u8])>, AllocError>
+    ensures { IfOk result
+        (λ o. option_map (λ n. (string_bytes n.0, n.1.now)) o ≡ category_at text.now) }
+{
+    let (word, rest) = split_run(text, ByteClass::Plain);
+    if word == b"category".as_slice() {
+        text_behind(alloc, rest)
+    } else {
+        Ok(None)
+    }
+}
+
+// Returns the text after `=`, with which the text starts, and the rest.
+fn text_behind(alloc: Global, text: &[u8]) -> Result<Option<(String, &[u8])>, AllocError>
+    ensures { IfOk result
+        (λ o. option_map (λ n. (string_bytes n.0, n.1.now)) o ≡ text_behind text.now) }
+{
+    match text {
+        [first, rest @ ..] => {
+            if *first == b'=' {
+                name_at(alloc, rest)
+            } else {
+                Ok(None)
+            }
+        }
+        [] => Ok(None),
     }
 }
 
@@ -179,5 +243,15 @@ fn swap_at(alloc: Global, text: &[u8]) -> Result<Option<Statement>, AllocError>
         Ok(Some(Statement::Swap(SwapRule { one, another })))
     } else {
         Ok(None)
+    }
+}
+
+fn restart_at(text: &[u8]) -> Option<Statement>
+    ensures { option_map statement_of result ≡ restart_at text.now }
+{
+    if is_end(text) {
+        Some(Statement::PerStop)
+    } else {
+        None
     }
 }

@@ -9,8 +9,7 @@ use Rattle.dap_message.specs.Message.{Sent}
 use Rattle.dap_rename.proofs.Lists.{each-append, each_left, each_right}
 use Rattle.dap_normal.specs.Accepting.{text}
 use Rattle.dap_normal.proofs.NormalTexts.{text-append}
-use Rattle.dap_mask.specs.Mask.{Mask}
-use Rattle.dap_mask.specs.Rules.{is_dropped}
+use Rattle.dap_mask.specs.Mask.{Mask, leaves_out}
 use Rattle.dap_mask_input.specs.Masking.{AreWhole, is_kept, kept, left_of, mask_message}
 use Rattle.dap_mask_input.specs.Masking.{masked_text}
 
@@ -33,10 +32,10 @@ module _ (mask : Mask) where
       ∙ text-append (left_of mask messages) (left_of mask others)
 
   -- A dropped message leaves nothing; any other message leaves the masked message.
-  pub left_none : (m : Sent) → is_dropped mask.dropped m.doc ≡ true → left_of mask (m ∷ []) ≡ []
+  pub left_none : (m : Sent) → leaves_out mask m.doc ≡ true → left_of mask (m ∷ []) ≡ []
   left_none m dropped = rw dropped refl
 
-  pub left_one : (m : Sent) → is_dropped mask.dropped m.doc ≡ false
+  pub left_one : (m : Sent) → leaves_out mask m.doc ≡ false
       → left_of mask (m ∷ []) ≡ mask_message mask m ∷ []
   left_one m stays = rw stays refl
 

@@ -1,6 +1,6 @@
 -- A masked text masks to itself, and determines the messages except for the values that the rules
 -- remove.
-use Rattle.std.proofs.Common.{◌≡◌, ℕ, ◌≤◌, true, not, List, [], ◌∷◌, length, map}
+use Rattle.std.proofs.Common.{◌≡◌, ℕ, ◌≤◌, Bool, true, false, not, List, [], ◌∷◌, length, map}
 use Rattle.std.proofs.Common.{refl, sym, ◌∙◌, ap, ap₂, subst}
 use Rattle.std.specs.List.{AllByRecursion, AllZip}
 use Rattle.dap_tree.specs.Doc.{is_ordered}
@@ -20,10 +20,12 @@ use Rattle.dap_normal.specs.Normalising.{Normalises}
 use Rattle.dap_normal.proofs.NormalFormLaws.{equal_texts_tell}
 use Rattle.dap_mask.specs.Ids.{leave_ids}
 use Rattle.dap_mask.specs.Loose.{IsReadLoosely}
-use Rattle.dap_mask.specs.Mask.{Mask}
+use Rattle.dap_mask.specs.Categories.{keep_categories}
+use Rattle.dap_mask.specs.Mask.{Mask, leaves_out}
 use Rattle.dap_mask.specs.Masked.{masked}
-use Rattle.dap_mask.specs.Rules.{are_safe, are_idempotent, is_dropped}
-use Rattle.dap_mask.proofs.ByPath.{dropped-masked, agree_from_equal, equal_from_agree}
+use Rattle.dap_mask.specs.Rules.{are_safe, are_idempotent}
+use Rattle.dap_mask.proofs.ByPath.{agree_from_equal, equal_from_agree}
+use Rattle.dap_mask.proofs.Dropping.{stays_in}
 use Rattle.dap_mask.proofs.LooseReading.{content_masked, left_is_read, loosely_ordered}
 use Rattle.dap_mask.proofs.LooseReading.{one_loose_reading}
 use Rattle.dap_mask.proofs.Loosening.{read_loose}
@@ -62,12 +64,17 @@ abbrev contents_of : List Sent → List Payload
 contents_of [] = []
 contents_of (m ∷ ms) = (m.side, text_of m.doc) ∷ contents_of ms
 
+not_true : (b : Bool) → not b ≡ true → b ≡ false
+not_true true h = cc
+not_true false h = refl
+
 module _ (mask : Mask) (safe : are_safe mask.changes ≡ true)
-    (settled : are_idempotent mask.changes ≡ true) where
+    (settled : are_idempotent mask.changes ≡ true)
+    (keep : keep_categories mask.changes mask.categories ≡ true) where
   -- ---- masking masked messages
 
-  kept_again : (m : Sent) → is_kept mask (mask_message mask m) ≡ is_kept mask m
-  kept_again m = ap not (dropped-masked mask.changes mask.dropped m.doc safe)
+  kept_again : (m : Sent) → is_kept mask m ≡ true → is_kept mask (mask_message mask m) ≡ true
+  kept_again m is = ap not (stays_in mask m.doc safe keep (not_true (leaves_out mask m.doc) is))
 
   masked_again : (m : Sent) → IsSomeRead m
       → mask_message mask (mask_message mask m) ≡ mask_message mask m
@@ -80,7 +87,7 @@ module _ (mask : Mask) (safe : are_safe mask.changes ≡ true)
   left_again [] read = refl
   left_again (m ∷ messages) read =
       by_bool (is_kept mask m)
-      (λ yes. rw (yes, kept_again m ∙ yes)
+      (λ yes. rw (yes, kept_again m yes)
       (ap₂ (λ k ks. k ∷ ks) (masked_again m read.0) (left_again messages read.1)))
       (λ no. rw no (left_again messages read.1))
 
@@ -120,7 +127,7 @@ module _ (mask : Mask) (safe : are_safe mask.changes ≡ true)
       → AreMessages (contents_of (left_of mask messages)) (left_of mask messages)
   read_again [] read whole = tt
   read_again (m ∷ messages) read whole =
-      by_bool (is_dropped mask.dropped m.doc)
+      by_bool (leaves_out mask m.doc)
       (λ yes. rw yes (read_again messages read.1 (rw yes at whole)))
       (λ no.
       let sound = rw no at whole in
@@ -168,19 +175,20 @@ module _ (limits : Limits) (sound : AreSound limits) where
   )
 
   module _ (mask : Mask) (safe : are_safe mask.changes ≡ true)
-      (settled : are_idempotent mask.changes ≡ true) where
+      (settled : are_idempotent mask.changes ≡ true)
+      (keep : keep_categories mask.changes mask.categories ≡ true) where
     -- ---- masked output masks to itself
 
     left_accepted : (bytes : List ℕ) (messages : List Sent) → IsAccepted limits mask bytes messages
         → IsAccepted limits mask (text (left_of mask messages)) (left_of mask messages)
     left_accepted bytes messages accepted =
         let read = all_read accepted.records messages accepted.read in
-        let same = sym (left_again mask safe settled messages read) in
+        let same = sym (left_again mask safe settled keep messages read) in
         record {
           short = let fits = accepted.fits in fits.whole;
           records = contents_of (left_of mask messages);
           recording = let fits = accepted.fits in recording_of (left_of mask messages) fits.each;
-          read = read_again mask safe settled messages read accepted.whole;
+          read = read_again mask safe settled keep messages read accepted.whole;
           whole = subst AreWhole same accepted.whole;
           fits = subst (Fits limits) same accepted.fits;
         }
@@ -191,7 +199,7 @@ module _ (limits : Limits) (sound : AreSound limits) where
       messages = left_of mask a.messages;
       accepts = subst (λ t. IsAccepted limits mask t (left_of mask a.messages)) (sym a.text_is)
           (left_accepted bytes a.messages a.accepts);
-      text_is = a.text_is ∙ ap text (sym (left_again mask safe settled a.messages
+      text_is = a.text_is ∙ ap text (sym (left_again mask safe settled keep a.messages
           (all_read a.accepts.records a.messages a.accepts.read)));
     }
 
@@ -216,7 +224,7 @@ module _ (limits : Limits) (sound : AreSound limits) where
         let second = left_accepted others b.messages b.accepts in
         let texts : text (left_of mask b.messages) ≡ text (left_of mask a.messages) =
         sym b.text_is ∙ sym same ∙ a.text_is in
-        some_agree mask safe settled (kept mask a.messages) (kept mask b.messages)
+        some_agree mask safe settled keep (kept mask a.messages) (kept mask b.messages)
         (one_accepted (text (left_of mask a.messages)) (left_of mask a.messages)
         (left_of mask b.messages) first
         (subst (λ t. IsAccepted limits mask t (left_of mask b.messages)) texts second))
@@ -226,7 +234,7 @@ module _ (limits : Limits) (sound : AreSound limits) where
         → AllZip (Agree mask.changes) (kept mask a.messages) (kept mask b.messages)
         → written ≡ other
     same_texts bytes others written other a b agree =
-        a.text_is ∙ ap text (all_equal mask safe settled (kept mask a.messages)
+        a.text_is ∙ ap text (all_equal mask safe settled keep (kept mask a.messages)
         (kept mask b.messages)
         (kept_read mask b.messages (all_read b.accepts.records b.messages b.accepts.read)) agree)
         ∙ sym b.text_is

@@ -66,7 +66,8 @@ module _ {R W : Type 0} (rules : MaskRules) (limits : Limits) (sound : AreSound 
 
   promised : (bytes : List ℕ) (messages : List Sent) → IsAccepted limits mask bytes messages
       → IsMaskedTo limits mask bytes (masked_text mask messages)
-  promised = masked_to limits sound mask rules.list.safe rules.list.settled rules.list.leave
+  promised = masked_to limits sound mask rules.list.safe rules.list.settled rules.list.kept
+      rules.list.leave
 
   abbrev pub Answer : R → W → Result (Unit {0}) Refused → Type 0
   Answer after end outcome =

@@ -7,9 +7,8 @@ use Rattle.dap_tree.specs.Json.{HasNoReading}
 use Rattle.dap_message.specs.Message.{Sent, no_reading, fraction}
 use Rattle.dap_recording.specs.Recording.{IsRecording, records}
 use Rattle.dap_mask.specs.Loose.{IsReadLoosely}
-use Rattle.dap_mask.specs.Mask.{Mask}
+use Rattle.dap_mask.specs.Mask.{Mask, leaves_out}
 use Rattle.dap_mask.specs.Masked.{masked}
-use Rattle.dap_mask.specs.Rules.{is_dropped}
 use Rattle.dap_input.specs.declared.limits.Limits.{Limits}
 use Rattle.dap_input.specs.Validation.{Validation, ContentError, no_message, grew}
 use Rattle.dap_normal.specs.Accepting.{Payload, Fits, text}
@@ -31,7 +30,7 @@ AreMessages (held ∷ records) (message ∷ messages) = IsMessage held message
 
 -- No rule drops the message.
 abbrev pub is_kept : Mask → Sent → Bool
-is_kept mask message = not (is_dropped mask.dropped message.doc)
+is_kept mask message = not (leaves_out mask message.doc)
 
 -- The messages that no rule drops, in their order.
 abbrev pub kept : Mask → List Sent → List Sent

@@ -23,6 +23,6 @@ module _ {I J W E : Type 0} (opened : List ℕ → I → Type 0)
   abbrev pub AreDiffedWholeByRules : RuledPairRun I → Type 0
   AreDiffedWholeByRules run = RunsTexts opened unopened opened_rules unopened_rules source
       rules_source errors limits mode rules a b before after silent spoken
-      (λ old_a new_a old_b new_b. AllIsReported memory memory sink errors limits mode old_a new_a
-      old_b
+      (λ used old_a new_a old_b new_b. AllIsReported memory memory sink errors limits used old_a
+      new_a old_b
       new_b before after silent spoken run.status) run.status run.stop

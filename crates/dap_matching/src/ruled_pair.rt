@@ -75,7 +75,7 @@ pub fn diff_all_by_rules<
         LIMITS,
         maker.tables(alloc),
         maker.tables(alloc),
-        mode,
+        changed.mode,
     );
     RuledPairRun { status, stop: None }
 }

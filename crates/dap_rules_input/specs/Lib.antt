@@ -3,3 +3,4 @@ pub mod ApplyingSteps
 pub mod Inputs
 pub mod Laws
 pub mod Memory
+pub mod Modes

@@ -1,19 +1,21 @@
 //! Applies the rules of a file to recordings.
 //!
 //! [`apply_rules`] masks a recording and then puts it in order, if some of the rules are for the
-//! order. [`read_by_rules`] does this for a complete input. `specs/` defines the terms, and
-//! [`laws`] contains the theorems.
+//! order. [`read_by_rules`] does this for a complete input. [`mode_by`] is the mode in which ids
+//! are numbered then. `specs/` defines the terms, and [`laws`] contains the theorems.
 #![tactic(auto)]
 
 mod applying;
 mod fault;
 pub mod laws;
 mod masking;
+mod modes;
 mod reading;
 mod text_sink;
 
 pub use applying::{apply_rules, order_masked};
 pub use fault::ApplyRefused;
 pub use masking::mask_bytes;
+pub use modes::mode_by;
 pub use reading::read_by_rules;
 pub use text_sink::{TextSink, is_out_of_memory};

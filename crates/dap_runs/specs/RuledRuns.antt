@@ -17,18 +17,19 @@ module _ {I J W E : Type 0} (opened : List ℕ → I → Type 0)
     (unopened_rules : List ℕ → Bool → RulesOpenFault → Type 0) (source : Source I)
     (rules_source : Source J) (errors : Sink E) (limits : Limits) (mode : Mode)
     (rules a b : List ℕ) (before after : W) (silent spoken : E) where
-  -- The rules make texts of both inputs, and `Runs` holds of readers of these texts.
-  pub record RunByTexts (Runs : GivenBytes → GivenBytes → GivenBytes → GivenBytes → Type 0) : Type 0
-    where
-      pub texts : TextsByRules
-      pub has : HasTexts opened unopened opened_rules unopened_rules source rules_source limits mode
-          rules a b (Ok texts)
-      pub new_a : GivenBytes
-      pub new_b : GivenBytes
-      pub runs : Runs (bytes_of texts.a.items) new_a (bytes_of texts.b.items) new_b
+  -- The rules make texts of both inputs, and `Runs` holds of the mode of these texts and of readers
+  -- of them.
+  pub record RunByTexts
+      (Runs : Mode → GivenBytes → GivenBytes → GivenBytes → GivenBytes → Type 0) : Type 0 where
+    pub texts : TextsByRules
+    pub has : HasTexts opened unopened opened_rules unopened_rules source rules_source limits mode
+        rules a b (Ok texts)
+    pub new_a : GivenBytes
+    pub new_b : GivenBytes
+    pub runs : Runs texts.mode (bytes_of texts.a.items) new_a (bytes_of texts.b.items) new_b
 
   -- The texts are made and run; or nothing is written, and why they are not made is reported.
-  abbrev pub RunsTexts : (GivenBytes → GivenBytes → GivenBytes → GivenBytes → Type 0) → ℕ
+  abbrev pub RunsTexts : (Mode → GivenBytes → GivenBytes → GivenBytes → GivenBytes → Type 0) → ℕ
       → Option (RulesStop I) → Type 0
   RunsTexts Runs status None = RunByTexts Runs
   RunsTexts Runs status (Some why) = HasTexts opened unopened opened_rules unopened_rules source

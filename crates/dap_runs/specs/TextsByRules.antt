@@ -13,6 +13,7 @@ use Rattle.dap_normal.specs.Checking.{Checks}
 use Rattle.dap_normal.specs.declared.checked.Checked.{Checked}
 use Rattle.dap_rename.specs.declared.mode.Mode.{Mode}
 use Rattle.dap_rules_input.specs.Inputs.{ReadsByRules}
+use Rattle.dap_rules_input.specs.Modes.{mode_by}
 use Rattle.dap_rules_input.specs.declared.fault.ApplyRefused.{ApplyRefused}
 use Rattle.dap_rules_input.specs.declared.fault.ApplyRefused.TheVariants as because
 use Rattle.dap_runs.specs.ApplyRun.{unapplied_line, unapplied_status}
@@ -104,27 +105,32 @@ module _ {I J : Type 0} (opened : List ℕ → I → Type 0) (unopened : List �
     pub old_b : I
     pub opens : OpensBoth opened unopened a b (Ok (old_a, old_b))
 
-  -- The rules make these texts of the two inputs.
+  -- The rules make these texts of the two inputs, in the mode that they and the caller want.
   pub record HasBoth (texts : TextsByRules) : Type 0 where
     pub from : HasOpened
+    pub mode_is : texts.mode ≡ mode_by (mask_of from.kept) mode
     pub new_a : I
     pub new_b : I
-    pub text_a : HasAccepted source limits mode (mask_of from.kept) from.old_a new_a texts.a
-    pub text_b : HasAccepted source limits mode (mask_of from.kept) from.old_b new_b texts.b
+    pub text_a : HasAccepted source limits texts.mode (mask_of from.kept) from.old_a new_a texts.a
+    pub text_b : HasAccepted source limits texts.mode (mask_of from.kept) from.old_b new_b texts.b
 
   -- The rules cannot be applied to this input, for this.
   pub record IsUnappliedToA (why : ApplyRefused) (input : I) (kept : MaskRules) : Type 0 where
     pub from : HasOpened
     pub same : from.kept ≡ kept
-    pub refuses : HasText source limits mode (mask_of kept) from.old_a input (Err why)
+    pub used : Mode
+    pub mode_is : used ≡ mode_by (mask_of kept) mode
+    pub refuses : HasText source limits used (mask_of kept) from.old_a input (Err why)
 
   pub record IsUnappliedToB (why : ApplyRefused) (input : I) (kept : MaskRules) : Type 0 where
     pub from : HasOpened
     pub same : from.kept ≡ kept
+    pub used : Mode
+    pub mode_is : used ≡ mode_by (mask_of kept) mode
     pub new_a : I
     pub text : Vec ℕ Global
-    pub text_a : HasAccepted source limits mode (mask_of kept) from.old_a new_a text
-    pub refuses : HasText source limits mode (mask_of kept) from.old_b input (Err why)
+    pub text_a : HasAccepted source limits used (mask_of kept) from.old_a new_a text
+    pub refuses : HasText source limits used (mask_of kept) from.old_b input (Err why)
 
   abbrev pub HasTexts : Result TextsByRules (RulesStop I) → Type 0
   HasTexts (Ok texts) = HasBoth texts

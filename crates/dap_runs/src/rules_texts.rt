@@ -21,7 +21,7 @@ use dap_input::Refused;
 use dap_mask::MaskRules;
 use dap_normal::check_with;
 use dap_rename::{Mode, NameTable, Tables};
-use dap_rules_input::{ApplyRefused, read_by_rules};
+use dap_rules_input::{ApplyRefused, mode_by, read_by_rules};
 use std::alloc::Global;
 
 /// What makes tables for the names of ids.
@@ -64,6 +64,9 @@ pub struct TextsByRules {
     pub a: Vec<u8>,
     /// The text of B.
     pub b: Vec<u8>,
+    /// How the ids of both are numbered: as the caller wants, or once after each stop if the rules
+    /// have the line `per-stop`.
+    pub mode: Mode,
 }
 
 /// How a comparison by the rules of a file ended.
@@ -160,7 +163,7 @@ fn has_no_order(rules: &MaskRules) -> bool
 
 /// Reads the recordings that two names lead to, and applies to them the rules of the file that
 /// another name leads to, under the limits of the program. The rules are read first, then A and B
-/// are opened, and then A is read before B.
+/// are opened, and then A is read before B. Ids are numbered in the mode that [`mode_by`] returns.
 ///
 /// # Errors
 ///
@@ -197,11 +200,12 @@ pub fn texts_by_rules<
         Ok(kept) => kept,
         Err(why) => return Err(RulesStop::NoRules(why)),
     };
+    let used = mode_by(&kept, mode);
     let (mut input_a, mut input_b) = match open_both(files, a, b) {
         Ok(inputs) => inputs,
         Err(stop) => return Err(RulesStop::Unopened(stop)),
     };
-    let text_a = match text_by_rules(alloc, &kept, &mut input_a, maker.tables(alloc), mode) {
+    let text_a = match text_by_rules(alloc, &kept, &mut input_a, maker.tables(alloc), used) {
         Ok(text) => text,
         Err(refused) => {
             return Err(RulesStop::Unapplied {
@@ -212,10 +216,11 @@ pub fn texts_by_rules<
             });
         }
     };
-    match text_by_rules(alloc, &kept, &mut input_b, maker.tables(alloc), mode) {
+    match text_by_rules(alloc, &kept, &mut input_b, maker.tables(alloc), used) {
         Ok(text_b) => Ok(TextsByRules {
             a: text_a,
             b: text_b,
+            mode: used,
         }),
         Err(refused) => Err(RulesStop::Unapplied {
             which: Which::B,

@@ -5,7 +5,7 @@ use Rattle.dap_device.specs.Written.{AllSent, PrefixWritten}
 use Rattle.dap_device.specs.declared.device.Sink.{Ghosts as Sink}
 use Rattle.dap_device.specs.declared.device.Source.{Ghosts as Source}
 use Rattle.dap_file.specs.declared.file.Replaceable.{Ghosts as Replaceable}
-use Rattle.dap_golden.specs.GoldenUpdates.{Answers}
+use Rattle.dap_golden.specs.GoldenUpdates.{Answers, request_by}
 use Rattle.dap_golden.specs.declared.comparing.GoldenVerdict.{GoldenVerdict}
 use Rattle.dap_golden.specs.declared.comparing.GoldenVerdict.TheVariants as verdict
 use Rattle.dap_golden.specs.declared.fault.GoldenRefused.{GoldenRefused}
@@ -125,11 +125,13 @@ module _ {W E : Type 0} (sink : Sink W) (errors : Sink E) (has_rules : Bool) (na
       × HasSent errors silent spoken (stop_line has_rules name why)
       × (run ≡ record { status = stop_status why; stop = Some why })
 
--- What `golden` does with the input and the golden file is reported.
+-- What `golden` does with the input and the golden file, in the mode that the rules want, is
+-- reported.
 pub record GoldenIsReported {I F W E : Type 0} (source : Source I) (file : Replaceable F)
     (sink : Sink W) (errors : Sink E) (limits : Limits) (mask : Option Mask)
     (request : GoldenRequest) (name : List ℕ) (old_input new_input : I) (old new : F) (before after : W)
     (silent spoken : E) (run : GoldenRun) : Type 0 where
   pub outcome : Result GoldenDone GoldenStop
-  pub answers : Answers source file limits mask request old_input new_input old new outcome
+  pub answers : Answers source file limits mask (request_by mask request) old_input new_input old
+      new outcome
   pub reports : Reports sink errors (is_some mask) name before after silent spoken outcome run

@@ -24,13 +24,14 @@ module _ {I J W E : Type 0} (opened : List ℕ → I → Type 0)
   abbrev pub AreComparedByRules : RuledPairRun I → Type 0
   AreComparedByRules run = RunsTexts opened unopened opened_rules unopened_rules source rules_source
       errors limits mode rules a b before after silent spoken
-      (λ old_a new_a old_b new_b. CompareIsReported memory memory sink errors limits mode old_a
-      new_a
+      (λ used old_a new_a old_b new_b. CompareIsReported memory memory sink errors limits used
+      old_a new_a
       old_b new_b before after silent spoken run.status) run.status run.stop
 
   -- How what the rules make of the two recordings differs is printed.
   abbrev pub AreDiffedByRules : RuledPairRun I → Type 0
   AreDiffedByRules run = RunsTexts opened unopened opened_rules unopened_rules source rules_source
       errors limits mode rules a b before after silent spoken
-      (λ old_a new_a old_b new_b. DiffIsReported memory memory sink errors limits mode old_a new_a
+      (λ used old_a new_a old_b new_b. DiffIsReported memory memory sink errors limits used old_a
+      new_a
       old_b new_b before after silent spoken run.status) run.status run.stop

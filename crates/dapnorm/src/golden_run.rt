@@ -3,7 +3,7 @@ ghost use Rattle.std.specs.Prelude.{◌≡◌, ◌+◌, ◌<◌, ◌≤◌, ◌^
 ghost use Rattle.dap_device.specs.Written.{HasSentAll};
 ghost use Rattle.dap_file.specs.Crash.{LeavesOnly};
 ghost use Rattle.dap_golden.specs.Golden.{mask_given};
-ghost use Rattle.dap_golden.specs.GoldenUpdates.{MayBeLeft};
+ghost use Rattle.dap_golden.specs.GoldenUpdates.{MayBeLeft, request_by};
 ghost use Rattle.dap_input.specs.Limits.{AreSound};
 ghost use Rattle.dapnorm.specs.GoldenRun.{GoldenIsReported, done_status, done_text, golden_line};
 ghost use Rattle.dapnorm.specs.GoldenRun.{stop_line, stop_reason, stop_status, stop_subject};
@@ -210,7 +210,8 @@ pub fn run_golden<I: Source, F: Replaceable, W: Sink, E: Sink>(
     // it could have left before, or, on an update, the whole text of the session.
     ensures any_moment { F.is_known file.old
         → LeavesOnly F.moment F.left_since (MayBeLeft I.Source F.Replaceable limits
-        (mask_given rules.entry) request input.old input.new file.old) file.old file.new }
+        (mask_given rules.entry) (request_by (mask_given rules.entry) request) input.old input.new
+        file.old) file.old file.new }
 
     // It reads at most one byte past the limit.
     ensures taken { I.given input.new ≤ I.given input.old + limits.input + 1 }

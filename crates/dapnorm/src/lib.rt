@@ -91,6 +91,7 @@ pub use dap_rename::Pair;
 pub use dap_rename::Renaming;
 pub use dap_rename::Tables;
 pub use dap_rules_input::ApplyRefused;
+pub use dap_rules_input::mode_by;
 pub use dap_rules_input::read_by_rules;
 pub use dap_runs::Files;
 pub use dap_runs::LIMITS;

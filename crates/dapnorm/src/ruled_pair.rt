@@ -75,7 +75,7 @@ pub fn compare_by_rules<
         LIMITS,
         maker.tables(alloc),
         maker.tables(alloc),
-        mode,
+        texts.mode,
     );
     RuledPairRun { status, stop: None }
 }
@@ -140,7 +140,7 @@ pub fn diff_by_rules<
         LIMITS,
         maker.tables(alloc),
         maker.tables(alloc),
-        mode,
+        masked.mode,
     );
     RuledPairRun { status, stop: None }
 }

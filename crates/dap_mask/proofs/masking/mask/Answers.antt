@@ -2,12 +2,14 @@ use Rattle.std.proofs.Common.{◌≡◌, ◌∙◌, true, subst, sym, ap}
 use Rattle.dap_tree.specs.Doc.{is_sound, is_ordered}
 use Rattle.dap_tree.specs.View.{view}
 use Rattle.dap_mask.specs.Ids.{KeepsIds}
-use Rattle.dap_mask.specs.KeptRules.{changes_of, dropped_of}
+use Rattle.dap_mask.specs.KeptRules.{changes_of, dropped_of, mask_of}
+use Rattle.dap_mask.specs.Mask.{leaves_out}
 use Rattle.dap_mask.specs.Masked.{masked, IsMasked, KeepsElsewhere, HasNoNewPath}
 use Rattle.dap_mask.specs.Rules.{is_dropped}
 use Rattle.dap_mask.proofs.ByPath.{masked_by_path, one_masked, keeps_others, none_new}
 use Rattle.dap_mask.proofs.ByPath.{dropped-masked, ordered-masked, agree_from_equal}
 use Rattle.dap_mask.proofs.ByPath.{equal_from_agree}
+use Rattle.dap_mask.proofs.Dropping.{stays_in}
 use Rattle.dap_mask.proofs.Keeping.{sound_masked}
 use Rattle.dap_mask.proofs.LeftIds.{keeps_ids}
 use Rattle.dap_mask.proofs.Settled.{masked_once}
@@ -17,6 +19,7 @@ pub returns : goal.returns
 returns c =
     let rules = changes_of c.args.rules.now in
     let dropped = dropped_of c.args.rules.now in
+    let mask = mask_of c.args.rules.now in
     let d = view c.args.tree.now in
     let safe = c.args.rules.now.list.safe in
     let is : view c.mask_all.new.tree ≡ masked rules d =
@@ -38,4 +41,5 @@ returns c =
       sound = λ h. subst (λ e. is_sound e ≡ true) back (sound_masked rules d h);
       ordered = λ h. subst (λ e. is_ordered e ≡ true) back (ordered-masked rules d h);
       dropped = ap (is_dropped dropped) is ∙ dropped-masked rules dropped d safe;
+      stays = λ h. ap (leaves_out mask) is ∙ stays_in mask d safe c.args.rules.now.list.kept h;
     }

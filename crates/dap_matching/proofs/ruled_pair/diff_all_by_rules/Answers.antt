@@ -18,11 +18,11 @@ returns g c =
       new_a = ran.new.reader_a;
       new_b = ran.new.reader_b;
       runs = subst (λ (reader : GivenBytes). AllIsReported memory memory g.W.Sink g.E.Sink LIMITS
-          c.args.mode (bytes_of c.in-Ok.changed.a.items) ran.new.reader_a reader
+          c.in-Ok.changed.mode (bytes_of c.in-Ok.changed.a.items) ran.new.reader_a reader
           ran.new.reader_b c.args.writer.now ran.new.writer
           c.args.errors.now ran.new.errors ran.result) two
           (subst (λ (reader : GivenBytes). AllIsReported memory memory g.W.Sink g.E.Sink LIMITS
-          c.args.mode reader ran.new.reader_a c.new-2.result
+          c.in-Ok.changed.mode reader ran.new.reader_a c.new-2.result
           ran.new.reader_b c.args.writer.now ran.new.writer
           c.args.errors.now ran.new.errors ran.result) one
           ran.ensures.reported);

@@ -25,6 +25,8 @@ returns-in-Err-text_by_rules g c = record {
     opens = c.in-Ok-open_both.ensures.opened;
   };
   same = refl;
+  used = c.mode_by-used.result;
+  mode_is = c.mode_by-used.ensures;
   refuses = c.in-Err-text_by_rules.ensures.text;
 }
 
@@ -39,6 +41,7 @@ returns-in-Ok-text_by_rules-2 g c = record {
     old_b = c.in-Ok-open_both.inputs.1;
     opens = c.in-Ok-open_both.ensures.opened;
   };
+  mode_is = c.mode_by-used.ensures;
   new_a = c.text_by_rules.new.reader;
   new_b = c.text_by_rules-2.new.reader;
   text_a = c.in-Ok-text_by_rules.ensures.text;
@@ -57,6 +60,8 @@ returns-in-Err-text_by_rules-2 g c = record {
     opens = c.in-Ok-open_both.ensures.opened;
   };
   same = refl;
+  used = c.mode_by-used.result;
+  mode_is = c.mode_by-used.ensures;
   new_a = c.text_by_rules.new.reader;
   text = c.in-Ok-text_by_rules.text;
   text_a = c.in-Ok-text_by_rules.ensures.text;

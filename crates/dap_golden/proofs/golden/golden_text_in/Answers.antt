@@ -2,7 +2,7 @@ use Rattle.std.specs.Cow.{cow_slice_items}
 use Rattle.std.proofs.lemmas.Result.{err_from_is_err_and}
 use Rattle.dap_golden.specs.Golden.{mask_given}
 use Rattle.dap_golden.proofs.GoldenTexts.{no_session}
-use Rattle.dap_golden.proofs.golden.golden_text.Goals as goal
+use Rattle.dap_golden.proofs.golden.golden_text_in.Goals as goal
 
 pub returns-in_err-session-clause-err : goal.returns-in_err-session-clause-err
 returns-in_err-session-clause-err c =

@@ -1,0 +1,77 @@
+-- Rules that drop the events of one category, and the changes that they exclude.
+use Rattle.std.specs.Prelude.{ℕ, Bool, true, false, not, ◌&&◌, ◌||◌, List, [], ◌∷◌, map, Option}
+use Rattle.std.specs.Prelude.{option_map, codes, bytes_eq, string_bytes}
+use Rattle.dap_tree.specs.Doc.{Doc}
+use Rattle.dap_tree.specs.Path.{Step, name as member, at}
+use Rattle.dap_profile.specs.PlaceSteps.{PlaceStep, named}
+use Rattle.dap_profile.specs.declared.profile.Kind.TheVariants.{Event}
+use Rattle.dap_message.specs.Rows.{is_text}
+use Rattle.dap_mask.specs.Rules.{Rule, has_name, same_kind, same_name, same_place, share_name}
+use Rattle.dap_mask.specs.declared.categories.CategoryRule.{CategoryRule as ReadCategoryRule}
+
+-- The events of one name (`None` is any name) and one category.
+pub record CategoryRule : Type 0 where
+  pub name : Option (List ℕ)
+  pub category : List ℕ
+
+-- The path of the category of an event (DAP specification, OutputEvent).
+abbrev pub category_path : List Step
+category_path = member (codes "body") ∷ member (codes "category") ∷ []
+
+-- The place of the category of an event.
+abbrev pub category_place : List PlaceStep
+category_place = named (codes "body") ∷ named (codes "category") ∷ []
+
+-- ---- the events that are dropped
+
+-- The event has the name and the category of the rule (own).
+abbrev pub drops : CategoryRule → Doc → Bool
+drops c d = has_name Event c.name d && is_text c.category (at category_path d)
+
+-- The event has the name and the category of one of these rules.
+abbrev pub is_dropped_by : List CategoryRule → Doc → Bool
+is_dropped_by [] d = false
+is_dropped_by (c ∷ cs) d = drops c d || is_dropped_by cs d
+
+-- ---- the rules that a mask may contain
+
+-- The two rules have the same name and the same category.
+abbrev pub same_category : CategoryRule → CategoryRule → Bool
+same_category c e = same_name c.name e.name && bytes_eq c.category e.category
+
+-- The rule is one of these.
+abbrev pub is_category_among : CategoryRule → List CategoryRule → Bool
+is_category_among c [] = false
+is_category_among c (e ∷ es) = same_category c e || is_category_among c es
+
+-- The change may give an event the category by which the other rule drops it (own). If both were
+-- rules of one mask, masking twice could drop an event that masking once keeps.
+abbrev pub moves : Rule → CategoryRule → Bool
+moves r c = same_place r.place category_place
+    && (same_kind r.kind Event && share_name r.name c.name)
+
+-- The change may give an event a category by which one of these rules drops it.
+abbrev pub moves_one_of : Rule → List CategoryRule → Bool
+moves_one_of r [] = false
+moves_one_of r (c ∷ cs) = moves r c || moves_one_of r cs
+
+-- One of these changes may give an event the category by which the rule drops it.
+abbrev pub is_moved_by : List Rule → CategoryRule → Bool
+is_moved_by [] c = false
+is_moved_by (r ∷ rs) c = moves r c || is_moved_by rs c
+
+-- No change may give an event a category by which a rule drops it.
+abbrev pub keep_categories : List Rule → List CategoryRule → Bool
+keep_categories rs [] = true
+keep_categories rs (c ∷ cs) = not (is_moved_by rs c) && keep_categories rs cs
+
+-- ---- the models of the program's types
+
+abbrev pub category_of : ReadCategoryRule → CategoryRule
+category_of c = record {
+  name = option_map string_bytes c.name;
+  category = string_bytes c.category;
+}
+
+abbrev pub categories_of : List ReadCategoryRule → List CategoryRule
+categories_of cs = map category_of cs

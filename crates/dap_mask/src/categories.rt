@@ -1,0 +1,70 @@
+//! Rules that drop the events of one category.
+ghost use Rattle.std.specs.Prelude.{◌≡◌};
+ghost use Rattle.dap_mask.specs.Categories.{category_of, categories_of, same_category};
+ghost use Rattle.dap_mask.specs.Categories.{is_category_among, moves, moves_one_of, is_moved_by};
+ghost use Rattle.dap_mask.specs.Rules.{rule_of, rules_of};
+
+use crate::meets::{same_kind, same_name, share_name, text_of};
+use crate::profile_ids::is_at;
+use crate::rules::MaskRule;
+use dap_message::Kind;
+use dap_profile::Place;
+
+/// A rule that drops the events of one name whose `body.category` is one text.
+#[derive(Drop)]
+pub struct CategoryRule {
+    /// The name of the events; any, if `None`.
+    pub name: Option<String>,
+    /// The text at `body.category`.
+    pub category: String,
+}
+
+fn same_category(rule: &CategoryRule, other: &CategoryRule) -> bool
+    ensures { result ≡ same_category (category_of rule.now) (category_of other.now) }
+{
+    same_name(text_of(&rule.name), text_of(&other.name))
+        && rule.category.as_str() == other.category.as_str()
+}
+
+pub(crate) fn is_category_among(rule: &CategoryRule, rules: &[CategoryRule]) -> bool
+    ensures { result ≡ is_category_among (category_of rule.now) (categories_of rules.now) }
+{
+    for other in rules {
+        if same_category(rule, other) {
+            return true;
+        }
+    }
+    false
+}
+
+fn moves(change: &MaskRule, rule: &CategoryRule) -> bool
+    ensures { result ≡ moves (rule_of change.now) (category_of rule.now) }
+{
+    is_at(&change.place, Place::Inner("body", "category"))
+        && same_kind(change.kind, Kind::Event)
+        && share_name(text_of(&change.name), text_of(&rule.name))
+}
+
+/// Returns whether the change may give an event a category by which one of the rules drops it.
+pub(crate) fn moves_one_of(change: &MaskRule, rules: &[CategoryRule]) -> bool
+    ensures { result ≡ moves_one_of (rule_of change.now) (categories_of rules.now) }
+{
+    for rule in rules {
+        if moves(change, rule) {
+            return true;
+        }
+    }
+    false
+}
+
+/// Returns whether one of the changes may give an event the category by which the rule drops it.
+pub(crate) fn is_moved_by(changes: &[MaskRule], rule: &CategoryRule) -> bool
+    ensures { result ≡ is_moved_by (rules_of changes.now) (category_of rule.now) }
+{
+    for change in changes {
+        if moves(change, rule) {
+            return true;
+        }
+    }
+    false
+}
