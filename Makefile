@@ -57,7 +57,7 @@ TO_PROVE := $(if $(PROOFS),,$(and $(filter all bin/dapnorm proofs dist,$(or $(MA
 bin/dapnorm: $(SOURCES) $(PROOFS) $(if $(TO_PROVE),need-rt) | need-rt need-python
 	@mkdir -p bin
 ifeq ($(PROOFS),)
-	@echo "Proves the $(words $(CRATES)) crates of the program and builds it: about 25 minutes from scratch on 4 processors. Prints a line for each crate."
+	@echo "Proves the $(words $(CRATES)) crates of the program and builds it: about 30 minutes from scratch on 4 processors. Prints a line for each crate."
 	@python3 scripts/prove_all.py crates/dapnorm_main
 	@cp crates/dapnorm_main/out/dapnorm_main bin/dapnorm
 	@rm -f bin/over_pack
