@@ -3,7 +3,7 @@ use Rattle.std.specs.Prelude.{ℕ, Bool, List, [], Option, Some, None}
 use Rattle.dap_tree.specs.declared.side.Side.{Side}
 use Rattle.dap_rename.specs.declared.mode.Mode.{Mode}
 use Rattle.dap_mask.specs.Mask.{Mask}
-use Rattle.dap_mask.specs.Swaps.{SwapRule}
+use Rattle.dap_message.specs.SwapRules.{SwapRule}
 use Rattle.dap_input.specs.declared.limits.Limits.{Limits}
 use Rattle.dap_input.specs.Refusals.{IsRefused}
 use Rattle.dap_trace.specs.Tracing.{IsTraceRefused}

@@ -26,7 +26,7 @@ use Rattle.dap_mask.specs.RuleText.{swap_with, swap_at, restart_at, statement_at
 use Rattle.dap_mask.specs.RuleText.{line_said}
 use Rattle.dap_mask.specs.Rules.{Rule, same_kind}
 use Rattle.dap_mask.specs.Runs.{is_blank, is_plain, front, behind, gap, is_end}
-use Rattle.dap_mask.specs.Swaps.{Half, SwapRule}
+use Rattle.dap_message.specs.SwapRules.{Half, SwapRule}
 use Rattle.dap_mask.specs.declared.rules.Verb.{Verb}
 use Rattle.dap_mask.specs.declared.rules.Verb.TheVariants.{Blank, Digits, Hex, Long, Uuid}
 use Rattle.dap_mask.proofs.Blanks.{run_split, run_all, run_begins, gap_found, end_read, end_found}

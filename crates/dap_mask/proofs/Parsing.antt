@@ -24,7 +24,7 @@ use Rattle.dap_mask.specs.RuleText.{dropped_at, leave_out_at, half_at, swap_with
 use Rattle.dap_mask.specs.RuleText.{restart_at, statement_at, reported, line_said}
 use Rattle.dap_mask.specs.Rules.{Rule, same_kind}
 use Rattle.dap_mask.specs.Runs.{is_blank, is_plain, behind, gap, is_over, is_end}
-use Rattle.dap_mask.specs.Swaps.{Half, SwapRule}
+use Rattle.dap_message.specs.SwapRules.{Half, SwapRule}
 use Rattle.dap_mask.specs.Texts.{all_of, begins_with}
 use Rattle.dap_mask.specs.declared.rules.Verb.{Verb}
 use Rattle.dap_mask.specs.declared.rules.Verb.TheVariants.{Blank, Digits, Hex, Long, Uuid}

@@ -5,7 +5,7 @@ use Rattle.dap_mask.specs.ListedRules.{listed_changes, listed_dropped, listed_sw
 use Rattle.dap_mask.specs.ListedRules.{listed_categories, listed_per_stop}
 use Rattle.dap_mask.specs.Mask.{Mask}
 use Rattle.dap_mask.specs.Rules.{Rule}
-use Rattle.dap_mask.specs.Swaps.{SwapRule}
+use Rattle.dap_message.specs.SwapRules.{SwapRule}
 use Rattle.dap_mask.specs.declared.mask_rules.MaskRules.{MaskRules}
 
 abbrev pub changes_of : MaskRules → List Rule

@@ -3,7 +3,7 @@ use Rattle.std.specs.Prelude.{Bool, List, map, ℕ, Option, option_map, string_b
 use Rattle.dap_mask.specs.Categories.{CategoryRule, categories_of}
 use Rattle.dap_mask.specs.Mask.{Mask}
 use Rattle.dap_mask.specs.Rules.{Rule, rules_of}
-use Rattle.dap_mask.specs.Swaps.{SwapRule, swaps_of}
+use Rattle.dap_message.specs.SwapRules.{SwapRule, swaps_of}
 use Rattle.dap_mask.specs.declared.rule_list.RuleList.{RuleList}
 
 abbrev pub listed_changes : RuleList → List Rule

@@ -6,7 +6,7 @@ use Rattle.dap_message.specs.Rows.{is_of_kind}
 use Rattle.dap_profile.specs.declared.profile.Kind.TheVariants.{Event}
 use Rattle.dap_mask.specs.Categories.{CategoryRule, category_of, is_dropped_by}
 use Rattle.dap_mask.specs.Rules.{Rule, rule_of, is_event_of}
-use Rattle.dap_mask.specs.Swaps.{SwapRule, swap_of}
+use Rattle.dap_message.specs.SwapRules.{SwapRule, swap_of}
 use Rattle.dap_mask.specs.declared.statement.Line.{Line as ReadLine}
 use Rattle.dap_mask.specs.declared.statement.Line.TheVariants.{Nothing, Rule as ReadRule, Bad}
 use Rattle.dap_mask.specs.declared.statement.Statement.{Statement as ReadStatement}

@@ -13,7 +13,7 @@ use Rattle.dap_mask.specs.Mask.{Line, nothing, rule, bad}
 use Rattle.dap_mask.specs.Rules.{same_kind}
 use Rattle.dap_mask.specs.Runs.{is_plain, front, behind, closing, is_closed, gap, is_end}
 use Rattle.dap_mask.specs.Runs.{is_blank}
-use Rattle.dap_mask.specs.Swaps.{Half}
+use Rattle.dap_message.specs.SwapRules.{Half}
 use Rattle.dap_mask.specs.declared.rules.Verb.{Verb}
 use Rattle.dap_mask.specs.declared.rules.Verb.TheVariants.{Blank, Digits, Hex, Long, Uuid}
 

@@ -25,9 +25,9 @@ mod swaps;
 mod texts;
 
 pub use categories::CategoryRule;
+pub use dap_message::{Half, SwapRule};
 pub use fault::{RulesCause, RulesFault};
 pub use loose::read_masked;
 pub use mask_rules::MaskRules;
 pub use masking::{is_dropped, mask};
 pub use rules::{MaskRule, Step, Verb};
-pub use swaps::{Half, SwapRule};

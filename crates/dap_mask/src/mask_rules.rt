@@ -10,8 +10,7 @@ use crate::fault::{RulesCause, RulesFault};
 use crate::index::KindRules;
 use crate::rule_list::RuleList;
 use crate::rules::MaskRule;
-use crate::swaps::SwapRule;
-use dap_message::Kind;
+use dap_message::{Kind, SwapRule};
 use std::alloc::{AllocError, Global};
 
 /// The rules of a mask.
@@ -39,7 +38,7 @@ impl MaskRules {
     ghost use Rattle.dap_mask.specs.Mask.{no_rules};
     ghost use Rattle.dap_mask.specs.Rules.{rules_of};
     ghost use Rattle.dap_mask.specs.RulesFile.{rules_said};
-    ghost use Rattle.dap_mask.specs.Swaps.{swaps_of};
+    ghost use Rattle.dap_message.specs.SwapRules.{swaps_of};
 
     /// Reads the rules of a file.
     ///

@@ -14,7 +14,8 @@ use crate::profile_ids::takes_profile_id;
 use crate::rules::MaskRule;
 use crate::runs::{ByteClass, split_run};
 use crate::statement::{Line, Statement, read_line};
-use crate::swaps::{SwapRule, is_swap_among};
+use crate::swaps::is_swap_among;
+use dap_message::SwapRule;
 use std::alloc::{AllocError, Global};
 use std::str;
 
@@ -52,7 +53,7 @@ impl RuleList {
     ghost use Rattle.dap_mask.specs.RuleText.{line_said};
     ghost use Rattle.dap_mask.specs.RulesFile.{cause_against, line_outcome, rules_from, rules_said};
     ghost use Rattle.dap_mask.specs.Runs.{lines_of};
-    ghost use Rattle.dap_mask.specs.Swaps.{swaps_of};
+    ghost use Rattle.dap_message.specs.SwapRules.{swaps_of};
 
     /// Reads the rules of a file.
     ///

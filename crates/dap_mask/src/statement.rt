@@ -5,7 +5,7 @@ ghost use Rattle.dap_mask.specs.RuleText.{verb_named, kind_named, head_at, chang
 ghost use Rattle.dap_mask.specs.RuleText.{text_behind, category_behind, leave_out_at};
 ghost use Rattle.dap_mask.specs.RuleText.{half_at, swap_at, restart_at};
 ghost use Rattle.dap_mask.specs.RuleText.{statement_at, line_said};
-ghost use Rattle.dap_mask.specs.Swaps.{half_of};
+ghost use Rattle.dap_message.specs.SwapRules.{half_of};
 
 use crate::categories::CategoryRule;
 use crate::meets::same_kind;
@@ -13,8 +13,7 @@ use crate::names::{any_name, name_at};
 use crate::places::place_at;
 use crate::rules::{MaskRule, Verb};
 use crate::runs::{ByteClass, gap, is_end, split_run};
-use crate::swaps::{Half, SwapRule};
-use dap_message::Kind;
+use dap_message::{Half, Kind, SwapRule};
 use std::alloc::{AllocError, Global};
 
 /// A rule, as written in a line.

@@ -1,26 +1,11 @@
-//! Rules for the order of messages.
+//! When two rules for the order of messages are the same.
 ghost use Rattle.std.specs.Prelude.{◌≡◌};
-ghost use Rattle.dap_mask.specs.Swaps.{half_of, swap_of, swaps_of, same_half, same_swap};
+ghost use Rattle.dap_mask.specs.Swaps.{same_half, same_swap};
+ghost use Rattle.dap_message.specs.SwapRules.{half_of, swap_of, swaps_of};
 ghost use Rattle.dap_mask.specs.Swaps.{is_swap_among};
 
 use crate::meets::{same_kind, same_name, text_of};
-use dap_message::Kind;
-
-/// One half of a rule for the order: the messages of one kind and one name.
-#[derive(Drop)]
-pub struct Half {
-    pub kind: Kind,
-    /// The command or event of the messages; any, if `None`.
-    pub name: Option<String>,
-}
-
-/// A rule for the order: two neighbouring messages may be exchanged if one of them matches one half
-/// and the other matches the other half. The rule is symmetric.
-#[derive(Drop)]
-pub struct SwapRule {
-    pub one: Half,
-    pub another: Half,
-}
+use dap_message::{Half, SwapRule};
 
 fn same_half(half: &Half, other: &Half) -> bool
     ensures { result ≡ same_half (half_of half.now) (half_of other.now) }

@@ -17,3 +17,4 @@ pub use Rattle.dap_profile.specs.PlaceSteps
 pub use Rattle.dap_profile.specs.Profile
 pub use Rattle.dap_profile.specs.ProfileRows
 pub use Rattle.dap_profile.specs.RowRanges
+pub mod SwapRules

@@ -19,6 +19,7 @@ pub mod laws;
 mod listing;
 mod marks;
 mod message;
+mod swap_rule;
 mod typing;
 mod views;
 
@@ -29,5 +30,6 @@ pub use fault::MessageFault;
 pub use ids::IdList;
 pub use listing::{Frames, Scopes, Variables};
 pub use message::Message;
+pub use swap_rule::{Half, SwapRule};
 pub use typing::typed;
 pub use views::{FrameView, ScopeView, VariableView};

@@ -18,7 +18,7 @@ use Rattle.dap_rename.specs.declared.mode.Mode.{Mode}
 use Rattle.dap_rename.specs.declared.mode.Mode.TheVariants.{Whole, PerStop}
 use Rattle.dap_rename.proofs.NormalForms.{front_has_few_ids}
 use Rattle.dap_session.specs.Rules.{KeepsRules, first_broken}
-use Rattle.dap_mask.specs.Swaps.{SwapRule}
+use Rattle.dap_message.specs.SwapRules.{SwapRule}
 use Rattle.dap_input.specs.Validation.{Validation, IsFirstRefusal, ContentError, Reason, Refuses}
 use Rattle.dap_input.specs.Validation.{broken, cut}
 use Rattle.dap_input.specs.Validation.{faulty, grew, input_too_long, no_message, objected}

@@ -19,7 +19,7 @@ use Rattle.dap_items.proofs.Ends.{not_empty}
 use Rattle.dap_items.proofs.Streams as streams
 use Rattle.dap_rename.proofs.Lists.{each-append}
 use Rattle.dap_rename.specs.declared.mode.Mode.{Mode}
-use Rattle.dap_mask.specs.Swaps.{SwapRule}
+use Rattle.dap_message.specs.SwapRules.{SwapRule}
 use Rattle.dap_input.specs.declared.limits.Limits.{Limits}
 use Rattle.dap_input.specs.Limits.{AreSound}
 use Rattle.dap_input.specs.declared.refused.Refused.{Refused}

@@ -2,7 +2,7 @@
 use Rattle.std.specs.Prelude.{◌≡◌, ◌↔◌, ℕ, List}
 use Rattle.dap_tree.specs.declared.side.Side.{Side}
 use Rattle.dap_message.specs.Message.{Sent}
-use Rattle.dap_mask.specs.Swaps.{SwapRule}
+use Rattle.dap_message.specs.SwapRules.{SwapRule}
 use Rattle.dap_rename.specs.Messages.{AreSame}
 use Rattle.dap_rename.specs.Modes.{stop_in}
 use Rattle.dap_rename.specs.declared.mode.Mode.{Mode}

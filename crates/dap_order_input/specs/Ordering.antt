@@ -7,7 +7,7 @@ use Rattle.dap_device.specs.Reading.{HasReadInput, HasReadPartly}
 use Rattle.dap_device.specs.declared.device.Source.{Ghosts as Source}
 use Rattle.dap_device.specs.declared.reading.Stop.{Stop}
 use Rattle.dap_message.specs.Message.{Sent}
-use Rattle.dap_mask.specs.Swaps.{SwapRule}
+use Rattle.dap_message.specs.SwapRules.{SwapRule}
 use Rattle.dap_rename.specs.declared.mode.Mode.{Mode}
 use Rattle.dap_rename.specs.declared.mode.Mode.TheVariants.{PerStop}
 use Rattle.dap_input.specs.declared.limits.Limits.{Limits}

@@ -8,7 +8,7 @@ use Rattle.dap_tree.specs.Json.{IsRead, text_of}
 use Rattle.dap_device.specs.declared.reading.Stop.{Stop}
 use Rattle.dap_device.specs.declared.reading.Stop.TheVariants.{Failed}
 use Rattle.dap_message.specs.Message.{Sent}
-use Rattle.dap_mask.specs.Swaps.{SwapRule}
+use Rattle.dap_message.specs.SwapRules.{SwapRule}
 use Rattle.dap_recording.specs.declared.record_fault.RecordCause.TheVariants.{Cut}
 use Rattle.dap_rename.specs.declared.mode.Mode.{Mode}
 use Rattle.dap_input.specs.declared.limits.Limits.{Limits}

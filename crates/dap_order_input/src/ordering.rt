@@ -1,6 +1,6 @@
 //! Puts the records of a recording in order.
 ghost use Rattle.std.specs.Prelude.{◌≡◌, ◌+◌, ◌<◌, ◌≤◌, ◌^◌, IfErr, IfOk, IsErrOf};
-ghost use Rattle.dap_mask.specs.Swaps.{swaps_of};
+ghost use Rattle.dap_message.specs.SwapRules.{swaps_of};
 ghost use Rattle.dap_input.specs.Engine.{Answers};
 ghost use Rattle.dap_input.specs.Limits.{AreSound};
 ghost use Rattle.dap_order_input.specs.Ordering.{IsNotOrdered, Orders, ReadsSomeOrAll};
@@ -12,7 +12,7 @@ use crate::reading::read_messages;
 use crate::writing::text_of_places;
 use dap_device::{Sink, Source, Stop, read_all, write_and_flush};
 use dap_input::{Limits, Refused};
-use dap_mask::SwapRule;
+use dap_message::SwapRule;
 use dap_recording::RecordCause;
 use dap_rename::Mode;
 use dap_swaps::put_in_order;

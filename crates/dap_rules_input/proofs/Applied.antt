@@ -3,8 +3,8 @@ use Rattle.std.proofs.Common.{◌≡◌, ℕ, false, List, [], ◌∷◌, length
 use Rattle.std.proofs.Common.{refl, true≢false}
 use Rattle.std.specs.Prelude.{IfErr}
 use Rattle.dap_mask.specs.Mask.{Mask}
-use Rattle.dap_mask.specs.Swaps.{SwapRule, swaps_of}
-use Rattle.dap_mask.specs.declared.swaps.SwapRule.{SwapRule as ReadSwapRule}
+use Rattle.dap_message.specs.SwapRules.{SwapRule, swaps_of}
+use Rattle.dap_message.specs.declared.swap_rule.SwapRule.{SwapRule as ReadSwapRule}
 use Rattle.dap_rename.specs.declared.mode.Mode.{Mode}
 use Rattle.dap_input.specs.declared.limits.Limits.{Limits}
 use Rattle.dap_input.specs.declared.refused.Refused.{Refused}

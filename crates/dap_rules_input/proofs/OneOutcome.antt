@@ -2,7 +2,7 @@
 use Rattle.std.proofs.Common.{◌≡◌, ℕ, List, [], ◌∷◌, refl, sym, ◌∙◌, ap, subst}
 use Rattle.dap_recording.proofs.Records.{readable}
 use Rattle.dap_mask.specs.Mask.{Mask}
-use Rattle.dap_mask.specs.Swaps.{SwapRule}
+use Rattle.dap_message.specs.SwapRules.{SwapRule}
 use Rattle.dap_rename.specs.declared.mode.Mode.{Mode}
 use Rattle.dap_input.specs.declared.limits.Limits.{Limits}
 use Rattle.dap_input.specs.declared.refused.Refused.{Refused}

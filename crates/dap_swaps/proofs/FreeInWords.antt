@@ -21,7 +21,7 @@ use Rattle.dap_session.specs.Messages.{side_of, kind_of, seq_of, other, is_respo
 use Rattle.dap_session.specs.Positions.{IsResponseOf}
 use Rattle.dap_session.proofs.Positions as word
 use Rattle.dap_session.proofs.Sides.{other_other}
-use Rattle.dap_mask.specs.Swaps.{Half, SwapRule}
+use Rattle.dap_message.specs.SwapRules.{Half, SwapRule}
 use Rattle.dap_swaps.specs.Free.{Class, of_client, to_number, with_name, class_of}
 use Rattle.dap_swaps.specs.Free.{kind_rank, class_rank, class_number, class_name, class_cmp}
 use Rattle.dap_swaps.specs.Free.{same_class, fits_name, fits_half, names_both, depends, free}

@@ -19,7 +19,7 @@ use Rattle.dap_session.specs.Messages.{is_response_to, is_client_initialize}
 use Rattle.dap_session.proofs.Sides.{from_side, other_other, event_alone}
 use Rattle.dap_session.proofs.RuleTests.{after_and}
 use Rattle.dap_order.specs.Swaps.{BothWays}
-use Rattle.dap_mask.specs.Swaps.{SwapRule}
+use Rattle.dap_message.specs.SwapRules.{SwapRule}
 use Rattle.dap_swaps.specs.Free.{names_both, fits_half, class_of, class_cmp, of_client}
 use Rattle.dap_swaps.specs.Free.{to_number, of_one_class, answers, initializes, depends, free}
 use Rattle.dap_swaps.specs.Free.{allows_configuration, ends_requests, is_initialize_response}

@@ -23,7 +23,7 @@ use Rattle.dap_order.proofs.Answers.{are_answer_labels}
 use Rattle.dap_order.proofs.Labels.{order_by_label_reordered, one_order_by_label}
 use Rattle.dap_order.proofs.Labels.{reordered_from_order_by_label}
 use Rattle.dap_order.proofs.Moves.{reordered_back}
-use Rattle.dap_mask.specs.Swaps.{SwapRule}
+use Rattle.dap_message.specs.SwapRules.{SwapRule}
 use Rattle.dap_swaps.specs.Free.{free, class_cmp}
 use Rattle.dap_swaps.specs.Free.{answers}
 use Rattle.dap_swaps.specs.Order.{message_classes, message_answers, message_labels, ordered}

@@ -9,7 +9,7 @@ use Rattle.dap_order.specs.Labels.{label, by_label}
 use Rattle.dap_order.specs.ByPlace.{by_place}
 use Rattle.dap_order.proofs.ByPlace.{are_place_swaps, order-by_place}
 use Rattle.dap_order.proofs.Labels.{are_swaps, items_of-label, length-label}
-use Rattle.dap_mask.specs.Swaps.{SwapRule}
+use Rattle.dap_message.specs.SwapRules.{SwapRule}
 use Rattle.dap_swaps.specs.Order.{message_labels, ordered}
 use Rattle.dap_swaps.proofs.MessageOrder.{are_message_labels}
 use Rattle.dap_swaps.proofs.Ranges.{picked_map}

@@ -8,7 +8,7 @@ use Rattle.std.proofs.lemmas.Bool.{and_left, and_right, and_cases, not-true, not
 use Rattle.std.proofs.lemmas.List.Elements.{All-from_get_or, Contains-get_or, All-map}
 use Rattle.std.proofs.lemmas.List.Sorted.{All-permutation, length_permutation}
 use Rattle.dap_message.specs.Message.{Sent}
-use Rattle.dap_mask.specs.Swaps.{SwapRule, swaps_of}
+use Rattle.dap_message.specs.SwapRules.{SwapRule, swaps_of}
 use Rattle.dap_order.specs.Swaps.{Swaps}
 use Rattle.dap_order.specs.declared.plan.Plan.{Plan}
 use Rattle.dap_order.specs.Plan.{group_of, block_rows, is_blocked_by_group}

@@ -39,7 +39,7 @@ use Rattle.dap_order.specs.Alike.{EachAfter}
 use Rattle.dap_order.specs.AlikeAnswers.{HaveAlikeClasses, IsPlainOrAnswer}
 use Rattle.dap_order.specs.Labels.{Labelled}
 use Rattle.dap_order.proofs.AlikeAnswers.{order_of_answers_alike}
-use Rattle.dap_mask.specs.Swaps.{SwapRule, Half}
+use Rattle.dap_message.specs.SwapRules.{SwapRule, Half}
 use Rattle.dap_swaps.specs.Free.{Class, of_client, to_number, with_name, class_of}
 use Rattle.dap_swaps.specs.Free.{class_rank, class_number, class_name, same_class}
 use Rattle.dap_swaps.specs.Free.{less_class, fits_name, fits_half, names_both, of_one_class}

@@ -2,8 +2,8 @@
 use Rattle.std.proofs.Common.{◌≡◌, Bool, List, [], ◌∷◌, refl, ap}
 use Rattle.std.specs.Prelude.{◌||◌}
 use Rattle.std.specs.List.{list_any}
-use Rattle.dap_mask.specs.Swaps.{SwapRule, swap_of, swaps_of}
-use Rattle.dap_mask.specs.declared.swaps.SwapRule.{SwapRule as ReadSwapRule}
+use Rattle.dap_message.specs.SwapRules.{SwapRule, swap_of, swaps_of}
+use Rattle.dap_message.specs.declared.swap_rule.SwapRule.{SwapRule as ReadSwapRule}
 
 -- A rule passes a test if and only if a model does.
 pub any_swap : (p : SwapRule → Bool) (rules : List ReadSwapRule)

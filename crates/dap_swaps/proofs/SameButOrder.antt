@@ -10,7 +10,7 @@ use Rattle.dap_session.specs.Rules.{KeepsRules}
 use Rattle.dap_order.specs.Swaps.{Swapped, Reordered, unmoved, swapped}
 use Rattle.dap_order.proofs.Kept.{reordered_permutation}
 use Rattle.dap_order.proofs.Moves.{reordered_on, reordered_back}
-use Rattle.dap_mask.specs.Swaps.{SwapRule}
+use Rattle.dap_message.specs.SwapRules.{SwapRule}
 use Rattle.dap_swaps.specs.Free.{free}
 use Rattle.dap_swaps.specs.Order.{ordered}
 use Rattle.dap_swaps.specs.SameButOrder.{SameButOrder}

@@ -10,7 +10,7 @@ use Rattle.dap_profile.specs.declared.profile.Kind.TheVariants.{Request, Respons
 use Rattle.dap_message.specs.Message.{Sent}
 use Rattle.dap_session.specs.Messages.{kind_of, name_of, same_kind, is_output, is_initialized}
 use Rattle.dap_session.specs.Messages.{is_configuration_done, is_disconnect_success}
-use Rattle.dap_mask.specs.Swaps.{Half, SwapRule}
+use Rattle.dap_message.specs.SwapRules.{Half, SwapRule}
 use Rattle.dap_swaps.specs.Free.{fits_name, fits_half, names_both, begins, is_client_request}
 use Rattle.dap_swaps.specs.Free.{is_fixed, may_swap, of_one_class, answers, depends, free}
 use Rattle.dap_swaps.specs.Keys.{Key, has_name, is_mentioned, with_bit, kind_code}

@@ -20,7 +20,7 @@ use Rattle.dap_rename.proofs.Lists.{head_of, tail_of}
 use Rattle.dap_rename.proofs.Occurrences.{docs_alike, ids_alike}
 use Rattle.dap_rename.proofs.Sameness.{related_front, normal_is_unique, normal_is_complete}
 use Rattle.dap_rename.specs.Messages.{IsNormal}
-use Rattle.dap_mask.specs.Swaps.{SwapRule}
+use Rattle.dap_message.specs.SwapRules.{SwapRule}
 use Rattle.dap_swaps.specs.Order.{ordered}
 use Rattle.dap_swaps.specs.SameButOrder.{SameButOrder, AreSameButOrder}
 use Rattle.dap_swaps.proofs.SameButOrder.{orders_renamed, same_from_orders}

@@ -11,7 +11,7 @@ use Rattle.dap_session.specs.Rules.{is_answered, KeepsRules, open_requests}
 use Rattle.dap_session.proofs.RulesOneByOne.{keeps_push, keeps_front}
 use Rattle.dap_order.specs.Swaps.{Swapped, Reordered, unmoved, swapped}
 use Rattle.dap_order.proofs.Kept.{reordered_permutation}
-use Rattle.dap_mask.specs.Swaps.{SwapRule}
+use Rattle.dap_message.specs.SwapRules.{SwapRule}
 use Rattle.dap_swaps.specs.Free.{free}
 use Rattle.dap_swaps.proofs.Independence.{Apart, apart}
 use Rattle.dap_swaps.proofs.Histories.{SameHistory, swapped_history, Fine, fine_from, none_from}

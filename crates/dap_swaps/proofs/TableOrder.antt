@@ -14,7 +14,7 @@ use Rattle.dap_order.specs.ByPlace.{passes_both, by_place, place_answered, place
 use Rattle.dap_order.specs.ByPlace.{less_by_place}
 use Rattle.dap_order.specs.ByPlace.{first_place}
 use Rattle.dap_order.proofs.PlaceLabels.{label_at, place_at, less_at}
-use Rattle.dap_mask.specs.Swaps.{SwapRule}
+use Rattle.dap_message.specs.SwapRules.{SwapRule}
 use Rattle.dap_swaps.specs.Free.{Class, free, class_of, answers, of_one_class, less_class}
 use Rattle.dap_swaps.specs.Order.{is_client_request_of, message_answers, message_labels}
 use Rattle.dap_swaps.specs.Entries.{sent_by, request_by}

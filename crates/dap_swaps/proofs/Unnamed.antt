@@ -6,7 +6,7 @@ use Rattle.std.proofs.lemmas.Bool.{and_left, and_right, or_from, or_parts}
 use Rattle.dap_message.specs.Message.{Sent}
 use Rattle.dap_order.specs.Barriers.{IsBarrier, order_by_label_after}
 use Rattle.dap_order.proofs.Barriers.{order_by_label-barrier}
-use Rattle.dap_mask.specs.Swaps.{SwapRule}
+use Rattle.dap_message.specs.SwapRules.{SwapRule}
 use Rattle.dap_swaps.specs.Free.{free, names, names_both, fits_half, depends}
 use Rattle.dap_swaps.specs.Order.{message_labels, ordered}
 use Rattle.dap_swaps.proofs.MessageOrder.{are_message_labels, to_ordered, one_ordered}

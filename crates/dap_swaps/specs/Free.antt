@@ -15,7 +15,7 @@ use Rattle.dap_session.specs.Messages.{side_of, kind_of, name_of, seq_of, reques
 use Rattle.dap_session.specs.Messages.{same_kind, is_request, is_response, is_from, is_named}
 use Rattle.dap_session.specs.Messages.{is_response_to, is_client_initialize, is_output}
 use Rattle.dap_session.specs.Messages.{is_configuration_done, is_initialized, is_disconnect_success}
-use Rattle.dap_mask.specs.Swaps.{Half, SwapRule}
+use Rattle.dap_message.specs.SwapRules.{Half, SwapRule}
 
 -- ---- messages that the rules name
 

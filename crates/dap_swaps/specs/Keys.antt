@@ -12,7 +12,7 @@ use Rattle.dap_message.specs.Message.{Sent}
 use Rattle.dap_session.specs.Messages.{side_of, kind_of, name_of, seq_of, request_seq_of, other}
 use Rattle.dap_session.specs.Messages.{is_request, is_response, is_named, is_output}
 use Rattle.dap_session.specs.Messages.{is_configuration_done, is_initialized, is_disconnect_success}
-use Rattle.dap_mask.specs.Swaps.{SwapRule, swaps_of}
+use Rattle.dap_message.specs.SwapRules.{SwapRule, swaps_of}
 use Rattle.dap_swaps.specs.Free.{class_of, class_rank, class_number, class_name, begins}
 use Rattle.dap_swaps.specs.Free.{is_client_request}
 use Rattle.dap_swaps.specs.declared.keys.Key.{Key as ReadKey}

@@ -9,7 +9,7 @@ use Rattle.dap_session.specs.RenamedLists.{IsNumbered, DifferInIds, IsOneToOne}
 use Rattle.dap_session.specs.Rules.{KeepsRules, open_requests}
 use Rattle.dap_order.specs.Swaps.{BothWays, Reordered}
 use Rattle.dap_order.specs.Barriers.{order_by_label_after}
-use Rattle.dap_mask.specs.Swaps.{SwapRule}
+use Rattle.dap_message.specs.SwapRules.{SwapRule}
 use Rattle.dap_swaps.specs.Free.{free, names}
 use Rattle.dap_rename.specs.Messages.{AreSame, IsNormal, no_stop}
 use Rattle.dap_swaps.specs.SameButOrder.{SameButOrder, AreSameButOrder}

@@ -2,7 +2,7 @@
 use Rattle.std.specs.Prelude.{◌≡◌, ℕ, ◌<◌, Bool, not, List, length, map, slice_get}
 use Rattle.std.specs.List.{slice_index_or}
 use Rattle.dap_message.specs.Message.{Sent}
-use Rattle.dap_mask.specs.Swaps.{SwapRule}
+use Rattle.dap_message.specs.SwapRules.{SwapRule}
 use Rattle.dap_order.specs.ByPlace.{passes_both}
 use Rattle.dap_swaps.specs.Free.{may_swap}
 use Rattle.dap_swaps.specs.Keys.{Key}

@@ -10,7 +10,7 @@ use Rattle.dap_order.specs.Classes.{Classes}
 use Rattle.dap_order.specs.Answers.{Answers, answer_labels}
 use Rattle.dap_order.specs.Labels.{Labels, label, by_label, order_by_label}
 use Rattle.dap_order.specs.Order.{IsOrdered}
-use Rattle.dap_mask.specs.Swaps.{SwapRule}
+use Rattle.dap_message.specs.SwapRules.{SwapRule}
 use Rattle.dap_swaps.specs.Free.{Class, free, class_of, same_class, less_class, answers}
 
 abbrev pub message_classes : List SwapRule → Classes Sent Class

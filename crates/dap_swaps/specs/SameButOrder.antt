@@ -5,7 +5,7 @@ use Rattle.dap_message.specs.Message.{Sent}
 use Rattle.dap_session.specs.RenamedLists.{DifferInIds}
 use Rattle.dap_rename.specs.Messages.{AreSame, no_stop}
 use Rattle.dap_order.specs.Swaps.{Reordered}
-use Rattle.dap_mask.specs.Swaps.{SwapRule}
+use Rattle.dap_message.specs.SwapRules.{SwapRule}
 use Rattle.dap_swaps.specs.Free.{free}
 
 -- Swaps of free neighbours, followed by replacing ids by numbers related by R, turn ms into ns.

@@ -1,6 +1,6 @@
 -- The order of the places of a table, for private clauses.
 use Rattle.std.specs.Prelude.{ℕ, map}
-use Rattle.dap_mask.specs.Swaps.{swaps_of}
+use Rattle.dap_message.specs.SwapRules.{swaps_of}
 use Rattle.dap_order.specs.Swaps.{Swaps}
 use Rattle.dap_order.specs.Labels.{label, by_label}
 use Rattle.dap_order.specs.ByPlace.{by_place}

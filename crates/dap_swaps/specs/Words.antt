@@ -8,7 +8,7 @@ use Rattle.dap_session.specs.Positions.{IsFrom, IsRequest, IsResponse, IsNamed, 
 use Rattle.dap_session.specs.Positions.{IsConfigurationDone, IsInitialized, IsDisconnectSuccess}
 use Rattle.dap_session.specs.Positions.{IsOutput}
 use Rattle.dap_session.specs.Positions.{IsResponseOf}
-use Rattle.dap_mask.specs.Swaps.{Half, SwapRule}
+use Rattle.dap_message.specs.SwapRules.{Half, SwapRule}
 use Rattle.dap_swaps.specs.Free.{class_of}
 
 -- The half has no name, or its name is that of the message.

@@ -1,7 +1,7 @@
 //! Computes keys of messages. Messages with equal keys have the same class, conversation or look.
 ghost use Rattle.std.specs.Prelude.{◌≡◌, ◌+◌, ◌*◌, ◌<◌, ◌≤◌};
 ghost use Rattle.std.specs.List.{list_any};
-ghost use Rattle.dap_mask.specs.Swaps.{swap_of, swaps_of, half_of};
+ghost use Rattle.dap_message.specs.SwapRules.{swap_of, swaps_of, half_of};
 ghost use Rattle.dap_session.specs.EnvelopeView.{message_of};
 ghost use Rattle.dap_session.specs.Messages as tests;
 ghost use Rattle.dap_swaps.specs.Free as words;
@@ -9,8 +9,7 @@ ghost use Rattle.dap_swaps.specs.Keys as keys;
 
 use crate::classes::{class_name, class_number, class_rank};
 use crate::dependence::{begins, is_client_request, other};
-use dap_mask::{Half, SwapRule};
-use dap_message::{Kind, Side};
+use dap_message::{Half, Kind, Side, SwapRule};
 use dap_session::envelope::Envelope;
 use dap_session::message::{
     is_configuration_done, is_farewell, is_initialized, is_output, is_request, is_response,

@@ -21,7 +21,6 @@ mod rules;
 mod table;
 mod waits;
 
-pub use dap_mask::{Half, SwapRule};
-pub use dap_message::{Kind, Message};
+pub use dap_message::{Half, Kind, Message, SwapRule};
 pub use ordering::put_in_order;
 pub use rules::is_free;

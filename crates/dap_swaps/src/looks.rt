@@ -1,6 +1,6 @@
 //! Groups messages by their looks, and computes which groups block each other.
 ghost use Rattle.std.specs.Prelude.{◌≡◌, IfOk, map, length};
-ghost use Rattle.dap_mask.specs.Swaps.{swaps_of};
+ghost use Rattle.dap_message.specs.SwapRules.{swaps_of};
 ghost use Rattle.dap_swaps.specs.Entries.{sent_by};
 ghost use Rattle.dap_swaps.specs.Keys.{look_key};
 ghost use Rattle.dap_swaps.specs.Looks as words;
@@ -9,7 +9,7 @@ use crate::entries::Entry;
 use crate::keys::By;
 use crate::previous::previous_of;
 use crate::rules::may_swap;
-use dap_mask::SwapRule;
+use dap_message::SwapRule;
 use std::alloc::{AllocError, Global};
 
 /// The groups of the places of a list, and the first place of each group.

@@ -1,15 +1,14 @@
 //! Puts the messages of a recording in order.
 ghost use Rattle.std.specs.Prelude.{◌≡◌, IfOk, Some, length, map, slice_get, IsPermutation};
 ghost use Rattle.std.specs.List.{range_with_len};
-ghost use Rattle.dap_mask.specs.Swaps.{swaps_of};
+ghost use Rattle.dap_message.specs.SwapRules.{swaps_of};
 ghost use Rattle.dap_message.specs.Message.{sent};
 ghost use Rattle.dap_swaps.specs.Order.{ordered};
 
 use crate::entries::entries_of;
 use crate::plan::plan_of;
 use crate::table::Table;
-use dap_mask::SwapRule;
-use dap_message::Message;
+use dap_message::{Message, SwapRule};
 use std::alloc::{AllocError, Global};
 
 /// Returns the places of the messages in the order that the rules determine: first the place of the

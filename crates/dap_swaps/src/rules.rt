@@ -1,15 +1,14 @@
 //! Decides which messages are free with each other, by the rules that a user declares.
 ghost use Rattle.std.specs.Prelude.{◌≡◌, ◌↔◌, IsTrue};
 ghost use Rattle.std.specs.List.{list_any};
-ghost use Rattle.dap_mask.specs.Swaps.{half_of, swap_of, swaps_of};
+ghost use Rattle.dap_message.specs.SwapRules.{half_of, swap_of, swaps_of};
 ghost use Rattle.dap_message.specs.Message.{sent};
 ghost use Rattle.dap_session.specs.EnvelopeView.{message_of};
 ghost use Rattle.dap_swaps.specs.Free as words;
 ghost use Rattle.dap_swaps.specs.Words.{IsFree};
 
 use crate::dependence::{depends, is_fixed};
-use dap_mask::{Half, SwapRule};
-use dap_message::Message;
+use dap_message::{Half, Message, SwapRule};
 use dap_session::envelope::{Envelope, envelope_of};
 use dap_session::message::{kind_of, name_of};
 

@@ -5,7 +5,7 @@ ghost use Rattle.dap_swaps.specs.Order.{message_answers};
 ghost use Rattle.dap_swaps.specs.Entries.{sent_by, request_by};
 
 use crate::entries::Entry;
-use dap_mask::SwapRule;
+use dap_message::SwapRule;
 
 /// Messages, and the rules by which they may be swapped.
 #[derive(Drop)]

@@ -1,7 +1,7 @@
 use Rattle.std.proofs.Common.{inl, inr, sym, ◌∙◌, subst}
 use Rattle.std.specs.Prelude.{IfErr, IfOk}
 use Rattle.std.proofs.lemmas.Result.{err_from_is_err_and}
-use Rattle.dap_mask.specs.Swaps.{swaps_of}
+use Rattle.dap_message.specs.SwapRules.{swaps_of}
 use Rattle.dap_order_input.specs.Ordering.{Orders, RefusesToOrder}
 use Rattle.dap_order_input.proofs.InputAnswers.{returns_error}
 use Rattle.dap_order_input.proofs.ordering.order.Goals as goal

@@ -1,6 +1,6 @@
 use Rattle.std.proofs.Common.{subst}
 use Rattle.std.proofs.lemmas.Result.{err_from_is_err_and}
-use Rattle.dap_mask.specs.Swaps.{swaps_of}
+use Rattle.dap_message.specs.SwapRules.{swaps_of}
 use Rattle.dap_normal.specs.Accepting.{IsAccepted}
 use Rattle.dap_order_input.proofs.InputAnswers.{not_written, text_refused}
 use Rattle.dap_order_input.proofs.TextErrors.{text_error}

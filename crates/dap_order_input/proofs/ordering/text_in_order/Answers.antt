@@ -1,6 +1,6 @@
 use Rattle.std.proofs.Common.{◌≡◌, map, sym, subst}
 use Rattle.dap_message.specs.Message.{sent}
-use Rattle.dap_mask.specs.Swaps.{swaps_of}
+use Rattle.dap_message.specs.SwapRules.{swaps_of}
 use Rattle.dap_swaps.specs.Order.{ordered}
 use Rattle.dap_order_input.specs.OrderingSteps.{AreAt, Writes}
 use Rattle.dap_order_input.proofs.OrderedTexts.{one_accepted}

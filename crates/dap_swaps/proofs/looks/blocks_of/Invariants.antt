@@ -1,5 +1,5 @@
 use Rattle.std.proofs.Common.{◌≡◌, map, take}
-use Rattle.dap_mask.specs.Swaps.{swaps_of}
+use Rattle.dap_message.specs.SwapRules.{swaps_of}
 use Rattle.dap_swaps.specs.Entries.{sent_by}
 use Rattle.dap_swaps.specs.Looks.{blocks_at}
 use Rattle.dap_swaps.proofs.looks.blocks_of.Given as goal

@@ -2,7 +2,7 @@ use Rattle.std.proofs.Common.{◌≡◌, ℕ, ◌+◌, ◌<◌, List, [], ◌∷
 use Rattle.std.proofs.Common.{sym, ap}
 use Rattle.std.proofs.Common.{◌∙◌, subst, arith, get_or, length-append, Vec, Global}
 use Rattle.std.specs.Prelude.{slice_get}
-use Rattle.dap_mask.specs.Swaps.{swaps_of}
+use Rattle.dap_message.specs.SwapRules.{swaps_of}
 use Rattle.dap_message.specs.Message.{Sent}
 use Rattle.dap_swaps.specs.Entries.{sent_by}
 use Rattle.dap_swaps.specs.Keys.{Key, look_key, ArePrevious, IsLastBelow, IsKeyAt}

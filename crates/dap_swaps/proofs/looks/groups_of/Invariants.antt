@@ -1,5 +1,5 @@
 use Rattle.std.proofs.Common.{map}
-use Rattle.dap_mask.specs.Swaps.{swaps_of}
+use Rattle.dap_message.specs.SwapRules.{swaps_of}
 use Rattle.dap_swaps.specs.Entries.{sent_by}
 use Rattle.dap_swaps.specs.Keys.{look_key}
 use Rattle.dap_swaps.specs.Looks.{AreGroups}

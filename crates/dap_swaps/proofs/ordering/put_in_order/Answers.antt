@@ -3,7 +3,7 @@ use Rattle.std.specs.Prelude.{slice_get, IsPermutation, Some}
 use Rattle.std.specs.List.{range_with_len}
 use Rattle.std.proofs.lemmas.List.{length-map}
 use Rattle.std.proofs.lemmas.Result.{IfOk-weaker}
-use Rattle.dap_mask.specs.Swaps.{SwapRule, swaps_of}
+use Rattle.dap_message.specs.SwapRules.{SwapRule, swaps_of}
 use Rattle.dap_message.specs.Message.{Sent, sent}
 use Rattle.dap_order.specs.Swaps.{Swaps}
 use Rattle.dap_order.specs.Order.{order}

@@ -1,6 +1,6 @@
 use Rattle.std.proofs.Common.{◌≡◌, sym, ap, ◌∙◌, subst}
 use Rattle.std.specs.Bool.{Decides}
-use Rattle.dap_mask.specs.Swaps.{swaps_of}
+use Rattle.dap_message.specs.SwapRules.{swaps_of}
 use Rattle.dap_message.specs.Message.{sent}
 use Rattle.dap_message.specs.declared.message.Message.{Message}
 use Rattle.dap_session.specs.EnvelopeView.{message_of}

@@ -1,7 +1,7 @@
 use Rattle.std.proofs.Common.{◌≡◌, true, false, sym, ap, ◌∙◌, not, ◌&&◌}
 use Rattle.std.specs.List.{list_any}
 use Rattle.std.proofs.lemmas.Bool.{and_left}
-use Rattle.dap_mask.specs.Swaps.{swaps_of}
+use Rattle.dap_message.specs.SwapRules.{swaps_of}
 use Rattle.dap_session.specs.EnvelopeView.{message_of}
 use Rattle.dap_swaps.specs.Free.{names_both, is_fixed}
 use Rattle.dap_swaps.proofs.RuleLists.{any_swap}
