@@ -1,5 +1,5 @@
 //! Tests across crates: masks whose rules are used again after a failed allocation, comparisons,
-//! and the examples of the crate `callers`.
+//! golden texts, and the examples of the crate `callers`.
 #![tactic(auto)]
 
 #[cfg(test)]
@@ -12,6 +12,8 @@ mod comparing;
 mod devices;
 #[cfg(test)]
 mod examples;
+#[cfg(test)]
+mod golden;
 #[cfg(test)]
 mod growths;
 #[cfg(test)]

@@ -7,8 +7,6 @@ mod fault;
 mod golden;
 pub mod laws;
 mod normal_session;
-#[cfg(test)]
-mod tests;
 mod trace_head;
 mod updates;
 

@@ -1,8 +1,9 @@
-//! Tests a session of one event, written as a trace, a recording and a golden file.
-use crate::{GoldenRefused, GoldenText, GoldenVerdict, compare_golden, golden_text};
+//! Tests the golden text of a session of one event, written as a trace, a recording and a golden
+//! file.
 use dap_frame::FrameLimits;
-use dap_input::{Limits, Refused};
-use dap_rename::Mode;
+use dapnorm::{
+    GoldenRefused, GoldenText, GoldenVerdict, Limits, Mode, Refused, compare_golden, golden_text,
+};
 use std::alloc::Global;
 
 const LIMITS: Limits = Limits {
