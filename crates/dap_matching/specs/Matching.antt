@@ -14,7 +14,7 @@ use Rattle.dap_compare.specs.declared.verdict.Which.TheVariants.{A, B}
 use Rattle.dap_matching.specs.declared.outcome.AllDifferences.{AllDifferences}
 use Rattle.dap_matching.specs.declared.outcome.AllDifferences.TheVariants.{Same, Differ}
 
--- An input, by what its reader tells of its bytes and its failures.
+-- An input, by the bytes and the failures that its reader reports.
 module _ {R : Type 0} (source : Source R) (limits : Limits) (mode : Mode) (old new : R) where
   -- The reader came to its end, its recording is accepted, and this is the text of the normal form.
   abbrev pub HasNormalText : List ℕ → Type 0

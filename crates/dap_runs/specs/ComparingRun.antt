@@ -1,4 +1,4 @@
--- What the program tells of comparing. Source: own.
+-- What the program prints and reports when it compares. Source: own.
 use Rattle.std.specs.Prelude.{◌≡◌, ◌⊎◌, ℕ, List, [], ◌++◌, Result, Ok, Err, codes, decimal}
 use Rattle.std.specs.Prelude.{Bool, true, false, cond}
 use Rattle.std.specs.Fmt.{signed_decimal}
@@ -37,7 +37,7 @@ pair_line mode pair =
     ++ cond (shows_stop mode pair.sort) (codes "@" ++ decimal pair.stop) [] ++ codes " "
     ++ signed_decimal pair.from ++ codes " " ++ signed_decimal pair.to ++ codes "\n"
 
--- the line that two recordings are the same, and the line that they differ at this record
+-- the line for two recordings that are the same, and for two that differ at this record
 abbrev pub same_line : List ℕ
 same_line = codes "same\n"
 
@@ -53,11 +53,11 @@ abbrev pub pairs_in : Verdict → List Pair
 pairs_in (Same renaming) = pairs_of renaming
 pairs_in (Differ number) = []
 
--- what the program prints of a verdict
+-- what the program prints for a verdict
 abbrev pub verdict_text : Mode → Verdict → List ℕ
 verdict_text mode verdict = first_line verdict ++ flat_map (pair_line mode) (pairs_in verdict)
 
--- the status of the program: same, different, or what the refusal of an input asks for
+-- the status of the program: same, different, or that of the error in an input
 abbrev pub verdict_status : Verdict → ℕ
 verdict_status (Same renaming) = 0
 verdict_status (Differ number) = 1
@@ -68,9 +68,9 @@ refusal_status Memory = 5
 
 module _ {W E V : Type 0} (sink : Sink W) (errors : Sink E) (text : V → List ℕ)
     (status_for : V → ℕ) where
-  -- The text of an answer goes out and is flushed, and the status is that of it; or a front of the
-  -- text goes out and the writer fails, and that is told. Of a refusal nothing goes out, and it is
-  -- told.
+  -- The text of a verdict is written and flushed, and the status is that of the verdict. Or a prefix
+  -- of the text is written and the writer fails, which is reported. If an input is rejected, that is
+  -- reported, and nothing is written.
   abbrev pub ComparisonIsReported : Result V CompareRefused → W → W → E → E → ℕ → Type 0
   ComparisonIsReported (Ok outcome) before after old new status =
       (AllSent sink before after (text outcome) × (new ≡ old) × (status ≡ status_for outcome))
@@ -80,7 +80,7 @@ module _ {W E V : Type 0} (sink : Sink W) (errors : Sink E) (text : V → List �
       × HasSent errors old new (fault_line (compare_refused_text because))
       × (status ≡ refusal_status because)
 
--- What `compare` answers of the readers is printed or told.
+-- The result of `compare` for these readers is printed or reported.
 pub record CompareIsReported {R S W E : Type 0} (source_a : Source R) (source_b : Source S)
     (sink : Sink W) (errors : Sink E) (limits : Limits) (mode : Mode) (old_a new_a : R) (old_b new_b
     : S)

@@ -1,4 +1,4 @@
--- The line in which the program tells a fault. Source: own.
+-- The line that reports an error. Source: own.
 use Rattle.std.specs.Prelude.{ℕ, ◌++◌, List, codes, decimal}
 use Rattle.dap_frame.specs.FaultName.{fault_name}
 use Rattle.dap_message.specs.declared.fault.MessageFault.{MessageFault}
@@ -18,14 +18,14 @@ use Rattle.dap_input.specs.declared.refused.Refused.TheVariants.{TooManyIds, Gre
 use Rattle.dap_input.specs.declared.refused.Refused.TheVariants.{TraceTooLong, Trace, Recorder}
 use Rattle.dap_input.specs.declared.refused.Refused.TheVariants.{ReadFault, WriteFault, Memory}
 
--- where a fault is: in this record, or in this piece of a trace
+-- the position of an error: this record, or this piece of a trace
 abbrev pub in_record : ℕ → List ℕ
 in_record number = codes "record " ++ decimal number ++ codes ": "
 
 abbrev pub in_piece : ℕ → List ℕ
 in_piece number = codes "piece " ++ decimal number ++ codes ": "
 
--- why a content is no message, with the number of the row that it breaks
+-- why a content is not a message, with the number of the row that it violates
 abbrev pub message_fault_text : MessageFault → List ℕ
 message_fault_text message_fault.NotObject = codes "NotObject"
 message_fault_text message_fault.UnknownType = codes "UnknownType"
@@ -33,13 +33,13 @@ message_fault_text (message_fault.Missing row) = codes "Missing row " ++ decimal
 message_fault_text (message_fault.WrongType row) = codes "WrongType row " ++ decimal row
 message_fault_text message_fault.Memory = codes "Memory"
 
--- which side's frame is faulty, and why
+-- the side whose frame is rejected, and the reason
 abbrev pub recorder_fault_text : RecorderFault → List ℕ
 recorder_fault_text (recorder_fault.Frame side fault) =
     side_text side ++ codes " " ++ fault_name fault
 recorder_fault_text recorder_fault.Memory = codes "Memory"
 
--- what is told of a refusal
+-- the text that reports an error
 abbrev pub refused_text : Refused → List ℕ
 refused_text (InputTooLong n) = in_record n ++ codes "InputTooLong"
 refused_text (Record n cause) = in_record n ++ cause_name cause
@@ -59,12 +59,12 @@ refused_text ReadFault = codes "read fault"
 refused_text WriteFault = codes "write fault"
 refused_text Memory = codes "out of memory"
 
--- what is told where two inputs were not compared to the end
+-- the text that reports why two inputs were not compared to the end
 abbrev pub compare_refused_text : CompareRefused → List ℕ
 compare_refused_text (comparing.Input which refused) =
     which_text which ++ codes ": " ++ refused_text refused
 compare_refused_text comparing.Memory = codes "out of memory"
 
--- the line of what is told
+-- the line with this text
 abbrev pub fault_line : List ℕ → List ℕ
 fault_line text = codes "dapnorm: " ++ text ++ codes "\n"

@@ -1,4 +1,4 @@
--- What the program does and tells where it masks a recording by the rules of a file. Source: own.
+-- What the program does and reports when it masks a recording by the rules of a file. Source: own.
 use Rattle.std.specs.Prelude.{◌≡◌, ◌≢◌, ℕ, ◌++◌, List, Result, Ok, Err, codes, decimal}
 use Rattle.dap_device.specs.Reading.{HasReadInput}
 use Rattle.dap_device.specs.declared.device.Sink.{Ghosts as Sink}
@@ -56,7 +56,7 @@ ReadsRules source old new (said what) = FileGivesRules source old new what
 ReadsRules source old new unread = IsUnread source old new
 ReadsRules source old new no_memory = Unit {0}
 
--- ---- what is told
+-- ---- what is reported
 
 abbrev pub cause_word : RulesCause → List ℕ
 cause_word cause.TooLong = codes "TooLong"
@@ -69,13 +69,13 @@ cause_word cause.DigitsBehindHex = codes "DigitsBehindHex"
 cause_word cause.Clash = codes "Clash"
 cause_word cause.Memory = codes "Memory"
 
--- the line of a file of rules that is refused
+-- the line that reports a rejected rules file
 abbrev pub rules_line : RulesFault → List ℕ
 rules_line fault =
     codes "dapnorm: rules: line " ++ decimal fault.line ++ codes ": " ++ cause_word fault.cause
     ++ codes "\n"
 
--- the line of a file of rules that could not be read
+-- the line that reports a rules file that could not be read
 abbrev pub rules_unread : List ℕ
 rules_unread = codes "dapnorm: rules: read fault\n"
 
@@ -93,14 +93,14 @@ rules_refused_status refused.Memory = 5
 
 module _ {R W E : Type 0} (source : Source R) (sink : Sink W) (errors : Sink E) (limits : Limits)
     (old new : R) (before after : W) (silent spoken : E) (status : ℕ) where
-  -- Nothing is read of the recording and nothing written; this line is told, with this status.
+  -- The recording is not read and nothing is written. This line is reported, with this status.
   pub record ReportsOnly (line : List ℕ) (wanted : ℕ) : Type 0 where
     pub unread : new ≡ old
     pub unwritten : after ≡ before
     pub sent : HasSent errors silent spoken line
     pub status_is : status ≡ wanted
 
-  -- By a mask the recording is masked, and a refusal of it is told.
+  -- With a mask, the recording is masked, and an error in it is reported.
   abbrev pub ReportsMask : RulesOutcome → Type 0
   ReportsMask (said (Ok mask)) =
       Answered (Streams (masking limits mask) (Masks limits mask) (IsMaskedTo limits mask) source
@@ -110,8 +110,8 @@ module _ {R W E : Type 0} (source : Source R) (sink : Sink W) (errors : Sink E) 
   ReportsMask unread = ReportsOnly rules_unread 4
   ReportsMask no_memory = ReportsOnly (fault_line (refused_text Memory)) 5
 
--- The rules are read, and by what became of them the recording is masked, or they are told to be
--- wrong.
+-- The rules are read first. Then the recording is masked by them, or an error in the rules is
+-- reported.
 pub record MaskIsReported {F R W E : Type 0} (file : Source F) (source : Source R) (sink : Sink W)
     (errors : Sink E) (limits : Limits) (old_rules new_rules : F) (old new : R) (before after : W)
     (silent spoken : E) (status : ℕ) : Type 0 where

@@ -14,23 +14,23 @@ refused_status WriteFault = 4
 refused_status Memory = 5
 refused_status refused = 2
 
--- the status of the program for an engine's answer
+-- the status of the program for the result of a command
 abbrev pub status_of : {U : Type 0} → Result U Refused → ℕ
 status_of (Ok done) = 0
 status_of (Err refused) = refused_status refused
 
 module _ {S : Type 0} (sink : Sink S) where
-  -- The text went out and was flushed, or a front of it went out and the device failed.
+  -- The text was written and flushed, or a prefix of it was written and the device failed.
   abbrev pub HasSent : S → S → List ℕ → Type 0
   HasSent old new text = AllSent sink old new text ⊎ PrefixWritten sink old new text
 
-  -- Of an answer its refusal is told, in one line, and of what was done nothing.
+  -- An error is reported in one line. If there is none, nothing is reported.
   abbrev pub IsReported : S → S → Result (Unit {0}) Refused → Type 0
   IsReported old new (Ok done) = new ≡ old
   IsReported old new (Err refused) = HasSent old new (fault_line (refused_text refused))
 
--- The devices are as an engine leaves them with its answer, this is told, and the status is that of
--- it.
+-- The command leaves the devices like this with its result. The result is reported like this, and
+-- the status is that of the result.
 pub record Answered (Leaves Tells : Result (Unit {0}) Refused → Type 0) (status : ℕ) : Type 0 where
   pub outcome : Result (Unit {0}) Refused
   pub leaves : Leaves outcome
@@ -38,8 +38,8 @@ pub record Answered (Leaves Tells : Result (Unit {0}) Refused → Type 0) (statu
   pub status_is : status ≡ status_of outcome
 
 module _ {W : Type 0} (sink : Sink W) where
-  -- The text goes out and is flushed, and the status is this; or a front of it goes out and the
-  -- writer fails, and the status is that of a device that failed.
+  -- The text is written and flushed, and the status is this; or a prefix of it is written and the
+  -- writer fails, and the status is that of a failed device.
   abbrev pub IsSent : W → W → List ℕ → ℕ → ℕ → Type 0
   IsSent before after text done status =
       (AllSent sink before after text × (status ≡ done))

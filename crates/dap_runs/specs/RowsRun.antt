@@ -1,4 +1,4 @@
--- What the program tells of rows of the profile. Source: own.
+-- What the program prints and reports for rows of the profile. Source: own.
 use Rattle.std.specs.Prelude.{◌≡◌, ◌≢◌, ◌⊎◌, ℕ, List, [], Result, Ok, Err, codes}
 use Rattle.dap_device.specs.declared.device.Sink.{Ghosts as Sink}
 use Rattle.dap_device.specs.Written.{AllSent, PrefixWritten}

@@ -1,4 +1,4 @@
-//! Compares two inputs, and tells of it what the program tells: lines and a status.
+//! Compares two inputs, prints the lines of the verdict, and returns a status.
 ghost use Rattle.std.specs.Prelude.{◌≡◌, ◌+◌, ◌<◌, ◌≤◌, ◌^◌};
 ghost use Rattle.std.specs.List.{flat_map};
 ghost use Rattle.dap_runs.specs.ComparingRun.{CompareIsReported, differ_line, first_line};
@@ -21,7 +21,7 @@ use dap_tree::Sort;
 use itoa::Buffer;
 use std::alloc::Global;
 
-/// The line of a pair, with its LF.
+/// Returns the line of a pair, with its LF.
 fn line_of(mode: Mode, pair: Pair) -> ArrayString<LINE>
     ensures { result.bytes ≡ pair_line mode pair }
 {
@@ -40,7 +40,8 @@ fn line_of(mode: Mode, pair: Pair) -> ArrayString<LINE>
     line
 }
 
-/// Whether the line of a pair of this sort tells its stop: where the names of the sort begin again.
+/// Returns whether the line of a pair of this kind shows its stop: if the numbering of the kind
+/// restarts there.
 fn shows_stop(mode: Mode, sort: Sort) -> bool
     ensures { result ≡ shows_stop mode sort }
 {
@@ -50,7 +51,7 @@ fn shows_stop(mode: Mode, sort: Sort) -> bool
     }
 }
 
-/// The line that two recordings are the same, with its LF.
+/// Returns the line for two recordings that are the same, with its LF.
 pub fn same_line() -> ArrayString<LINE>
     ensures { result.bytes ≡ same_line }
 {
@@ -59,7 +60,7 @@ pub fn same_line() -> ArrayString<LINE>
     line
 }
 
-/// The line that two recordings differ at this record, with its LF.
+/// Returns the line for two recordings that differ at this record, with its LF.
 pub fn differ_line(number: u64) -> ArrayString<LINE>
     ensures { result.bytes ≡ differ_line number }
 {
@@ -71,7 +72,7 @@ pub fn differ_line(number: u64) -> ArrayString<LINE>
     line
 }
 
-/// The first line of a verdict, with its LF.
+/// Returns the first line of a verdict, with its LF.
 fn first_line_of(verdict: &Verdict) -> ArrayString<LINE>
     ensures { result.bytes ≡ first_line verdict.now }
 {
@@ -81,7 +82,7 @@ fn first_line_of(verdict: &Verdict) -> ArrayString<LINE>
     }
 }
 
-/// The pairs of a verdict that has some.
+/// Returns the pairs of a verdict that has some.
 fn pairs(verdict: &Verdict) -> &[Pair]
     ensures { result.now ≡ pairs_in verdict.now }
 {
@@ -91,7 +92,7 @@ fn pairs(verdict: &Verdict) -> &[Pair]
     }
 }
 
-/// Sends the lines of pairs out.
+/// Writes the lines of pairs.
 fn write_pairs<W: Sink>(writer: &mut W, mode: Mode, pairs: &[Pair]) -> Result<(), DeviceFault>
     requires { W.failures writer.old < 2 ^ 63 }
     ensures { HasWrittenAll W.Sink writer.old writer.new result
@@ -103,7 +104,7 @@ fn write_pairs<W: Sink>(writer: &mut W, mode: Mode, pairs: &[Pair]) -> Result<()
     Ok(())
 }
 
-/// Sends the lines of a verdict out and flushes.
+/// Writes the lines of a verdict and flushes.
 fn print<W: Sink>(writer: &mut W, mode: Mode, verdict: &Verdict) -> Result<(), DeviceFault>
     requires { W.failures writer.old < 2 ^ 62 }
     ensures { HasSentAll W.Sink writer.old writer.new result (verdict_text mode verdict.now) }
@@ -113,7 +114,7 @@ fn print<W: Sink>(writer: &mut W, mode: Mode, verdict: &Verdict) -> Result<(), D
     writer.flush()
 }
 
-/// The status of the program for a verdict.
+/// Returns the status of the program for a verdict.
 fn status(verdict: &Verdict) -> u8
     ensures { result ≡ verdict_status verdict.now }
 {
@@ -123,7 +124,7 @@ fn status(verdict: &Verdict) -> u8
     }
 }
 
-/// The status of the program where the inputs were not compared to the end.
+/// Returns the status of the program if the inputs were not compared to the end.
 pub fn refusal_status(refused: CompareRefused) -> u8
     ensures { result ≡ refusal_status refused }
 {
@@ -133,8 +134,8 @@ pub fn refusal_status(refused: CompareRefused) -> u8
     }
 }
 
-/// Compares two recordings, and answers the program's status. What is wrong is told on `errors`, in
-/// one line.
+/// Compares two recordings, and returns the status of the program. An error is reported on
+/// `errors`, in one line.
 ///
 /// If the recordings are the same, writes `same` to `writer`, and then a line for each pair of ids,
 /// `W FROM TO`. W is `client-seq`, `adapter-seq`, `frame`, `reference`, `thread` or `breakpoint`.
@@ -161,13 +162,13 @@ pub fn run_compare<A: Source, B: Source, W: Sink, E: Sink>(
     requires write_failures { W.failures writer.old < 2 ^ 62 }
     requires error_failures { E.failures errors.old < 2 ^ 62 }
 
-    // The output is the lines of the verdict, flushed, a refusal is told, and so is a writer that
-    // failed; and the status is that of what was answered or told.
+    // The output is the lines of the verdict, flushed. A rejected input or a failed writer is
+    // reported, and the status is that of the verdict or of the error.
     ensures reported { CompareIsReported A.Source B.Source W.Sink E.Sink limits mode
         reader_a.old reader_a.new reader_b.old reader_b.new writer.old writer.new
         errors.old errors.new result }
 
-    // It takes at most one byte past the limit of each.
+    // It reads at most one byte past the limit of each.
     ensures taken_a { A.given reader_a.new ≤ A.given reader_a.old + limits.input + 1 }
     ensures taken_b { B.given reader_b.new ≤ B.given reader_b.old + limits.input + 1 }
 {
@@ -184,8 +185,8 @@ pub fn run_compare<A: Source, B: Source, W: Sink, E: Sink>(
     )
 }
 
-/// Does what [`run_compare`] does, with these tables for the names of the ids of A and of B. They
-/// have to be empty, each with the limit `limits.ids`.
+/// Does the same as [`run_compare`], with these tables for the ids of A and of B. They must be
+/// empty, each with the limit `limits.ids`.
 pub fn run_compare_with<A: Source, B: Source, W: Sink, E: Sink, T: NameTable + Drop>(
     alloc: Global,
     reader_a: &mut A,
@@ -207,7 +208,7 @@ pub fn run_compare_with<A: Source, B: Source, W: Sink, E: Sink, T: NameTable + D
     requires write_failures { W.failures writer.old < 2 ^ 62 }
     requires error_failures { E.failures errors.old < 2 ^ 62 }
 
-    // What `run_compare` promises, whatever the tables are.
+    // The guarantees of `run_compare`, for any tables.
     ensures reported { CompareIsReported A.Source B.Source W.Sink E.Sink limits mode
         reader_a.old reader_a.new reader_b.old reader_b.new writer.old writer.new
         errors.old errors.new result }

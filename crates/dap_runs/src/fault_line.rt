@@ -1,4 +1,4 @@
-//! The line in which the program tells a fault, made without memory.
+//! Formats the line that reports an error. Does not allocate.
 ghost use Rattle.std.specs.Prelude.{◌≡◌, ◌+◌, ◌<◌, ◌≤◌, ◌^◌, ◌++◌, length};
 ghost use Rattle.arrayvec.specs.ArrayString.{array_string_len};
 ghost use Rattle.dap_compare.specs.Which.{which_text};
@@ -17,8 +17,8 @@ use dap_recording::RecorderFault;
 use dap_tree::Side;
 use itoa::{Buffer, Integer};
 
-/// How long a line may be. The longest of a fault has 79 bytes, and that of an accepted recording
-/// 85.
+/// The maximum length of a line in bytes. The longest line of an error has 79 bytes, and that of an
+/// accepted recording 85.
 pub const LINE: usize = 128;
 
 /// Appends a word and a number.
@@ -32,7 +32,7 @@ fn push_number<I: Integer>(line: &mut ArrayString<LINE>, word: &str, number: I)
     line.push_str(digits.format(number));
 }
 
-/// Appends in which record a fault is.
+/// Appends the record that contains an error.
 fn push_record(line: &mut ArrayString<LINE>, number: u64)
     requires { array_string_len line.old ≤ 12 }
     ensures bytes { line.new.bytes ≡ line.old.bytes ++ in_record number }
@@ -42,7 +42,7 @@ fn push_record(line: &mut ArrayString<LINE>, number: u64)
     line.push_str(": ");
 }
 
-/// Appends in which piece of a trace a fault is.
+/// Appends the piece of a trace that contains an error.
 fn push_piece(line: &mut ArrayString<LINE>, number: u64)
     requires { array_string_len line.old ≤ 12 }
     ensures bytes { line.new.bytes ≡ line.old.bytes ++ in_piece number }
@@ -52,7 +52,7 @@ fn push_piece(line: &mut ArrayString<LINE>, number: u64)
     line.push_str(": ");
 }
 
-/// Appends a record and a word for what is wrong there.
+/// Appends a record and the word for its error.
 fn push_in_record(line: &mut ArrayString<LINE>, number: u64, word: &str)
     requires old { array_string_len line.old ≤ 12 }
     requires word { length word.now ≤ 20 }
@@ -63,7 +63,7 @@ fn push_in_record(line: &mut ArrayString<LINE>, number: u64, word: &str)
     line.push_str(word);
 }
 
-/// Appends a piece of a trace and a word for what is wrong there.
+/// Appends a piece of a trace and the word for its error.
 fn push_in_piece(line: &mut ArrayString<LINE>, number: u64, word: &str)
     requires old { array_string_len line.old ≤ 12 }
     requires word { length word.now ≤ 20 }
@@ -74,7 +74,7 @@ fn push_in_piece(line: &mut ArrayString<LINE>, number: u64, word: &str)
     line.push_str(word);
 }
 
-/// Appends why a content is no message.
+/// Appends why a content is not a message.
 fn push_message_fault(line: &mut ArrayString<LINE>, fault: MessageFault)
     requires { array_string_len line.old ≤ 66 }
     ensures bytes { line.new.bytes ≡ line.old.bytes ++ message_fault_text fault }
@@ -89,7 +89,7 @@ fn push_message_fault(line: &mut ArrayString<LINE>, fault: MessageFault)
     }
 }
 
-/// How a side is written.
+/// Returns the word for a side.
 fn word(side: Side) -> &'static str
     ensures word { result.now ≡ side_text side }
     ensures short { length result.now ≤ 8 }
@@ -100,7 +100,7 @@ fn word(side: Side) -> &'static str
     }
 }
 
-/// Appends which side's frame is faulty, and why.
+/// Appends the side whose frame is rejected, and the reason.
 fn push_recorder_fault(line: &mut ArrayString<LINE>, fault: RecorderFault)
     requires { array_string_len line.old ≤ 66 }
     ensures bytes { line.new.bytes ≡ line.old.bytes ++ recorder_fault_text fault }
@@ -116,7 +116,7 @@ fn push_recorder_fault(line: &mut ArrayString<LINE>, fault: RecorderFault)
     }
 }
 
-/// Appends how many requests have no response.
+/// Appends the numbers of requests that have no response.
 fn push_incomplete(line: &mut ArrayString<LINE>, client: usize, adapter: usize)
     requires { array_string_len line.old ≤ 12 }
     ensures bytes { line.new.bytes
@@ -128,7 +128,7 @@ fn push_incomplete(line: &mut ArrayString<LINE>, client: usize, adapter: usize)
     line.push_str(" adapter");
 }
 
-/// Appends what is told of a refusal.
+/// Appends the text of an error.
 fn push_refused(line: &mut ArrayString<LINE>, refused: Refused)
     requires { array_string_len line.old ≤ 12 }
     ensures bytes { line.new.bytes ≡ line.old.bytes ++ refused_text refused }
@@ -159,7 +159,7 @@ fn push_refused(line: &mut ArrayString<LINE>, refused: Refused)
     }
 }
 
-/// The text of a refusal alone.
+/// Returns the text of an error, without the line around it.
 pub fn refused_text(refused: Refused) -> ArrayString<LINE>
     ensures { result.bytes ≡ refused_text refused }
 {
@@ -168,7 +168,7 @@ pub fn refused_text(refused: Refused) -> ArrayString<LINE>
     text
 }
 
-/// The line of a refusal, with its LF.
+/// Returns the line of an error, with its LF.
 fn fault_line(refused: Refused) -> ArrayString<LINE>
     ensures { result.bytes ≡ fault_line (refused_text refused) }
 {
@@ -179,7 +179,7 @@ fn fault_line(refused: Refused) -> ArrayString<LINE>
     line
 }
 
-/// How one of two inputs is written.
+/// Returns the word for one of two inputs.
 pub(crate) fn letter(which: Which) -> &'static str
     ensures letter { result.now ≡ which_text which }
     ensures short { length result.now ≤ 1 }
@@ -190,7 +190,7 @@ pub(crate) fn letter(which: Which) -> &'static str
     }
 }
 
-/// The line of the refusal of one of two inputs, with its LF.
+/// Returns the line of an error in one of two inputs, with its LF.
 fn compare_fault_line(refused: CompareRefused) -> ArrayString<LINE>
     ensures { result.bytes ≡ fault_line (compare_refused_text refused) }
 {
@@ -208,7 +208,7 @@ fn compare_fault_line(refused: CompareRefused) -> ArrayString<LINE>
     line
 }
 
-/// Sends a text to the errors. A failure to write it is not told.
+/// Writes a text to the errors. A failure to write it is not reported.
 pub fn send<E: Sink>(errors: &mut E, text: &str)
     requires { E.failures errors.old < 2 ^ 63 }
     ensures { HasSent E.Sink errors.old errors.new text.now }
@@ -216,7 +216,7 @@ pub fn send<E: Sink>(errors: &mut E, text: &str)
     let _ = write_and_flush(errors, text.as_bytes());
 }
 
-/// Sends a line to the errors. A failure to write it is not told.
+/// Writes a line to the errors. A failure to write it is not reported.
 pub fn send_line<E: Sink>(errors: &mut E, line: &ArrayString<LINE>)
     requires { E.failures errors.old < 2 ^ 63 }
     ensures { HasSent E.Sink errors.old errors.new line.now.bytes }
@@ -224,7 +224,7 @@ pub fn send_line<E: Sink>(errors: &mut E, line: &ArrayString<LINE>)
     send(errors, line.as_str());
 }
 
-/// Tells a refusal in one line.
+/// Reports an error in one line.
 pub fn tell<E: Sink>(errors: &mut E, refused: Refused)
     requires { E.failures errors.old < 2 ^ 63 }
     ensures { HasSent E.Sink errors.old errors.new (fault_line (refused_text refused)) }
@@ -232,7 +232,7 @@ pub fn tell<E: Sink>(errors: &mut E, refused: Refused)
     send_line(errors, &fault_line(refused));
 }
 
-/// Tells the refusal of one of two inputs in one line.
+/// Reports an error in one of two inputs in one line.
 pub fn tell_of_input<E: Sink>(errors: &mut E, refused: CompareRefused)
     requires { E.failures errors.old < 2 ^ 63 }
     ensures { HasSent E.Sink errors.old errors.new
@@ -241,7 +241,7 @@ pub fn tell_of_input<E: Sink>(errors: &mut E, refused: CompareRefused)
     send_line(errors, &compare_fault_line(refused));
 }
 
-/// Tells a refusal in one line, and answers the program's status.
+/// Reports an error in one line, and returns the status of the program.
 pub fn tell_answer<E: Sink>(errors: &mut E, outcome: Result<(), Refused>) -> u8
     requires { E.failures errors.old < 2 ^ 63 }
     ensures reported { IsReported E.Sink errors.old errors.new outcome }

@@ -1,4 +1,4 @@
-//! Masks a recording by the rules of a file, and tells of it what the program tells.
+//! Masks a recording by the rules of a file, and reports errors as the program does.
 ghost use Rattle.std.specs.Prelude.{◌≡◌, ◌+◌, ◌<◌, ◌≤◌, ◌^◌, length};
 ghost use Rattle.dap_input.specs.Limits.{AreSound};
 ghost use Rattle.dap_runs.specs.MaskRun.{MaskIsReported, ReadsRules, cause_word, outcome_of};
@@ -15,10 +15,10 @@ use dap_mask_input::mask;
 use itoa::Buffer;
 use std::alloc::Global;
 
-/// How many bytes a file of rules may have.
+/// The maximum number of bytes of a rules file.
 const RULES: u64 = 65_536;
 
-/// What is told where the file of rules could not be read.
+/// The line for a rules file that could not be read.
 const UNREAD: &str = "dapnorm: rules: read fault\n";
 
 /// Why a file of rules was not read.
@@ -65,7 +65,7 @@ pub fn read_rules<F: Source>(alloc: Global, file: &mut F) -> Result<MaskRules, R
     }
 }
 
-/// The word for why a line is refused.
+/// Returns the word for the reason why a line is rejected.
 fn cause_word(cause: RulesCause) -> &'static str
     ensures word { result.now ≡ cause_word cause }
     ensures short { length result.now ≤ 15 }
@@ -97,7 +97,7 @@ fn rules_line(fault: RulesFault) -> ArrayString<LINE>
     line
 }
 
-/// Tells which line of a file of rules is refused.
+/// Reports which line of a rules file is rejected.
 fn tell_line<E: Sink>(errors: &mut E, fault: RulesFault)
     requires { E.failures errors.old < 2 ^ 63 }
     ensures { HasSent E.Sink errors.old errors.new (rules_line fault) }
@@ -155,13 +155,13 @@ pub fn run_mask<F: Source, R: Source, W: Sink, E: Sink>(
     requires write_failures { W.failures writer.old < 2 ^ 62 }
     requires error_failures { E.failures errors.old < 2 ^ 62 }
 
-    // The output is what `mask` writes by the rules that the file says, a refusal is told, and the
-    // status is that of what was answered or told.
+    // The output is what `mask` writes by the rules of the file. An error is reported, and the
+    // status is that of the result.
     ensures reported { MaskIsReported F.Source R.Source W.Sink E.Sink limits rules.old rules.new
         reader.old
         reader.new writer.old writer.new errors.old errors.new result }
 
-    // It takes at most one byte past the limit.
+    // It reads at most one byte past the limit.
     ensures taken { R.given reader.new ≤ R.given reader.old + limits.input + 1 }
 {
     match read_rules(alloc, rules) {

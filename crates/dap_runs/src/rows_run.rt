@@ -10,7 +10,7 @@ use dap_input::Refused;
 use dap_rows::row_lines;
 use std::alloc::Global;
 
-/// What is told where no row has the number.
+/// The line that is reported if no row has the number.
 const NO_ROW: &str = "error: no row has this number: dapnorm rows prints them all\n";
 
 /// Prints the rows of the profile, or the one with the number that this text writes, and returns

@@ -1,4 +1,4 @@
--- What the program tells of how two recordings differ. Source: own.
+-- What the program prints and reports when it shows how two recordings differ. Source: own.
 use Rattle.std.specs.Prelude.{ℕ, List, [], ◌++◌, Result}
 use Rattle.dap_compare.specs.declared.verdict.CompareRefused.{CompareRefused}
 use Rattle.dap_device.specs.declared.device.Source.{Ghosts as Source}
@@ -28,7 +28,7 @@ abbrev pub diff_status : Diff → ℕ
 diff_status Same = 0
 diff_status (Differ number lines) = 1
 
--- What `diff` answers of the readers is printed or told.
+-- The result of `diff` for these readers is printed or reported.
 pub record DiffIsReported {R S W E : Type 0} (source_a : Source R) (source_b : Source S)
     (sink : Sink W) (errors : Sink E) (limits : Limits) (mode : Mode) (old_a new_a : R) (old_b new_b
     : S)

@@ -1,4 +1,4 @@
--- What the program tells of a job. Source: own.
+-- What the program prints and reports for a job. Source: own.
 use Rattle.std.specs.Prelude.{◌≡◌, ℕ, ◌++◌, Bool, List, Result, Ok, Err, codes}
 use Rattle.std.specs.Prelude.{decimal, string_bytes}
 use Rattle.dap_command_line.specs.declared.jobs.UsageFault.{UsageFault}
@@ -15,15 +15,15 @@ use Rattle.dap_input.specs.declared.refused.Refused.TheVariants.{WriteFault, Mem
 use Rattle.dap_normal.specs.Checking.{Checks}
 use Rattle.dap_device.specs.Written.{AllSent, PrefixWritten}
 
--- the line that tells the numbers of an accepted recording
+-- the line with the numbers of an accepted recording
 abbrev pub accepted_line : Checked → List ℕ
 accepted_line checked =
     codes "accepted records=" ++ decimal checked.records ++ codes " open="
     ++ decimal checked.client_open ++ codes "," ++ decimal checked.adapter_open ++ codes "\n"
 
 module _ {W : Type 0} (sink : Sink W) where
-  -- The line of what `check` accepts goes out and is flushed, or a front of it goes out and the
-  -- writer fails. Of a refusal nothing goes out.
+  -- If `check` accepts, its line is written and flushed, or a prefix of the line is written and the
+  -- writer fails. If it rejects, nothing is written.
   abbrev pub CheckIsPrinted : Result Checked Refused → W → W → Result (Unit {0}) Refused → Type 0
   CheckIsPrinted (Ok checked) before after (Ok done) =
       AllSent sink before after (accepted_line checked)
@@ -32,8 +32,8 @@ module _ {W : Type 0} (sink : Sink W) where
   CheckIsPrinted (Ok checked) before after (Err refused) = ⊥
   CheckIsPrinted (Err refused) before after ended = (after ≡ before) × (ended ≡ Err refused)
 
--- What `check` answers of the reader is printed. Where it is refused, or cannot be printed, that is
--- told.
+-- The result of `check` for this reader is printed. If the input is rejected, or the line cannot be
+-- printed, that is reported.
 pub record CheckIsReported {R W E : Type 0} (source : Source R) (sink : Sink W) (errors : Sink E)
     (limits : Limits) (mode : Mode) (complete : Bool) (old new : R) (before after : W) (silent
     spoken : E)

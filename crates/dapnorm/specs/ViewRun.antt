@@ -1,4 +1,4 @@
--- What the program prints and reports of a recording that it shows. Source: own.
+-- What the program prints and reports when it shows a recording. Source: own.
 use Rattle.std.specs.Prelude.{◌≡◌, ℕ, ◌++◌, true, List, Option, Some, None, Result, Ok, Err, codes}
 use Rattle.std.specs.Prelude.{decimal}
 use Rattle.dap_device.specs.declared.device.Sink.{Ghosts as Sink}
@@ -13,7 +13,7 @@ use Rattle.dap_show.specs.declared.one_record.RecordShown.TheVariants.{Shown, Mi
 use Rattle.dap_runs.specs.FaultLine.{fault_line, refused_text}
 use Rattle.dap_runs.specs.Reporting.{HasSent, IsReported, refused_status, status_of}
 
--- the first refusal of an answer: one that is marked, or one that is returned
+-- the first error in a result: one that is marked in a line, or one that is returned
 abbrev pub first_of : Result (Option Refused) Refused → Result (Unit {0}) Refused
 first_of (Ok None) = Ok tt
 first_of (Ok (Some refused)) = Err refused
@@ -25,8 +25,8 @@ no_record_line number count =
     codes "dapnorm: no record " ++ decimal number ++ codes ": the recording has " ++ decimal count
     ++ codes "\n"
 
--- What is reported of a record, with the status: nothing if it was printed; that it is missing; or
--- a refusal.
+-- What is reported for a record, with the status: nothing if it was printed, that it is missing, or
+-- an error.
 abbrev pub RecordReports : {E : Type 0} → Sink E → ℕ → E → E → ℕ → Result RecordShown Refused
     → Type 0
 RecordReports errors number silent spoken status (Ok Shown) = (spoken ≡ silent) × (status ≡ 0)
@@ -38,7 +38,7 @@ RecordReports errors number silent spoken status (Err refused) =
 
 module _ {R W E : Type 0} (source : Source R) (sink : Sink W) (errors : Sink E) (limits : Limits)
   where
-    -- The input is shown with its faults, and the first refusal is reported.
+    -- The input is shown with its errors, and the first error is reported.
     pub record FaultyIsReported (detail : Detail) (old new : R) (before after : W)
         (silent spoken : E) (status : ℕ) : Type 0 where
       pub outcome : Result (Option Refused) Refused
@@ -46,7 +46,7 @@ module _ {R W E : Type 0} (source : Source R) (sink : Sink W) (errors : Sink E) 
       pub tells : IsReported errors silent spoken (first_of outcome)
       pub status_is : status ≡ status_of (first_of outcome)
 
-    -- A record is shown, or it is reported why not.
+    -- A record is shown, or the reason why not is reported.
     pub record RecordIsReported (number : ℕ) (old new : R) (before after : W) (silent spoken : E)
         (status : ℕ) : Type 0 where
       pub outcome : Result RecordShown Refused

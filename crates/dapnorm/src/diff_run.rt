@@ -1,4 +1,4 @@
-//! Compares two inputs, and tells how they differ: lines and a status.
+//! Compares two inputs, prints their differences, and returns a status.
 ghost use Rattle.std.specs.Prelude.{◌≡◌, ◌+◌, ◌<◌, ◌≤◌, ◌^◌};
 ghost use Rattle.dapnorm.specs.DiffRun.{DiffIsReported, diff_status, diff_text, first_line};
 ghost use Rattle.dapnorm.specs.DiffRun.{lines_in};
@@ -27,7 +27,7 @@ fn first_line_of(diff: &Diff) -> ArrayString<LINE>
     }
 }
 
-/// The lines that tell how two recordings differ, where they do.
+/// Returns the lines that show how two recordings differ, if they do.
 fn lines(diff: &Diff) -> &[u8]
     ensures { result.now ≡ lines_in diff.now }
 {
@@ -82,8 +82,8 @@ pub fn run_diff<A: Source, B: Source, W: Sink, E: Sink>(
     requires write_failures { W.failures writer.old < 2 ^ 62 }
     requires error_failures { E.failures errors.old < 2 ^ 62 }
 
-    // The output is the lines, flushed, a refusal is told, and so is a writer that failed; and the
-    // status is that of what was answered or told.
+    // The output is the lines, flushed. A rejected input or a failed writer is reported, and the
+    // status is that of the result.
     ensures reported { DiffIsReported A.Source B.Source W.Sink E.Sink limits mode reader_a.old
         reader_a.new
         reader_b.old reader_b.new writer.old writer.new errors.old errors.new result }

@@ -1,4 +1,4 @@
-//! Does a job, and tells of it what the program tells: lines and a status.
+//! Does a job, prints its output, and returns a status.
 ghost use Rattle.std.specs.Prelude.{◌≡◌, ℕ, ◌+◌, ◌<◌, ◌≤◌, ◌^◌, Bool, List, Option, option_map};
 ghost use Rattle.std.specs.Borrow.{Bor};
 ghost use Rattle.dap_command_line.specs.Jobs.{mode_for};
@@ -83,30 +83,30 @@ pub fn run_stream<R: Source, W: Sink, E: Sink>(
     requires write_failures { W.failures writer.old < 2 ^ 62 }
     requires error_failures { E.failures errors.old < 2 ^ 62 }
 
-    // The output is what the engine writes, a refusal is told, and the status is that of the
-    // answer.
+    // The output is what the command function writes. An error is reported, and the status is that
+    // of the result.
     ensures compact { job.now ≡ Job.Compact
         → Answered (Answers R.Source W.Sink limits.input (Compacts limits)
         (IsRefused (compacting limits)) reader.old reader.new writer.old writer.new)
         (IsReported E.Sink errors.old errors.new) result }
 
-    // The output is the records that `record` writes, and the status that of its answer.
+    // The output is the records that `record` writes, and the status that of its result.
     ensures record_trace { job.now ≡ Job.Record
         → Answered (RecordsTrace R.Source W.Sink limits reader.old reader.new writer.old writer.new)
         (IsReported E.Sink errors.old errors.new) result }
 
-    // The output is the normal text that `normalise` writes, and the status that of its answer.
+    // The output is the normal form that `normalise` writes, and the status that of its result.
     ensures normalise { (per_stop : Bool) → job.now ≡ Job.Normalise per_stop
         → Answered (Streams R.Source W.Sink limits (mode_for per_stop) reader.old reader.new
         writer.old writer.new) (IsReported E.Sink errors.old errors.new) result }
 
-    // The output is the line of what `check` accepts, and the status that of its answer or of a
-    // writer that failed.
+    // The output is the line of a recording that `check` accepts, and the status that of its result
+    // or of a writer that failed.
     ensures check { (complete per_stop : Bool) → job.now ≡ Job.Check complete per_stop
         → CheckIsReported R.Source W.Sink E.Sink limits (mode_for per_stop) complete reader.old
         reader.new writer.old writer.new errors.old errors.new result }
 
-    // The output is the lines that `show` writes, and the status that of its answer.
+    // The output is the lines that `show` writes, and the status that of its result.
     ensures show { job.now ≡ Job.Show
         → Answered (Answers R.Source W.Sink limits.input (IsShownBy limits)
         (IsRefused (showing limits)) reader.old reader.new writer.old writer.new)

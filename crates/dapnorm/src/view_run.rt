@@ -15,7 +15,7 @@ use dap_show::{RecordShown, ShowRequest, show_faulty, show_record, show_with};
 use itoa::Buffer;
 use std::alloc::Global;
 
-/// The first refusal that an answer reports.
+/// Returns the first error that a result reports.
 fn first_of(outcome: Result<Option<Refused>, Refused>) -> Result<(), Refused>
     ensures { result ≡ first_of outcome }
 {
@@ -66,10 +66,10 @@ fn tell_record<E: Sink>(errors: &mut E, number: u64, outcome: Result<RecordShown
     }
 }
 
-/// Prints a recording for a reader, and returns the program's status. A refusal is reported on
+/// Prints a recording for people, and returns the status of the program. An error is reported on
 /// `errors`, in one line.
 ///
-/// The status is 0 if all was printed and no record is marked, 2 if the input is refused, a record
+/// The status is 0 if all was printed and no record is marked, 2 if the input is rejected, a record
 /// is marked, or there is no record of that number, 4 if a device failed, and 5 if an allocation
 /// failed.
 pub fn run_view<R: Source, W: Sink, E: Sink>(
@@ -86,20 +86,20 @@ pub fn run_view<R: Source, W: Sink, E: Sink>(
     requires write_failures { W.failures writer.old < 2 ^ 62 }
     requires error_failures { E.failures errors.old < 2 ^ 62 }
 
-    // The output is the lines that `show_with` writes; a refusal is reported, and the status is
-    // that of the answer.
+    // The output is the lines that `show_with` writes. An error is reported, and the status is that
+    // of the result.
     ensures lines { (detail : Detail) → request ≡ ShowRequest.Lines detail
         → Answered (ShowsInput detail limits R.Source W.Sink reader.old reader.new writer.old
         writer.new) (IsReported E.Sink errors.old errors.new) result }
 
-    // The output is the lines that `show_faulty` writes; the first refusal that it marks or returns
+    // The output is the lines that `show_faulty` writes. The first error that it marks or returns
     // is reported, with its status.
     ensures faulty { (detail : Detail) → request ≡ ShowRequest.Faulty detail
         → FaultyIsReported R.Source W.Sink E.Sink limits detail reader.old reader.new writer.old
         writer.new errors.old errors.new result }
 
-    // The output is the content that `show_record` writes; a refusal is reported, and also that
-    // there is no such record.
+    // The output is the content that `show_record` writes. An error is reported, and also a missing
+    // record.
     ensures record { (number : ℕ) → request ≡ ShowRequest.Record number
         → RecordIsReported R.Source W.Sink E.Sink limits number reader.old reader.new writer.old
         writer.new errors.old errors.new result }
