@@ -13,7 +13,7 @@ from types import ModuleType
 from typing import IO, Callable, Iterator, List
 
 import kit
-from side_by_side import SideBySide, Task
+from side_by_side import MOST_JOBS, SideBySide, Task
 
 
 class Reports:
@@ -87,11 +87,11 @@ def libraries(rt: ModuleType, reports: Reports) -> bool:
         return SideBySide(tasks, kit.processors(rt)).run()
 
 
-def program(reports: Reports) -> bool:
+def program(rt: ModuleType, reports: Reports) -> bool:
     """Proves the program in this folder, builds it and runs it for its help, and returns whether it is proved.
 
-    It takes one job: most of the time goes into loading what is known of the libraries, which each further job would do again."""
-    name, jobs, begun = os.path.basename(os.getcwd()), 1, time.monotonic()
+    It comes last, when no other crate is left to prove, so it takes all processors."""
+    name, jobs, begun = os.path.basename(os.getcwd()), min(kit.processors(rt), MOST_JOBS), time.monotonic()
     words = [sys.executable, os.path.abspath(__file__), "--program", str(jobs)]
     how = {"stdin": subprocess.DEVNULL, "stdout": subprocess.DEVNULL, "stderr": subprocess.PIPE, "text": True, "errors": "replace"}
     ran = subprocess.run(words, **how)
@@ -109,7 +109,7 @@ def main() -> int:
     with open(os.path.join("out", "proved.log"), "w", encoding="utf-8", errors="replace") as log:
         reports = Reports(log)
         # rt prepares its library for a run over all crates, and this then takes the place of that run.
-        rt.rtlib.every = lambda verb, at_once: 0 if libraries(rt, reports) and program(reports) else 1
+        rt.rtlib.every = lambda verb, at_once: 0 if libraries(rt, reports) and program(rt, reports) else 1
         status = rt.main(["all", "check"])
     sys.stdout.flush()
     # The provers that still run end with this process.
