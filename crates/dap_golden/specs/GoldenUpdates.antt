@@ -4,7 +4,7 @@ use Rattle.std.specs.Prelude.{Result, Ok, Err}
 use Rattle.dap_device.specs.declared.device.Source.{Ghosts as Source}
 use Rattle.dap_device.specs.declared.reading.Stop.{Stop}
 use Rattle.dap_device.specs.declared.reading.Stop.TheVariants.{Failed}
-use Rattle.dap_device.specs.Reading.{HasReadInput}
+use Rattle.dap_device.specs.Reading.{HasReadInput, HasReadPartly}
 use Rattle.dap_file.specs.Calls.{IsLonger, KeepsTarget}
 use Rattle.dap_file.specs.Crash.{Content}
 use Rattle.dap_file.specs.Replacing.{HasFailedAt, HasReplaced}
@@ -41,12 +41,14 @@ module _ {I : Type 0} (source : Source I) (limits : Limits) (mask : Option Mask)
     pub read : HasRead bytes
     pub is_golden : IsGolden limits request.mode mask request.allow_open bytes text
 
-  -- The input has no golden text, for this reason.
+  -- The input has no golden text, for this reason. If an allocation failed, a prefix of the input
+  -- was read, and the reader did not fail; or the input was read.
   abbrev pub HasNoText : GoldenStop → Type 0
   HasNoText stop.Unread = (bytes : List ℕ) × HasReadInput source old new limits.input bytes Failed
   HasNoText (stop.Input refused) = (bytes : List ℕ) × HasRead bytes
       × IsRefusedGolden limits request.mode mask request.allow_open bytes refused
-  HasNoText stop.Memory = Unit {0}
+  HasNoText stop.Memory =
+      HasReadPartly source old new limits.input ⊎ ((bytes : List ℕ) × HasRead bytes)
   HasNoText _ = ⊥
 
   abbrev pub ReadsText : Result GoldenText GoldenStop → Type 0

@@ -80,8 +80,9 @@ fn read_text<I: Source>(
     ensures short { IfOk result (λ text. length text.bytes.items ≤ limits.input) }
     ensures taken { I.given input.new ≤ I.given input.old + limits.input + 1 }
 {
-    let Ok(read) = read_all(alloc, input, limits.input) else {
-        return Err(GoldenStop::Memory);
+    let read = match read_all(alloc, input, limits.input) {
+        Ok(read) => read,
+        Err(_) => return Err(GoldenStop::Memory),
     };
     if let Stop::Failed = read.stop {
         return Err(GoldenStop::Unread);

@@ -1,5 +1,5 @@
 -- What reading a recording into memory keeps from record to record, and its results.
-use Rattle.std.proofs.Common.{◌≡◌, ℕ, ℤ, false, List, ◌++◌, Err, refl, sym, subst}
+use Rattle.std.proofs.Common.{◌≡◌, ℕ, ℤ, false, List, ◌++◌, None, Err, refl, sym, subst}
 use Rattle.dap_device.specs.declared.device.Source.{Ghosts as Source}
 use Rattle.dap_rename.specs.declared.mode.Mode.{Mode}
 use Rattle.dap_input.specs.declared.limits.Limits.{Limits}
@@ -9,11 +9,11 @@ use Rattle.dap_compare.specs.ComparingSteps.{IsRefusalOf}
 use Rattle.dap_compare.specs.declared.verdict.CompareRefused.{CompareRefused}
 use Rattle.dap_compare.specs.declared.verdict.Which.{Which}
 use Rattle.dap_normal.specs.Accepting.{text}
-use Rattle.dap_normal.specs.NormalSteps.{HasEnded, HasStoppedAt}
+use Rattle.dap_normal.specs.NormalSteps.{HasAdvanced, HasEnded, HasStoppedAt}
 use Rattle.dap_normal.specs.declared.normal_records.NormalRecords.{NormalRecords}
 use Rattle.dap_normal.proofs.StreamAnswers.{check_refuses}
-use Rattle.dap_normal.proofs.StreamLoop.{Going, all_came, normal_before}
-use Rattle.dap_matching.specs.Matching.{HasNormalText, Reads}
+use Rattle.dap_normal.proofs.StreamLoop.{Going, all_came, come_to, normal_before}
+use Rattle.dap_matching.specs.Matching.{HasNormalText, RanOutOfMemory, Reads}
 
 module _ {T R : Type 0} (numbers : T → List ℤ) (table_limit : T → ℕ) (source : Source R)
     (limits : Limits) (mode : Mode) where
@@ -50,8 +50,22 @@ module _ {T R : Type 0} {numbers : T → List ℤ} {table_limit : T → ℕ} (so
       → Reads source limits mode start after {U = Unit {0}} which written (Err refusal)
   refused which why.Memory refusal stopped is written =
       subst (λ r. Reads source limits mode start after {U = Unit {0}} which written (Err r))
-      (sym (is.0 refl)) tt
+      (sym (is.0 refl))
+      (check_refuses source limits mode start reader records was.going new after false why.Memory
+      stopped)
   refused which because refusal stopped is written =
       subst (λ r. Reads source limits mode start after {U = Unit {0}} which written (Err r))
       (sym (is.1 (λ e. let same = e in cc)))
       (refl, check_refuses source limits mode start reader records was.going new after false because stopped)
+
+  -- An allocation failed after the record was read.
+  pub gave_up : (before longer : List ℕ)
+      → HasAdvanced numbers table_limit source limits mode was.going.bytes was.going.messages
+      was.going.normal records new reader after before longer
+      → RanOutOfMemory source limits mode start after
+  gave_up before longer gone = (
+    records.records.number,
+    text was.going.normal,
+    come_to source limits mode start reader records was.going after gone.more None gone.came
+        gone.read_to,
+  )

@@ -1,9 +1,10 @@
 -- The result of comparing all records of two recordings. Source: own.
-use Rattle.std.specs.Prelude.{◌≡◌, ℕ, false, List, Result, Ok, Err}
+use Rattle.std.specs.Prelude.{◌≡◌, ◌⊎◌, ℕ, false, List, Result, Ok, Err}
 use Rattle.dap_device.specs.declared.device.Source.{Ghosts as Source}
 use Rattle.dap_rename.specs.declared.mode.Mode.{Mode}
 use Rattle.dap_input.specs.declared.limits.Limits.{Limits}
 use Rattle.dap_input.specs.declared.refused.Refused.{Refused}
+use Rattle.dap_input.specs.declared.refused.Refused.TheVariants as why
 use Rattle.dap_input.specs.Engine.{Accepts}
 use Rattle.dap_normal.specs.Checking.{Checks}
 use Rattle.dap_normal.specs.Normalising.{Normalises}
@@ -24,12 +25,18 @@ module _ {R : Type 0} (source : Source R) (limits : Limits) (mode : Mode) (old n
   abbrev pub ChecksRefused : Refused → Type 0
   ChecksRefused why = Checks source limits mode false old new (Err why)
 
+  -- An allocation failed at some record. The records before it are accepted, no more was read than
+  -- that record requires, and the reader did not fail.
+  abbrev pub RanOutOfMemory : Type 0
+  RanOutOfMemory = ChecksRefused why.Memory
+
   -- The input, A or B, is read whole and accepted, and this is the text of its normal form; or it
-  -- is refused for what `check` refuses it for.
+  -- is refused for what `check` refuses it for; or an allocation failed before all of it was
+  -- accepted.
   abbrev pub Reads : {U : Type 0} → Which → List ℕ → Result U CompareRefused → Type 0
   Reads which text (Ok done) = HasNormalText text
   Reads which text (Err (Input whose why)) = (whose ≡ which) × ChecksRefused why
-  Reads which text (Err Memory) = Unit {0}
+  Reads which text (Err Memory) = RanOutOfMemory
 
 -- Differences are found, or an allocation failed.
 abbrev pub FindsDifferences : Result AllDifferences CompareRefused → Type 0
@@ -46,6 +53,16 @@ module _ {R S : Type 0} (source_a : Source R) (source_b : Source S) (limits : Li
     pub a : HasNormalText source_a limits mode old_a new_a text_a
     pub b : HasNormalText source_b limits mode old_b new_b text_b
 
+  -- An allocation failed while A was read, and nothing was read of B; or while B was read, and A is
+  -- accepted; or after both were accepted, with two normal forms.
+  abbrev pub RunsOutOfMemory : Type 0
+  RunsOutOfMemory =
+      (RanOutOfMemory source_a limits mode old_a new_a × (new_b ≡ old_b))
+      ⊎ (((text_a : List ℕ) × HasNormalText source_a limits mode old_a new_a text_a
+      × RanOutOfMemory source_b limits mode old_b new_b)
+      ⊎ ((text_a : List ℕ) × (text_b : List ℕ) × AreAccepted text_a text_b
+      × (text_a ≡ text_b → ⊥)))
+
   -- `Same` is returned if both recordings have one normal form, and differences if they have two.
   -- A refusal of A is reported before anything of B is read, and a refusal of B if A is accepted.
   abbrev pub DiffersAll : Result AllDifferences CompareRefused → Type 0
@@ -57,4 +74,4 @@ module _ {R S : Type 0} (source_a : Source R) (source_b : Source S) (limits : Li
   DiffersAll (Err (Input B why)) =
       (text_a : List ℕ) × HasNormalText source_a limits mode old_a new_a text_a
       × ChecksRefused source_b limits mode old_b new_b why
-  DiffersAll (Err Memory) = Unit {0}
+  DiffersAll (Err Memory) = RunsOutOfMemory

@@ -63,7 +63,7 @@ module _ {R : Type 0} (source : Source R) (limits : Limits) (mode : Mode) (mask 
   returned (Err (because.Order why)) stop came none is =
       record { bytes = bytes; stop = stop; came = came; is_refused = is }
   returned (Err because.ReadFault) stop came none is = absurd is
-  returned (Err because.Memory) stop came none is = tt
+  returned (Err because.Memory) stop came none is = inr (bytes, stop, came)
 
   -- The result, if it follows from the result for the bytes.
   pub answers : (made given : Result (Vec ℕ Global) ApplyRefused) (stop : Stop) → Came stop

@@ -9,6 +9,7 @@ use Rattle.dap_rename.specs.declared.mode.Mode.{Mode}
 use Rattle.dap_input.specs.declared.limits.Limits.{Limits}
 use Rattle.dap_input.specs.declared.refused.Refused.{Refused}
 use Rattle.dap_input.specs.Engine.{Accepts, FailsToRead, RefusesInput}
+use Rattle.dap_order_input.specs.Ordering.{ReadsSomeOrAll}
 use Rattle.dap_rules_input.specs.Applying.{AppliesRules, IsRefusedByRules}
 use Rattle.dap_rules_input.specs.declared.fault.ApplyRefused.{ApplyRefused}
 use Rattle.dap_rules_input.specs.declared.fault.ApplyRefused.TheVariants as because
@@ -30,7 +31,8 @@ module _ {R : Type 0} (source : Source R) (limits : Limits) (mode : Mode) (mask 
   -- The text is that of the whole input; or the first step that fails is reported. An input that
   -- cannot be masked because it is incomplete is reported only if the reader reached its end. If
   -- the reader failed, the bytes read contain no error, except that they may be too incomplete to
-  -- be masked.
+  -- be masked. If an allocation failed, a prefix of the input was read, and the reader did not
+  -- fail; or the input was read until it stopped.
   abbrev pub ReadsByRules : R → R → Result (Vec ℕ Global) ApplyRefused → Type 0
   ReadsByRules old new (Ok text) =
       Accepts source limits.input (AppliesRules limits mode mask) old new text.items
@@ -39,4 +41,4 @@ module _ {R : Type 0} (source : Source R) (limits : Limits) (mode : Mode) (mask 
   ReadsByRules old new (Err (because.Order refused)) = CannotOrder old new refused
   ReadsByRules old new (Err because.ReadFault) =
       FailsToRead source limits.input (AppliesRules limits mode mask) CannotMask old new
-  ReadsByRules old new (Err because.Memory) = Unit {0}
+  ReadsByRules old new (Err because.Memory) = ReadsSomeOrAll source limits.input old new

@@ -37,15 +37,17 @@ pub fn read_by_rules<R: Source>(
     requires failures { R.failures reader.old < 2 ^ 62 }
 
     // The text is that of the whole input and the rules, or an error is returned. `ReadFault` is
-    // returned only if the reader failed.
+    // returned only if the reader failed. If an allocation failed, a prefix of the input was read,
+    // or all of it.
     ensures outcome { ReadsByRules R.Source limits mode (mask_of rules.now) reader.old reader.new
         result }
 
     // At most one byte past the limit is read.
     ensures taken { R.given reader.new ≤ R.given reader.old + limits.input + 1 }
 {
-    let Ok(input) = read_all(alloc, reader, limits.input) else {
-        return Err(ApplyRefused::Memory);
+    let input = match read_all(alloc, reader, limits.input) {
+        Ok(input) => input,
+        Err(_) => return Err(ApplyRefused::Memory),
     };
     text_of_input(
         apply_rules(alloc, rules, input.bytes.as_slice(), limits, mode),

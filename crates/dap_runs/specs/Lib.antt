@@ -11,3 +11,4 @@ pub mod Saving
 pub mod TextsByRules
 pub mod TwoInputs
 pub mod UnopenedRules
+pub mod WholeInputs

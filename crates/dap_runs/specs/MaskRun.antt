@@ -1,10 +1,10 @@
 -- What the program does and reports when it masks a recording by the rules of a file. Source: own.
-use Rattle.std.specs.Prelude.{◌≡◌, ◌≢◌, ℕ, ◌++◌, List, Result, Ok, Err, codes, decimal}
-use Rattle.dap_device.specs.Reading.{HasReadInput}
+use Rattle.std.specs.Prelude.{◌≡◌, ◌≢◌, ◌⊎◌, ℕ, ◌++◌, List, Result, Ok, Err, codes, decimal}
+use Rattle.dap_device.specs.Reading.{HasReadInput, HasReadPartly}
 use Rattle.dap_device.specs.declared.device.Sink.{Ghosts as Sink}
 use Rattle.dap_device.specs.declared.device.Source.{Ghosts as Source}
 use Rattle.dap_device.specs.declared.reading.Stop.{Stop}
-use Rattle.dap_device.specs.declared.reading.Stop.TheVariants.{Failed}
+use Rattle.dap_device.specs.declared.reading.Stop.TheVariants.{End, Failed}
 use Rattle.dap_input.specs.Streaming.{Streams}
 use Rattle.dap_input.specs.declared.limits.Limits.{Limits}
 use Rattle.dap_input.specs.declared.refused.Refused.TheVariants.{Memory}
@@ -51,10 +51,16 @@ pub record IsUnread {F : Type 0} (source : Source F) (old new : F) : Type 0 wher
   pub bytes : List ℕ
   pub came : HasReadInput source old new 65536 bytes Failed
 
+-- An allocation failed: while the file was read, no part of which failed; or after all of it was
+-- read, which has at most 65,536 bytes.
+abbrev pub IsUnreadForMemory : {F : Type 0} → Source F → F → F → Type 0
+IsUnreadForMemory source old new = HasReadPartly source old new 65536
+    ⊎ ((bytes : List ℕ) × HasReadInput source old new 65536 bytes End)
+
 abbrev pub ReadsRules : {F : Type 0} → Source F → F → F → RulesOutcome → Type 0
 ReadsRules source old new (said what) = FileGivesRules source old new what
 ReadsRules source old new unread = IsUnread source old new
-ReadsRules source old new no_memory = Unit {0}
+ReadsRules source old new no_memory = IsUnreadForMemory source old new
 
 -- ---- what is reported
 

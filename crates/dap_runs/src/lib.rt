@@ -17,6 +17,7 @@ mod saving;
 mod status;
 mod two_inputs;
 mod unopened_rules;
+mod whole_input;
 
 pub use apply_run::report_unapplied;
 pub use compare_run::{differ_line, refusal_status, run_compare, run_compare_with, same_line};
@@ -29,10 +30,13 @@ pub use program_limits::LIMITS;
 pub use rows_run::tell_rows;
 pub use rules_files::{RulesFiles, RulesOpenFault};
 pub use rules_texts::{
-    NoRules, RuledPairRun, RulesStop, TableMaker, TextsByRules, report_no_rules, report_rules_stop,
-    rules_of_name, texts_by_rules,
+    NoRules, RuledPairRun, RulesStop, TableMaker, TextsByRules, is_either_standard,
+    report_no_rules, report_rules_stop, rules_of_name, texts_by_rules,
 };
 pub use saving::save;
 pub use status::{DIFFERENT, DONE, FAULT, MEMORY, REFUSED, USAGE, refused_status};
-pub use two_inputs::{OpenStop, TwoFilesRun, is_standard, open_both, report_open_stop};
+pub use two_inputs::{
+    OpenStop, TwoFilesRun, are_both_standard, is_standard, open_both, report_open_stop,
+};
 pub use unopened_rules::report_unopened_rules;
+pub use whole_input::{UnreadInput, WholeInput, read_whole};

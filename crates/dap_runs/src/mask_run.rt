@@ -44,14 +44,15 @@ pub fn read_rules<F: Source>(alloc: Global, file: &mut F) -> Result<MaskRules, R
     requires failures { F.failures file.old < 2 ^ 62 }
 
     // The result is what the bytes of the file specify: the rules, or the rejected line. `Unread`
-    // is returned only if a read failed.
+    // is returned only if a read failed. If an allocation failed, no read failed.
     ensures rules { ReadsRules F.Source file.old file.new (outcome_of result) }
 
     // It reads at most one byte past the limit.
     ensures taken { F.given file.new ≤ F.given file.old + 65537 }
 {
-    let Ok(input) = read_all(alloc, file, RULES) else {
-        return Err(RulesRefused::Memory);
+    let input = match read_all(alloc, file, RULES) {
+        Ok(input) => input,
+        Err(_) => return Err(RulesRefused::Memory),
     };
     if let Stop::Failed = input.stop {
         return Err(RulesRefused::Unread);

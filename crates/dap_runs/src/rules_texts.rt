@@ -79,7 +79,7 @@ pub struct RuledPairRun<I> {
 }
 
 /// Returns whether one of two inputs is standard input.
-fn is_either_standard(a: &str, b: &str) -> bool
+pub fn is_either_standard(a: &str, b: &str) -> bool
     ensures { result ≡ is_either_standard a.now b.now }
 {
     is_standard(a) || is_standard(b)

@@ -41,7 +41,7 @@ pub fn is_standard(name: &str) -> bool
 }
 
 /// Returns whether both inputs are standard input.
-fn are_both_standard(a: &str, b: &str) -> bool
+pub fn are_both_standard(a: &str, b: &str) -> bool
     ensures { result ≡ are_both_standard a.now b.now }
 {
     is_standard(a) && is_standard(b)

@@ -1,3 +1,4 @@
 pub mod NotSuggested
+pub mod SuggestFiles
 pub mod SuggestRun
 pub mod Suggested

@@ -15,6 +15,7 @@ mod obstacle_line;
 mod run;
 mod sessions;
 mod spots;
+mod suggest_by_names;
 mod suggesting;
 mod suggestion;
 mod swapping;
@@ -23,5 +24,6 @@ mod words;
 
 pub use obstacle::{Obstacle, Reason};
 pub use run::run_suggest;
+pub use suggest_by_names::{SuggestEnd, SuggestFilesRun, suggest_files};
 pub use suggesting::suggest;
 pub use suggestion::{SuggestRefused, Suggestion};

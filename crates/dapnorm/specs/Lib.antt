@@ -1,4 +1,5 @@
 pub mod DiffRun
+pub mod GoldenByNames
 pub mod GoldenRun
 pub mod MemoryFiles
 pub mod OneFile
@@ -9,6 +10,7 @@ pub mod SavedRun
 pub mod TaskRun
 pub mod TwoFiles
 pub mod ViewRun
+pub mod WrittenRun
 pub use Rattle.dap_command_line.specs.CommandLine
 pub use Rattle.dap_command_line.specs.Jobs
 pub use Rattle.dap_compact.specs.Compacting
@@ -51,6 +53,7 @@ pub use Rattle.dap_runs.specs.Saving
 pub use Rattle.dap_runs.specs.TextsByRules
 pub use Rattle.dap_runs.specs.TwoInputs
 pub use Rattle.dap_runs.specs.UnopenedRules
+pub use Rattle.dap_runs.specs.WholeInputs
 pub use Rattle.dap_show.specs.Indented
 pub use Rattle.dap_show.specs.Leaves
 pub use Rattle.dap_show.specs.OneRecord

@@ -143,7 +143,12 @@ fn stop_reason(stop: GoldenStop) -> ArrayString<LINE>
 }
 
 /// Reports a line of three parts about `golden`. A failure to write it is not reported.
-fn report_line<E: Sink>(errors: &mut E, subject: &str, words: &str, reason: &ArrayString<LINE>)
+pub(crate) fn report_line<E: Sink>(
+    errors: &mut E,
+    subject: &str,
+    words: &str,
+    reason: &ArrayString<LINE>,
+)
     requires { E.failures errors.old < 2 ^ 62 }
     ensures { HasSent E.Sink errors.old errors.new
         (golden_line subject.now words.now reason.now.bytes) }

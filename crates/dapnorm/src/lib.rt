@@ -1,7 +1,9 @@
 //! Engines over frames and recordings of the Debug Adapter Protocol.
 #![tactic(auto)]
 
+mod devices;
 mod diff_run;
+mod golden_by_names;
 mod golden_run;
 pub mod laws;
 mod memory_files;
@@ -14,6 +16,7 @@ mod targets;
 mod task;
 mod two_files;
 mod view_run;
+mod written_run;
 
 pub use dap_command_line::Job;
 pub use dap_command_line::UsageFault;
@@ -106,8 +109,11 @@ pub use dap_runs::RulesStop;
 pub use dap_runs::TableMaker;
 pub use dap_runs::TextsByRules;
 pub use dap_runs::TwoFilesRun;
+pub use dap_runs::UnreadInput;
+pub use dap_runs::WholeInput;
 pub use dap_runs::open_both;
 pub use dap_runs::read_rules;
+pub use dap_runs::read_whole;
 pub use dap_runs::report_open_stop;
 pub use dap_runs::report_rules;
 pub use dap_runs::report_rules_stop;
@@ -127,8 +133,12 @@ pub use dap_show::show_faulty;
 pub use dap_show::show_record;
 pub use dap_show::show_with;
 pub use dap_trace::record;
+pub use devices::Devices;
 pub use diff_run::run_diff;
 pub use diff_run::run_diff_with;
+pub use golden_by_names::GoldenEnd;
+pub use golden_by_names::GoldenFilesRun;
+pub use golden_by_names::golden_files;
 pub use golden_run::GoldenRun;
 pub use golden_run::run_golden;
 pub use memory_files::MemoryFiles;
@@ -155,3 +165,4 @@ pub use task::run_task;
 pub use two_files::compare_files;
 pub use two_files::diff_files;
 pub use view_run::run_view;
+pub use written_run::write_run;

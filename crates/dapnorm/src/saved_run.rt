@@ -63,7 +63,7 @@ fn report_unwritten<E: Sink>(errors: &mut E, name: &str)
 
 /// Reports in one line that no file that can be replaced was found, and returns the status of the
 /// program.
-fn report_unfound<E: Sink>(errors: &mut E, name: &str, fault: OpenFault) -> u8
+pub(crate) fn report_unfound<E: Sink>(errors: &mut E, name: &str, fault: OpenFault) -> u8
     requires { E.failures errors.old < 2 ^ 62 }
     ensures line { HasSent E.Sink errors.old errors.new (unfound_line name.now fault) }
     ensures status { result ≡ unfound_status fault }

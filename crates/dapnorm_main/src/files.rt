@@ -1,8 +1,16 @@
 //! The files and the standard input of the operating system.
 use crate::reports::is_out_of_memory;
-use dap_file::{KeptInput, open_input, shows_closed_input};
-use dapnorm::{DeviceFault, Files, OpenFault, RulesFiles, RulesOpenFault, Source, StdSource};
-use std::fs::{self, File};
+use dap_file::{
+    FileAt, FileFault, KeptInput, ReadFault, Replaceable, find_file, open_input, shows_closed_input,
+};
+use dapnorm::{
+    DeviceFault, Devices, Files, OpenFault, RulesFiles, RulesOpenFault, Source, StdSink, StdSource,
+    Targets,
+};
+use std::alloc::Global;
+use std::fs::{self, File, OpenOptions};
+use std::hash::RandomState;
+use std::io::Error;
 
 /// An input that was opened. It counts what it gave and how often it failed.
 #[derive(Drop)]
@@ -101,5 +109,120 @@ impl RulesFiles<StdSource<File>> for SystemRules<'_> {
             return Err(RulesOpenFault::ClosedInput);
         }
         Ok(StdSource::new(file))
+    }
+}
+
+/// A file of the operating system that is replaced as a whole.
+#[derive(Drop)]
+pub struct SystemFile<'a> {
+    file: FileAt<'a, HostRuntime>,
+}
+
+impl SystemFile<'_> {
+    /// Returns the reason of the last failure, or `None` before the first one.
+    pub fn reason(&self) -> Option<&Error> {
+        self.file.reason()
+    }
+}
+
+impl Replaceable for SystemFile<'_> {
+    ghost use Rattle.std.specs.Prelude.{None};
+
+    ghost is_known = { λ f. ⊥ };
+
+    ghost target = { λ f. None };
+
+    ghost temporary = { λ f. None };
+
+    ghost may_leave = { λ f c. ⊥ };
+
+    ghost may_hold = { λ f c. ⊥ };
+
+    ghost moment = { λ f. 0 };
+
+    ghost left_since = { λ f t c. ⊥ };
+
+    ghost failures = { λ f. f.file.failures };
+
+    ghost failed_at = { λ f. f.file.failed_at };
+
+    ghost counts_now = { λ f t c le left. left };
+
+    ghost only_now = { λ f c left. left };
+
+    ghost stays = { λ f known. known };
+
+    fn read(&mut self, alloc: Global, limit: u64) -> Result<Option<Vec<u8>>, ReadFault> {
+        self.file.read(alloc, limit)
+    }
+
+    fn create(&mut self) -> Result<(), FileFault> {
+        self.file.create()
+    }
+
+    fn write(&mut self, bytes: &[u8]) -> Result<usize, FileFault> {
+        self.file.write(bytes)
+    }
+
+    fn sync(&mut self) -> Result<(), FileFault> {
+        self.file.sync()
+    }
+
+    fn rename(&mut self) -> Result<(), FileFault> {
+        self.file.rename()
+    }
+
+    fn sync_folder(&mut self) -> Result<(), FileFault> {
+        self.file.sync_folder()
+    }
+
+    fn remove(&mut self) -> Result<(), FileFault> {
+        self.file.remove()
+    }
+
+    fn failures(&self) -> u64 {
+        self.file.failures()
+    }
+}
+
+/// The files of the operating system that are replaced as a whole.
+#[derive(Clone, Copy)]
+pub struct SystemTargets<'a> {
+    pub rt: &'a HostRuntime,
+    /// Random words for the names of temporary files.
+    pub hasher: RandomState,
+}
+
+impl<'a> Targets<SystemFile<'a>> for SystemTargets<'a> {
+    ghost found = { λ targets name file. Unit {0} };
+
+    ghost unfound = { λ targets name fault. Unit {0} };
+
+    fn find(&self, name: &str) -> Result<SystemFile<'a>, OpenFault> {
+        match find_file(self.rt, name, self.hasher) {
+            Ok(file) => Ok(SystemFile { file }),
+            Err(error) if is_out_of_memory(&error) => Err(OpenFault::Memory),
+            Err(error) => Err(OpenFault::Unread(error)),
+        }
+    }
+}
+
+/// The devices and pipes of the operating system.
+#[derive(Clone, Copy)]
+pub struct SystemDevices<'a> {
+    pub rt: &'a HostRuntime,
+}
+
+impl Devices<StdSink<File>> for SystemDevices<'_> {
+    ghost opened = { λ devices name device. Unit {0} };
+
+    ghost unopened = { λ devices name fault. Unit {0} };
+
+    fn open_device(&self, name: &str) -> Result<StdSink<File>, OpenFault> {
+        match OpenOptions::new().write(true).open(self.rt, name) {
+            Ok(device) => Ok(StdSink::new(device)),
+            Err(error) if is_out_of_memory(&error) => Err(OpenFault::Memory),
+            Err(error) => Err(OpenFault::Unread(error)),
+        }
     }
 }

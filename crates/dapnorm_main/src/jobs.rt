@@ -1,214 +1,39 @@
 //! Does the jobs of the command line, over their files.
-ghost use Rattle.std.specs.Prelude.{◌≡◌, ◌<◌, ◌^◌, IfSome};
+ghost use Rattle.std.specs.Prelude.{◌≡◌};
 
 use crate::comparing::compare_two;
 use crate::explaining::{explain_mask_of, explain_order_of, print};
-use crate::files::{OpenedInput, SystemFiles};
-use crate::reports::{report_failure, report_reason, report_unopened, report_unwritten};
-use crate::rules::open_rules;
-use crate::{REFUSED, Setting, report_usage, tables};
-use dap_explanations::{explain_job, explain_view};
-use dap_file::{KeptInput, Output, find_file, is_standard, open_input, open_output};
-use dapnorm::{
-    Job, LIMITS, MemorySink, OneFileRun, OpenFault, Order, Printed, ShowRequest, Sink, StdSink,
-    StdSource, TextSink, UsageFault, run_file, run_mask, run_order, run_stream_with, run_view,
-    save, view_file,
+use crate::files::{
+    OpenedInput, SystemDevices, SystemFile, SystemFiles, SystemRules, SystemTargets,
 };
+use crate::reports::{explain_unopened, report_failure, report_reason};
+use crate::{REFUSED, Setting, tables};
+use dap_explanations::{explain_job, explain_view};
+use dap_file::{KeptInput, is_standard};
+use dapnorm::{
+    Job, LIMITS, OneFileRun, OpenFault, Printed, RuledFileRun, RulesOpenFault, SaveEnd, SavedRun,
+    ShowRequest, StdSink, Task, mask_file, order_file, run_file, save_run, view_file, write_run,
+};
+use std::fs::{self, File};
 use std::hash::RandomState;
-use std::io::{self, Write};
-
-/// The length of the longest line that a job reports, and more.
-const LINE: usize = 256;
-
-/// What a job writes whose output goes to a file. The file is written only if the job succeeds.
-#[derive(Drop)]
-struct Held {
-    text: TextSink,
-    errors: MemorySink,
-}
-
-impl Held {
-    /// Holds nothing yet. Returns `None` if an allocation failed.
-    fn new(rt: &HostRuntime) -> Option<Held>
-        ensures text { IfSome result (λ held. held.text.failures ≡ 0) }
-        ensures errors { IfSome result (λ held. held.errors.failures ≡ 0) }
-    {
-        let Ok(errors) = MemorySink::new(rt.alloc(), LINE) else {
-            return None;
-        };
-        Some(Held {
-            text: TextSink::new(rt.alloc()),
-            errors,
-        })
-    }
-
-    /// Saves the text if the job ended with status 0, and otherwise reports its error.
-    fn finish(self, rt: &HostRuntime, name: &str, status: u8, hasher: RandomState) -> u8 {
-        if self.text.failures() > 0 {
-            return report_usage(rt, &UsageFault::Memory);
-        }
-        if status != 0 {
-            let _ = rt.stderr().write_all(self.errors.bytes());
-            return status;
-        }
-        save_text(rt, name, self.text.into_bytes().as_slice(), hasher)
-    }
-}
-
-/// Saves a text in a file, and reports why it could not be saved.
-fn save_text(rt: &HostRuntime, name: &str, text: &[u8], hasher: RandomState) -> u8 {
-    let mut file = match find_file(rt, name, hasher) {
-        Ok(file) => file,
-        Err(error) => return report_unwritten(rt, "", name, &error),
-    };
-    let mut errors = StdSink::new(rt.stderr());
-    let status = save(&mut file, name, text, &mut errors);
-    if let Some(reason) = file.reason() {
-        report_reason(rt, name, &reason);
-    }
-    status
-}
-
-/// What is done over one input.
-#[derive(Clone, Copy)]
-pub enum Task<'a> {
-    Job(Job<'a>),
-    Show(ShowRequest),
-    Order(Order<'a>),
-}
-
-/// Masks an input by the rules of a file.
-fn mask_into<W: Sink, E: Sink>(
-    rt: &HostRuntime,
-    rules: &str,
-    input: &mut KeptInput,
-    writer: &mut W,
-    errors: &mut E,
-    explain: bool,
-) -> u8
-    requires write_failures { W.failures writer.old < 2 ^ 62 }
-    requires error_failures { E.failures errors.old < 2 ^ 62 }
-{
-    let mut file = match open_rules(rt, rules, input.is_standard(), explain) {
-        Ok(file) => StdSource::new(file),
-        Err(status) => return status,
-    };
-    let mut reader = StdSource::new(input);
-    run_mask(rt.alloc(), &mut file, &mut reader, writer, errors, LIMITS)
-}
-
-/// Puts an input in order by the rules of a file.
-fn order_into<W: Sink, E: Sink>(
-    rt: &HostRuntime,
-    rules: &str,
-    input: &mut KeptInput,
-    writer: &mut W,
-    errors: &mut E,
-    explain: bool,
-) -> u8
-    requires write_failures { W.failures writer.old < 2 ^ 62 }
-    requires error_failures { E.failures errors.old < 2 ^ 62 }
-{
-    let mut file = match open_rules(rt, rules, input.is_standard(), explain) {
-        Ok(file) => StdSource::new(file),
-        Err(status) => return status,
-    };
-    let mut reader = StdSource::new(input);
-    run_order(rt.alloc(), &mut file, &mut reader, writer, errors, LIMITS)
-}
-
-/// Does a task over one input, with its output and its errors.
-fn run_into<W: Sink, E: Sink>(
-    rt: &HostRuntime,
-    task: Task<'_>,
-    input: &mut KeptInput,
-    writer: &mut W,
-    errors: &mut E,
-    setting: Setting,
-) -> u8
-    requires no_compare { (a b per_stop : _) → task ≡ Task.Job (Job.Compare a b per_stop) → ⊥ }
-    requires no_diff { (a b per_stop : _) → task ≡ Task.Job (Job.Diff a b per_stop) → ⊥ }
-    requires write_failures { W.failures writer.old < 2 ^ 62 }
-    requires error_failures { E.failures errors.old < 2 ^ 62 }
-{
-    match task {
-        Task::Job(Job::Mask { rules }) => {
-            mask_into(rt, rules, input, writer, errors, setting.explain)
-        }
-        Task::Order(order) => {
-            order_into(rt, order.rules, input, writer, errors, setting.explain)
-        }
-        Task::Job(job) => {
-            let mut reader = StdSource::new(input);
-            let tables = tables(rt.alloc(), LIMITS, setting.hasher);
-            run_stream_with(
-                rt.alloc(),
-                &job,
-                &mut reader,
-                writer,
-                errors,
-                LIMITS,
-                tables,
-            )
-        }
-        Task::Show(request) => {
-            let mut reader = StdSource::new(input);
-            run_view(rt.alloc(), request, &mut reader, writer, errors, LIMITS)
-        }
-    }
-}
-
-/// Does a task whose output goes to a file.
-fn run_into_file(
-    rt: &HostRuntime,
-    task: Task<'_>,
-    input: &mut KeptInput,
-    name: &str,
-    setting: Setting,
-) -> u8
-    requires no_compare { (a b per_stop : _) → task ≡ Task.Job (Job.Compare a b per_stop) → ⊥ }
-    requires no_diff { (a b per_stop : _) → task ≡ Task.Job (Job.Diff a b per_stop) → ⊥ }
-{
-    let Some(mut held) = Held::new(rt) else {
-        return report_usage(rt, &UsageFault::Memory);
-    };
-    let status = run_into(rt, task, input, &mut held.text, &mut held.errors, setting);
-    held.finish(rt, name, status, setting.hasher)
-}
-
-/// Does a task over an input, and writes its output to a file, a device or standard output.
-fn run_to_output(
-    rt: &HostRuntime,
-    task: Task<'_>,
-    input: &mut KeptInput,
-    output: Option<&str>,
-    setting: Setting,
-) -> u8
-    requires no_compare { (a b per_stop : _) → task ≡ Task.Job (Job.Compare a b per_stop) → ⊥ }
-    requires no_diff { (a b per_stop : _) → task ≡ Task.Job (Job.Diff a b per_stop) → ⊥ }
-{
-    let mut errors = StdSink::new(rt.stderr());
-    match open_output(rt, output, setting.hasher) {
-        Ok(Output::Standard) => {
-            let mut writer = StdSink::new(rt.stdout());
-            run_into(rt, task, input, &mut writer, &mut errors, setting)
-        }
-        Ok(Output::Device(device)) => {
-            let mut writer = StdSink::new(device);
-            run_into(rt, task, input, &mut writer, &mut errors, setting)
-        }
-        Ok(Output::File(name)) => run_into_file(rt, task, input, name, setting),
-        Err(error) => report_unwritten(rt, "", output.unwrap_or("-"), &error),
-    }
-}
 
 /// Explains why a task refused an input.
 fn explain_refusal(rt: &HostRuntime, task: Task<'_>, input: &[u8], hasher: RandomState) {
     match task {
-        Task::Job(Job::Mask { rules }) => explain_mask_of(rt, rules, input),
-        Task::Order(order) => explain_order_of(rt, order.rules, input),
+        Task::Mask { rules } => explain_mask_of(rt, rules, input),
+        Task::Order { rules } => explain_order_of(rt, rules, input),
         Task::Job(job) => print(rt, explain_job(rt.alloc(), &job, input, LIMITS, hasher)),
         Task::Show(request) => print(rt, explain_view(rt.alloc(), request, input, LIMITS)),
+    }
+}
+
+/// Reports the reason of a file of rules that did not open.
+fn explain_rules(rt: &HostRuntime, task: Task<'_>, unopened: Option<RulesOpenFault>) {
+    if let Some(RulesOpenFault::Unread(error)) = unopened {
+        match task {
+            Task::Mask { rules } | Task::Order { rules } => report_reason(rt, rules, &error),
+            Task::Job(_) | Task::Show(_) => {}
+        }
     }
 }
 
@@ -276,8 +101,87 @@ fn print_view(
     )
 }
 
-/// Explains a task that was done over the input of a name, and returns its status. Why an input did
-/// not open is always explained.
+/// Masks the recording of a name, and writes it to standard output.
+fn print_masked(
+    rt: &HostRuntime,
+    rules: &str,
+    name: Option<&str>,
+    setting: Setting,
+) -> RuledFileRun<OpenedInput> {
+    let files = SystemFiles {
+        rt,
+        is_kept: setting.explain,
+    };
+    mask_file(
+        rt.alloc(),
+        &files,
+        &SystemRules { rt },
+        rules,
+        name,
+        &mut StdSink::new(rt.stdout()),
+        &mut StdSink::new(rt.stderr()),
+    )
+}
+
+/// Puts the recording of a name in order, and writes it to standard output.
+fn print_ordered(
+    rt: &HostRuntime,
+    rules: &str,
+    name: Option<&str>,
+    setting: Setting,
+) -> RuledFileRun<OpenedInput> {
+    let files = SystemFiles {
+        rt,
+        is_kept: setting.explain,
+    };
+    order_file(
+        rt.alloc(),
+        &files,
+        &SystemRules { rt },
+        rules,
+        name,
+        &mut StdSink::new(rt.stdout()),
+        &mut StdSink::new(rt.stderr()),
+    )
+}
+
+/// Explains a task that was done over the input of a name. Why an input did not open is always
+/// explained.
+fn explain_input(
+    rt: &HostRuntime,
+    task: Task<'_>,
+    name: Option<&str>,
+    input: &Result<OpenedInput, OpenFault>,
+    status: u8,
+    setting: Setting,
+) {
+    match input {
+        Ok(input) => {
+            if setting.explain {
+                explain(rt, task, name, input.kept(), status, setting);
+            }
+        }
+        Err(fault) => explain_unopened(rt, name, fault),
+    }
+}
+
+/// Explains a task by the rules of a file that was done over the input of a name, and returns its
+/// status.
+fn explained_by_rules(
+    rt: &HostRuntime,
+    task: Task<'_>,
+    name: Option<&str>,
+    run: &RuledFileRun<OpenedInput>,
+    setting: Setting,
+) -> u8 {
+    if setting.explain {
+        explain_rules(rt, task, run.unopened_rules);
+    }
+    explain_input(rt, task, name, &run.input, run.status, setting);
+    run.status
+}
+
+/// Explains a task that was done over the input of a name, and returns its status.
 fn explained(
     rt: &HostRuntime,
     task: Task<'_>,
@@ -285,31 +189,17 @@ fn explained(
     run: &OneFileRun<OpenedInput>,
     setting: Setting,
 ) -> u8 {
-    match &run.input {
-        Ok(input) => {
-            if setting.explain {
-                explain(rt, task, name, input.kept(), run.status, setting);
-            }
-        }
-        Err(OpenFault::Unread(error)) => {
-            if let Some(name) = name {
-                report_reason(rt, name, error);
-            }
-        }
-        Err(OpenFault::Memory) => {}
-    }
+    explain_input(rt, task, name, &run.input, run.status, setting);
     run.status
 }
 
 /// Does a task over one input, and writes its output to standard output.
 fn print_task(rt: &HostRuntime, task: Task<'_>, name: Option<&str>, setting: Setting) -> u8
     requires no_compare { (a b per_stop : _) → task ≡ Task.Job (Job.Compare a b per_stop) → ⊥ }
+    requires no_mask { (rules : _) → task ≡ Task.Job (Job.Mask rules) → ⊥ }
     requires no_diff { (a b per_stop : _) → task ≡ Task.Job (Job.Diff a b per_stop) → ⊥ }
 {
     match task {
-        Task::Job(Job::Mask { .. }) | Task::Order(_) => {
-            run_opened(rt, task, name, None, setting)
-        }
         Task::Job(job) => {
             let run = print_job(rt, job, name, setting);
             explained(rt, task, name, &run, setting)
@@ -318,6 +208,120 @@ fn print_task(rt: &HostRuntime, task: Task<'_>, name: Option<&str>, setting: Set
             let run = print_view(rt, request, name, setting);
             explained(rt, task, name, &run, setting)
         }
+        Task::Mask { rules } => {
+            let run = print_masked(rt, rules, name, setting);
+            explained_by_rules(rt, task, name, &run, setting)
+        }
+        Task::Order { rules } => {
+            let run = print_ordered(rt, rules, name, setting);
+            explained_by_rules(rt, task, name, &run, setting)
+        }
+    }
+}
+
+/// Returns whether a file exists that is neither a regular file nor a folder.
+fn is_device(rt: &HostRuntime, name: &str) -> bool {
+    match fs::metadata(rt, name) {
+        Ok(found) => !found.is_file() && !found.is_dir(),
+        Err(_) => false,
+    }
+}
+
+/// Does a task over one input, and writes its output to a device or a pipe as it is.
+fn write_task(
+    rt: &HostRuntime,
+    task: Task<'_>,
+    name: Option<&str>,
+    output: &str,
+    setting: Setting,
+) -> SavedRun<OpenedInput, StdSink<File>>
+    requires no_compare { (a b per_stop : _) → task ≡ Task.Job (Job.Compare a b per_stop) → ⊥ }
+    requires no_mask { (rules : _) → task ≡ Task.Job (Job.Mask rules) → ⊥ }
+    requires no_diff { (a b per_stop : _) → task ≡ Task.Job (Job.Diff a b per_stop) → ⊥ }
+{
+    let files = SystemFiles {
+        rt,
+        is_kept: setting.explain,
+    };
+    write_run(
+        rt.alloc(),
+        &files,
+        &SystemRules { rt },
+        &SystemDevices { rt },
+        &task,
+        name,
+        output,
+        &mut StdSink::new(rt.stderr()),
+        tables(rt.alloc(), LIMITS, setting.hasher),
+    )
+}
+
+/// Does a task over one input, and saves its output in a file.
+fn save_task<'a>(
+    rt: &'a HostRuntime,
+    task: Task<'_>,
+    name: Option<&str>,
+    output: &str,
+    setting: Setting,
+) -> SavedRun<OpenedInput, SystemFile<'a>>
+    requires no_compare { (a b per_stop : _) → task ≡ Task.Job (Job.Compare a b per_stop) → ⊥ }
+    requires no_mask { (rules : _) → task ≡ Task.Job (Job.Mask rules) → ⊥ }
+    requires no_diff { (a b per_stop : _) → task ≡ Task.Job (Job.Diff a b per_stop) → ⊥ }
+{
+    let files = SystemFiles {
+        rt,
+        is_kept: setting.explain,
+    };
+    let targets = SystemTargets {
+        rt,
+        hasher: setting.hasher,
+    };
+    save_run(
+        rt.alloc(),
+        &files,
+        &SystemRules { rt },
+        &targets,
+        &task,
+        name,
+        output,
+        &mut StdSink::new(rt.stderr()),
+        tables(rt.alloc(), LIMITS, setting.hasher),
+    )
+}
+
+/// Explains a task whose output goes to a file or a device, and returns its status. Why a file did
+/// not open is always explained.
+fn explained_end<O>(
+    rt: &HostRuntime,
+    task: Task<'_>,
+    name: Option<&str>,
+    output: &str,
+    run: &SavedRun<OpenedInput, O>,
+    setting: Setting,
+) -> u8 {
+    match &run.end {
+        SaveEnd::Unopened(fault) => explain_unopened(rt, name, fault),
+        SaveEnd::Unfound(_, fault) => explain_unopened(rt, Some(output), fault),
+        SaveEnd::Ran {
+            input,
+            unopened_rules,
+            ..
+        } => {
+            if setting.explain {
+                explain_rules(rt, task, *unopened_rules);
+                explain(rt, task, name, input.kept(), run.status, setting);
+            }
+        }
+    }
+    run.status
+}
+
+/// Reports the reason of a file that was not replaced.
+fn explain_unsaved(rt: &HostRuntime, name: &str, end: &SaveEnd<OpenedInput, SystemFile<'_>>) {
+    if let SaveEnd::Ran { output, .. } = end
+        && let Some(reason) = output.reason()
+    {
+        report_reason(rt, name, reason);
     }
 }
 
@@ -330,35 +334,21 @@ pub fn run_over_input(
     setting: Setting,
 ) -> u8
     requires no_compare { (a b per_stop : _) → task ≡ Task.Job (Job.Compare a b per_stop) → ⊥ }
+    requires no_mask { (rules : _) → task ≡ Task.Job (Job.Mask rules) → ⊥ }
     requires no_diff { (a b per_stop : _) → task ≡ Task.Job (Job.Diff a b per_stop) → ⊥ }
 {
-    if output.is_none_or(is_standard) {
-        print_task(rt, task, input, setting)
-    } else {
-        run_opened(rt, task, input, output, setting)
+    match output {
+        Some(name) if !is_standard(name) => {
+            if is_device(rt, name) {
+                let run = write_task(rt, task, input, name, setting);
+                return explained_end(rt, task, input, name, &run, setting);
+            }
+            let run = save_task(rt, task, input, name, setting);
+            explain_unsaved(rt, name, &run.end);
+            explained_end(rt, task, input, name, &run, setting)
+        }
+        _ => print_task(rt, task, input, setting),
     }
-}
-
-/// Opens one input, and does a task over it.
-fn run_opened(
-    rt: &HostRuntime,
-    task: Task<'_>,
-    input: Option<&str>,
-    output: Option<&str>,
-    setting: Setting,
-) -> u8
-    requires no_compare { (a b per_stop : _) → task ≡ Task.Job (Job.Compare a b per_stop) → ⊥ }
-    requires no_diff { (a b per_stop : _) → task ≡ Task.Job (Job.Diff a b per_stop) → ⊥ }
-{
-    let mut reader = match open_input(rt, input, setting.explain) {
-        Ok(reader) => reader,
-        Err(error) => return report_unopened(rt, "", input, &error),
-    };
-    let status = run_to_output(rt, task, &mut reader, output, setting);
-    if setting.explain {
-        explain(rt, task, input, &reader, status, setting);
-    }
-    status
 }
 
 /// Does a job with these files of its input and its output.
@@ -376,6 +366,7 @@ pub fn run_job(
         Job::Diff { a, b, .. } => {
             compare_two(rt, a, b, job.mode(), Printed::FirstDifference, setting)
         }
+        Job::Mask { rules } => run_over_input(rt, Task::Mask { rules }, input, output, setting),
         _ => run_over_input(rt, Task::Job(job), input, output, setting),
     }
 }

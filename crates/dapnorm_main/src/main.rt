@@ -12,16 +12,15 @@ mod files;
 mod golden;
 mod jobs;
 mod reports;
-mod rules;
 mod showing;
 mod suggesting;
 
 use crate::comparing::run_comparison;
 use crate::golden::keep_golden;
-use crate::jobs::{Task, run_job, run_over_input};
+use crate::jobs::{run_job, run_over_input};
 use crate::showing::show_recording;
 use crate::suggesting::suggest_rules;
-use dapnorm::{Action, IndexNames, Limits, StdSink, Tables, UsageFault, command, run_usage};
+use dapnorm::{Action, IndexNames, Limits, StdSink, Tables, Task, UsageFault, command, run_usage};
 use std::alloc::Global;
 use std::env;
 use std::hash::RandomState;
@@ -100,7 +99,7 @@ fn run_words(rt: &HostRuntime, alloc: Global, words: &[String]) -> u8 {
         Action::Suggest(files) => suggest_rules(rt, (files.a, files.b), files.rules, setting),
         Action::Order(order) => run_over_input(
             rt,
-            Task::Order(order),
+            Task::Order { rules: order.rules },
             command.input,
             command.output,
             setting,

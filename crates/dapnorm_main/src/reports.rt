@@ -1,9 +1,9 @@
 //! What is reported of files that fail.
 use crate::explaining::print;
-use crate::{FAULT, report_usage};
+use crate::files::OpenedInput;
 use dap_explain::explain_unreadable;
 use dap_file::{KeptInput, is_standard};
-use dapnorm::UsageFault;
+use dapnorm::{OpenFault, UnreadInput};
 use std::io::{Error, ErrorKind};
 
 /// How standard input is named in a report.
@@ -32,26 +32,20 @@ pub fn report_failure(rt: &HostRuntime, name: Option<&str>, input: &KeptInput) {
     }
 }
 
-/// Reports that an input does not open, in a line with these words, and the reason in another line
-/// if a name is given. Returns the status.
-pub fn report_unopened(rt: &HostRuntime, words: &str, name: Option<&str>, error: &Error) -> u8 {
-    if is_out_of_memory(error) {
-        return report_usage(rt, &UsageFault::Memory);
-    }
-    let _ = eprintln!(rt; "dapnorm: {words}read fault");
-    if let Some(name) = name {
+/// Reports the reason of a file that did not open, if it has a name.
+pub fn explain_unopened(rt: &HostRuntime, name: Option<&str>, fault: &OpenFault) {
+    if let OpenFault::Unread(error) = fault
+        && let Some(name) = name
+    {
         report_reason(rt, name, error);
     }
-    FAULT
 }
 
-/// Reports that a file cannot be written, in a line with these words, and the reason in another
-/// line. Returns the status.
-pub fn report_unwritten(rt: &HostRuntime, words: &str, name: &str, error: &Error) -> u8 {
-    if is_out_of_memory(error) {
-        return report_usage(rt, &UsageFault::Memory);
+/// Reports the reason of an input that was not read.
+pub fn explain_unread(rt: &HostRuntime, name: Option<&str>, why: &UnreadInput<OpenedInput>) {
+    match why {
+        UnreadInput::Unopened(fault) => explain_unopened(rt, name, fault),
+        UnreadInput::Failed(input) => report_failure(rt, name, input.kept()),
+        UnreadInput::Memory(_) => {}
     }
-    let _ = eprintln!(rt; "dapnorm: {words}{name}: write fault");
-    report_reason(rt, name, error);
-    FAULT
 }

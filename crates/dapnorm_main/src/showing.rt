@@ -1,9 +1,9 @@
 //! Shows a recording as the options of `show` request.
 ghost use Rattle.std.specs.Prelude.{◌≡◌};
 
-use crate::jobs::{Task, run_over_input};
+use crate::jobs::run_over_input;
 use crate::{Setting, USAGE};
-use dapnorm::{Detail, Show, ShowRequest};
+use dapnorm::{Detail, Show, ShowRequest, Task};
 
 /// What is reported of `--record` with another option.
 const RECORD_ALONE: &str = "error: --record prints one content: use it without --full and --faulty";

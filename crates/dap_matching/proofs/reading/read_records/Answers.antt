@@ -6,7 +6,7 @@ use Rattle.dap_normal.specs.JudgingSteps.{record_of}
 use Rattle.dap_normal.proofs.JudgedRecords.{text_push}
 use Rattle.dap_normal.proofs.StreamAnswers.{ended, gone}
 use Rattle.dap_normal.proofs.StreamLoop.{all_taken, at_start, few_taken, gone_taken, on}
-use Rattle.dap_matching.proofs.ReadRecords.{accepted, refused}
+use Rattle.dap_matching.proofs.ReadRecords.{accepted, gave_up, refused}
 use Rattle.dap_matching.proofs.RecordTexts.{is_record_text}
 use Rattle.dap_matching.proofs.reading.read_records.Goals as goal
 
@@ -73,6 +73,17 @@ add_record-requires-clause-is_record g c =
     c.records.records was.going c.next.new.self c.next.new.reader _ _ c.in-Ok-true.field-0 next
     c.clear.ensures.items _ refl))
     (more.appended ∙ ap (λ t. t ++ record_of more.named) c.clear.ensures.items))
+
+pub returns-then-is_err-clause-outcome : goal.returns-then-is_err-clause-outcome
+returns-then-is_err-clause-outcome g c =
+    let was = c.records.invariant in
+    gave_up g.R.Source c.args.limits c.args.mode c.args.reader.now c.records.reader
+    c.records.records _ was c.next.new.self c.next.new.reader _ _
+    (gone g.R.Source c.args.limits c.args.mode c.args.reader.now c.records.reader
+    c.records.records was.going c.next.new.self c.next.new.reader _ _ _
+    (c.in-Ok-true.ensures.next c.args.limits c.args.mode was.going.bytes was.going.messages
+    was.going.normal was.going.represents)
+    c.in-Ok-true.field-0-test)
 
 pub returns-then-is_err-clause-taken : goal.returns-then-is_err-clause-taken
 returns-then-is_err-clause-taken g c =

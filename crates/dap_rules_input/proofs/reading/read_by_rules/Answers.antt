@@ -1,4 +1,4 @@
-use Rattle.std.proofs.Common.{subst}
+use Rattle.std.proofs.Common.{inl, subst}
 use Rattle.std.specs.Prelude.{IfErr, IfOk}
 use Rattle.dap_mask.specs.KeptRules.{mask_of}
 use Rattle.dap_rules_input.specs.Applying.{AppliesRules, IsRefusedByRules}
@@ -17,3 +17,6 @@ returns-clause-outcome g c =
     (IsRefusedByRules c.args.limits c.args.mode mask bytes)) c.as_slice.ensures.value
     c.apply_rules.ensures.err)
     c.text_of_input.ensures
+
+pub returns-in-Err-clause-outcome : goal.returns-in-Err-clause-outcome
+returns-in-Err-clause-outcome g c = inl c.in-Err.ensures.partly
