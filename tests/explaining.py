@@ -354,7 +354,7 @@ TRACES = {
     ),
 }
 RULES = {
-    "a verb": (b"hide event output\n", "line 1: BadRule", ["line 1 is: hide event output", '"hide" is not a verb: write blank, digits, hex, long, uuid, drop, swap or per-stop']),
+    "a verb": (b"hide event output\n", "line 1: BadRule", ["line 1 is: hide event output", '"hide" is not a verb: write blank, digits, hex, long, uuid, drop, swap, word or per-stop']),
     "no kind": (b"blank\n", "line 1: BadRule", ["line 1 is: blank", "after the verb comes a kind: request, response or event"]),
     "a kind": (
         b"hex event x y\nblank evnt x y\n", "line 2: BadRule",
@@ -453,6 +453,31 @@ RULES = {
             "line 3 is: blank event output body.category", "line 1 drops events by this category",
             "no rule changes the category by which a rule drops events: leave one of them out",
         ],
+    ),
+    "no text": (b"word\n", "line 1: BadRule", ["line 1 is: word", "a text and its word are needed: write word TEXT WORD"]),
+    "no word for a text": (b"word a # b\n", "line 1: BadRule", ["line 1 is: word a # b", "a text and its word are needed: write word TEXT WORD"]),
+    "a text": (
+        b"word /a b\n", "line 1: BadRule",
+        ["line 1 is: word /a b", '"/a" is not a text: quote one with other characters than letters, digits, _, - and $'],
+    ),
+    "more after a word": (b"word a b c\n", "line 1: BadRule", ["line 1 is: word a b c", '"c" is after the rule: only a comment may be there']),
+    "an empty text": (
+        b'word a 1\nword "" b\n', "line 2: BadWord",
+        [
+            'line 2 is: word "" b', "the text is empty, or its word can overlap it",
+            'choose a word that shares no start or end with a text, such as "<home>"',
+        ],
+    ),
+    "a word that can overlap another text": (
+        b"word c d\nword a 1\nword b 2a\n", "line 3: BadWord",
+        [
+            "line 3 is: word b 2a", "line 2 has a text or a word that can overlap those of this line",
+            'choose a word that shares no start or end with a text, such as "<home>"',
+        ],
+    ),
+    "a text twice": (
+        b'word a 1\n\nword "a" 2\n', "line 3: Repeated",
+        ['line 3 is: word "a" 2', "line 1 has a word for this text", "leave one of them out"],
     ),
     "no UTF-8": (b"\n# \xff\n", "line 2: NotUtf8", ['line 2 is not UTF-8 after 2 bytes: "\\xff"', "save the file as UTF-8"]),
     "too many rules": (

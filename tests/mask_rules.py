@@ -80,6 +80,59 @@ REFUSED = [
     (b"swap response * request *\n\nswap request * response *\n", "line 3: Repeated"),
     (b'swap event exited event a\nswap event "\\u0061" event exited # again\n', "line 2: Repeated"),
     (b"swap event a event b\nswap event a event c\nswap event a event a\nswap event a event a\n", "line 4: Repeated"),
+    (b"word", "line 1: BadRule"),
+    (b"word a", "line 1: BadRule"),
+    (b"word a # b", "line 1: BadRule"),
+    (b"word a b c", "line 1: BadRule"),
+    (b"words a b", "line 1: BadRule"),
+    (b"word /a b", "line 1: BadRule"),
+    (b"word a <b>", "line 1: BadRule"),
+    (b"word * b", "line 1: BadRule"),
+    (b'word"a" b', "line 1: BadRule"),
+    (b'word "a"b', "line 1: BadRule"),
+    (b'word "a b', "line 1: BadRule"),
+    (b"word event a b", "line 1: BadRule"),
+    (b'word "" b', "line 1: BadWord"),
+    (b'word a ""', "line 1: BadWord"),
+    (b"word a a", "line 1: BadWord"),
+    # The word has the text, the text has the word, and the end of one is the start of the other.
+    (b"word a bac", "line 1: BadWord"),
+    (b"word bac a", "line 1: BadWord"),
+    (b"word abc cde", "line 1: BadWord"),
+    (b"word cde abc", "line 1: BadWord"),
+    (b"word a 1\nword b 2a\n", "line 2: BadWord"),
+    (b"word a 1\nword b1 2\n", "line 2: BadWord"),
+    (b"word ab 12\nword 2c 3\n", "line 2: BadWord"),
+    (b'word a 1\nword "\\u0061" 2 # again\n', "line 2: Repeated"),
+    (b"word a 1\ndrop event x\nword a a\n", "line 3: Repeated"),
+]
+
+# Words, and what they and two rules make of contents.
+WORDS = b"""word "/home/me" "<home>" # shorter
+\tword  "/home/me/p7"\t"<project>"\r
+digits event output body.output
+drop event gone category="<home>"
+word aa $
+"""
+WORDED = [
+    (
+        '{"type":"event","event":"output","body":{"output":"/home/me/p7/a17, /home/me/b2 /home/m3"}}',
+        '{"body":{"output":"<project>/a0, <home>/b0 /home/m0"},"event":"output","type":"event"}',
+    ),
+    # From left to right, and only in texts outside `type`, `command` and `event` of the message.
+    ('{"aaa":["aaa",{"type":"aaaa"}],"b":17}', '{"aaa":["$a",{"type":"$$"}],"b":17}'),
+    (
+        '{"type":"/home/me","command":"aa","event":"/home/me/p7","message":"/home/me/home/me"}',
+        '{"command":"aa","event":"/home/me/p7","message":"<home><home>","type":"/home/me"}',
+    ),
+    ('{"type":"request","command":"launch","arguments":{"cwd":"/home/me/p7","aa":null,"seq":1.5e0}}', None),
+    (
+        '{"type":"request","seq":3,"command":"launch","arguments":{"cwd":"/home/me/p7","args":["aa",true,null,-1]}}',
+        '{"arguments":{"args":["$",true,null,-1],"cwd":"<project>"},"command":"launch","seq":3,"type":"request"}',
+    ),
+    # Words come before rules.
+    ('{"type":"event","event":"gone","body":{"category":"/home/me"}}', ""),
+    ('{"type":"event","event":"gone","body":{"category":"home"}}', '{"body":{"category":"home"},"event":"gone","type":"event"}'),
 ]
 
 # Lines of rules for the order, all of one file, which is accepted.
@@ -273,6 +326,21 @@ def a_thousand_rules(report):
     masks(report, "per-stop after a thousand rules", b"".join(rules[:1000]) + b"per-stop", b"", b"", "rules: line 1001: TooMany")
 
 
+def words(report):
+    for number, (content, text) in enumerate(WORDED, 1):
+        if text is None:
+            masks(report, f"words in contents, row {number}", WORDS, record("<" + content), b"", "record 1: Fraction")
+            continue
+        written = record("<" + text) if text else b""
+        masks(report, f"words in contents, row {number}", WORDS, record("<" + content), written)
+        masks(report, f"words in contents, masked again, row {number}", WORDS, written, written)
+    many = [b'word a%04d "<%04d>"\n' % (number, number) for number in range(1001)]
+    masks(report, "a thousand words", b"".join(many[:1000]), record('<"a0999a1000"'), record('<"<0999>a1000"'))
+    masks(report, "one word more", b"".join(many), b"", b"", "rules: line 1001: TooMany")
+    dropped = [b"drop event e%d\n" % number for number in range(500)]
+    masks(report, "one rule more than with words", b"".join(many[:500] + dropped) + b"per-stop\n", b"", b"", "rules: line 1001: TooMany")
+
+
 def masked_contents(report):
     for number, (content, text) in enumerate(MASKED, 1):
         written = b"" if text is None else record("<" + text)
@@ -293,4 +361,4 @@ def masked_recordings(report):
 
 
 if __name__ == "__main__":
-    sys.exit(judged(refused_rules, accepted_swaps, actions_together, categories, a_thousand_rules, masked_contents, masked_recordings))
+    sys.exit(judged(refused_rules, accepted_swaps, actions_together, categories, a_thousand_rules, words, masked_contents, masked_recordings))

@@ -1,8 +1,9 @@
 """Runs `order`, and `compare`, `diff` and `golden` by rules, on small sessions: outputs, refusals, files and explanations."""
+import os
 import sys
 
 from golden import Folder, wrote
-from report import Report
+from report import TOP, Report
 from worked_runs import BEGUN, DONE, FILLED, INITIALIZE, INITIALIZED, NEW_FRAME, NORMAL_PER_STOP, STOP_PAIRS, TWO_STOPS, record, recording, refusal
 
 CONTINUE = '>{"arguments":{"threadId":1},"command":"continue","seq":2,"type":"request"}'
@@ -87,6 +88,48 @@ def per_stop(report):
         report.check("order leaves ids", folder.run("order", "rules", "b") == folder.run("order", "none", "b"))
 
 
+def capture(name):
+    """The lines of a recording of a real adapter."""
+    with open(os.path.join(TOP, "examples", "captures", name), "rb") as file:
+        rest = file.read()
+    lines = []
+    while rest:
+        header, rest = rest.split(b"\r\n\r\n", 1)
+        length = int(header.split(b":")[1])
+        lines.append((header[:1] + rest[:length]).decode())
+        rest = rest[length + 1:]
+    return lines
+
+
+def moved(lines, old, new):
+    """A recording with another text in the contents."""
+    return recording([line.replace(old, new) for line in lines])
+
+
+def words(report):
+    """Sessions of two project folders are the same if each folder becomes one word."""
+    folders = ("/home/ada/project/tests/progs", "/srv/ci/build-17")
+    lines = capture("debugpy-l-stopentry.1.rec")
+    files = {"a": recording(lines), "b": moved(lines, *folders), "late": moved(lines, folders[0] + "/", folders[1] + "//")}
+    rules = {f"word-{name}": f'word "{folder}" "<project>"\n'.encode() for name, folder in zip("ab", folders)}
+    both = {"word-both": b"".join(rules.values())}
+    with Folder(**files, **rules, **both) as folder:
+        report.check("the folder is in the session", folders[0].encode() in files["a"] and files["a"] != files["b"])
+        report.check("without words they differ", folder.run("compare", "a", "b")[0] == 1)
+        answers = [folder.run("compare", "--rules", "word-both", "a", name) for name in "ab"]
+        report.check("with words they are the same", answers[0] == answers[1] and answers[1][:2][0] == 0, repr(answers))
+        report.check("another difference stays", folder.run("compare", "--rules", "word-both", "a", "late")[0] == 1)
+        report.check("masked alike", folder.run("mask", "word-a", "a") == folder.run("mask", "word-b", "b"))
+        answer = folder.run("golden", "--rules", "word-a", "--update", "g", "a")
+        report.check("a golden file of one folder", answer[0] == 0, repr(answer))
+        report.check("without the folder", folders[0].encode() not in folder.read("g") and b"<project>" in folder.read("g"))
+        answer = folder.run("golden", "--rules", "word-b", "g", "b")
+        report.check("is that of the other", answer == (0, b"same\n", b""), repr(answer))
+        report.check("but not with the other's word", folder.run("golden", "--rules", "word-a", "g", "b")[0] == 1)
+        answers = [folder.run("order", f"word-{name}", name) for name in "ab"]
+        report.check("order leaves the words of the file", answers[0][0] == 0 and answers[0][1] != answers[1][1], repr(answers))
+
+
 def refusals(report):
     files = {"a": recording(ANSWERED_FIRST), "early": CONFIGURED, "bytes": recording(BEGUN) + b"x", "json": recording(BEGUN) + record("<{")}
     rules = {"drop": b"drop event initialized\n", "both": b"drop event initialized\n" + SWAP, "bad": b"swap\n"}
@@ -117,6 +160,7 @@ def main():
     order(report)
     comparisons(report)
     per_stop(report)
+    words(report)
     refusals(report)
     return report.close()
 

@@ -3,19 +3,25 @@ ghost use Rattle.std.specs.Prelude.{IfOk, string_bytes};
 ghost use Rattle.dap_explain.specs.Lines.{AreLines};
 
 use crate::lines::Lines;
-use crate::rules_line::{is_drop, is_end, place_of};
+use crate::rules_line::{is_drop, is_end, is_word, place_of};
 use crate::words::Word;
 use dap_mask::{MaskRules, RulesCause, RulesFault};
 use std::alloc::{AllocError, Global};
 use std::str;
 
-/// The forms of a rule.
+/// The forms of a rule for messages, and those of the other rules.
 const RULE_FORMS: &str =
-    "a rule is VERB KIND NAME PLACE, drop event NAME, swap KIND NAME KIND NAME, or per-stop";
+    "a rule is VERB KIND NAME PLACE, drop event NAME, swap KIND NAME KIND NAME, ";
+
+const OTHER_FORMS: &str = "word TEXT WORD, or per-stop";
 
 /// What to do about a rule for the category by which another rule drops events.
 const CATEGORY_ADVICE: &str =
     "no rule changes the category by which a rule drops events: leave one of them out";
+
+/// What to do about a word that can overlap a text.
+const WORD_ADVICE: &str =
+    "choose a word that shares no start or end with a text, such as \"<home>\"";
 
 /// Returns the line of a file with this number, counted from 1, without its LF.
 fn line_of(rules: &[u8], number: usize) -> &[u8] {
@@ -54,7 +60,7 @@ fn add_line(lines: &mut Lines, number: usize, line: &[u8]) -> Result<(), AllocEr
 /// Adds the line about a line that is not a rule.
 fn add_bad_rule(lines: &mut Lines, line: &[u8]) -> Result<(), AllocError> {
     let Err(fault) = place_of(line) else {
-        return lines.add(RULE_FORMS);
+        return lines.add_words(&[Word::Text(RULE_FORMS), Word::Text(OTHER_FORMS)]);
     };
     match fault.bytes_and_words() {
         (Some(bytes), words) => lines.add_words(&[Word::Bytes(bytes), Word::Text(words)]),
@@ -114,6 +120,15 @@ fn is_refused_after(
 ) -> Result<bool, AllocError> {
     let both = two_lines(alloc, earlier, line)?;
     is_second_refused(alloc, both.as_slice(), cause)
+}
+
+/// Returns whether a line is rejected for its word without any other line.
+fn is_word_refused(alloc: Global, line: &[u8]) -> Result<bool, AllocError> {
+    match MaskRules::read(alloc, line) {
+        Ok(_) => Ok(false),
+        Err(fault) if fault.cause == RulesCause::Memory => Err(AllocError),
+        Err(fault) => Ok(fault.cause == RulesCause::BadWord),
+    }
 }
 
 /// Returns whether the second line of a file is the first one that is rejected, for this reason.
@@ -180,6 +195,43 @@ fn add_clash(
     lines.add("write uuid before long and hex last, and do not join uuid and digits")
 }
 
+/// Adds the lines about a rule that is there already.
+fn add_repeated(
+    alloc: Global,
+    lines: &mut Lines,
+    rules: &[u8],
+    fault: RulesFault,
+) -> Result<(), AllocError> {
+    let what = if is_word(line_of(rules, fault.line)) {
+        " has a word for this text"
+    } else {
+        " has the same rule"
+    };
+    add_earlier(alloc, lines, rules, fault, what)?;
+    lines.add("leave one of them out")
+}
+
+/// Adds the lines about a text that is empty, or a word that can overlap a text.
+fn add_bad_word(
+    alloc: Global,
+    lines: &mut Lines,
+    rules: &[u8],
+    fault: RulesFault,
+) -> Result<(), AllocError> {
+    if is_word_refused(alloc, line_of(rules, fault.line))? {
+        lines.add("the text is empty, or its word can overlap it")?;
+    } else {
+        add_earlier(
+            alloc,
+            lines,
+            rules,
+            fault,
+            " has a text or a word that can overlap those of this line",
+        )?;
+    }
+    lines.add(WORD_ADVICE)
+}
+
 /// Adds the lines about why a line is rejected.
 fn add_cause(
     alloc: Global,
@@ -193,10 +245,7 @@ fn add_cause(
             lines.add("a file has at most 1000 rules: join some by * in the place of a name")
         }
         RulesCause::BadPlace => add_bad_place(lines, line_of(rules, fault.line)),
-        RulesCause::Repeated => {
-            add_earlier(alloc, lines, rules, fault, " has the same rule")?;
-            lines.add("leave one of them out")
-        }
+        RulesCause::Repeated => { add_repeated(alloc, lines, rules, fault) }
         RulesCause::DigitsBehindHex => {
             add_earlier(
                 alloc,
@@ -208,6 +257,7 @@ fn add_cause(
             lines.add("write the digits rule before the hex rule")
         }
         RulesCause::Clash => { add_clash(alloc, lines, rules, fault) }
+        RulesCause::BadWord => { add_bad_word(alloc, lines, rules, fault) }
         RulesCause::NotUtf8 => lines.add("save the file as UTF-8"),
         RulesCause::TooLong | RulesCause::Memory => Ok(()),
     }

@@ -4,6 +4,14 @@
 const NO_NAME: &str =
     " is not a name: quote one with other characters than letters, digits, _, - and $";
 
+/// What is said of a word that is not a verb.
+const NO_VERB: &str =
+    " is not a verb: write blank, digits, hex, long, uuid, drop, swap, word or per-stop";
+
+/// What is said of a word that is not a text.
+const NO_TEXT: &str =
+    " is not a text: quote one with other characters than letters, digits, _, - and $";
+
 /// What is said of a word that is not a place.
 const NO_PLACE: &str =
     " is not a place: write names with dots between them, [] for elements, and quotes as for names";
@@ -24,6 +32,9 @@ pub(crate) enum LineFault<'l> {
     Category(&'l [u8]),
     NoPlace,
     Place(&'l [u8]),
+    /// A rule `word` lacks its text or its word.
+    NoText,
+    Text(&'l [u8]),
     /// The rule is followed by further text.
     More(&'l [u8]),
 }
@@ -32,12 +43,7 @@ impl<'l> LineFault<'l> {
     /// Returns the bytes that are wrong, if there are any, and what is wrong.
     pub(crate) fn bytes_and_words(self) -> (Option<&'l [u8]>, &'static str) {
         match self {
-            LineFault::Verb(word) => {
-                (
-                    Some(word),
-                    " is not a verb: write blank, digits, hex, long, uuid, drop, swap or per-stop",
-                )
-            }
+            LineFault::Verb(word) => { (Some(word), NO_VERB) }
             LineFault::NoKind => (
                 None,
                 "after the verb comes a kind: request, response or event",
@@ -68,6 +74,8 @@ impl<'l> LineFault<'l> {
             }
             LineFault::NoPlace => (None, "after the name comes a place, such as body.reason"),
             LineFault::Place(word) => { (Some(word), NO_PLACE) }
+            LineFault::NoText => (None, "a text and its word are needed: write word TEXT WORD"),
+            LineFault::Text(word) => { (Some(word), NO_TEXT) }
             LineFault::More(word) => {
                 (
                     Some(word),
@@ -131,6 +139,11 @@ pub(crate) fn is_drop(line: &[u8]) -> bool {
     first_word(after_blanks(line)) == b"drop".as_slice()
 }
 
+/// Returns whether the line starts with the verb `word`.
+pub(crate) fn is_word(line: &[u8]) -> bool {
+    first_word(after_blanks(line)) == b"word".as_slice()
+}
+
 /// Returns the bytes after the name of a member, or `None` if there is no name.
 fn after_member(bytes: &[u8]) -> Option<&[u8]> {
     match bytes {
@@ -184,12 +197,16 @@ fn after_step(bytes: &[u8]) -> Option<&[u8]> {
     }
 }
 
-/// Returns the path of a rule, which is empty if the rule drops or swaps messages or is `per-stop`.
-/// For a line that is not a rule, returns what is wrong with it, if that is recognised.
+/// Returns the path of a rule, which is empty if the rule drops or swaps messages, puts in a word
+/// or is `per-stop`. For a line that is not a rule, returns what is wrong with it, if that is
+/// recognised.
 pub(crate) fn place_of(line: &[u8]) -> Result<&[u8], LineFault<'_>> {
     let (verb, rest) = split_run(after_blanks(line), ByteClass::Word);
     if verb == b"swap".as_slice() {
         return after_halves(rest);
+    }
+    if verb == b"word".as_slice() {
+        return nothing_after(after_text(after_text(rest)?)?);
     }
     if verb == b"per-stop".as_slice() {
         return nothing_after(rest);
@@ -245,6 +262,18 @@ fn after_half<'l>(text: &'l [u8], none: LineFault<'l>) -> Result<&'l [u8], LineF
     match after_name(name) {
         Some(rest) if is_end(rest) || after_blanks(rest).len() < rest.len() => Ok(rest),
         _ => Err(LineFault::Name(first_word(name))),
+    }
+}
+
+/// Returns the bytes after a text of a rule `word`, or what is wrong there.
+fn after_text(text: &[u8]) -> Result<&[u8], LineFault<'_>> {
+    if is_end(text) {
+        return Err(LineFault::NoText);
+    }
+    let part = after_blanks(text);
+    match after_member(part) {
+        Some(rest) if is_end(rest) || after_blanks(rest).len() < rest.len() => Ok(rest),
+        _ => Err(LineFault::Text(first_word(part))),
     }
 }
 

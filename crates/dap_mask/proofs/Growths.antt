@@ -6,7 +6,7 @@ use Rattle.std.proofs.lemmas.Bool.{le-ltb}
 use Rattle.std.proofs.lemmas.List.{length_push}
 use Rattle.std.specs.Str.{is_utf8}
 use Rattle.dap_mask.specs.Mask.{Mask, no_rules, rule_count, with_rule, Statement, change, leave_out}
-use Rattle.dap_mask.specs.Mask.{leave_out_category, swap, restart, Line, nothing, rule, bad}
+use Rattle.dap_mask.specs.Mask.{leave_out_category, swap, restart, put, Line, nothing, rule, bad}
 use Rattle.dap_mask.specs.RuleText.{line_said, statement_at, reported}
 use Rattle.dap_mask.specs.RulesFile.{cause_against, outcome_unless, outcome_of, line_outcome}
 use Rattle.dap_mask.specs.RulesFile.{outcome_then, rules_from, last_line, rules_said}
@@ -50,6 +50,7 @@ one_more m restart h =
     let first : ◌≡◌ {A = ℕ} (cond m.per_stop 1 0) 0 =
     ap (λ (b : Bool). cond b 1 0) (first_restart m h) in
     omega (arith, first)
+one_more m (put p) h = let more = length_push m.words p in omega arith
 
 same_mask : (m k : Mask) → ◌≡◌ {A = Result Mask RulesCause} (Ok m) (Ok k) → m ≡ k
 same_mask m k h = cc

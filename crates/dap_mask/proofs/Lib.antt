@@ -20,3 +20,4 @@ pub mod Quoted
 pub mod Parsing
 pub mod Parsed
 pub mod WorkedRules
+pub mod WordLines

@@ -21,7 +21,11 @@ use Rattle.dap_tree.proofs.Outcomes.{some_outcome}
 use Rattle.dap_tree.proofs.Texts.{text_is_read}
 use Rattle.dap_tree.proofs.Utf8.{data_utf8, items_data_utf8, members_data_utf8, read-utf8}
 use Rattle.dap_tree.proofs.WithoutIds.{without_no_id}
-use Rattle.dap_mask.specs.Loose.{loose, loose_items, loose_members, IsReadLoosely, IsLeftOf}
+use Rattle.dap_texts.specs.Words.{Pair, AreUtf8}
+use Rattle.dap_words.specs.Worded.{worded_message}
+use Rattle.dap_words.proofs.WordedDocs.{ordered_worded, utf8_worded, id_worded}
+use Rattle.dap_mask.specs.Loose.{loose, loose_items, loose_members, IsReadLoosely, IsReadWith}
+use Rattle.dap_mask.specs.Loose.{IsLeftOf}
 use Rattle.dap_mask.specs.Mask.{Mask}
 use Rattle.dap_mask.specs.Masked.{masked}
 use Rattle.dap_mask.specs.Promises.{IsMaskedAs}
@@ -116,6 +120,28 @@ loosely_utf8 bytes d (v, reads, is) =
 loosely_no_id : (bytes : List ℕ) (d : Doc) → IsReadLoosely bytes d → has_id d ≡ false
 loosely_no_id bytes d (v, reads, is) = ap has_id is ∙ no_id_loose v
 
+-- ---- a content read with words
+
+pub one_reading : (words : List Pair) (bytes : List ℕ) (d e : Doc) → IsReadWith words bytes d
+    → IsReadWith words bytes e → d ≡ e
+one_reading words bytes d e (raw, read, is) (other, also, is_other) =
+    is ∙ ap (worded_message words) (one_loose_reading bytes raw other read also) ∙ sym is_other
+
+pub ordered_with : (words : List Pair) (bytes : List ℕ) (d : Doc) → IsReadWith words bytes d
+    → is_ordered d ≡ true
+ordered_with words bytes d (raw, read, is) =
+    ap is_ordered is ∙ ordered_worded words true raw ∙ loosely_ordered bytes raw read
+
+utf8_with : (words : List Pair) (bytes : List ℕ) (d : Doc) → AreUtf8 words
+    → IsReadWith words bytes d → all_utf8 d ≡ true
+utf8_with words bytes d u (raw, read, is) =
+    ap all_utf8 is ∙ utf8_worded words u true raw (loosely_utf8 bytes raw read)
+
+no_id_with : (words : List Pair) (bytes : List ℕ) (d : Doc) → IsReadWith words bytes d
+    → has_id d ≡ false
+no_id_with words bytes d (raw, read, is) =
+    ap has_id is ∙ id_worded words true raw ∙ loosely_no_id bytes raw read
+
 -- ---- the result of masking a content
 
 mutual
@@ -141,26 +167,26 @@ mutual
       and_both _ _ (ranged_no_id d (or_left _ _ h))
       (members_ranged_no_id ms (or_right (has_id d) _ h))
 
-pub left_is_read : (mask : Mask) (bytes : List ℕ) (e : Doc) → IsLeftOf mask bytes (Some e)
-    → IsRead (text_of e) e
-left_is_read mask bytes e (d, read, (kept, is, sound)) =
+pub left_is_read : (mask : Mask) (bytes : List ℕ) (e : Doc) → AreUtf8 mask.words
+    → IsLeftOf mask bytes (Some e) → IsRead (text_of e) e
+left_is_read mask bytes e u (d, read, (kept, is, sound)) =
     let rules = mask.changes in
     let ordered : is_ordered e ≡ true =
-    ap is_ordered is ∙ ordered-masked rules d (loosely_ordered bytes d read) in
+    ap is_ordered is ∙ ordered-masked rules d (ordered_with mask.words bytes d read) in
     let utf8 : all_utf8 e ≡ true =
-    ap all_utf8 is ∙ utf8_masked rules d (loosely_utf8 bytes d read) in
+    ap all_utf8 is ∙ utf8_masked rules d (utf8_with mask.words bytes d u read) in
     let no_id : has_id e ≡ false =
-    ap has_id is ∙ no_id_masked rules d (loosely_no_id bytes d read) in
+    ap has_id is ∙ no_id_masked rules d (no_id_with mask.words bytes d read) in
     subst (IsRead (text_of e)) (without_no_id e no_id)
     (text_is_read e sound (ranged_no_id e no_id) ordered utf8)
 
 -- ---- all guarantees
 
-pub content_masked : (rules : List Rule) (bytes : List ℕ) (d : Doc) → are_safe rules ≡ true
-    → are_idempotent rules ≡ true → leave_ids rules ≡ true → IsReadLoosely bytes d
-    → IsMaskedAs rules d (masked rules d)
-content_masked rules bytes d safe settled leave read =
-    let ordered = loosely_ordered bytes d read in
+pub content_masked : (rules : List Rule) (words : List Pair) (bytes : List ℕ) (d : Doc)
+    → are_safe rules ≡ true → are_idempotent rules ≡ true → leave_ids rules ≡ true
+    → IsReadWith words bytes d → IsMaskedAs rules d (masked rules d)
+content_masked rules words bytes d safe settled leave read =
+    let ordered = ordered_with words bytes d read in
     record {
       places = masked_by_path rules d safe;
       elsewhere = λ p apart. keeps_others rules d p safe apart;
@@ -168,8 +194,8 @@ content_masked rules bytes d safe settled leave read =
       ids = keeps_ids rules d safe leave;
       one = λ f is. one_masked rules d f safe ordered is;
       again = masked_once rules d safe settled ordered;
-      equal = λ others f also. (
+      equal = λ pairs others f also. (
         λ same. agree_from_equal rules d f safe same,
-        λ agree. equal_from_agree rules d f safe (loosely_ordered others f also) agree,
+        λ agree. equal_from_agree rules d f safe (ordered_with pairs others f also) agree,
       );
     }

@@ -29,6 +29,7 @@ use Rattle.dap_tree.proofs.Outcomes.{read_is_plain}
 use Rattle.dap_mask.specs.Loose.{loose, loose_items, loose_members, loose_number}
 use Rattle.dap_mask.specs.Loose.{IsLeftOf, IsReadLoosely}
 use Rattle.dap_mask.specs.Mask.{no_rules, leaves_out}
+use Rattle.dap_words.proofs.WordedDocs.{worded_none}
 use Rattle.dap_message.specs.Rows.{is_of_kind}
 use Rattle.dap_profile.specs.declared.profile.Kind.TheVariants.{Event}
 
@@ -122,8 +123,8 @@ pub unmasked_is_read : (bytes : List ℕ) (d : Doc) → (IsLeftOf no_rules bytes
 unmasked_is_read bytes d = (to, from)
   where
     to : IsLeftOf no_rules bytes (Some d) → IsRead bytes d
-    to (e, (v, reads, is_loose), (kept, is_masked, sound)) =
-        let is : d ≡ loose v = is_masked ∙ is_loose in
+    to (e, (raw, (v, reads, is_loose), is_worded), (kept, is_masked, sound)) =
+        let is : d ≡ loose v = is_masked ∙ is_worded ∙ worded_none true raw ∙ is_loose in
         let same : is_sound (loose v) ≡ true = ap is_sound (sym is) ∙ sound in
         let ranged = and_right (nat_le (depth (loose v)) 127) (all_in_range (loose v)) same in
         let back : v ≡ data_of d = sym (data_loose v (kept_read bytes v reads.1) ranged)
@@ -133,7 +134,7 @@ unmasked_is_read bytes d = (to, from)
     from : IsRead bytes d → IsLeftOf no_rules bytes (Some d)
     from r = (
       d,
-      (data_of d, r.0, sym (loose_data d r.1)),
+      (d, (data_of d, r.0, sym (loose_data d r.1)), sym (worded_none true d)),
       (none_dropped d, refl, and_left (is_sound d) (not (has_id d)) (read_is_plain bytes d r)),
     )
 

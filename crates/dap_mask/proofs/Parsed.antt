@@ -15,6 +15,7 @@ use Rattle.dap_mask.specs.Grammar.{IsNameOrAny, AreSteps, IsPlace, verb_word, ki
 use Rattle.dap_mask.specs.Grammar.{AreWordsOf, SaysRule, Says}
 use Rattle.dap_mask.specs.Categories.{CategoryRule}
 use Rattle.dap_mask.specs.Mask.{Statement, change, leave_out, leave_out_category, swap, restart}
+use Rattle.dap_mask.specs.Mask.{put}
 use Rattle.dap_mask.specs.Mask.{Line, nothing, rule, bad}
 use Rattle.dap_mask.specs.RuleText.{quoted_at, plain_at, name_at, this_name, any_name, each_step}
 use Rattle.dap_mask.specs.RuleText.{member_step, next_step, step_then, steps_from, place_at}
@@ -22,7 +23,9 @@ use Rattle.dap_mask.specs.RuleText.{verb_named, kind_named, Head, name_behind, k
 use Rattle.dap_mask.specs.RuleText.{placed, place_behind, change_at, text_behind, category_at}
 use Rattle.dap_mask.specs.RuleText.{with_category, category_behind, dropped_at, leave_out_at}
 use Rattle.dap_mask.specs.RuleText.{half_at}
-use Rattle.dap_mask.specs.RuleText.{swap_with, swap_at, restart_at, statement_at, reported}
+use Rattle.dap_mask.specs.RuleText.{swap_with, swap_at, restart_at, part_at, word_with, put_at}
+use Rattle.dap_mask.specs.RuleText.{statement_at, reported}
+use Rattle.dap_texts.specs.Words.{Pair}
 use Rattle.dap_mask.specs.RuleText.{line_said}
 use Rattle.dap_mask.specs.Rules.{Rule, same_kind}
 use Rattle.dap_mask.specs.Runs.{is_blank, is_plain, front, behind, gap, is_end}
@@ -33,7 +36,7 @@ use Rattle.dap_mask.proofs.Blanks.{run_split, run_all, run_begins, gap_found, en
 use Rattle.dap_mask.proofs.Lines.{Steps}
 use Rattle.dap_mask.proofs.Options.{mapped, bound, if_true, if_false}
 use Rattle.dap_mask.proofs.Parsing.{any_by, place_on, then_step, with_kind, kind_on, change_on}
-use Rattle.dap_mask.proofs.Parsing.{leave_out_on, category_on, half_on, swap_on, rule_read}
+use Rattle.dap_mask.proofs.Parsing.{leave_out_on, category_on, half_on, swap_on, put_on, rule_read}
 use Rattle.dap_mask.proofs.Quoted.{quoted_found}
 
 -- the result of a parser, and the rest of the text
@@ -439,6 +442,38 @@ restart_found s st e =
       subst (AreWordsOf (codes "per-stop" ∷ [])) (same_Some restart st i.1) refl,
     )
 
+-- the next word, which is a name
+part_found : (s name rest : List ℕ) → part_at s ≡ Some (name, rest) → (n : List ℕ)
+    × ((ws : List (List ℕ)) → GoesOn ws rest → GoesOn (n ∷ ws) s) × IsName n name
+part_found s name rest h =
+    let y = bound name_at (gap s) (name, rest) h in
+    let before = gap_found s y.0 y.1 in
+    let f = name_found y.0 name rest y.2 in (
+      f.0,
+      λ ws on. (
+        before.blanks,
+        rest,
+        before.whole ∙ ap (λ (t : List ℕ). before.blanks ++ t) f.1,
+        before.is_gap,
+        on,
+      ),
+      f.2,
+    )
+
+put_found : (s : List ℕ) (st : Statement) → put_at s ≡ Some st → HasRule (codes "word") s st
+put_found s st e =
+    let t = bound put_on (part_at s) st e in
+    let w = bound (word_with t.0.0) (part_at t.0.1) st t.2 in
+    let p : Pair = record { text = t.0.0; word = w.0.0 } in
+    let i = if_true (is_end w.0.1) (Some (put p)) st w.2 in
+    let a = part_found s t.0.0 t.0.1 t.1 in
+    let b = part_found t.0.1 w.0.0 w.0.1 w.1 in (
+      a.0 ∷ b.0 ∷ [],
+      a.1 (b.0 ∷ []) (b.1 [] (end_found w.0.1 i.0)),
+      subst (AreWordsOf (codes "word" ∷ a.0 ∷ b.0 ∷ [])) (same_Some (put p) st i.1)
+          (a.0, b.0, refl, a.2, b.2),
+    )
+
 -- ---- lines
 
 renamed : (w v s : List ℕ) (st : Statement) → w ≡ v → HasRule v s st → HasRule w s st
@@ -449,23 +484,26 @@ abbrev verb_on : List ℕ → Verb → Option Statement
 verb_on s v = change_at v s
 
 -- whether the first word of a line is one of these
-pub record FirstWord (w : List ℕ) (a b c : Bool) : Type 0 where
+pub record FirstWord (w : List ℕ) (a b c d : Bool) : Type 0 where
   pub drop : bytes_eq w (codes "drop") ≡ a
   pub swap : bytes_eq w (codes "swap") ≡ b
   pub per_stop : bytes_eq w (codes "per-stop") ≡ c
+  pub word : bytes_eq w (codes "word") ≡ d
 
-statement_is : (w s : List ℕ) (st : Statement) (a b c : Bool) → FirstWord w a b c
+statement_is : (w s : List ℕ) (st : Statement) (a b c d : Bool) → FirstWord w a b c d
     → cond a (leave_out_at s) (cond b (swap_at s)
-    (cond c (restart_at s) (option_and_then (verb_on s) (verb_named w)))) ≡ Some st
-    → HasRule w s st
-statement_is w s st true b c f h =
+    (cond c (restart_at s) (cond d (put_at s) (option_and_then (verb_on s) (verb_named w)))))
+    ≡ Some st → HasRule w s st
+statement_is w s st true b c d f h =
     renamed w (codes "drop") s st (same_word w (codes "drop") f.drop) (leave_out_found s st h)
-statement_is w s st false true c f h =
+statement_is w s st false true c d f h =
     renamed w (codes "swap") s st (same_word w (codes "swap") f.swap) (swap_found s st h)
-statement_is w s st false false true f h =
+statement_is w s st false false true d f h =
     renamed w (codes "per-stop") s st (same_word w (codes "per-stop") f.per_stop)
     (restart_found s st h)
-statement_is w s st false false false f h =
+statement_is w s st false false false true f h =
+    renamed w (codes "word") s st (same_word w (codes "word") f.word) (put_found s st h)
+statement_is w s st false false false false f h =
     let v = bound (verb_on s) (verb_named w) st h in
     renamed w (verb_word v.0) s st (verb_found w v.0 v.1) (change_found v.0 s st v.2)
 
@@ -476,7 +514,8 @@ rule_found l st h =
     let w = front is_plain text in
     let rest = behind is_plain text in
     let f = statement_is w rest st (bytes_eq w (codes "drop")) (bytes_eq w (codes "swap"))
-    (bytes_eq w (codes "per-stop")) (record { drop = refl; swap = refl; per_stop = refl }) h in
+    (bytes_eq w (codes "per-stop")) (bytes_eq w (codes "word"))
+    (record { drop = refl; swap = refl; per_stop = refl; word = refl }) h in
     let blanks = front is_blank l in
     let has : HasWords (w ∷ f.0) l = (
       blanks,

@@ -14,14 +14,16 @@ use Rattle.dap_mask.specs.Grammar.{IsNameOrAny, AreSteps, IsPlace, verb_word, ki
 use Rattle.dap_mask.specs.Grammar.{AreWordsOf, SaysRule}
 use Rattle.dap_mask.specs.Categories.{CategoryRule}
 use Rattle.dap_mask.specs.Mask.{Statement, change, leave_out, leave_out_category, swap, restart}
-use Rattle.dap_mask.specs.Mask.{Line, nothing, rule}
+use Rattle.dap_mask.specs.Mask.{put, Line, nothing, rule}
 use Rattle.dap_mask.specs.RuleText.{quoted_at, plain_at, name_at, this_name, any_name}
 use Rattle.dap_mask.specs.RuleText.{member_step, next_step, step_then, steps_from, place_at}
 use Rattle.dap_mask.specs.RuleText.{verb_named, kind_named, Head}
 use Rattle.dap_mask.specs.RuleText.{name_behind, kind_then, head_at, placed, place_behind}
 use Rattle.dap_mask.specs.RuleText.{change_at, category_at, with_category, category_behind}
 use Rattle.dap_mask.specs.RuleText.{dropped_at, leave_out_at, half_at, swap_with, swap_at}
-use Rattle.dap_mask.specs.RuleText.{restart_at, statement_at, reported, line_said}
+use Rattle.dap_mask.specs.RuleText.{restart_at, part_at, word_with, put_at, statement_at}
+use Rattle.dap_mask.specs.RuleText.{reported, line_said}
+use Rattle.dap_texts.specs.Words.{Pair}
 use Rattle.dap_mask.specs.Rules.{Rule, same_kind}
 use Rattle.dap_mask.specs.Runs.{is_blank, is_plain, behind, gap, is_over, is_end}
 use Rattle.dap_message.specs.SwapRules.{Half, SwapRule}
@@ -344,13 +346,33 @@ swap_read r n m s on c d =
 restart_read : (s : List ℕ) → GoesOn [] s → restart_at s ≡ Some restart
 restart_read s on = ap (λ (b : Bool). cond b (Some restart) None) (end_read s on)
 
+-- the next word, which is a name
+part_read : (name n : List ℕ) (ws : List (List ℕ)) (s : List ℕ) (on : GoesOn (n ∷ ws) s)
+    → IsName n name → part_at s ≡ Some (name, on.1)
+part_read name n ws s (blanks, rest, is, gapped, more) c =
+    ap (option_and_then name_at) (ap gap is ∙ gap_read blanks (n ++ rest) gapped
+    (opens_not_blank (n ++ rest) (opens_longer n rest (name_opens c))))
+    ∙ name_read c rest (words_stop is_plain ws rest plain_no_end more)
+
+abbrev pub put_on : List ℕ × List ℕ → Option Statement
+put_on t = option_and_then (word_with t.0) (part_at t.1)
+
+put_read : (p : Pair) (t w s : List ℕ) → GoesOn (t ∷ w ∷ []) s → IsName t p.text
+    → IsName w p.word → put_at s ≡ Some (put p)
+put_read p t w s on c d =
+    let next = on.4 in
+    ap (option_and_then put_on) (part_read p.text t (w ∷ []) s on c)
+    ∙ ap (option_and_then (word_with p.text)) (part_read p.word w [] on.1 next d)
+    ∙ ap (λ (b : Bool). cond b (Some (put p)) None) (end_read next.1 next.4)
+
 -- ---- lines
 
 abbrev pub statement_by : List ℕ → List ℕ → Option Statement
 statement_by w s =
     cond (bytes_eq w (codes "drop")) (leave_out_at s) (cond (bytes_eq w (codes "swap")) (swap_at s)
     (cond (bytes_eq w (codes "per-stop")) (restart_at s)
-    (option_and_then (λ v. change_at v s) (verb_named w))))
+    (cond (bytes_eq w (codes "word")) (put_at s)
+    (option_and_then (λ v. change_at v s) (verb_named w)))))
 
 abbrev line_by : List ℕ → Line
 line_by s = cond (is_over s) nothing (reported (statement_at s))
@@ -403,6 +425,9 @@ says_words l (swap r) ws (n, m, is, c, d) has =
 says_words l restart ws is has =
     let on = subst (λ (xs : List (List ℕ)). HasWords xs l) is has in
     words_read l (codes "per-stop") [] restart on refl refl (restart_read on.1 on.4)
+says_words l (put p) ws (t, w, is, c, d) has =
+    let on = subst (λ (xs : List (List ℕ)). HasWords xs l) is has in
+    words_read l (codes "word") (t ∷ w ∷ []) (put p) on refl refl (put_read p t w on.1 on.4 c d)
 
 pub rule_read : (l : List ℕ) (st : Statement) → SaysRule l st → line_said l ≡ rule st
 rule_read l st (ws, has, words) = says_words l st ws words has

@@ -13,6 +13,7 @@ use Rattle.dap_tree.specs.Json.{Reads}
 use Rattle.dap_mask.specs.Grammar.{IsInside, at_end, escaped, other, bare, quoted}
 use Rattle.dap_mask.specs.Grammar.{GoesOn, Says}
 use Rattle.dap_mask.specs.Mask.{Statement, change, leave_out, leave_out_category, swap, restart}
+use Rattle.dap_mask.specs.Mask.{put}
 use Rattle.dap_mask.specs.Mask.{nothing, rule, bad}
 use Rattle.dap_mask.specs.RuleText.{line_said, string_of}
 use Rattle.dap_mask.specs.declared.rules.Verb.TheVariants.{Digits}
@@ -283,6 +284,41 @@ stop_parsed = refl
 
 more_parsed : line_said (codes "per-stop event *") ≡ bad
 more_parsed = refl
+
+-- ---- a text and its word
+
+word_line : List ℕ
+word_line = codes "\tword  here there# mine"
+
+word_rule : Statement
+word_rule = put (record { text = codes "here"; word = codes "there" })
+
+word_says : Says word_line (rule word_rule)
+unfolding word_line word_rule
+word_says = (
+  codes "word" ∷ codes "here" ∷ codes "there" ∷ [],
+  (
+    codes "\t",
+    codes "  here there# mine",
+    refl,
+    refl,
+    (
+      codes "  ",
+      codes " there# mine",
+      refl,
+      (refl, refl),
+      (codes " ", codes "# mine", refl, (refl, refl), ([], codes "# mine", refl, refl, refl)),
+    ),
+  ),
+  (codes "here", codes "there", refl, bare refl refl, bare refl refl),
+)
+
+word_parsed : line_said word_line ≡ rule word_rule
+unfolding word_line word_rule
+word_parsed = refl
+
+one_word_parsed : line_said (codes "word a") ≡ bad
+one_word_parsed = refl
 
 -- ---- lines that are not rules: an incomplete place, and `drop` with a request
 

@@ -8,7 +8,7 @@ use Rattle.dap_profile.specs.declared.profile.Kind.{Kind}
 use Rattle.dap_profile.specs.declared.profile.Kind.TheVariants.{Request, Response, Event}
 use Rattle.dap_tree.specs.Json.{Reads}
 use Rattle.dap_mask.specs.Mask.{Statement, change, leave_out, leave_out_category, swap, restart}
-use Rattle.dap_mask.specs.Mask.{Line, nothing, rule, bad}
+use Rattle.dap_mask.specs.Mask.{put, Line, nothing, rule, bad}
 use Rattle.dap_mask.specs.RuleText.{line_said}
 use Rattle.dap_mask.specs.Runs.{is_blank, is_plain}
 use Rattle.dap_mask.specs.Texts.{all_of, begins_with}
@@ -99,7 +99,8 @@ kind_word Response = codes "response"
 kind_word Event = codes "event"
 
 -- The words represent this rule: `VERB KIND NAME PLACE`, `drop event NAME`,
--- `drop event NAME category=TEXT`, `swap KIND NAME KIND NAME`, or `per-stop`.
+-- `drop event NAME category=TEXT`, `swap KIND NAME KIND NAME`, `per-stop`, or `word TEXT WORD`. TEXT
+-- and WORD are written as names are.
 abbrev pub AreWordsOf : List (List ℕ) → Statement → Type 0
 AreWordsOf ws (change r) = (n : List ℕ) × (p : List ℕ)
     × (ws ≡ verb_word r.verb ∷ kind_word r.kind ∷ n ∷ p ∷ []) × IsNameOrAny n r.name
@@ -113,6 +114,8 @@ AreWordsOf ws (swap s) = (n : List ℕ) × (m : List ℕ)
     × (ws ≡ codes "swap" ∷ kind_word s.one.kind ∷ n ∷ kind_word s.another.kind ∷ m ∷ [])
     × IsNameOrAny n s.one.name × IsNameOrAny m s.another.name
 AreWordsOf ws restart = ws ≡ codes "per-stop" ∷ []
+AreWordsOf ws (put p) = (t : List ℕ) × (w : List ℕ) × (ws ≡ codes "word" ∷ t ∷ w ∷ [])
+    × IsName t p.text × IsName w p.word
 
 -- The line consists of the words of this rule.
 abbrev pub SaysRule : List ℕ → Statement → Type 0

@@ -2,11 +2,12 @@
 use Rattle.std.specs.Prelude.{Bool, List, ℕ, Option}
 use Rattle.dap_mask.specs.Categories.{CategoryRule}
 use Rattle.dap_mask.specs.ListedRules.{listed_changes, listed_dropped, listed_swaps, listed_mask}
-use Rattle.dap_mask.specs.ListedRules.{listed_categories, listed_per_stop}
+use Rattle.dap_mask.specs.ListedRules.{listed_categories, listed_per_stop, listed_words}
 use Rattle.dap_mask.specs.Mask.{Mask}
 use Rattle.dap_mask.specs.Rules.{Rule}
 use Rattle.dap_message.specs.SwapRules.{SwapRule}
 use Rattle.dap_mask.specs.declared.mask_rules.MaskRules.{MaskRules}
+use Rattle.dap_texts.specs.Words.{Pair}
 
 abbrev pub changes_of : MaskRules → List Rule
 changes_of r = listed_changes r.list
@@ -23,6 +24,10 @@ swaps_of_mask r = listed_swaps r.list
 -- The file has the line `per-stop`.
 abbrev pub per_stop_of : MaskRules → Bool
 per_stop_of r = listed_per_stop r.list
+
+-- The words that are put in the place of texts before the rules apply.
+abbrev pub words_of_mask : MaskRules → List Pair
+words_of_mask r = listed_words r.list
 
 abbrev pub mask_of : MaskRules → Mask
 mask_of r = listed_mask r.list

@@ -17,3 +17,4 @@ pub mod Laws
 pub mod Standing
 pub mod Loose
 pub mod Promises
+pub mod WordLines

@@ -5,6 +5,8 @@ use Rattle.dap_mask.specs.Mask.{Mask}
 use Rattle.dap_mask.specs.Rules.{Rule, rules_of}
 use Rattle.dap_message.specs.SwapRules.{SwapRule, swaps_of}
 use Rattle.dap_mask.specs.declared.rule_list.RuleList.{RuleList}
+use Rattle.dap_texts.specs.Words.{Pair}
+use Rattle.dap_words.specs.Kept.{pairs_in}
 
 abbrev pub listed_changes : RuleList → List Rule
 listed_changes r = rules_of r.changes.items
@@ -21,6 +23,9 @@ listed_swaps r = swaps_of r.swaps.items
 abbrev pub listed_per_stop : RuleList → Bool
 listed_per_stop r = r.per_stop
 
+abbrev pub listed_words : RuleList → List Pair
+listed_words r = pairs_in r.words
+
 abbrev pub listed_mask : RuleList → Mask
 listed_mask r = record {
   changes = listed_changes r;
@@ -28,4 +33,5 @@ listed_mask r = record {
   categories = listed_categories r;
   swaps = listed_swaps r;
   per_stop = listed_per_stop r;
+  words = listed_words r;
 }

@@ -2,6 +2,7 @@
 use Rattle.std.specs.Prelude.{ℕ, ◌+◌, Bool, true, false, cond, ◌&&◌, ◌||◌, List, [], ◌∷◌, ◌++◌}
 use Rattle.std.specs.Prelude.{Option, length, option_map, string_bytes}
 use Rattle.dap_tree.specs.Doc.{Doc}
+use Rattle.dap_texts.specs.Words.{Pair, pair_of}
 use Rattle.dap_message.specs.Rows.{is_of_kind}
 use Rattle.dap_profile.specs.declared.profile.Kind.TheVariants.{Event}
 use Rattle.dap_mask.specs.Categories.{CategoryRule, category_of, is_dropped_by}
@@ -11,26 +12,35 @@ use Rattle.dap_mask.specs.declared.statement.Line.{Line as ReadLine}
 use Rattle.dap_mask.specs.declared.statement.Line.TheVariants.{Nothing, Rule as ReadRule, Bad}
 use Rattle.dap_mask.specs.declared.statement.Statement.{Statement as ReadStatement}
 use Rattle.dap_mask.specs.declared.statement.Statement.TheVariants.{Change, LeaveOut, Swap}
-use Rattle.dap_mask.specs.declared.statement.Statement.TheVariants.{LeaveOutCategory, PerStop}
+use Rattle.dap_mask.specs.declared.statement.Statement.TheVariants.{LeaveOutCategory, PerStop, Put}
 
 -- The rules that change values, in the order in which they apply; the names of the events that are
 -- dropped (`None` is any name), and the rules that drop the events of one category; and the rules
 -- for the order of messages, which masking does not use. `per_stop` says that ids are numbered
--- again from each stop, which masking does not use either.
+-- again from each stop, which masking does not use either. The words are put in the place of texts
+-- before the rules apply.
 pub record Mask : Type 0 where
   pub changes : List Rule
   pub dropped : List (Option (List ℕ))
   pub categories : List CategoryRule
   pub swaps : List SwapRule
   pub per_stop : Bool
+  pub words : List Pair
 
 abbrev pub no_rules : Mask
-no_rules = record { changes = []; dropped = []; categories = []; swaps = []; per_stop = false }
+no_rules = record {
+  changes = [];
+  dropped = [];
+  categories = [];
+  swaps = [];
+  per_stop = false;
+  words = [];
+}
 
 abbrev pub rule_count : Mask → ℕ
 rule_count m =
     length m.changes + length m.dropped + length m.categories + length m.swaps
-    + cond m.per_stop 1 0
+    + cond m.per_stop 1 0 + length m.words
 
 -- The message is dropped (own): an event of one of the names, or of the name and the category of a
 -- rule.
@@ -38,13 +48,15 @@ abbrev pub leaves_out : Mask → Doc → Bool
 leaves_out m d = is_of_kind Event d && (is_event_of m.dropped d || is_dropped_by m.categories d)
 
 -- A rule in a line of a rules file: a change, events that are dropped, by their name alone or by
--- their category too, a rule for the order, or ids that are numbered again from each stop.
+-- their category too, a rule for the order, ids that are numbered again from each stop, or a text
+-- and its word.
 pub data Statement : Type 0 where
   change : Rule → Statement
   leave_out : Option (List ℕ) → Statement
   leave_out_category : CategoryRule → Statement
   swap : SwapRule → Statement
   restart : Statement
+  put : Pair → Statement
 
 -- The mask with one more rule, after the others.
 abbrev pub with_rule : Mask → Statement → Mask
@@ -53,6 +65,7 @@ with_rule m (leave_out n) = record m { dropped = m.dropped ++ n ∷ [] }
 with_rule m (leave_out_category c) = record m { categories = m.categories ++ c ∷ [] }
 with_rule m (swap s) = record m { swaps = m.swaps ++ s ∷ [] }
 with_rule m restart = record m { per_stop = true }
+with_rule m (put p) = record m { words = m.words ++ p ∷ [] }
 
 -- The meaning of a line.
 pub data Line : Type 0 where
@@ -68,6 +81,7 @@ statement_of (LeaveOut n) = leave_out (option_map string_bytes n)
 statement_of (LeaveOutCategory c) = leave_out_category (category_of c)
 statement_of (Swap s) = swap (swap_of s)
 statement_of PerStop = restart
+statement_of (Put w) = put (pair_of w)
 
 abbrev pub line_of : ReadLine → Line
 line_of Nothing = nothing

@@ -2,9 +2,11 @@
 use Rattle.std.specs.Prelude.{◌≡◌, ◌↔◌, ℕ, List}
 use Rattle.dap_tree.specs.Doc.{Doc}
 use Rattle.dap_mask.specs.Ids.{KeepsIds}
-use Rattle.dap_mask.specs.Loose.{IsReadLoosely}
+use Rattle.dap_mask.specs.Loose.{IsReadWith}
+use Rattle.dap_mask.specs.Mask.{Mask}
 use Rattle.dap_mask.specs.Masked.{IsMasked, AgreeBut, KeepsElsewhere, HasNoNewPath, masked}
 use Rattle.dap_mask.specs.Rules.{Rule}
+use Rattle.dap_texts.specs.Words.{Pair}
 
 -- The document e is d masked by the rules of a rules file.
 pub record IsMaskedAs (rules : List Rule) (d e : Doc) : Type 0 where
@@ -21,9 +23,12 @@ pub record IsMaskedAs (rules : List Rule) (d e : Doc) : Type 0 where
   pub again : masked rules e ≡ e
   -- Masking another content yields e if and only if the two agree except for the parts that the
   -- rules redact.
-  pub equal : (bytes : List ℕ) (f : Doc) → IsReadLoosely bytes f → (e ≡ masked rules f)
+  pub equal : (words : List Pair) (bytes : List ℕ) (f : Doc) → IsReadWith words bytes f
+      → (e ≡ masked rules f)
       ↔ AgreeBut rules d f
 
--- The document e is the masked form of every document that the content represents.
-abbrev pub IsContentMasked : List Rule → List ℕ → Doc → Type 0
-IsContentMasked rules bytes e = (d : Doc) → IsReadLoosely bytes d → IsMaskedAs rules d e
+-- The document e is the masked form of every document that the content represents, with the words
+-- in the place of texts.
+abbrev pub IsContentMasked : Mask → List ℕ → Doc → Type 0
+IsContentMasked mask bytes e = (d : Doc) → IsReadWith mask.words bytes d
+    → IsMaskedAs mask.changes d e

@@ -8,7 +8,9 @@ use Rattle.serde_json.specs.Read.{read}
 use Rattle.dap_profile.specs.PlaceSteps.{PlaceStep, named, each}
 use Rattle.dap_profile.specs.declared.profile.Kind.{Kind}
 use Rattle.dap_profile.specs.declared.profile.Kind.TheVariants.{Request, Response, Event}
+use Rattle.dap_texts.specs.Words.{Pair}
 use Rattle.dap_mask.specs.Mask.{Statement, change, leave_out, leave_out_category, swap, restart}
+use Rattle.dap_mask.specs.Mask.{put}
 use Rattle.dap_mask.specs.Mask.{Line, nothing, rule, bad}
 use Rattle.dap_mask.specs.Rules.{same_kind}
 use Rattle.dap_mask.specs.Runs.{is_plain, front, behind, closing, is_closed, gap, is_end}
@@ -171,12 +173,25 @@ swap_at s = option_and_then (λ h. option_and_then (swap_with h.0) (half_at h.1)
 abbrev pub restart_at : List ℕ → Option Statement
 restart_at s = cond (is_end s) (Some restart) None
 
+-- The text or the word of a rule, with which the text starts after blanks, and the rest.
+abbrev pub part_at : List ℕ → Option (List ℕ × List ℕ)
+part_at s = option_and_then name_at (gap s)
+
+-- The rule that puts this word in the place of this text, if the line ends after the word.
+abbrev pub word_with : List ℕ → List ℕ × List ℕ → Option Statement
+word_with t w = cond (is_end w.1) (Some (put (record { text = t; word = w.0 }))) None
+
+-- The rule that puts a word in the place of a text; both are in the text.
+abbrev pub put_at : List ℕ → Option Statement
+put_at s = option_and_then (λ t. option_and_then (word_with t.0) (part_at t.1)) (part_at s)
+
 abbrev pub statement_at : List ℕ → Option Statement
 statement_at s =
     cond (bytes_eq (front is_plain s) (codes "drop")) (leave_out_at (behind is_plain s))
     (cond (bytes_eq (front is_plain s) (codes "swap")) (swap_at (behind is_plain s))
     (cond (bytes_eq (front is_plain s) (codes "per-stop")) (restart_at (behind is_plain s))
-    (option_and_then (λ v. change_at v (behind is_plain s)) (verb_named (front is_plain s)))))
+    (cond (bytes_eq (front is_plain s) (codes "word")) (put_at (behind is_plain s))
+    (option_and_then (λ v. change_at v (behind is_plain s)) (verb_named (front is_plain s))))))
 
 abbrev pub reported : Option Statement → Line
 reported None = bad

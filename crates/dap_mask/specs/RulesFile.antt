@@ -1,11 +1,12 @@
 -- The meaning of a rules file, line by line, and the errors of its lines.
 use Rattle.std.specs.Prelude.{ℕ, suc, ◌==◌, Bool, false, cond, ◌||◌, nat_le, nat_lt, List, [], ◌∷◌}
 use Rattle.std.specs.Prelude.{length, take, Option, Some, None, Result, Ok, Err, count_by}
+use Rattle.std.specs.Prelude.{option_map}
 use Rattle.std.specs.Str.{is_utf8}
 use Rattle.dap_mask.specs.Categories.{is_category_among, is_moved_by, moves_one_of}
 use Rattle.dap_mask.specs.Ids.{takes_profile_id}
 use Rattle.dap_mask.specs.Mask.{Mask, no_rules, rule_count, with_rule, Statement, change, leave_out}
-use Rattle.dap_mask.specs.Mask.{leave_out_category, swap, restart, Line, nothing, rule, bad}
+use Rattle.dap_mask.specs.Mask.{leave_out_category, swap, restart, put, Line, nothing, rule, bad}
 use Rattle.dap_mask.specs.RuleText.{line_said}
 use Rattle.dap_mask.specs.Rules.{Rule, clash, is_among, is_telling_place, same_name}
 use Rattle.dap_mask.specs.Runs.{lines_of}
@@ -14,9 +15,13 @@ use Rattle.dap_mask.specs.declared.fault.RulesCause.{RulesCause}
 use Rattle.dap_mask.specs.declared.fault.RulesCause.TheVariants.{TooLong, NotUtf8, BadRule, TooMany}
 use Rattle.dap_mask.specs.declared.fault.RulesCause.TheVariants.{BadPlace, Repeated}
 use Rattle.dap_mask.specs.declared.fault.RulesCause.TheVariants.{DigitsBehindHex, Clash}
+use Rattle.dap_mask.specs.declared.fault.RulesCause.TheVariants.{BadWord, Memory}
 use Rattle.dap_mask.specs.declared.fault.RulesFault.{RulesFault}
 use Rattle.dap_mask.specs.declared.rules.Verb.{Verb}
 use Rattle.dap_mask.specs.declared.rules.Verb.TheVariants.{Digits, Hex}
+use Rattle.dap_words.specs.Kept.{cause_against as word_cause}
+use Rattle.dap_words.specs.declared.words.WordCause.{WordCause}
+use Rattle.dap_words.specs.declared.words.WordCause.TheVariants as of_word
 
 -- The name, or `None` for any name, is one of these.
 abbrev pub is_name_among : Option (List ℕ) → List (Option (List ℕ)) → Bool
@@ -44,6 +49,13 @@ abbrev pub or_clash : Option RulesCause → Bool → Option RulesCause
 or_clash None clashes = cond clashes (Some Clash) None
 or_clash (Some c) clashes = Some c
 
+-- The cause, as an error of a rules file.
+abbrev pub cause_of_word : WordCause → RulesCause
+cause_of_word of_word.Empty = BadWord
+cause_of_word of_word.Repeated = Repeated
+cause_of_word of_word.Meets = BadWord
+cause_of_word of_word.Memory = Memory
+
 -- Why a rule may not follow the rules of a mask, apart from the limit on their number.
 abbrev pub cause_of : Mask → Statement → Option RulesCause
 cause_of m (change r) = or_clash (change_cause m.changes r) (moves_one_of r m.categories)
@@ -52,6 +64,7 @@ cause_of m (leave_out_category c) = cond (is_category_among c m.categories) (Som
     (cond (is_moved_by m.changes c) (Some Clash) None)
 cause_of m (swap s) = cond (is_swap_among s m.swaps) (Some Repeated) None
 cause_of m restart = cond m.per_stop (Some Repeated) None
+cause_of m (put p) = option_map cause_of_word (word_cause m.words p)
 
 -- Why a rule may not follow the rules of a mask; `None` if it may. A mask has at most a thousand
 -- rules.

@@ -22,8 +22,8 @@ pub enum RulesCause {
     /// The line is not a rule, not empty and not only a comment.
     ///
     /// - Cause: a missing word, or a name with other characters that is not in quotes.
-    /// - Fix: write a verb, a kind, a name and a place, or `swap` with two kinds and names, with
-    ///   spaces between them, or `per-stop` alone.
+    /// - Fix: write a verb, a kind, a name and a place, or `swap` with two kinds and names, or
+    ///   `word` with a text and its word, with spaces between them, or `per-stop` alone.
     #[error("BadRule")]
     BadRule,
     /// A thousand rules precede it.
@@ -39,7 +39,8 @@ pub enum RulesCause {
     /// - Fix: leave the rule out.
     #[error("BadPlace")]
     BadPlace,
-    /// The same rule precedes it. A `swap` rule with its halves exchanged is the same rule.
+    /// The same rule precedes it, or another word for the same text. A `swap` rule with its halves
+    /// exchanged is the same rule.
     ///
     /// - Cause: two rules files put together.
     /// - Fix: leave it out.
@@ -61,6 +62,14 @@ pub enum RulesCause {
     ///   place.
     #[error("Clash")]
     Clash,
+    /// The text of a `word` line is empty, or a word of the file can overlap a text of the file:
+    /// one contains the other, or the end of one is the start of the other. Masking twice could
+    /// then replace more than masking once.
+    ///
+    /// - Cause: a word that is part of a path, or an empty word.
+    /// - Fix: choose a word that no text contains, such as one in angle brackets.
+    #[error("BadWord")]
+    BadWord,
     /// An allocation failed.
     #[error("Memory")]
     Memory,

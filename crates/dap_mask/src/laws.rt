@@ -7,6 +7,7 @@ ghost use Rattle.dap_mask.specs.Laws.{KeepsUtf8, StaysIn, DigitsAre, HexIs};
 ghost use Rattle.dap_mask.specs.Loose.{UnmaskedIsRead, OneLooseReading, LooseIsOrdered};
 ghost use Rattle.dap_mask.specs.Loose.{LeftIsRead};
 ghost use Rattle.dap_mask.specs.Ids.{LeavesIds};
+ghost use Rattle.dap_mask.specs.WordLines.{OneMoreLine};
 
 /// The value at each path determines a masked document. Only the places of the rules change.
 pub fn exactly_those_places()
@@ -62,4 +63,9 @@ pub fn leaves_ids()
 pub fn line_grammar()
     ensures parser { ParserFindsLine }
     ensures one { LineSaysOne }
+{}
+
+/// A line after a line feed is one more line of a rules file.
+pub fn one_more_line()
+    ensures { OneMoreLine }
 {}

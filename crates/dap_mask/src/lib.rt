@@ -2,8 +2,10 @@
 //!
 //! [`MaskRules::read`] reads the rules of a file, and [`mask`] changes the values of a message at
 //! the places of the rules. `specs/` defines the meaning of the rules, and [`laws`] states the
-//! theorems. The file may also contain rules for the order of messages, [`MaskRules::swaps`], and
-//! the line `per-stop`, [`MaskRules::per_stop`], which masking does not use.
+//! theorems. The file may also contain texts and their words, [`MaskRules::words`], which
+//! [`read_masked`] puts in before the other rules apply; rules for the order of messages,
+//! [`MaskRules::swaps`]; and the line `per-stop`, [`MaskRules::per_stop`]. Masking does not use the
+//! last two.
 #![tactic(auto)]
 
 mod categories;
@@ -23,6 +25,7 @@ mod runs;
 mod statement;
 mod swaps;
 mod texts;
+mod word_lines;
 
 pub use categories::CategoryRule;
 pub use dap_message::{Half, SwapRule};
@@ -31,3 +34,4 @@ pub use loose::read_masked;
 pub use mask_rules::MaskRules;
 pub use masking::{is_dropped, mask};
 pub use rules::{MaskRule, Step, Verb};
+pub use word_lines::write_word;

@@ -3,14 +3,16 @@ ghost use Rattle.std.specs.Prelude.{◌≡◌, ◌<◌, length, IfOk, IfErr, IsE
 ghost use Rattle.serde_json.specs.View.{number_view, view as value_view, items_view as values_view};
 ghost use Rattle.serde_json.specs.View.{members_view as pairs_view};
 ghost use Rattle.dap_tree.specs.View.{view, items_view, members_view};
-ghost use Rattle.dap_mask.specs.KeptRules.{changes_of, mask_of};
+ghost use Rattle.dap_mask.specs.KeptRules.{mask_of, words_of_mask};
 ghost use Rattle.dap_mask.specs.Loose.{loose, loose_items, loose_members, loose_number};
-ghost use Rattle.dap_mask.specs.Loose.{IsReadLoosely, IsLeftOf, ExplainsLoosely, ExplainsMasked};
+ghost use Rattle.dap_mask.specs.Loose.{IsReadLoosely, IsReadWith, IsLeftOf, ExplainsLoosely};
+ghost use Rattle.dap_mask.specs.Loose.{ExplainsMasked};
 ghost use Rattle.dap_mask.specs.Promises.{IsContentMasked};
 
 use crate::mask_rules::MaskRules;
 use crate::masking::{is_dropped, mask};
 use dap_tree::{Scratch, Tree, TreeFault, read_tree_with};
+use dap_words::put_words;
 use serde_json::{Map, Number, Value};
 use std::alloc::{AllocError, Global};
 use std::collections::BTreeMap;
@@ -19,8 +21,8 @@ use std::collections::BTreeMap;
 /// therefore not serialisable.
 const NO_WHOLE: i128 = 18_446_744_073_709_551_616;
 
-/// Reads the tree of a content and masks it. Reuses the buffers in `scratch` between calls. Returns
-/// `None` for an event that the rules drop.
+/// Reads the tree of a content, puts the words of the rules in the place of texts, and masks it.
+/// Reuses the buffers in `scratch` between calls. Returns `None` for an event that the rules drop.
 ///
 /// # Errors
 ///
@@ -40,9 +42,9 @@ pub fn read_masked(
     // Only the places of the rules change. Masking the result again does not change it. Another
     // content has the same result if and only if both agree except for the redacted parts.
     ensures masked { IfOk result (λ o. IfSome (option_map view o)
-        (IsContentMasked (changes_of rules.now) content.now)) }
+        (IsContentMasked (mask_of rules.now) content.now)) }
 {
-    let mut tree = read_loosely(alloc, content, scratch)?;
+    let mut tree = read_with_words(alloc, content, rules, scratch)?;
     if is_dropped(&tree, rules) {
         return Ok(None);
     }
@@ -52,6 +54,23 @@ pub fn read_masked(
     } else {
         Err(TreeFault::Fraction)
     }
+}
+
+// Reads the tree of a content, as `read_loosely` does, and puts the words of the rules in the place
+// of texts.
+fn read_with_words(
+    alloc: Global,
+    content: &[u8],
+    rules: &MaskRules,
+    scratch: &mut Scratch,
+) -> Result<Tree, TreeFault>
+    ensures ok { IfOk result (λ t. IsReadWith (words_of_mask rules.now) content.now (view t)) }
+    ensures err { IfErr result (ExplainsLoosely content.now) }
+    ensures memory { IsErrOf result TreeFault.Memory → 0 < length content.now }
+{
+    let read = read_loosely(alloc, content, scratch)?;
+    let tree = put_words(alloc, read, rules.words())?;
+    Ok(tree)
 }
 
 // Reads the tree of a content, with 2^64 for each number that is not an integer of 64 bits.

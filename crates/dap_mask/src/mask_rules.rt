@@ -11,6 +11,7 @@ use crate::index::KindRules;
 use crate::rule_list::RuleList;
 use crate::rules::MaskRule;
 use dap_message::{Kind, SwapRule};
+use dap_words::Words;
 use std::alloc::{AllocError, Global};
 
 /// The rules of a mask.
@@ -34,6 +35,8 @@ impl MaskRules {
     ghost use Rattle.dap_mask.specs.KeptRules.{mask_of, changes_of, dropped_of};
     ghost use Rattle.dap_mask.specs.Categories.{categories_of};
     ghost use Rattle.dap_mask.specs.KeptRules.{categories_of_mask, swaps_of_mask, per_stop_of};
+    ghost use Rattle.dap_mask.specs.KeptRules.{words_of_mask};
+    ghost use Rattle.dap_words.specs.Kept.{pairs_in};
     ghost use Rattle.dap_mask.specs.ListedRules.{listed_mask};
     ghost use Rattle.dap_mask.specs.Mask.{no_rules};
     ghost use Rattle.dap_mask.specs.Rules.{rules_of};
@@ -114,6 +117,13 @@ impl MaskRules {
         ensures { result ≡ per_stop_of self.now }
     {
         self.list.per_stop()
+    }
+
+    /// Returns the words that are put in the place of texts before the changes apply.
+    pub fn words(&self) -> &Words
+        ensures { pairs_in result.now ≡ words_of_mask self.now }
+    {
+        self.list.words()
     }
 
     /// Returns the positions of the changes that may apply to messages of this kind and name, in

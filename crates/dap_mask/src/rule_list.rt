@@ -6,6 +6,9 @@ ghost use Rattle.dap_mask.specs.Categories.{category_of, categories_of, keep_cat
 ghost use Rattle.dap_mask.specs.Ids.{leave_ids};
 ghost use Rattle.dap_mask.specs.Rules.{rule_of, rules_of, are_safe, are_idempotent};
 ghost use Rattle.dap_mask.specs.RulesFile.{is_name_among, change_cause, or_clash, last_line};
+ghost use Rattle.dap_mask.specs.RulesFile.{cause_of_word};
+ghost use Rattle.dap_texts.specs.Words.{pair_of};
+ghost use Rattle.dap_words.specs.Kept.{pairs_in};
 
 use crate::categories::{CategoryRule, is_category_among, is_moved_by, moves_one_of};
 use crate::fault::{RulesCause, RulesFault};
@@ -16,6 +19,8 @@ use crate::runs::{ByteClass, split_run};
 use crate::statement::{Line, Statement, read_line};
 use crate::swaps::is_swap_among;
 use dap_message::SwapRule;
+use dap_texts::Word;
+use dap_words::{WordCause, Words};
 use std::alloc::{AllocError, Global};
 use std::str;
 
@@ -37,7 +42,9 @@ pub(crate) struct RuleList {
     categories: Vec<CategoryRule>,
     swaps: Vec<SwapRule>,
     per_stop: bool,
-    ghost few: { vec_len changes + vec_len dropped + vec_len categories + vec_len swaps ≤ 1000 },
+    words: Words,
+    ghost few: { vec_len changes + vec_len dropped + vec_len categories + vec_len swaps
+        + length (pairs_in words) ≤ 1000 },
     ghost safe: { are_safe (rules_of changes.items) ≡ true },
     ghost settled: { are_idempotent (rules_of changes.items) ≡ true },
     ghost leave: { leave_ids (rules_of changes.items) ≡ true },
@@ -48,8 +55,9 @@ pub(crate) struct RuleList {
 impl RuleList {
     ghost use Rattle.dap_mask.specs.ListedRules.{listed_mask, listed_changes, listed_dropped};
     ghost use Rattle.dap_mask.specs.ListedRules.{listed_categories, listed_swaps, listed_per_stop};
+    ghost use Rattle.dap_mask.specs.ListedRules.{listed_words};
     ghost use Rattle.dap_mask.specs.Mask.{no_rules, rule_count, with_rule, statement_of, nothing};
-    ghost use Rattle.dap_mask.specs.Mask.{leave_out_category};
+    ghost use Rattle.dap_mask.specs.Mask.{leave_out_category, put};
     ghost use Rattle.dap_mask.specs.RuleText.{line_said};
     ghost use Rattle.dap_mask.specs.RulesFile.{cause_against, line_outcome, rules_from, rules_said};
     ghost use Rattle.dap_mask.specs.Runs.{lines_of};
@@ -91,6 +99,7 @@ impl RuleList {
             categories: Vec::new(alloc),
             swaps: Vec::new(alloc),
             per_stop: false,
+            words: Words::new(alloc),
         }
     }
 
@@ -129,12 +138,19 @@ impl RuleList {
         self.per_stop
     }
 
+    /// Returns the texts and their words.
+    pub(crate) fn words(&self) -> &Words
+        ensures { pairs_in result.now ≡ listed_words self.now }
+    {
+        &self.words
+    }
+
     /// Returns the number of rules.
     fn rule_count(&self) -> usize
         ensures { result ≡ rule_count (listed_mask self.now) }
     {
         let values = self.changes.len() + self.dropped.len() + self.categories.len();
-        let lists = values + self.swaps.len();
+        let lists = values + self.swaps.len() + self.words.len();
         if self.per_stop { lists + 1 } else { lists }
     }
 
@@ -235,6 +251,12 @@ impl RuleList {
                     None
                 }
             }
+            Statement::Put(word) => {
+                match self.words.cause_against(word) {
+                    Some(cause) => Some(cause_of_word(cause)),
+                    None => None,
+                }
+            }
         }
     }
 
@@ -245,6 +267,15 @@ impl RuleList {
             ≡ with_rule (listed_mask self.old) (leave_out_category (category_of rule))) }
     {
         self.categories.push(rule)?;
+        Ok(())
+    }
+
+    fn take_word(&mut self, word: Word) -> Result<(), AllocError>
+        requires { cause_against (listed_mask self.old) (put (pair_of word)) ≡ None }
+        ensures { OnOk result
+            (listed_mask self.new ≡ with_rule (listed_mask self.old) (put (pair_of word))) }
+    {
+        self.words.push(word)?;
         Ok(())
     }
 
@@ -259,6 +290,7 @@ impl RuleList {
             Statement::LeaveOutCategory(rule) => self.take_category(rule)?,
             Statement::Swap(swap) => self.swaps.push(swap)?,
             Statement::PerStop => self.per_stop = true,
+            Statement::Put(word) => self.take_word(word)?,
         }
         Ok(())
     }
@@ -290,6 +322,16 @@ fn change_cause(changes: &[MaskRule], rule: &MaskRule) -> Option<RulesCause>
         Some(RulesCause::Repeated)
     } else {
         clash_cause(changes, rule)
+    }
+}
+
+fn cause_of_word(cause: WordCause) -> RulesCause
+    ensures { result ≡ cause_of_word cause }
+{
+    match cause {
+        WordCause::Empty | WordCause::Meets => RulesCause::BadWord,
+        WordCause::Repeated => RulesCause::Repeated,
+        WordCause::Memory => RulesCause::Memory,
     }
 }
 

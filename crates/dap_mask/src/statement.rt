@@ -3,7 +3,7 @@ ghost use Rattle.std.specs.Prelude.{◌≡◌, ◌≢◌, IfOk, IfErr, option_ma
 ghost use Rattle.dap_mask.specs.Mask.{statement_of, line_of, nothing};
 ghost use Rattle.dap_mask.specs.RuleText.{verb_named, kind_named, head_at, change_at, category_at};
 ghost use Rattle.dap_mask.specs.RuleText.{text_behind, category_behind, leave_out_at};
-ghost use Rattle.dap_mask.specs.RuleText.{half_at, swap_at, restart_at};
+ghost use Rattle.dap_mask.specs.RuleText.{half_at, swap_at, restart_at, part_at, put_at};
 ghost use Rattle.dap_mask.specs.RuleText.{statement_at, line_said};
 ghost use Rattle.dap_message.specs.SwapRules.{half_of};
 
@@ -14,6 +14,7 @@ use crate::places::place_at;
 use crate::rules::{MaskRule, Verb};
 use crate::runs::{ByteClass, gap, is_end, split_run};
 use dap_message::{Half, Kind, SwapRule};
+use dap_texts::Word;
 use std::alloc::{AllocError, Global};
 
 /// A rule, as written in a line.
@@ -29,6 +30,8 @@ pub(crate) enum Statement {
     Swap(SwapRule),
     /// Numbers ids again from each stop.
     PerStop,
+    /// Puts a word in the place of a text.
+    Put(Word),
 }
 
 /// The meaning of a line.
@@ -68,6 +71,9 @@ fn statement_at(alloc: Global, text: &[u8]) -> Result<Option<Statement>, AllocEr
     }
     if word == b"per-stop".as_slice() {
         return Ok(restart_at(rest));
+    }
+    if word == b"word".as_slice() {
+        return put_at(alloc, rest);
     }
     match verb_named(word) {
         Some(verb) => change_at(alloc, verb, rest),
@@ -252,5 +258,35 @@ fn restart_at(text: &[u8]) -> Option<Statement>
         Some(Statement::PerStop)
     } else {
         None
+    }
+}
+
+// Returns the text or the word of a rule, with which the text starts after blanks, and the rest.
+fn part_at(alloc: Global, text: &[u8]) -> Result<Option<(String, &[u8])>, AllocError>
+    ensures { IfOk result
+        (λ o. option_map (λ n. (string_bytes n.0, n.1.now)) o ≡ part_at text.now) }
+{
+    match gap(text) {
+        Some(text) => name_at(alloc, text),
+        None => Ok(None),
+    }
+}
+
+fn put_at(alloc: Global, text: &[u8]) -> Result<Option<Statement>, AllocError>
+    ensures { IfOk result (λ o. option_map statement_of o ≡ put_at text.now) }
+{
+    let Some((replaced, text)) = part_at(alloc, text)? else {
+        return Ok(None);
+    };
+    let Some((word, text)) = part_at(alloc, text)? else {
+        return Ok(None);
+    };
+    if is_end(text) {
+        Ok(Some(Statement::Put(Word {
+            text: replaced,
+            word,
+        })))
+    } else {
+        Ok(None)
     }
 }

@@ -4,3 +4,4 @@ pub mod MaskedTexts
 pub mod MaskedRecords
 pub mod PendingTexts
 pub mod MaskingLoop
+pub mod MaskedMachines

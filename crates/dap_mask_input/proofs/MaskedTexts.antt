@@ -19,42 +19,46 @@ use Rattle.dap_rename.specs.declared.mode.Mode.{Mode}
 use Rattle.dap_normal.specs.Normalising.{Normalises}
 use Rattle.dap_normal.proofs.NormalFormLaws.{equal_texts_tell}
 use Rattle.dap_mask.specs.Ids.{leave_ids}
-use Rattle.dap_mask.specs.Loose.{IsReadLoosely}
 use Rattle.dap_mask.specs.Categories.{keep_categories}
+use Rattle.dap_mask.specs.Loose.{IsReadWith}
 use Rattle.dap_mask.specs.Mask.{Mask, leaves_out}
 use Rattle.dap_mask.specs.Masked.{masked}
 use Rattle.dap_mask.specs.Rules.{are_safe, are_idempotent}
 use Rattle.dap_mask.proofs.ByPath.{agree_from_equal, equal_from_agree}
 use Rattle.dap_mask.proofs.Dropping.{stays_in}
-use Rattle.dap_mask.proofs.LooseReading.{content_masked, left_is_read, loosely_ordered}
+use Rattle.dap_mask.proofs.LooseReading.{content_masked, left_is_read, ordered_with}
+use Rattle.dap_texts.specs.Words.{AreUtf8}
+use Rattle.dap_words.specs.Worded.{worded_message}
+use Rattle.dap_words.proofs.WordedDocs.{worded_none}
 use Rattle.dap_mask.proofs.LooseReading.{one_loose_reading}
 use Rattle.dap_mask.proofs.Loosening.{read_loose}
 use Rattle.dap_mask.proofs.Settled.{masked_once}
 use Rattle.dap_mask_input.specs.Masking.{AreMessages, AreWhole, IsAccepted, is_kept, kept, left_of}
 use Rattle.dap_mask_input.specs.Masking.{mask_message, masking}
-use Rattle.dap_mask_input.specs.MaskedRecordings.{Agree, IsMasked, IsMaskedTo, IsTypedAs, Masks}
+use Rattle.dap_mask_input.specs.MaskedRecordings.{Agree, HaveNoText, IsMasked, IsMaskedTo}
+use Rattle.dap_mask_input.specs.MaskedRecordings.{IsTypedAs, Masks, with_words}
 use Rattle.dap_mask_input.proofs.LeftLists.{by_bool}
 use Rattle.dap_mask_input.proofs.MaskingFacts.{accepted_facts, value_laws}
 
 -- ---- messages that were read
 
 -- Some content is read as the message.
-abbrev IsSomeRead : Sent → Type 0
-IsSomeRead m = (content : List ℕ) × IsReadLoosely content m.doc
+abbrev IsSomeRead : Mask → Sent → Type 0
+IsSomeRead mask m = (content : List ℕ) × IsReadWith mask.words content m.doc
 
-all_read : (records : List Payload) (messages : List Sent) → AreMessages records messages
-    → AllByRecursion IsSomeRead messages
-all_read [] [] read = tt
-all_read [] (m ∷ messages) read = absurd read
-all_read (held ∷ records) [] read = absurd read
-all_read (held ∷ records) (m ∷ messages) read =
-    ((held.1, read.0.1), all_read records messages read.1)
+all_read : (mask : Mask) (records : List Payload) (messages : List Sent)
+    → AreMessages mask records messages → AllByRecursion (IsSomeRead mask) messages
+all_read mask [] [] read = tt
+all_read mask [] (m ∷ messages) read = absurd read
+all_read mask (held ∷ records) [] read = absurd read
+all_read mask (held ∷ records) (m ∷ messages) read =
+    ((held.1, read.0.1), all_read mask records messages read.1)
 
-ordered : (m : Sent) → IsSomeRead m → is_ordered m.doc ≡ true
-ordered m read = loosely_ordered read.0 m.doc read.1
+ordered : (mask : Mask) (m : Sent) → IsSomeRead mask m → is_ordered m.doc ≡ true
+ordered mask m read = ordered_with mask.words read.0 m.doc read.1
 
-kept_read : (mask : Mask) (messages : List Sent) → AllByRecursion IsSomeRead messages
-    → AllByRecursion IsSomeRead (kept mask messages)
+kept_read : (mask : Mask) (messages : List Sent) → AllByRecursion (IsSomeRead mask) messages
+    → AllByRecursion (IsSomeRead mask) (kept mask messages)
 kept_read mask [] read = tt
 kept_read mask (m ∷ messages) read =
     by_bool (is_kept mask m) (λ yes. rw yes (read.0, kept_read mask messages read.1))
@@ -76,13 +80,13 @@ module _ (mask : Mask) (safe : are_safe mask.changes ≡ true)
   kept_again : (m : Sent) → is_kept mask m ≡ true → is_kept mask (mask_message mask m) ≡ true
   kept_again m is = ap not (stays_in mask m.doc safe keep (not_true (leaves_out mask m.doc) is))
 
-  masked_again : (m : Sent) → IsSomeRead m
+  masked_again : (m : Sent) → IsSomeRead mask m
       → mask_message mask (mask_message mask m) ≡ mask_message mask m
   masked_again m read =
       ap (λ d. record { side = m.side; doc = d })
-      (masked_once mask.changes m.doc safe settled (ordered m read))
+      (masked_once mask.changes m.doc safe settled (ordered mask m read))
 
-  left_again : (messages : List Sent) → AllByRecursion IsSomeRead messages
+  left_again : (messages : List Sent) → AllByRecursion (IsSomeRead mask) messages
       → left_of mask (left_of mask messages) ≡ left_of mask messages
   left_again [] read = refl
   left_again (m ∷ messages) read =
@@ -109,7 +113,7 @@ module _ (mask : Mask) (safe : are_safe mask.changes ≡ true)
         some_agree ms ns rest,
       )
 
-  all_equal : (ms ns : List Sent) → AllByRecursion IsSomeRead ns
+  all_equal : (ms ns : List Sent) → AllByRecursion (IsSomeRead mask) ns
       → AllZip (Agree mask.changes) ms ns
       → map (mask_message mask) ms ≡ map (mask_message mask) ns
   all_equal [] [] read agree = refl
@@ -118,47 +122,68 @@ module _ (mask : Mask) (safe : are_safe mask.changes ≡ true)
   all_equal (m ∷ ms) (n ∷ ns) read agree =
       ap₂ (λ k ks. k ∷ ks)
       (ap₂ (λ s d. record { side = s; doc = d }) agree.0.0
-      (equal_from_agree mask.changes m.doc n.doc safe (ordered n read.0) agree.0.1))
+      (equal_from_agree mask.changes m.doc n.doc safe (ordered mask n read.0) agree.0.1))
       (all_equal ms ns read.1 agree.1)
 
   -- The masked messages are read from their own text.
-  read_again : (messages : List Sent) → AllByRecursion IsSomeRead messages
-      → AreWhole (left_of mask messages)
-      → AreMessages (contents_of (left_of mask messages)) (left_of mask messages)
-  read_again [] read whole = tt
-  read_again (m ∷ messages) read whole =
+  read_again : AreUtf8 mask.words → (messages : List Sent)
+      → AllByRecursion (IsSomeRead mask) messages → AreWhole (left_of mask messages)
+      → AreMessages (with_words [] mask) (contents_of (left_of mask messages))
+      (left_of mask messages)
+  read_again utf8 [] read whole = tt
+  read_again utf8 (m ∷ messages) read whole =
       by_bool (leaves_out mask m.doc)
-      (λ yes. rw yes (read_again messages read.1 (rw yes at whole)))
+      (λ yes. rw yes (read_again utf8 messages read.1 (rw yes at whole)))
       (λ no.
       let sound = rw no at whole in
       let e = masked mask.changes m.doc in
       rw no (
         (
           refl,
-          read_loose (text_of e) e
-              (left_is_read mask read.0.0 e (m.doc, read.0.1, (no, refl, sound.0))),
+          (
+            e,
+            read_loose (text_of e) e
+                (left_is_read mask read.0.0 e utf8 (m.doc, read.0.1, (no, refl, sound.0))),
+            sym (worded_none true e),
+          ),
         ),
-        read_again messages read.1 sound.1,
+        read_again utf8 messages read.1 sound.1,
       ))
 
+-- Messages without a text of the words are read with the words as without.
+read_with : (mask : Mask) (records : List Payload) (ms : List Sent)
+    → AreMessages (with_words [] mask) records ms → HaveNoText mask.words ms
+    → AreMessages mask records ms
+read_with mask [] [] read none = tt
+read_with mask [] (m ∷ ms) read none = absurd read
+read_with mask (held ∷ records) [] read none = absurd read
+read_with mask (held ∷ records) (m ∷ ms) (one, read) (none, others) =
+    let raw = one.1.0 in
+    let same : m.doc ≡ raw = one.1.2 ∙ worded_none true raw in (
+      (one.0, (raw, one.1.1, sym none ∙ ap (worded_message mask.words) same)),
+      read_with mask records ms read others,
+    )
+
 -- A message typed from a content is typed from the document that is read from that content.
-typed_as : (records : List Payload) (ms ts : List Sent) → AreMessages records ms
+typed_as : (mask : Mask) (records : List Payload) (ms ts : List Sent)
+    → AreMessages (with_words [] mask) records ms
     → AreTypedMessages records ts → AllZip IsTypedAs ms ts
-typed_as [] [] [] read typed = tt
-typed_as [] [] (t ∷ ts) read typed = absurd typed
-typed_as [] (m ∷ ms) ts read typed = absurd read
-typed_as (held ∷ records) [] ts read typed = absurd read
-typed_as (held ∷ records) (m ∷ ms) [] read typed = absurd typed
-typed_as (held ∷ records) (m ∷ ms) (t ∷ ts) (one, read) (two, typed) =
+typed_as mask [] [] [] read typed = tt
+typed_as mask [] [] (t ∷ ts) read typed = absurd typed
+typed_as mask [] (m ∷ ms) ts read typed = absurd read
+typed_as mask (held ∷ records) [] ts read typed = absurd read
+typed_as mask (held ∷ records) (m ∷ ms) [] read typed = absurd typed
+typed_as mask (held ∷ records) (m ∷ ms) (t ∷ ts) (one, read) (two, typed) =
     let side : held.0 ≡ m.side = sym one.0 in
     let doc : two.1.0 ≡ m.doc =
-    one_loose_reading held.1 two.1.0 m.doc (read_loose held.1 two.1.0 two.1.1) one.1 in (
+    one_loose_reading held.1 two.1.0 one.1.0 (read_loose held.1 two.1.0 two.1.1) one.1.1
+    ∙ sym (one.1.2 ∙ worded_none true one.1.0) in (
       (
         two.0 ∙ side,
         subst (λ s. IsTyped s m.doc t.doc) side
             (subst (λ d. IsTyped held.0 d t.doc) doc two.1.2),
       ),
-      typed_as records ms ts read typed,
+      typed_as mask records ms ts read typed,
     )
 
 module _ (limits : Limits) (sound : AreSound limits) where
@@ -176,40 +201,73 @@ module _ (limits : Limits) (sound : AreSound limits) where
 
   module _ (mask : Mask) (safe : are_safe mask.changes ≡ true)
       (settled : are_idempotent mask.changes ≡ true)
-      (keep : keep_categories mask.changes mask.categories ≡ true) where
+      (keep : keep_categories mask.changes mask.categories ≡ true)
+      (utf8 : AreUtf8 mask.words) where
     -- ---- masked output masks to itself
 
+    -- The mask by its rules alone.
+    abbrev rules_alone : Mask
+    rules_alone = with_words [] mask
+
     left_accepted : (bytes : List ℕ) (messages : List Sent) → IsAccepted limits mask bytes messages
-        → IsAccepted limits mask (text (left_of mask messages)) (left_of mask messages)
+        → IsAccepted limits rules_alone (text (left_of mask messages)) (left_of mask messages)
     left_accepted bytes messages accepted =
-        let read = all_read accepted.records messages accepted.read in
+        let read = all_read mask accepted.records messages accepted.read in
         let same = sym (left_again mask safe settled keep messages read) in
         record {
           short = let fits = accepted.fits in fits.whole;
           records = contents_of (left_of mask messages);
           recording = let fits = accepted.fits in recording_of (left_of mask messages) fits.each;
-          read = read_again mask safe settled keep messages read accepted.whole;
+          read = read_again mask safe settled keep utf8 messages read accepted.whole;
           whole = subst AreWhole same accepted.whole;
           fits = subst (Fits limits) same accepted.fits;
         }
 
+    left_with : (bytes : List ℕ) (messages : List Sent) → IsAccepted limits mask bytes messages
+        → HaveNoText mask.words (left_of mask messages)
+        → IsAccepted limits mask (text (left_of mask messages)) (left_of mask messages)
+    left_with bytes messages accepted none =
+        let again = left_accepted bytes messages accepted in
+        record {
+          short = again.short;
+          records = again.records;
+          recording = again.recording;
+          read = read_with mask again.records (left_of mask messages) again.read none;
+          whole = again.whole;
+          fits = again.fits;
+        }
+
+    text_again : (bytes written : List ℕ) (a : Masks limits mask bytes written)
+        → written ≡ text (left_of mask (left_of mask a.messages))
+    text_again bytes written a =
+        a.text_is ∙ ap text (sym (left_again mask safe settled keep a.messages
+        (all_read mask a.accepts.records a.messages a.accepts.read)))
+
     masks_again : (bytes written : List ℕ) → Masks limits mask bytes written
-        → Masks limits mask written written
+        → Masks limits rules_alone written written
     masks_again bytes written a = record {
       messages = left_of mask a.messages;
-      accepts = subst (λ t. IsAccepted limits mask t (left_of mask a.messages)) (sym a.text_is)
-          (left_accepted bytes a.messages a.accepts);
-      text_is = a.text_is ∙ ap text (sym (left_again mask safe settled keep a.messages
-          (all_read a.accepts.records a.messages a.accepts.read)));
+      accepts = subst (λ t. IsAccepted limits rules_alone t (left_of mask a.messages))
+          (sym a.text_is) (left_accepted bytes a.messages a.accepts);
+      text_is = text_again bytes written a;
     }
 
-    one_accepted : (bytes : List ℕ) (ms ns : List Sent) → IsAccepted limits mask bytes ms
-        → IsAccepted limits mask bytes ns → ms ≡ ns
-    one_accepted = one_list (masking limits mask) (readable limits.frame) (value_laws limits mask)
-        (accepted_facts limits mask)
+    masks_with : (bytes written : List ℕ) (a : Masks limits mask bytes written)
+        → HaveNoText mask.words (left_of mask a.messages) → Masks limits mask written written
+    masks_with bytes written a none = record {
+      messages = left_of mask a.messages;
+      accepts = subst (λ t. IsAccepted limits mask t (left_of mask a.messages)) (sym a.text_is)
+          (left_with bytes a.messages a.accepts none);
+      text_is = text_again bytes written a;
+    }
 
-    one_text : (bytes written other : List ℕ) → Masks limits mask bytes written
-        → Masks limits mask bytes other → other ≡ written
+    one_accepted : (bytes : List ℕ) (ms ns : List Sent) → IsAccepted limits rules_alone bytes ms
+        → IsAccepted limits rules_alone bytes ns → ms ≡ ns
+    one_accepted = one_list (masking limits rules_alone) (readable limits.frame)
+        (value_laws limits rules_alone) (accepted_facts limits rules_alone)
+
+    one_text : (bytes written other : List ℕ) → Masks limits rules_alone bytes written
+        → Masks limits rules_alone bytes other → other ≡ written
     one_text bytes written other a b =
         b.text_is ∙ ap (λ ms. text (left_of mask ms))
         (one_accepted bytes b.messages a.messages b.accepts a.accepts) ∙ sym a.text_is
@@ -227,7 +285,7 @@ module _ (limits : Limits) (sound : AreSound limits) where
         some_agree mask safe settled keep (kept mask a.messages) (kept mask b.messages)
         (one_accepted (text (left_of mask a.messages)) (left_of mask a.messages)
         (left_of mask b.messages) first
-        (subst (λ t. IsAccepted limits mask t (left_of mask b.messages)) texts second))
+        (subst (λ t. IsAccepted limits rules_alone t (left_of mask b.messages)) texts second))
 
     same_texts : (bytes others written other : List ℕ) (a : Masks limits mask bytes written)
         (b : Masks limits mask others other)
@@ -236,7 +294,8 @@ module _ (limits : Limits) (sound : AreSound limits) where
     same_texts bytes others written other a b agree =
         a.text_is ∙ ap text (all_equal mask safe settled keep (kept mask a.messages)
         (kept mask b.messages)
-        (kept_read mask b.messages (all_read b.accepts.records b.messages b.accepts.read)) agree)
+        (kept_read mask b.messages (all_read mask b.accepts.records b.messages b.accepts.read))
+        agree)
         ∙ sym b.text_is
 
     -- ---- the normal form
@@ -252,19 +311,19 @@ module _ (limits : Limits) (sound : AreSound limits) where
         items.one_list (record_grammar limits.frame) (not_empty (readable limits.frame))
         (text (left_of mask messages)) typed.records again.records typed.recording again.recording
         in
-        typed_as again.records (left_of mask messages) n.messages again.read
+        typed_as mask again.records (left_of mask messages) n.messages again.read
         (subst (λ records. AreTypedMessages records n.messages) same typed.typed)
 
     -- ---- all guarantees
 
     module _ (leave : leave_ids mask.changes ≡ true) where
-      each_masked : (messages : List Sent) → AllByRecursion IsSomeRead messages
+      each_masked : (messages : List Sent) → AllByRecursion (IsSomeRead mask) messages
           → AllZip (IsMasked mask.changes) messages (map (mask_message mask) messages)
       each_masked [] read = tt
       each_masked (m ∷ messages) read = (
         record {
           side = refl;
-          doc = content_masked mask.changes read.0.0 m.doc safe settled leave read.0.1;
+          doc = content_masked mask.changes mask.words read.0.0 m.doc safe settled leave read.0.1;
         },
         each_masked messages read.1,
       )
@@ -280,9 +339,10 @@ module _ (limits : Limits) (sound : AreSound limits) where
           record {
             masks = masks;
             places = each_masked (kept mask messages)
-                (kept_read mask messages (all_read accepted.records messages accepted.read));
+                (kept_read mask messages (all_read mask accepted.records messages accepted.read));
             again = again;
             only = λ other is. one_text written written other again is;
+            again_with_words = λ none. masks_with bytes written masks none;
             equal = λ others other b. (
               λ same. equal_texts bytes others written other masks b same,
               λ agree. same_texts bytes others written other masks b agree,

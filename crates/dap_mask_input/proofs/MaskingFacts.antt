@@ -14,28 +14,30 @@ use Rattle.dap_normal.specs.Accepting.{Payload, Fits}
 use Rattle.dap_normal.specs.JudgingSteps.{payload_of}
 use Rattle.dap_normal.proofs.NormalTexts.{fits_front, fits_or_not}
 use Rattle.dap_mask.specs.Mask.{Mask}
-use Rattle.dap_mask.proofs.LooseReading.{one_loose_reading, some_loose_reading}
+use Rattle.dap_words.specs.Worded.{worded_message}
+use Rattle.dap_mask.proofs.LooseReading.{one_reading, some_loose_reading}
 use Rattle.dap_mask_input.specs.Masking.{AreMessages, AreWhole, IsMessage, IsNext, Rejects, left_of}
 use Rattle.dap_mask_input.specs.Masking.{masking}
 use Rattle.dap_mask_input.proofs.LeftLists.{left-append, whole_both, whole_front, whole_or_not}
 use Rattle.dap_mask_input.proofs.LeftLists.{whole_rest}
 
-pub message_once : (held : Payload) (m n : Sent) → IsMessage held m → IsMessage held n → m ≡ n
-message_once held m n one two =
+pub message_once : (mask : Mask) (held : Payload) (m n : Sent) → IsMessage mask held m
+    → IsMessage mask held n → m ≡ n
+message_once mask held m n one two =
     ap₂ (λ s d. record { side = s; doc = d }) (one.0 ∙ sym two.0)
-    (one_loose_reading held.1 m.doc n.doc one.1 two.1)
+    (one_reading mask.words held.1 m.doc n.doc one.1 two.1)
 
 module _ (limits : Limits) (mask : Mask) where
   -- ---- at most one outcome
 
-  whole_of_other : (held : Payload) (m n : Sent) → IsMessage held m → IsMessage held n
+  whole_of_other : (held : Payload) (m n : Sent) → IsMessage mask held m → IsMessage mask held n
       → AreWhole (left_of mask (m ∷ [])) → AreWhole (left_of mask (n ∷ []))
   whole_of_other held m n one two whole =
-      subst (λ k. AreWhole (left_of mask (k ∷ []))) (message_once held m n one two) whole
+      subst (λ k. AreWhole (left_of mask (k ∷ []))) (message_once mask held m n one two) whole
 
-  unread : (held : Payload) (m : Sent) → IsMessage held m
+  unread : (held : Payload) (m : Sent) → IsMessage mask held m
       → Rejects limits mask [] held (no_message no_reading) → ⊥
-  unread held m is none = none is.1.0 is.1.1
+  unread held m is none = none is.1.1.0 is.1.1.1
 
   one_objection : (before : List Sent) (held : Payload) (why because : ContentError)
       → Rejects limits mask before held why → Rejects limits mask before held because
@@ -68,12 +70,12 @@ module _ (limits : Limits) (mask : Mask) where
       objects.2 (whole_of_other held m objects.0 next.is_message objects.1 next.whole)
   next_not_objected before held m grew next objects =
       objects.3 (subst (λ k. Fits limits (left_of mask (before ++ k ∷ [])))
-      (message_once held m objects.0 next.is_message objects.1) next.fits)
+      (message_once mask held m objects.0 next.is_message objects.1) next.fits)
   next_not_objected before held m why next objects = absurd objects
 
   pub value_laws : ValueLaws (masking limits mask)
   value_laws = record {
-    one_value = λ before held m n one two. message_once held m n one.is_message two.is_message;
+    one_value = λ before held m n one two. message_once mask held m n one.is_message two.is_message;
     one_objection = one_objection;
     next_not_objected = next_not_objected;
   }
@@ -85,14 +87,14 @@ module _ (limits : Limits) (mask : Mask) where
     Judgement = ((m : Sent) × IsNext limits mask before held m)
         ⊎ ((why : ContentError) × Rejects limits mask before held why)
 
-    judge_length : (m : Sent) → IsMessage held m → AreWhole (left_of mask (m ∷ []))
+    judge_length : (m : Sent) → IsMessage mask held m → AreWhole (left_of mask (m ∷ []))
         → Fits limits (left_of mask (before ++ m ∷ []))
         ⊎ (Fits limits (left_of mask (before ++ m ∷ [])) → ⊥) → Judgement
     judge_length m is whole (inl fits) =
         inl (m, record { is_message = is; whole = whole; fits = fits })
     judge_length m is whole (inr grows) = inr (grew, (m, is, whole, grows))
 
-    judge_message : (m : Sent) → IsMessage held m
+    judge_message : (m : Sent) → IsMessage mask held m
         → AreWhole (left_of mask (m ∷ [])) ⊎ (AreWhole (left_of mask (m ∷ [])) → ⊥) → Judgement
     judge_message m is (inl whole) =
         judge_length m is whole (fits_or_not limits (left_of mask (before ++ m ∷ [])))
@@ -101,8 +103,9 @@ module _ (limits : Limits) (mask : Mask) where
     judge_held : Judgement
     judge_held =
         elim (some_loose_reading held.1) [
-          | inl read ↦ let m : Sent = record { side = held.0; doc = read.0 } in
-              judge_message m (refl, read.1) (whole_or_not (left_of mask (m ∷ [])))
+          | inl read ↦ let doc = worded_message mask.words read.0 in
+              let m : Sent = record { side = held.0; doc = doc } in
+              judge_message m (refl, (read.0, read.1, refl)) (whole_or_not (left_of mask (m ∷ [])))
           | inr none ↦ inr (no_message no_reading, none)
         ]
 
@@ -119,7 +122,7 @@ module _ (limits : Limits) (mask : Mask) where
       (subst (Fits limits) (left-append mask messages others) fits)
 
   run_of : (before messages : List Sent) (used : ℕ) (bytes : List ℕ) (records : List Payload)
-      → IsRecording limits.frame bytes records → AreMessages records messages
+      → IsRecording limits.frame bytes records → AreMessages mask records messages
       → AreWhole (left_of mask messages) → Fits limits (left_of mask (before ++ messages))
       → used + length bytes ≤ limits.input → Run (masking limits mask) before used bytes messages
   unfolding Run
@@ -153,7 +156,7 @@ module _ (limits : Limits) (mask : Mask) where
   records_of : (before messages : List Sent) (used : ℕ) (bytes : List ℕ)
       → Run (masking limits mask) before used bytes messages
       → (records : List Payload) × IsRecording limits.frame bytes records
-      × AreMessages records messages × AreWhole (left_of mask messages)
+      × AreMessages mask records messages × AreWhole (left_of mask messages)
   unfolding Run
   records_of before [] used bytes run = ([], run, tt, tt)
   records_of before (m ∷ messages) used bytes (front, more, split, passes, run) =

@@ -34,6 +34,7 @@ use Rattle.dap_mask.specs.declared.mask_rules.MaskRules.{MaskRules}
 use Rattle.dap_mask_input.specs.Masking.{IsAccepted, left_of, masked_text, masking}
 use Rattle.dap_mask_input.specs.MaskedRecordings.{IsMaskedTo, Masks}
 use Rattle.dap_mask_input.specs.MaskingSteps.{Masked}
+use Rattle.dap_texts.proofs.WordsUtf8.{strings_utf8}
 use Rattle.dap_mask_input.proofs.MaskedTexts.{masked_to}
 use Rattle.dap_mask_input.proofs.MaskingFacts.{fits_none, reads_records}
 use Rattle.dap_mask_input.proofs.PendingTexts.{IsAtHand, Waiting, failed_inside, longer_is}
@@ -67,7 +68,7 @@ module _ {R W : Type 0} (rules : MaskRules) (limits : Limits) (sound : AreSound 
   promised : (bytes : List ℕ) (messages : List Sent) → IsAccepted limits mask bytes messages
       → IsMaskedTo limits mask bytes (masked_text mask messages)
   promised = masked_to limits sound mask rules.list.safe rules.list.settled rules.list.kept
-      rules.list.leave
+      (strings_utf8 rules.list.words.list.items) rules.list.leave
 
   abbrev pub Answer : R → W → Result (Unit {0}) Refused → Type 0
   Answer after end outcome =

@@ -1,6 +1,6 @@
 -- The result of masking a recording, and all guarantees about it. Source: own.
-use Rattle.std.specs.Prelude.{◌≡◌, ◌↔◌, ℕ, List}
-use Rattle.std.specs.List.{AllZip}
+use Rattle.std.specs.Prelude.{◌≡◌, ◌↔◌, ℕ, List, []}
+use Rattle.std.specs.List.{AllZip, AllByRecursion}
 use Rattle.dap_message.specs.Message.{Sent, IsTyped}
 use Rattle.dap_rename.specs.Messages.{AreSame}
 use Rattle.dap_rename.specs.Modes.{stop_in}
@@ -9,6 +9,8 @@ use Rattle.dap_mask.specs.Mask.{Mask}
 use Rattle.dap_mask.specs.Masked.{AgreeBut}
 use Rattle.dap_mask.specs.Promises.{IsMaskedAs}
 use Rattle.dap_mask.specs.Rules.{Rule}
+use Rattle.dap_texts.specs.Words.{Pair}
+use Rattle.dap_words.specs.Worded.{worded_message}
 use Rattle.dap_input.specs.declared.limits.Limits.{Limits}
 use Rattle.dap_normal.specs.Normalising.{Normalises}
 use Rattle.dap_mask_input.specs.Masking.{IsAccepted, kept, left_of, masked_text}
@@ -32,16 +34,30 @@ Agree rules one other = (one.side ≡ other.side) × AgreeBut rules one.doc othe
 abbrev pub IsTypedAs : Sent → Sent → Type 0
 IsTypedAs old new = (new.side ≡ old.side) × IsTyped old.side old.doc new.doc
 
--- `written` is the masked recording, with all guarantees about it.
+-- The mask with other words.
+abbrev pub with_words : List Pair → Mask → Mask
+with_words words mask = record mask { words = words }
+
+-- No text of the words is left in the messages: the words change nothing.
+abbrev pub HaveNoText : List Pair → List Sent → Type 0
+HaveNoText words messages =
+    AllByRecursion (λ message. worded_message words message.doc ≡ message.doc) messages
+
+-- `written` is the masked recording, with all guarantees about it. Its messages have the words of
+-- the mask in the place of texts.
 pub record IsMaskedTo (limits : Limits) (mask : Mask) (bytes written : List ℕ) : Type 0 where
   pub masks : Masks limits mask bytes written
   -- Only the values that the rules name are changed: the messages that no rule drops are masked, in
   -- their order.
   pub places : AllZip (IsMasked mask.changes) (kept mask masks.messages)
       (left_of mask masks.messages)
-  -- Masking the output again leaves it unchanged.
-  pub again : Masks limits mask written written
-  pub only : (other : List ℕ) → Masks limits mask written other → other ≡ written
+  -- Masking the output again by the rules leaves it unchanged. With the words it is unchanged too,
+  -- if the rules left no text of the words: a rule such as `digits` can write one.
+  pub again : Masks limits (with_words [] mask) written written
+  pub only : (other : List ℕ) → Masks limits (with_words [] mask) written other
+      → other ≡ written
+  pub again_with_words : HaveNoText mask.words (left_of mask masks.messages)
+      → Masks limits mask written written
   -- Another recording has equal output if and only if the messages of the two that are not dropped
   -- agree pairwise.
   pub equal : (others other : List ℕ) (b : Masks limits mask others other) → (written ≡ other)

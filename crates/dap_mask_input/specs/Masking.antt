@@ -6,25 +6,26 @@ use Rattle.dap_tree.specs.Doc.{is_sound}
 use Rattle.dap_tree.specs.Json.{HasNoReading}
 use Rattle.dap_message.specs.Message.{Sent, no_reading, fraction}
 use Rattle.dap_recording.specs.Recording.{IsRecording, records}
-use Rattle.dap_mask.specs.Loose.{IsReadLoosely}
+use Rattle.dap_mask.specs.Loose.{IsReadWith}
 use Rattle.dap_mask.specs.Mask.{Mask, leaves_out}
 use Rattle.dap_mask.specs.Masked.{masked}
 use Rattle.dap_input.specs.declared.limits.Limits.{Limits}
 use Rattle.dap_input.specs.Validation.{Validation, ContentError, no_message, grew}
 use Rattle.dap_normal.specs.Accepting.{Payload, Fits, text}
 
--- The content of the record is JSON, and `message` is the message that its side sent. A number that
--- is not an integer of 64 bits is read as out of range.
-abbrev pub IsMessage : Payload → Sent → Type 0
-IsMessage held message = (message.side ≡ held.0) × IsReadLoosely held.1 message.doc
+-- The content of the record is JSON, and `message` is the message that its side sent, with the
+-- words of the mask in the place of texts. A number that is not an integer of 64 bits is read as
+-- out of range.
+abbrev pub IsMessage : Mask → Payload → Sent → Type 0
+IsMessage mask held message = (message.side ≡ held.0) × IsReadWith mask.words held.1 message.doc
 
 -- The records contain these messages, in order.
-abbrev pub AreMessages : List Payload → List Sent → Type 0
-AreMessages [] [] = Unit {0}
-AreMessages [] (message ∷ messages) = ⊥
-AreMessages (held ∷ records) [] = ⊥
-AreMessages (held ∷ records) (message ∷ messages) = IsMessage held message
-    × AreMessages records messages
+abbrev pub AreMessages : Mask → List Payload → List Sent → Type 0
+AreMessages mask [] [] = Unit {0}
+AreMessages mask [] (message ∷ messages) = ⊥
+AreMessages mask (held ∷ records) [] = ⊥
+AreMessages mask (held ∷ records) (message ∷ messages) = IsMessage mask held message
+    × AreMessages mask records messages
 
 -- ---- masked messages
 
@@ -62,14 +63,14 @@ pub record IsAccepted (limits : Limits) (mask : Mask) (bytes : List ℕ)
   pub short : length bytes ≤ limits.input
   pub records : List Payload
   pub recording : IsRecording limits.frame bytes records
-  pub read : AreMessages records messages
+  pub read : AreMessages mask records messages
   pub whole : AreWhole (left_of mask messages)
   pub fits : Fits limits (left_of mask messages)
 
 -- The message in the record `held` is accepted after these messages.
 pub record IsNext (limits : Limits) (mask : Mask) (before : List Sent) (held : Payload)
     (message : Sent) : Type 0 where
-  pub is_message : IsMessage held message
+  pub is_message : IsMessage mask held message
   pub whole : AreWhole (left_of mask (message ∷ []))
   pub fits : Fits limits (left_of mask (before ++ message ∷ []))
 
@@ -78,9 +79,9 @@ pub record IsNext (limits : Limits) (mask : Mask) (before : List Sent) (held : P
 abbrev pub Rejects : Limits → Mask → List Sent → Payload → ContentError → Type 0
 Rejects limits mask before held (no_message no_reading) = HasNoReading held.1
 Rejects limits mask before held (no_message fraction) =
-    (message : Sent) × IsMessage held message × (AreWhole (left_of mask (message ∷ [])) → ⊥)
+    (message : Sent) × IsMessage mask held message × (AreWhole (left_of mask (message ∷ [])) → ⊥)
 Rejects limits mask before held grew =
-    (message : Sent) × IsMessage held message × AreWhole (left_of mask (message ∷ []))
+    (message : Sent) × IsMessage mask held message × AreWhole (left_of mask (message ∷ []))
     × (Fits limits (left_of mask (before ++ message ∷ [])) → ⊥)
 Rejects limits mask before held why = ⊥
 

@@ -73,6 +73,7 @@ cause_word cause.BadPlace = codes "BadPlace"
 cause_word cause.Repeated = codes "Repeated"
 cause_word cause.DigitsBehindHex = codes "DigitsBehindHex"
 cause_word cause.Clash = codes "Clash"
+cause_word cause.BadWord = codes "BadWord"
 cause_word cause.Memory = codes "Memory"
 
 -- the line that reports a rejected rules file

@@ -80,6 +80,7 @@ fn cause_word(cause: RulesCause) -> &'static str
         RulesCause::Repeated => "Repeated",
         RulesCause::DigitsBehindHex => "DigitsBehindHex",
         RulesCause::Clash => "Clash",
+        RulesCause::BadWord => "BadWord",
         RulesCause::Memory => "Memory",
     }
 }

@@ -18,3 +18,4 @@ pub mod Settled
 pub mod HexPairs
 pub mod LongPairs
 pub mod Refused
+pub mod OneMore

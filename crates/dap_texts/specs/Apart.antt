@@ -31,3 +31,14 @@ are_apart_from texts (p ∷ pairs) = not (meets_any texts p.word) && are_apart_f
 -- No word meets a text (own).
 abbrev pub are_apart : List Pair → Bool
 are_apart pairs = are_apart_from pairs pairs
+
+-- The word of one of the pairs meets the text.
+abbrev pub is_met : List Pair → List ℕ → Bool
+is_met [] text = false
+is_met (p ∷ pairs) text = meet text p.word || is_met pairs text
+
+-- The pair can follow pairs that are apart (own): its word meets neither its own text nor one of
+-- theirs, and no word of theirs meets its text.
+abbrev pub stays_apart : List Pair → Pair → Bool
+stays_apart pairs p =
+    not (meet p.text p.word) && (not (meets_any pairs p.word) && not (is_met pairs p.text))

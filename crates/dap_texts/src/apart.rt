@@ -1,7 +1,8 @@
 //! Conditions on a list of words.
 ghost use Rattle.std.specs.Prelude.{◌≡◌};
-ghost use Rattle.dap_texts.specs.Words.{pairs_of, have_own_texts, is_text_among};
-ghost use Rattle.dap_texts.specs.Apart.{agree, agree_from, meet, meets_any, are_apart};
+ghost use Rattle.dap_texts.specs.Words.{pair_of, pairs_of, have_own_texts, is_text_among};
+ghost use Rattle.dap_texts.specs.Apart.{agree, agree_from, meet, meets_any, are_apart, is_met};
+ghost use Rattle.dap_texts.specs.Apart.{stays_apart};
 
 use crate::words::Word;
 
@@ -30,11 +31,32 @@ pub fn have_own_texts(words: &[Word]) -> bool
     true
 }
 
-fn is_text_among(text: &str, words: &[Word]) -> bool
+/// Returns whether one of the words replaces the text.
+pub fn is_text_among(text: &str, words: &[Word]) -> bool
     ensures { result ≡ is_text_among text.now (pairs_of words.now) }
 {
     for other in words {
         if text == other.text.as_str() {
+            return true;
+        }
+    }
+    false
+}
+
+/// Returns whether the words are apart with one more, if they are apart without it.
+pub fn stays_apart(words: &[Word], word: &Word) -> bool
+    ensures { result ≡ stays_apart (pairs_of words.now) (pair_of word.now) }
+{
+    !meet(word.text.as_bytes(), word.word.as_bytes())
+        && !meets_any(words, word.word.as_bytes())
+        && !is_met(words, word.text.as_bytes())
+}
+
+fn is_met(words: &[Word], text: &[u8]) -> bool
+    ensures { result ≡ is_met (pairs_of words.now) text.now }
+{
+    for other in words {
+        if meet(text, other.word.as_bytes()) {
             return true;
         }
     }

@@ -10,7 +10,7 @@ mod long_runs;
 mod uuids;
 mod words;
 
-pub use apart::{are_apart, have_own_texts};
+pub use apart::{are_apart, have_own_texts, is_text_among, stays_apart};
 pub use long_runs::long;
 pub use uuids::uuid;
 pub use words::{Word, replace_words, with_words};

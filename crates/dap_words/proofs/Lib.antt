@@ -3,3 +3,4 @@ pub mod WordedDocs
 pub mod WordedPaths
 pub mod Alike
 pub mod Steps
+pub mod OneMore

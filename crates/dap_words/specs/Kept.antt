@@ -1,7 +1,8 @@
 -- The words that a `Words` represents, and what holds for them.
-use Rattle.std.specs.Prelude.{◌≡◌, true, false, List, [], ◌∷◌, ◌++◌}
-use Rattle.dap_texts.specs.Words.{Pair, pairs_of, have_own_texts}
-use Rattle.dap_texts.specs.Apart.{are_apart}
+use Rattle.std.specs.Prelude.{◌≡◌, ◌==◌, true, false, cond, List, [], ◌∷◌, ◌++◌, length, Option}
+use Rattle.std.specs.Prelude.{Some, None}
+use Rattle.dap_texts.specs.Words.{Pair, pairs_of, have_own_texts, is_text_among}
+use Rattle.dap_texts.specs.Apart.{are_apart, stays_apart}
 use Rattle.dap_words.specs.declared.words.Words.{Words}
 use Rattle.dap_words.specs.declared.words.WordCause.{WordCause}
 use Rattle.dap_words.specs.declared.words.WordCause.TheVariants as cause
@@ -21,3 +22,10 @@ Explains pairs p cause.Empty = p.text ≡ []
 Explains pairs p cause.Repeated = have_own_texts (pairs ++ p ∷ []) ≡ false
 Explains pairs p cause.Meets = are_apart (pairs ++ p ∷ []) ≡ false
 Explains pairs p cause.Memory = Unit {0}
+
+-- Why a pair may not follow the pairs of a list; `None` if it may.
+abbrev pub cause_against : List Pair → Pair → Option WordCause
+cause_against pairs p =
+    cond (length p.text == 0) (Some cause.Empty)
+    (cond (is_text_among p.text pairs) (Some cause.Repeated)
+    (cond (stays_apart pairs p) None (Some cause.Meets)))

@@ -1,10 +1,11 @@
 //! A list of texts and their words.
-ghost use Rattle.std.specs.Prelude.{◌≡◌, ◌<◌, ◌++◌, ◌∷◌, [], IfOk, IfErr, IsTrue, length, true};
+ghost use Rattle.std.specs.Prelude.{◌≡◌, ◌<◌, ◌++◌, ◌∷◌, [], IfOk, IfErr, OnErr, OnOk, IsTrue};
+ghost use Rattle.std.specs.Prelude.{length, true, None};
 ghost use Rattle.dap_texts.specs.Apart.{are_apart};
 ghost use Rattle.dap_texts.specs.Words.{pair_of, pairs_of, have_own_texts};
 
-use dap_texts::{Word, are_apart, have_own_texts};
-use std::alloc::{AllocFailed, Global};
+use dap_texts::{Word, are_apart, have_own_texts, is_text_among, stays_apart};
+use std::alloc::{AllocError, AllocFailed, Global};
 use thiserror::Error;
 
 /// Why a list of words may not get one more.
@@ -45,7 +46,7 @@ pub struct Words {
 }
 
 impl Words {
-    ghost use Rattle.dap_words.specs.Kept.{pairs_in, AreSettled, Explains};
+    ghost use Rattle.dap_words.specs.Kept.{pairs_in, AreSettled, Explains, cause_against};
     ghost use Rattle.std.specs.Prelude.{◌↔◌};
 
     /// Returns a list without words. Does not allocate.
@@ -88,6 +89,43 @@ impl Words {
             return Err(WordCause::Meets);
         }
         Ok(Words { list })
+    }
+
+    /// Returns why the word may not be the next one of the list; `None` if it may. Does not
+    /// allocate.
+    pub fn cause_against(&self, word: &Word) -> Option<WordCause>
+        ensures { result ≡ cause_against (pairs_in self.now) (pair_of word.now) }
+    {
+        if word.text.is_empty() {
+            Some(WordCause::Empty)
+        } else if is_text_among(word.text.as_str(), self.list.as_slice()) {
+            Some(WordCause::Repeated)
+        } else if stays_apart(self.list.as_slice(), word) {
+            None
+        } else {
+            Some(WordCause::Meets)
+        }
+    }
+
+    /// Appends a word that may be the next one.
+    ///
+    /// # Errors
+    ///
+    /// `AllocError`: an allocation failed. The list is unchanged.
+    pub fn push(&mut self, word: Word) -> Result<(), AllocError>
+        requires { cause_against (pairs_in self.old) (pair_of word) ≡ None }
+        ensures ok { OnOk result (pairs_in self.new ≡ pairs_in self.old ++ pair_of word ∷ []) }
+        ensures err { OnErr result (pairs_in self.new ≡ pairs_in self.old) }
+    {
+        self.list.push(word)?;
+        Ok(())
+    }
+
+    /// Returns the number of words.
+    pub fn len(&self) -> usize
+        ensures { result ≡ length (pairs_in self.now) }
+    {
+        self.list.len()
     }
 
     /// Returns whether the list is empty.
