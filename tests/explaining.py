@@ -454,6 +454,41 @@ RULES = {
             "no rule changes the category by which a rule drops events: leave one of them out",
         ],
     ),
+    "the name by which a rule finds its element": (
+        b'blank event x v["a b"].name\n', "line 1: BadPlace",
+        [
+            'line 1 is: blank event x v["a b"].name',
+            '"v[\\"a b\\"].name" is the name by which the rule finds its element: leave the rule out',
+        ],
+    ),
+    "a name by which another rule finds elements": (
+        b'hex event * v["a"].y\ndigits event x v[].name # x\n', "line 2: Clash",
+        [
+            "line 2 is: digits event x v[].name # x", "line 1 is about the same elements",
+            "no rule changes the names by which a rule finds elements: leave one of them out",
+        ],
+    ),
+    "elements whose names a rule changes": (
+        b'drop event output\ndigits event x v[].name\n\nhex event * v["a"].y\n', "line 4: Clash",
+        [
+            'line 4 is: hex event * v["a"].y', "line 2 is about the same elements",
+            "no rule changes the names by which a rule finds elements: leave one of them out",
+        ],
+    ),
+    "two actions at one element": (
+        b'hex event x v["a"].y\nuuid event x v[].y\n', "line 2: Clash",
+        [
+            "line 2 is: uuid event x v[].y", "line 1 has another action for the same place",
+            "write uuid before long and hex last, and do not join uuid and digits",
+        ],
+    ),
+    "a bracket that is not closed": (
+        b'blank event x v["a".y\n', "line 1: BadRule",
+        [
+            'line 1 is: blank event x v["a".y',
+            '"v[\\"a\\".y" is not a place: write names with dots between them, [] for elements, and quotes as for names',
+        ],
+    ),
     "no text": (b"word\n", "line 1: BadRule", ["line 1 is: word", "a text and its word are needed: write word TEXT WORD"]),
     "no word for a text": (b"word a # b\n", "line 1: BadRule", ["line 1 is: word a # b", "a text and its word are needed: write word TEXT WORD"]),
     "a text": (

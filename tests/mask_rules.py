@@ -48,6 +48,27 @@ REFUSED = [
     (b"hex event output body.category\n\ndrop event * category=a\n", "line 3: Clash"),
     # A place that no rule may have, and a rule twice, are reported first.
     (b"digits event output body.category\ndrop event a category=a\ndigits event output body.category\n", "line 3: Repeated"),
+    (b"blank event a v[x].y", "line 1: BadRule"),
+    (b"blank event a v[0].y", "line 1: BadRule"),
+    (b"blank event a v['x'].y", "line 1: BadRule"),
+    (b'blank event a v["x].y', "line 1: BadRule"),
+    (b'blank event a v["x".y', "line 1: BadRule"),
+    (b'blank event a v["x" ].y', "line 1: BadRule"),
+    (b'blank event a v[ "x"].y', "line 1: BadRule"),
+    (b'blank event a v["x""y"].y', "line 1: BadRule"),
+    (b'blank event a v["\\x"].y', "line 1: BadRule"),
+    (b'blank event a v["x"]y', "line 1: BadRule"),
+    (b'blank event a ["x"].y', "line 1: BadRule"),
+    (b'blank event a v["x"].y\nblank event a v["\\u0078"].y # again\n', "line 2: Repeated"),
+    (b'blank response threads body.threads["main"].id', "line 1: BadPlace"),
+    (b'blank event a v["x"].name', "line 1: BadPlace"),
+    (b'blank event a v["x"].w[].y\nhex event a v["x"].w["y"]."name"\n', "line 2: BadPlace"),
+    # A change of a name by which another rule finds elements, in either order.
+    (b'blank event a v["x"].y\nblank event a v[].name\n', "line 2: Clash"),
+    (b'hex event * v[].name\n\nblank event a v["x"].y\n', "line 3: Clash"),
+    (b'blank event a v["x"].w["z"].y\nblank event * v[].w[].name\n', "line 2: Clash"),
+    (b'hex event a v["x"].y\ndigits event a v["x"].y\n', "line 2: DigitsBehindHex"),
+    (b'hex event a v["x"].y\nuuid event a v[].y\n', "line 2: Clash"),
     (b"per-stop\n# again\n\tper-stop # the same\n", "line 3: Repeated"),
     (b"swap event a event b\nper-stop\nper-stop\n", "line 3: Repeated"),
     (b"per-stop event stopped", "line 1: BadRule"),
@@ -192,6 +213,64 @@ CATEGORISED = [
     ('{"type":"event","event":"gone","body":{"category":null}}', '{"body":{"category":null},"event":"gone","type":"event"}'),
 ]
 
+# Rules for elements by their name that are accepted beside one another.
+BESIDE_ELEMENTS = [
+    # Two actions that exclude each other, at elements of two names.
+    b'hex event a v["x"].y\ndigits event a v["z"].y\nuuid event a v["w"].y\n',
+    b'blank event a v["x"].y\nblank event a v[].y\nblank event a v["x"]\nblank event a v[]\nblank event a v\n',
+    # Names of other messages, of other lists, and members of other names.
+    b'blank event a v["x"].y\nblank event b v[].name\nblank response a v[].name\nblank event a w[].name\nblank event a v[].names\n',
+    b'blank event a v["x"].y\nblank event a v[].w[].name\nblank event a v[].name.z\nblank event a v.name\nblank event a name\n',
+    b'\tblank event a "v"["a \\"b\\" # [c]"]["d"]."y" # a comment\r\nblank event a v[""].y\n',
+]
+
+# Rules for elements by their name, and contents that they change.
+ELEMENTS = b"""blank  response variables body.variables["orig_argv"].value
+digits response variables body.variables["pid \\"1\\""].value
+blank  response variables body.variables["all"]
+hex    response variables body.scopes["Locals"].variables["at"].value
+blank  response variables body.scopes[].variables["time"].value
+blank  response variables body.grid[]["x"].y
+blank  response variables body.gone["x"].value
+blank  response variables body.gone
+"""
+NAMED = [
+    (
+        '{"body":{"variables":[{"name":"x","value":"1"},{"name":"orig_argv","value":"2"},{"name":"orig_argv2","value":"3"}]},"command":"variables","type":"response"}',
+        '{"body":{"variables":[{"name":"x","value":"1"},{"name":"orig_argv","value":""},{"name":"orig_argv2","value":"3"}]},"command":"variables","type":"response"}',
+    ),
+    (
+        '{"body":{"variables":[{"name":"orig_argv","value":"2"},{"name":"orig_argv","value":7},{"name":["orig_argv"],"value":"3"},{"value":"4"},"orig_argv",{"Name":"orig_argv","value":"5"}]},"command":"variables","type":"response"}',
+        '{"body":{"variables":[{"name":"orig_argv","value":""},{"name":"orig_argv","value":0},{"name":["orig_argv"],"value":"3"},{"value":"4"},"orig_argv",{"Name":"orig_argv","value":"5"}]},"command":"variables","type":"response"}',
+    ),
+    # The last member of a name counts.
+    (
+        '{"body":{"variables":[{"name":"orig_argv","name":"x","value":"1"},{"name":"x","name":"orig_argv","value":"2"}]},"command":"variables","type":"response"}',
+        '{"body":{"variables":[{"name":"x","value":"1"},{"name":"orig_argv","value":""}]},"command":"variables","type":"response"}',
+    ),
+    (
+        '{"body":{"variables":[{"name":"pid \\"1\\"","value":"pid 17"},{"name":"pid 1","value":"pid 17"},{"name":"all","value":1.5}]},"command":"variables","type":"response"}',
+        '{"body":{"variables":[{"name":"pid \\"1\\"","value":"pid 0"},{"name":"pid 1","value":"pid 17"},{}]},"command":"variables","type":"response"}',
+    ),
+    (
+        '{"body":{"scopes":[{"name":"Locals","variables":[{"name":"at","value":"0x1f"},{"name":"time","value":1.5}]},{"name":"Globals","variables":[{"name":"at","value":"0x1f"},{"name":"time","value":2}]}]},"command":"variables","type":"response"}',
+        '{"body":{"scopes":[{"name":"Locals","variables":[{"name":"at","value":"0x0"},{"name":"time","value":0}]},{"name":"Globals","variables":[{"name":"at","value":"0x1f"},{"name":"time","value":0}]}]},"command":"variables","type":"response"}',
+    ),
+    (
+        '{"body":{"gone":[{"name":"x","value":"1"}],"grid":[[{"name":"x","y":1},{"name":"z","y":2}],{"name":"x","y":3}]},"command":"variables","type":"response"}',
+        '{"body":{"gone":[],"grid":[[{"name":"x","y":0},{"name":"z","y":2}],{"name":"x","y":3}]},"command":"variables","type":"response"}',
+    ),
+    # The list is an object, and the messages have another name or kind.
+    (
+        '{"body":{"variables":{"name":"orig_argv","value":"2"}},"command":"variables","type":"response"}',
+        '{"body":{"variables":{"name":"orig_argv","value":"2"}},"command":"variables","type":"response"}',
+    ),
+    (
+        '{"body":{"variables":[{"name":"orig_argv","value":"2"}]},"command":"scopes","type":"response"}',
+        '{"body":{"variables":[{"name":"orig_argv","value":"2"}]},"command":"scopes","type":"response"}',
+    ),
+]
+
 RULES = b"""# lldb-dap
 blank  event process body.systemProcessId
 digits response threads body.threads[].name   # OS numbers
@@ -302,6 +381,15 @@ def categories(report):
     masks(report, "events of a category, one after the other", CATEGORIES, whole, written)
 
 
+def elements(report):
+    left = record('<{"event":"stopped","type":"event"}')
+    for number, rules in enumerate(BESIDE_ELEMENTS, 1):
+        masks(report, f"rules for elements, row {number}", rules, left, left)
+    for number, (content, text) in enumerate(NAMED, 1):
+        masks(report, f"elements by their name, row {number}", ELEMENTS, record("<" + content), record("<" + text))
+        masks(report, f"elements by their name, masked again, row {number}", ELEMENTS, record("<" + text), record("<" + text))
+
+
 def refused_rules(report):
     for number, (rules, why) in enumerate(REFUSED, 1):
         masks(report, f"refused rules, row {number}", rules, b"nothing is read of this", b"", f"rules: {why}")
@@ -361,4 +449,4 @@ def masked_recordings(report):
 
 
 if __name__ == "__main__":
-    sys.exit(judged(refused_rules, accepted_swaps, actions_together, categories, a_thousand_rules, words, masked_contents, masked_recordings))
+    sys.exit(judged(refused_rules, accepted_swaps, actions_together, categories, elements, a_thousand_rules, words, masked_contents, masked_recordings))

@@ -166,6 +166,50 @@ def worked(report):
     report.check("two empty recordings need no rule", answer == (0, same.encode(), b""), repr(answer))
 
 
+def elements(report):
+    """If no action is enough at each element of a list, elements with up to eight names have rules of their own."""
+    def listed(*values):
+        items = [{"name": name, "y": value} for name, value in values]
+        return recording([*BEGUN, message("<", "event", "process", 2, {"x": items})])
+
+    def check(name, a, b, *rules, given=b""):
+        with Folder(a=listed(*a), b=listed(*b), given=given) as folder:
+            answer = folder.run("suggest", "--rules", "given", "a", "b")
+        wanted = "".join(f"# A record 3: {json.dumps(one)}\n# B record 3: {json.dumps(other)}\n{rule}\n\n" for one, other, rule in rules)
+        report.check(name, answer == (0, (wanted + "# with these rules: same\n").encode(), b""), repr(answer))
+
+    place = " event    process body.x"
+    kept = ("kept", "3")
+    check("one element", [("at", 1), kept], [("at", 2), kept], (1, 2, f'blank {place}["at"].y'))
+    check("a name in quotes", [('a "b" \u00fc', 1)], [('a "b" \u00fc', 2)], (1, 2, f'blank {place}["a \\"b\\" \u00fc"].y'))
+    check(
+        "two elements, each with its least action", [("n", "run 1"), ("a", "red")], [("n", "run 22"), ("a", "blue")],
+        ("red", "blue", f'blank {place}["a"].y'), ("run 1", "run 22", f'digits{place}["n"].y'),
+    )
+    check("one action for all", [("n", "run 1"), ("a", "4")], [("n", "run 22"), ("a", "5")], ("run 1", "run 22", f"digits{place}[].y"))
+    eight = [f"n{number}" for number in range(8)]
+    check("eight elements", [(it, 1) for it in eight], [(it, 2) for it in eight], *((1, 2, f'blank {place}["{it}"].y') for it in eight))
+    nine = [*eight, "n8"]
+    check("nine elements", [(it, 1) for it in nine], [(it, 2) for it in nine], (1, 2, f"blank {place}[].y"))
+    check("an element without one name", [("a", 1), (7, 1)], [("a", 2), (7, 2)], (1, 2, f"blank {place}[].y"))
+    check("other names", [("a1", 1), ("b", 1)], [("a22", 2), ("b", 1)], ("a1", "a22", f"digits{place}[].name"), (1, 2, f"blank {place}[].y"))
+    check(
+        "another name in the list", [("a1", 1), ("b", 1)], [("a22", 1), ("b", 2)],
+        ("a1", "a22", f"digits{place}[].name"), (1, 2, f"blank {place}[].y"),
+    )
+    check("names that a given rule changes", [("a", 1)], [("a", 2)], (1, 2, f"blank {place}[].y"), given=b"hex event * body.x[].name\n")
+    check(
+        "an action that a given rule excludes", [("a", "1 0xa")], [("a", "2 0xb")],
+        ("1 0x0", "2 0x0", f'blank {place}["a"].y'), given=b"hex event process body.x[].y\n",
+    )
+    fields = [f"f{number:03}" for number in range(130)]
+    one, other = ([{"name": it, **{field: value for field in fields}} for it in eight] for value in (1, 2))
+    with Folder(**{it: recording([*BEGUN, message("<", "event", "process", 2, {"x": x})]) for it, x in (("a", one), ("b", other))}) as folder:
+        answer = folder.run("suggest", "a", "b")
+    wanted = "".join(f"# A record 3: 1\n# B record 3: 2\nblank {place}[].{field}\n\n" for field in fields) + "# with these rules: same\n"
+    report.check("a thousand rules for elements", answer == (0, wanted.encode(), b""), repr(answer)[-300:])
+
+
 def refused(report):
     """No rules, with the record that prevents them, and inputs that are rejected."""
     base = toy(*FIRST)
@@ -208,6 +252,7 @@ def main():
     report = Report()
     toys(report)
     worked(report)
+    elements(report)
     refused(report)
     same, tried = real_pairs(report, FOLDERS)
     report.check("most pairs of real adapters become the same", tried >= 10 and same * 3 >= tried * 2, f"{same} of {tried}")

@@ -3,7 +3,7 @@ ghost use Rattle.std.specs.Prelude.{IfOk, string_bytes};
 ghost use Rattle.dap_explain.specs.Lines.{AreLines};
 
 use crate::lines::Lines;
-use crate::rules_line::{is_drop, is_end, is_word, place_of};
+use crate::rules_line::{after_verb, is_drop, is_end, is_word, place_of};
 use crate::words::Word;
 use dap_mask::{MaskRules, RulesCause, RulesFault};
 use std::alloc::{AllocError, Global};
@@ -18,6 +18,10 @@ const OTHER_FORMS: &str = "word TEXT WORD, or per-stop";
 /// What to do about a rule for the category by which another rule drops events.
 const CATEGORY_ADVICE: &str =
     "no rule changes the category by which a rule drops events: leave one of them out";
+
+/// What to do about a rule for the names by which another rule finds elements.
+const NAME_ADVICE: &str =
+    "no rule changes the names by which a rule finds elements: leave one of them out";
 
 /// What to do about a word that can overlap a text.
 const WORD_ADVICE: &str =
@@ -75,6 +79,8 @@ fn add_bad_place(lines: &mut Lines, line: &[u8]) -> Result<(), AllocError> {
     };
     let words = if is_head_member(place) {
         " is a member by which dapnorm recognises messages: leave the rule out"
+    } else if is_name(place) {
+        " is the name by which the rule finds its element: leave the rule out"
     } else if place.contains(&b'"') {
         " is an id, or a member by which dapnorm recognises messages: leave the rule out"
     } else {
@@ -89,6 +95,11 @@ fn is_head_member(place: &[u8]) -> bool {
         || place == b"command".as_slice()
         || place == b"event".as_slice()
         || place == b"success".as_slice()
+}
+
+/// Returns whether a path ends at a member `name`.
+fn is_name(place: &[u8]) -> bool {
+    place.ends_with(b".name") || place.ends_with(b".\"name\"")
 }
 
 /// Returns the number of the first earlier line after which this line is rejected for this reason.
@@ -169,6 +180,48 @@ fn add_earlier(
     }
 }
 
+/// Returns a line with `blank` as its verb. Two such lines clash only if one of them changes the
+/// names by which the other finds elements.
+fn with_blank(alloc: Global, line: &[u8]) -> Result<Vec<u8>, AllocError> {
+    let mut changed = Vec::from_slice(alloc, b"blank".as_slice())?;
+    changed.extend_from_slice(after_verb(line))?;
+    Ok(changed)
+}
+
+/// Returns whether one of two changes changes the names by which the other finds elements.
+fn is_renaming(alloc: Global, earlier: &[u8], line: &[u8]) -> Result<bool, AllocError> {
+    let first = with_blank(alloc, earlier)?;
+    let second = with_blank(alloc, line)?;
+    is_refused_after(
+        alloc,
+        first.as_slice(),
+        second.as_slice(),
+        RulesCause::Clash,
+    )
+}
+
+/// Adds the lines about a change that an earlier one excludes.
+fn add_clash_of_changes(
+    alloc: Global,
+    lines: &mut Lines,
+    rules: &[u8],
+    fault: RulesFault,
+    earlier: usize,
+) -> Result<(), AllocError> {
+    if is_renaming(alloc, line_of(rules, earlier), line_of(rules, fault.line))? {
+        add_earlier(alloc, lines, rules, fault, " is about the same elements")?;
+        return lines.add(NAME_ADVICE);
+    }
+    add_earlier(
+        alloc,
+        lines,
+        rules,
+        fault,
+        " has another action for the same place",
+    )?;
+    lines.add("write uuid before long and hex last, and do not join uuid and digits")
+}
+
 /// Adds the lines about a rule that an earlier one excludes.
 fn add_clash(
     alloc: Global,
@@ -180,19 +233,14 @@ fn add_clash(
         add_earlier(alloc, lines, rules, fault, " changes the category")?;
         return lines.add(CATEGORY_ADVICE);
     }
-    let earlier = earlier_line(alloc, rules, fault.line, fault.cause)?;
-    if earlier.is_some_and(|number| is_drop(line_of(rules, number))) {
+    let Some(earlier) = earlier_line(alloc, rules, fault.line, fault.cause)? else {
+        return Ok(());
+    };
+    if is_drop(line_of(rules, earlier)) {
         add_earlier(alloc, lines, rules, fault, " drops events by this category")?;
         return lines.add(CATEGORY_ADVICE);
     }
-    add_earlier(
-        alloc,
-        lines,
-        rules,
-        fault,
-        " has another action for the same place",
-    )?;
-    lines.add("write uuid before long and hex last, and do not join uuid and digits")
+    add_clash_of_changes(alloc, lines, rules, fault, earlier)
 }
 
 /// Adds the lines about a rule that is there already.

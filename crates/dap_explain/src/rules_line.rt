@@ -139,6 +139,11 @@ pub(crate) fn is_drop(line: &[u8]) -> bool {
     first_word(after_blanks(line)) == b"drop".as_slice()
 }
 
+/// Returns the bytes after the verb of a line.
+pub(crate) fn after_verb(line: &[u8]) -> &[u8] {
+    split_run(after_blanks(line), ByteClass::Word).1
+}
+
 /// Returns whether the line starts with the verb `word`.
 pub(crate) fn is_word(line: &[u8]) -> bool {
     first_word(after_blanks(line)) == b"word".as_slice()
@@ -193,6 +198,10 @@ fn after_step(bytes: &[u8]) -> Option<&[u8]> {
     match bytes {
         [b'.', rest @ ..] => after_member(rest),
         [b'[', b']', rest @ ..] => Some(rest),
+        [b'[', b'"', inside @ ..] => match after_quote(inside)? {
+            [b']', rest @ ..] => Some(rest),
+            _ => None,
+        },
         _ => None,
     }
 }

@@ -1,7 +1,7 @@
 -- The changes of all rules, path by path, determine the masked document.
 use Rattle.std.proofs.Common.{◌≡◌, ℕ, Bool, true, false, cond, not, ◌&&◌, ◌||◌, List, [], ◌∷◌}
 use Rattle.std.proofs.Common.{Option, Some, None, option_map, codes, refl, sym}
-use Rattle.std.proofs.Common.{◌∙◌, ap, ap₂, bytes_eq, true≢false}
+use Rattle.std.proofs.Common.{◌∙◌, ap, ap₂, bytes_eq, true≢false, ◌⊎◌, inl, inr}
 use Rattle.std.proofs.Common.{Ordering, Less, Equal, Greater, nat_cmp}
 use Rattle.std.proofs.lemmas.Slice.Eq.{bytes_eq-Decides}
 use Rattle.std.specs.Cmp.Lexicographic.{slice_cmp}
@@ -11,24 +11,32 @@ use Rattle.dap_tree.specs.Doc.{item, Members, no_members, member, get, change_me
 use Rattle.dap_tree.specs.Doc.{map_items, change_items, is_below_all, is_ordered, items_ordered}
 use Rattle.dap_tree.specs.Doc.{members_ordered}
 use Rattle.dap_tree.specs.Path.{Step, name, at}
-use Rattle.dap_tree.proofs.Booleans.{and_left, and_right, and_both}
-use Rattle.dap_profile.specs.PlaceSteps.{PlaceStep, named, each}
+use Rattle.dap_tree.proofs.Booleans.{and_left, and_right, and_both, or_left, or_right}
+use Rattle.dap_profile.specs.PlaceSteps.{PlaceStep}
 use Rattle.dap_message.specs.Places.{fits_place}
-use Rattle.dap_message.specs.Marks.{top, edit}
+use Rattle.dap_message.specs.Marks.{top}
 use Rattle.dap_message.specs.Rows.{is_text, is_of_kind, name_key, type_name}
 use Rattle.dap_profile.specs.declared.profile.Kind.{Kind}
 use Rattle.dap_profile.specs.declared.profile.Kind.TheVariants.{Request, Response, Event}
 use Rattle.dap_message.proofs.Edits.{Alike, by_bool}
 use Rattle.dap_message.proofs.RowMarks.{text-top, one_step}
 use Rattle.dap_message.proofs.OneMarking.{reported}
+use Rattle.dap_mask.specs.RuleSteps.{RuleStep, named, elements, plain_place, has_names}
+use Rattle.dap_mask.specs.RuleSteps.{is_called, change_called, change_at_place}
 use Rattle.dap_mask.specs.Rules.{Rule, change_text, of_verb, takes_parts, has_name, rule_applies}
-use Rattle.dap_mask.specs.Rules.{is_event_of}
+use Rattle.dap_mask.specs.Rules.{is_event_of, applies_at, plain_place_of, blank, renames}
+use Rattle.dap_mask.specs.Rules.{renames_among, is_name_in, same_kind, share_name}
 use Rattle.dap_mask.specs.Rules.{is_dropped, is_telling, is_telling_place, are_safe}
 use Rattle.dap_mask.specs.Masked.{is_below, left_at, left_by, left, IsMasked, AgreeBut, is_apart}
 use Rattle.dap_mask.specs.Masked.{mask_by, masked}
+use Rattle.dap_mask.specs.Texts.{digits, hex}
+use Rattle.dap_texts.specs.Long.{long}
+use Rattle.dap_texts.specs.Uuids.{uuid}
 use Rattle.dap_mask.specs.declared.rules.Verb.{Verb}
 use Rattle.dap_mask.specs.declared.rules.Verb.TheVariants.{Blank, Digits, Hex, Long, Uuid}
-use Rattle.dap_mask.proofs.Edited.{top-verb, at-edit, left-none}
+use Rattle.dap_mask.proofs.Edited.{top-verb, at-edit, left-none, left_here}
+use Rattle.dap_mask.proofs.ElementNames.{same_names}
+use Rattle.dap_mask.proofs.Matches.{both_apply}
 
 -- ---- a rule applies to a masked document if and only if it applies to the original document
 
@@ -38,64 +46,73 @@ not_true false h = refl
 
 -- a place that rules may have neither matches the path of `type`, `command`, `event` or `success`
 -- nor a prefix of it
-apart_from : (k : List ℕ) → is_telling k ≡ true → (ps : List PlaceStep) → is_telling_place ps
-    ≡ false → (fits_place ps (name k ∷ []) ≡ false) × (is_below ps (name k ∷ []) ≡ false)
+apart_from : (k : List ℕ) → is_telling k ≡ true → (ss : List RuleStep) → is_telling_place ss
+    ≡ false → (fits_place (plain_place ss) (name k ∷ []) ≡ false)
+    × (is_below (plain_place ss) (name k ∷ []) ≡ false)
 apart_from k t [] h = cc
 apart_from k t (named j ∷ []) h = by_bool (bytes_eq j k)
     (λ e. absurd (true≢false (sym t ∙ ap is_telling (sym ((bytes_eq-Decides j k).0 e)) ∙ h)))
     (λ e. (rw e refl, rw e refl))
-apart_from k t (named j ∷ named q ∷ ps) h = by_bool (bytes_eq j k) (λ e. (rw e refl, rw e refl))
+apart_from k t (named j ∷ named q ∷ ss) h = by_bool (bytes_eq j k) (λ e. (rw e refl, rw e refl))
     (λ e. (rw e refl, rw e refl))
-apart_from k t (named j ∷ each ∷ ps) h = by_bool (bytes_eq j k) (λ e. (rw e refl, rw e refl))
-    (λ e. (rw e refl, rw e refl))
-apart_from k t (each ∷ ps) h = (refl, refl)
+apart_from k t (named j ∷ elements n ∷ ss) h = by_bool (bytes_eq j k)
+    (λ e. (rw e refl, rw e refl)) (λ e. (rw e refl, rw e refl))
+apart_from k t (elements n ∷ ss) h = (refl, refl)
 
 -- a change at this place does not change the top of the member
-child-edit : (v : Verb) (ps : List PlaceStep) (k : List ℕ) (d : Doc) → is_telling k ≡ true
-    → is_telling_place ps ≡ false → Alike (get k (edit ps (of_verb v) d)) (get k d)
-child-edit v ps k d t h =
-    let far = apart_from k t ps h in
-    ap (option_map top) (sym (one_step k (edit ps (of_verb v) d))) ∙ at-edit v ps d (name k ∷ [])
-    ∙ ap₂ (λ a b. option_map top (cond a (option_map (of_verb v) (at (name k ∷ []) d))
-    (cond (b && takes_parts v) None (at (name k ∷ []) d)))) far.0 far.1
+child-edit : (v : Verb) (ss : List RuleStep) (k : List ℕ) (d : Doc) → is_telling k ≡ true
+    → is_telling_place ss ≡ false → Alike (get k (change_at_place ss (of_verb v) d)) (get k d)
+child-edit v ss k d t h =
+    let far = apart_from k t ss h in
+    let o = at (name k ∷ []) d in
+    ap (option_map top) (sym (one_step k (change_at_place ss (of_verb v) d)))
+    ∙ at-edit v ss d (name k ∷ [])
+    ∙ ap₂ (λ a b. option_map top (cond (has_names ss (Some d) (name k ∷ []))
+    (cond a (option_map (of_verb v) o) (cond (b && takes_parts v) None o)) o)) far.0 far.1
+    ∙ ap (option_map top) (either (has_names ss (Some d) (name k ∷ [])) o)
     ∙ ap (option_map top) (one_step k d)
+  where
+    either : (b : Bool) (o : Option Doc) → cond b o o ≡ o
+    either true o = refl
+    either false o = refl
 
-text-edit : (v : Verb) (ps : List PlaceStep) (w k : List ℕ) (d : Doc) → is_telling k ≡ true
-    → is_telling_place ps ≡ false → is_text w (get k (edit ps (of_verb v) d)) ≡ is_text w (get k d)
-text-edit v ps w k d t h = sym (text-top w (get k (edit ps (of_verb v) d)))
-    ∙ ap (is_text w) (child-edit v ps k d t h) ∙ text-top w (get k d)
+text-edit : (v : Verb) (ss : List RuleStep) (w k : List ℕ) (d : Doc) → is_telling k ≡ true
+    → is_telling_place ss ≡ false
+    → is_text w (get k (change_at_place ss (of_verb v) d)) ≡ is_text w (get k d)
+text-edit v ss w k d t h = sym (text-top w (get k (change_at_place ss (of_verb v) d)))
+    ∙ ap (is_text w) (child-edit v ss k d t h) ∙ text-top w (get k d)
 
 telling_name : (k : Kind) → is_telling (name_key k) ≡ true
 telling_name Request = refl
 telling_name Response = refl
 telling_name Event = refl
 
-kind-edit : (v : Verb) (ps : List PlaceStep) (k : Kind) (d : Doc) → is_telling_place ps ≡ false
-    → is_of_kind k (edit ps (of_verb v) d) ≡ is_of_kind k d
-kind-edit v ps k d h = text-edit v ps (type_name k) (codes "type") d refl h
+kind-edit : (v : Verb) (ss : List RuleStep) (k : Kind) (d : Doc) → is_telling_place ss ≡ false
+    → is_of_kind k (change_at_place ss (of_verb v) d) ≡ is_of_kind k d
+kind-edit v ss k d h = text-edit v ss (type_name k) (codes "type") d refl h
 
-name-edit : (v : Verb) (ps : List PlaceStep) (k : Kind) (n : Option (List ℕ)) (d : Doc)
-    → is_telling_place ps ≡ false → has_name k n (edit ps (of_verb v) d) ≡ has_name k n d
-name-edit v ps k None d h = refl
-name-edit v ps k (Some n) d h = text-edit v ps n (name_key k) d (telling_name k) h
+name-edit : (v : Verb) (ss : List RuleStep) (k : Kind) (n : Option (List ℕ)) (d : Doc)
+    → is_telling_place ss ≡ false → has_name k n (change_at_place ss (of_verb v) d) ≡ has_name k n d
+name-edit v ss k None d h = refl
+name-edit v ss k (Some n) d h = text-edit v ss n (name_key k) d (telling_name k) h
 
-event-edit : (v : Verb) (ps : List PlaceStep) (ns : List (Option (List ℕ))) (d : Doc)
-    → is_telling_place ps
-    ≡ false → is_event_of ns (edit ps (of_verb v) d) ≡ is_event_of ns d
-event-edit v ps [] d h = refl
-event-edit v ps (n ∷ ns) d h =
-    ap₂ (λ a b. a || b) (name-edit v ps Event n d h) (event-edit v ps ns d h)
+event-edit : (v : Verb) (ss : List RuleStep) (ns : List (Option (List ℕ))) (d : Doc)
+    → is_telling_place ss
+    ≡ false → is_event_of ns (change_at_place ss (of_verb v) d) ≡ is_event_of ns d
+event-edit v ss [] d h = refl
+event-edit v ss (n ∷ ns) d h =
+    ap₂ (λ a b. a || b) (name-edit v ss Event n d h) (event-edit v ss ns d h)
 
-spoken-edit : (v : Verb) (ps : List PlaceStep) (q : Rule) (d : Doc) → is_telling_place ps ≡ false
-    → rule_applies q (edit ps (of_verb v) d) ≡ rule_applies q d
-spoken-edit v ps q d h = ap₂ (λ a b. a && b) (kind-edit v ps q.kind d h)
-    (name-edit v ps q.kind q.name d h)
+spoken-edit : (v : Verb) (ss : List RuleStep) (q : Rule) (d : Doc) → is_telling_place ss ≡ false
+    → rule_applies q (change_at_place ss (of_verb v) d) ≡ rule_applies q d
+spoken-edit v ss q d h = ap₂ (λ a b. a && b) (kind-edit v ss q.kind d h)
+    (name-edit v ss q.kind q.name d h)
 
 pub spoken-mask_by : (r q : Rule) (d : Doc) → is_telling_place r.place ≡ false
     → rule_applies q (mask_by r d) ≡ rule_applies q d
 spoken-mask_by r q d h = go (rule_applies r d)
   where
-    go : (b : Bool) → rule_applies q (cond b (edit r.place (of_verb r.verb) d) d) ≡ rule_applies q d
+    go : (b : Bool) → rule_applies q (cond b (change_at_place r.place (of_verb r.verb) d) d) ≡ rule_applies q d
     go true = spoken-edit r.verb r.place q d h
     go false = refl
 
@@ -104,7 +121,7 @@ dropped-mask_by : (r : Rule) (ns : List (Option (List ℕ))) (d : Doc) → is_te
     → is_dropped ns (mask_by r d) ≡ is_dropped ns d
 dropped-mask_by r ns d h = go (rule_applies r d)
   where
-    go : (b : Bool) → is_dropped ns (cond b (edit r.place (of_verb r.verb) d) d) ≡ is_dropped ns d
+    go : (b : Bool) → is_dropped ns (cond b (change_at_place r.place (of_verb r.verb) d) d) ≡ is_dropped ns d
     go true = ap₂ (λ a b. a && b) (kind-edit r.verb r.place Event d h) (event-edit r.verb r.place ns
         d h)
     go false = refl
@@ -112,10 +129,26 @@ dropped-mask_by r ns d h = go (rule_applies r d)
 pub first_safe : (r : Rule) (rs : List Rule) → are_safe (r ∷ rs) ≡ true → is_telling_place r.place
     ≡ false
 first_safe r rs h = not_true (is_telling_place r.place) (and_left (not (is_telling_place r.place))
-    (are_safe rs) h)
+    (not (renames r r || renames_among r rs) && are_safe rs) h)
+
+-- the rules leave the names of elements, and the rest is safe
+later_safe : (r : Rule) (rs : List Rule) → are_safe (r ∷ rs) ≡ true
+    → (not (renames r r || renames_among r rs) && are_safe rs) ≡ true
+later_safe r rs h = and_right (not (is_telling_place r.place))
+    (not (renames r r || renames_among r rs) && are_safe rs) h
 
 pub rest_safe : (r : Rule) (rs : List Rule) → are_safe (r ∷ rs) ≡ true → are_safe rs ≡ true
-rest_safe r rs h = and_right (not (is_telling_place r.place)) (are_safe rs) h
+rest_safe r rs h =
+    and_right (not (renames r r || renames_among r rs)) (are_safe rs) (later_safe r rs h)
+
+pub first_renames : (r : Rule) (rs : List Rule) → are_safe (r ∷ rs) ≡ true
+    → (renames r r ≡ false) × (renames_among r rs ≡ false)
+first_renames r rs h =
+    let none = not_true (renames r r || renames_among r rs)
+    (and_left (not (renames r r || renames_among r rs)) (are_safe rs) (later_safe r rs h)) in (
+      or_left (renames r r) (renames_among r rs) none,
+      or_right (renames r r) (renames_among r rs) none,
+    )
 
 pub spoken-masked : (rs : List Rule) (q : Rule) (d : Doc) → are_safe rs ≡ true
     → rule_applies q (masked rs d) ≡ rule_applies q d
@@ -129,14 +162,7 @@ dropped-masked [] ns d h = refl
 dropped-masked (r ∷ rs) ns d h = dropped-masked rs ns (mask_by r d) (rest_safe r rs h)
     ∙ dropped-mask_by r ns d (first_safe r rs h)
 
--- ---- the values after rules, for documents to which the same rules apply
-
-pub left-same : (rs : List Rule) (d e : Doc) → ((q : Rule) → rule_applies q e ≡ rule_applies q d)
-    → (p : List Step) (o : Option Doc) → left rs e p o ≡ left rs d p o
-left-same [] d e h p o = refl
-left-same (r ∷ rs) d e h p o =
-    left-same rs d e h p (left_by r e p o)
-    ∙ ap (λ b. left rs d p (cond b (left_at r.verb r.place p o) o)) (h r)
+-- ---- the values after rules
 
 map-top : (v : Verb) (o : Option Doc) → option_map top (option_map (of_verb v) o)
     ≡ option_map (of_verb v) (option_map top o)
@@ -155,11 +181,11 @@ top-left_at v ps p o = go (fits_place ps p) (is_below ps p && takes_parts v)
 
 top-left_by : (r : Rule) (d : Doc) (p : List Step) (o : Option Doc)
     → option_map top (left_by r d p o) ≡ left_by r d p (option_map top o)
-top-left_by r d p o = go (rule_applies r d)
+top-left_by r d p o = go (applies_at r d p)
   where
-    go : (b : Bool) → option_map top (cond b (left_at r.verb r.place p o) o)
-        ≡ cond b (left_at r.verb r.place p (option_map top o)) (option_map top o)
-    go true = top-left_at r.verb r.place p o
+    go : (b : Bool) → option_map top (cond b (left_at r.verb (plain_place_of r) p o) o)
+        ≡ cond b (left_at r.verb (plain_place_of r) p (option_map top o)) (option_map top o)
+    go true = top-left_at r.verb (plain_place_of r) p o
     go false = refl
 
 pub top-left : (rs : List Rule) (d : Doc) (p : List Step) (o : Option Doc)
@@ -176,19 +202,203 @@ pub at-mask_by : (r : Rule) (d : Doc) (p : List Step)
     → Alike (at p (mask_by r d)) (left_by r d p (at p d))
 at-mask_by r d p = go (rule_applies r d)
   where
-    go : (b : Bool) → Alike (at p (cond b (edit r.place (of_verb r.verb) d) d))
-        (cond b (left_at r.verb r.place p (at p d)) (at p d))
+    go : (b : Bool) → Alike (at p (cond b (change_at_place r.place (of_verb r.verb) d) d))
+        (cond (b && has_names r.place (Some d) p)
+        (left_at r.verb (plain_place_of r) p (at p d)) (at p d))
     go true = at-edit r.verb r.place d p
     go false = refl
+
+pub left_by-none : (r : Rule) (d : Doc) (p : List Step) → left_by r d p None ≡ None
+left_by-none r d p =
+    go None (applies_at r d p) (left-none r.verb (plain_place_of r) p) refl
+  where
+    go : (o : Option Doc) (a : Bool) → left_at r.verb (plain_place_of r) p None ≡ None → o ≡ None
+        → cond a (left_at r.verb (plain_place_of r) p None) o ≡ None
+    go o true h n = h
+    go o false h n = n
+
+pub left_nothing : (rs : List Rule) (d : Doc) (p : List Step) → left rs d p None ≡ None
+left_nothing [] d p = refl
+left_nothing (r ∷ rs) d p = ap (left rs d p) (left_by-none r d p) ∙ left_nothing rs d p
+
+-- ---- documents in which rules select the same elements
+
+-- the value at the path of e is blank, and the place of the rule does not lead above it
+pub record IsBlankTop (q : Rule) (e : Doc) (p : List Step) : Type 0 where
+  pub value : Doc
+  pub is : option_map top (at p e) ≡ Some (blank value)
+  pub ends : is_below (plain_place_of q) p ≡ false
+
+-- the rule applies at the path of both documents, or of none; or the value there is blank
+abbrev pub Same : Rule → Doc → Doc → List Step → Type 0
+Same q e d p = (applies_at q e p ≡ applies_at q d p) ⊎ IsBlankTop q e p
+
+abbrev pub AreSame : List Rule → Doc → Doc → List Step → Type 0
+AreSame [] e d p = Unit {0}
+AreSame (q ∷ qs) e d p = Same q e d p × AreSame qs e d p
+
+-- no verb changes the value
+abbrev Fixed : Option Doc → Type 0
+Fixed o = (v : Verb) → option_map (of_verb v) o ≡ o
+
+text_blank : (f : List ℕ → List ℕ) → f [] ≡ [] → (x : Doc)
+    → Some (change_text f (blank x)) ≡ Some (blank x)
+text_blank f h null = refl
+text_blank f h (boolean b) = refl
+text_blank f h (whole z) = refl
+text_blank f h (text s) = ap (λ t. Some (text t)) h
+text_blank f h (list ds) = refl
+text_blank f h (object ms) = refl
+text_blank f h (id s z) = refl
+
+blank_again : (x : Doc) → Some (blank (blank x)) ≡ Some (blank x)
+blank_again null = refl
+blank_again (boolean b) = refl
+blank_again (whole z) = refl
+blank_again (text s) = refl
+blank_again (list ds) = refl
+blank_again (object ms) = refl
+blank_again (id s z) = refl
+
+pub blank_fixed : (x : Doc) → Fixed (Some (blank x))
+blank_fixed x Blank = blank_again x
+blank_fixed x Digits = text_blank digits refl x
+blank_fixed x Hex = text_blank hex refl x
+blank_fixed x Long = text_blank long refl x
+blank_fixed x Uuid = text_blank uuid refl x
+
+-- by cases of the conditions of `left_by`
+fixed_by : (v : Verb) (a b c : Bool) (o : Option Doc) → Fixed o
+    → Fixed (cond a (cond b (option_map (of_verb v) o) (cond c None o)) o)
+fixed_by v false b c o h w = h w
+fixed_by v true true c o h w = ap (option_map (of_verb w)) (h v) ∙ h w ∙ sym (h v)
+fixed_by v true false true o h w = refl
+fixed_by v true false false o h w = h w
+
+fixed_left : (q : Rule) (d : Doc) (p : List Step) (o : Option Doc) → Fixed o
+    → Fixed (left_by q d p o)
+fixed_left q d p o h = fixed_by q.verb (applies_at q d p) (fits_place (plain_place_of q) p)
+    (is_below (plain_place_of q) p && takes_parts q.verb) o h
+
+-- a rule whose place does not lead above a value leaves it, if no verb changes it
+stays_fixed : (q : Rule) (d : Doc) (p : List Step) (o : Option Doc) → Fixed o
+    → is_below (plain_place_of q) p ≡ false → left_by q d p o ≡ o
+stays_fixed q d p o h ends =
+    ap (λ c. cond (applies_at q d p) (cond (fits_place (plain_place_of q) p)
+    (option_map (of_verb q.verb) o) (cond (c && takes_parts q.verb) None o)) o) ends
+    ∙ go (applies_at q d p) (fits_place (plain_place_of q) p)
+  where
+    go : (a b : Bool) → cond a (cond b (option_map (of_verb q.verb) o) o) o ≡ o
+    go false b = refl
+    go true true = h q.verb
+    go true false = refl
+
+-- the start of the rules is a value at the path of e; while it is blank, no verb changes it
+abbrev FixedIf : Doc → List Step → Option Doc → Type 0
+FixedIf e p o = (x : Doc) → option_map top (at p e) ≡ Some (blank x) → Fixed o
+
+one_same : (q : Rule) (e d : Doc) (p : List Step) (o : Option Doc) → FixedIf e p o
+    → Same q e d p → left_by q e p o ≡ left_by q d p o
+one_same q e d p o h (inl s) =
+    ap (λ b. cond b (left_at q.verb (plain_place_of q) p o) o) s
+one_same q e d p o h (inr b) =
+    let fixed = h b.value b.is in
+    stays_fixed q e p o fixed b.ends ∙ sym (stays_fixed q d p o fixed b.ends)
+
+rules_same : (rs : List Rule) (e d : Doc) (p : List Step) (o : Option Doc) → FixedIf e p o
+    → AreSame rs e d p → left rs e p o ≡ left rs d p o
+rules_same [] e d p o h s = refl
+rules_same (q ∷ rs) e d p o h s =
+    ap (left rs e p) (one_same q e d p o h s.0)
+    ∙ rules_same rs e d p (left_by q d p o) (λ x is. fixed_left q d p o (h x is)) s.1
+
+-- the rules leave the same of the value at the path of e, with the names in e and in d
+pub left-same : (rs : List Rule) (e d : Doc) (p : List Step)
+    → (at p e ≡ None) ⊎ AreSame rs e d p
+    → left rs e p (option_map top (at p e)) ≡ left rs d p (option_map top (at p e))
+left-same rs e d p (inl n) =
+    ap (λ o. left rs e p (option_map top o)) n ∙ left_nothing rs e p ∙ sym (left_nothing rs d p)
+    ∙ sym (ap (λ o. left rs d p (option_map top o)) n)
+left-same rs e d p (inr s) =
+    rules_same rs e d p (option_map top (at p e))
+    (λ x is v. ap (option_map (of_verb v)) is ∙ blank_fixed x v ∙ sym is) s
+
+-- one of these rules may rename an element that the rule selects
+abbrev pub is_renamed_by : List Rule → Rule → Bool
+is_renamed_by [] q = false
+is_renamed_by (r ∷ rs) q = renames r q || is_renamed_by rs q
+
+and_first : (a b : Bool) → b ≡ true → (a && b) ≡ false → a ≡ false
+and_first true b e h = absurd (true≢false (sym e ∙ h))
+and_first false b e h = refl
+
+top_blank : (x : Doc) → top (blank x) ≡ blank x
+top_blank null = refl
+top_blank (boolean b) = refl
+top_blank (whole z) = refl
+top_blank (text s) = refl
+top_blank (list ds) = refl
+top_blank (object ms) = refl
+top_blank (id s z) = refl
+
+same_edit : (r q : Rule) (d : Doc) (p : List Step) (y : Doc) → is_telling_place r.place ≡ false
+    → renames r q ≡ false → rule_applies r d ≡ true
+    → at p (change_at_place r.place (of_verb r.verb) d) ≡ Some y
+    → Same q (change_at_place r.place (of_verb r.verb) d) d p
+same_edit r q d p y safe h applies there =
+    let e = change_at_place r.place (of_verb r.verb) d in
+    let spoken = spoken-edit r.verb r.place q d safe in
+    by_bool (rule_applies q d)
+    (λ t. elim (same_names r.verb r.place q.place (Some d) p y
+    (and_first (is_name_in (plain_place_of r) q.place)
+    (same_kind r.kind q.kind && share_name r.name q.name) (both_apply r q d applies t) h) there) [
+      | inl s ↦ inl (ap₂ (λ a b. a && b) spoken s)
+      | inr b ↦ inr (record {
+        value = b.value;
+        is = ap (option_map top) b.is ∙ ap Some (top_blank b.value);
+        ends = b.ends;
+      })
+    ])
+    (λ f. inl (ap (λ b. b && has_names q.place (Some e) p) (spoken ∙ f)
+    ∙ sym (ap (λ b. b && has_names q.place (Some d) p) f)))
+
+pub same_by : (r q : Rule) (d : Doc) (p : List Step) (y : Doc) → is_telling_place r.place ≡ false
+    → renames r q ≡ false → at p (mask_by r d) ≡ Some y → Same q (mask_by r d) d p
+same_by r q d p y safe h there = go (rule_applies r d) refl there
+  where
+    go : (b : Bool) → rule_applies r d ≡ b
+        → at p (cond b (change_at_place r.place (of_verb r.verb) d) d) ≡ Some y
+        → Same q (cond b (change_at_place r.place (of_verb r.verb) d) d) d p
+    go true a k = same_edit r q d p y safe h a k
+    go false a k = inl refl
+
+all_same_by : (r : Rule) (qs : List Rule) (d : Doc) (p : List Step) (y : Doc)
+    → is_telling_place r.place ≡ false → renames_among r qs ≡ false → at p (mask_by r d) ≡ Some y
+    → AreSame qs (mask_by r d) d p
+all_same_by r [] d p y safe h there = tt
+all_same_by r (q ∷ qs) d p y safe h there = (
+  same_by r q d p y safe (or_left (renames r q) (renames q r)
+      (or_left (renames r q || renames q r) (renames_among r qs) h)) there,
+  all_same_by r qs d p y safe (or_right (renames r q || renames q r) (renames_among r qs) h)
+      there,
+)
+
+same_after : (r : Rule) (qs : List Rule) (d : Doc) (p : List Step) → is_telling_place r.place ≡ false
+    → renames_among r qs ≡ false → (o : Option Doc) → at p (mask_by r d) ≡ o
+    → (at p (mask_by r d) ≡ None) ⊎ AreSame qs (mask_by r d) d p
+same_after r qs d p safe h None is = inl is
+same_after r qs d p safe h (Some y) is = inr (all_same_by r qs d p y safe h is)
 
 pub at-masked : (rs : List Rule) (d : Doc) → are_safe rs ≡ true → (p : List Step)
     → Alike (at p (masked rs d)) (left rs d p (at p d))
 at-masked [] d h p = refl
 at-masked (r ∷ rs) d h p =
     let e = mask_by r d in
+    let none = first_renames r rs h in
     at-masked rs e (rest_safe r rs h) p
-    ∙ ap (option_map top) (left-same rs d e (λ q. spoken-mask_by r q d (first_safe r rs h)) p
-    (at p e))
+    ∙ top-left rs e p (at p e)
+    ∙ left-same rs e d p (same_after r rs d p (first_safe r rs h) none.1 (at p e) refl)
+    ∙ sym (top-left rs d p (at p e))
     ∙ left-alike rs d p (at p e) (left_by r d p (at p d)) (at-mask_by r d p)
 
 pub masked_by_path : (rs : List Rule) (d : Doc) → are_safe rs ≡ true → IsMasked rs d (masked rs d)
@@ -200,8 +410,9 @@ masked_by_path rs d h p = at-masked rs d h p
 left_apart : (rs : List Rule) (d : Doc) (p : List Step) (o : Option Doc) → is_apart rs d p ≡ true
     → left rs d p o ≡ o
 left_apart [] d p o h = refl
-left_apart (r ∷ rs) d p o h = go (left_apart rs d p o) (rule_applies r d) (fits_place r.place p)
-    (is_below r.place p && takes_parts r.verb) h
+left_apart (r ∷ rs) d p o h =
+    go (left_apart rs d p o) (applies_at r d p) (fits_place (plain_place_of r) p)
+    (is_below (plain_place_of r) p && takes_parts r.verb) h
   where
     go : (is_apart rs d p ≡ true → left rs d p o ≡ o) → (a b c : Bool)
         → cond a (cond b false (cond c false (is_apart rs d p))) (is_apart rs d p) ≡ true
@@ -214,18 +425,6 @@ left_apart (r ∷ rs) d p o h = go (left_apart rs d p o) (rule_applies r d) (fit
 pub keeps_others : (rs : List Rule) (d : Doc) (p : List Step) → are_safe rs ≡ true → is_apart rs d p
     ≡ true → option_map top (at p (masked rs d)) ≡ option_map top (at p d)
 keeps_others rs d p h a = at-masked rs d h p ∙ ap (option_map top) (left_apart rs d p (at p d) a)
-
-pub left_by-none : (r : Rule) (d : Doc) (p : List Step) → left_by r d p None ≡ None
-left_by-none r d p = go None (rule_applies r d) (left-none r.verb r.place p) refl
-  where
-    go : (o : Option Doc) (a : Bool) → left_at r.verb r.place p None ≡ None → o ≡ None
-        → cond a (left_at r.verb r.place p None) o ≡ None
-    go o true h n = h
-    go o false h n = n
-
-pub left_nothing : (rs : List Rule) (d : Doc) (p : List Step) → left rs d p None ≡ None
-left_nothing [] d p = refl
-left_nothing (r ∷ rs) d p = ap (left rs d p) (left_by-none r d p) ∙ left_nothing rs d p
 
 pub none_from : (o : Option Doc) → option_map top o ≡ None → o ≡ None
 none_from None h = refl
@@ -333,17 +532,28 @@ ordered-items f keeps (list ds) h = items_kept f ds keeps h
 ordered-items f keeps (object ms) h = h
 ordered-items f keeps (id s z) h = refl
 
-ordered-edit : (v : Verb) (ps : List PlaceStep) → KeepsOrdered (edit ps (of_verb v))
+ordered-called : (n : Option (List ℕ)) (f : Doc → Doc) → KeepsOrdered f
+    → KeepsOrdered (change_called n f)
+ordered-called n f keeps d h = go (is_called n (Some d))
+  where
+    go : (b : Bool) → is_ordered (cond b (f d) d) ≡ true
+    go true = keeps d h
+    go false = h
+
+ordered-edit : (v : Verb) (ss : List RuleStep) → KeepsOrdered (change_at_place ss (of_verb v))
 ordered-edit v [] = ordered-verb v
-ordered-edit v (named k ∷ ps) = ordered-child k (edit ps (of_verb v)) (ordered-edit v ps)
-ordered-edit v (each ∷ ps) = ordered-items (edit ps (of_verb v)) (ordered-edit v ps)
+ordered-edit v (named k ∷ ss) =
+    ordered-child k (change_at_place ss (of_verb v)) (ordered-edit v ss)
+ordered-edit v (elements n ∷ ss) =
+    ordered-items (change_called n (change_at_place ss (of_verb v)))
+    (ordered-called n (change_at_place ss (of_verb v)) (ordered-edit v ss))
 
 pub ordered-masked : (rs : List Rule) (d : Doc) → is_ordered d ≡ true → is_ordered (masked rs d)
     ≡ true
 ordered-masked [] d h = h
 ordered-masked (r ∷ rs) d h = ordered-masked rs (mask_by r d) (go (rule_applies r d))
   where
-    go : (b : Bool) → is_ordered (cond b (edit r.place (of_verb r.verb) d) d) ≡ true
+    go : (b : Bool) → is_ordered (cond b (change_at_place r.place (of_verb r.verb) d) d) ≡ true
     go true = ordered-edit r.verb r.place d h
     go false = h
 

@@ -1,8 +1,8 @@
 -- Why rules must be settled and safe: with these rules, masking a document again changes it.
 use Rattle.std.proofs.Common.{◌≡◌, ℕ, List, [], ◌∷◌, Some, None, refl}
 use Rattle.std.specs.Prelude.{codes}
-use Rattle.dap_tree.specs.Doc.{Doc, text, object, no_members, member}
-use Rattle.dap_profile.specs.PlaceSteps.{named}
+use Rattle.dap_tree.specs.Doc.{Doc, text, list, object, no_items, item, no_members, member}
+use Rattle.dap_mask.specs.RuleSteps.{named, elements}
 use Rattle.dap_profile.specs.declared.profile.Kind.TheVariants.{Event}
 use Rattle.dap_mask.specs.Rules.{Rule}
 use Rattle.dap_mask.specs.Masked.{masked}
@@ -36,3 +36,31 @@ renames = refl
 
 renames_again : masked unsafe (event [] (codes "x")) ≡ event [] []
 renames_again = refl
+
+-- two rules, of which the second changes the names by which the first selects elements
+abbrev renaming : List Rule
+renaming =
+    record {
+      verb = Blank;
+      kind = Event;
+      name = None;
+      place = named (codes "body") ∷ elements (Some []) ∷ named (codes "value") ∷ [];
+    }
+    ∷ record {
+      verb = Blank;
+      kind = Event;
+      name = None;
+      place = named (codes "body") ∷ elements None ∷ named (codes "name") ∷ [];
+    }
+    ∷ []
+
+abbrev variable : List ℕ → List ℕ → Doc
+variable name value = object (member (codes "body") (list (item (object (member (codes "name")
+    (text name) (member (codes "value") (text value) no_members))) no_items))
+    (member (codes "type") (text (codes "event")) no_members))
+
+unnames : masked renaming (variable (codes "x") (codes "1")) ≡ variable [] (codes "1")
+unnames = refl
+
+unnames_again : masked renaming (variable [] (codes "1")) ≡ variable [] []
+unnames_again = refl

@@ -16,11 +16,13 @@ use Rattle.dap_mask.specs.Categories.{is_dropped_by, moves, is_moved_by, keep_ca
 use Rattle.dap_mask.specs.Mask.{Mask, leaves_out}
 use Rattle.dap_mask.specs.Masked.{is_below, left_by, mask_by, masked}
 use Rattle.dap_mask.specs.Rules.{Rule, of_verb, takes_parts, has_name, rule_applies, is_event_of}
-use Rattle.dap_mask.specs.Rules.{is_telling_place, are_safe, same_place, share_name}
+use Rattle.dap_mask.specs.RuleSteps.{has_names}
+use Rattle.dap_mask.specs.Rules.{is_telling_place, are_safe, same_place, share_name, applies_at}
+use Rattle.dap_mask.specs.Rules.{plain_place_of}
 use Rattle.dap_mask.specs.declared.rules.Verb.TheVariants.{Blank}
 use Rattle.dap_mask.proofs.ByPath.{at-mask_by, first_safe, rest_safe, spoken-mask_by}
 use Rattle.dap_mask.proofs.ByPath.{spoken-masked, dropped-masked}
-use Rattle.dap_mask.proofs.Settled.{kind_alike, name_alike}
+use Rattle.dap_mask.proofs.Matches.{kind_alike, name_alike}
 
 not_true : (b : Bool) → not b ≡ true → b ≡ false
 not_true true h = cc
@@ -61,16 +63,17 @@ fits_category (named j ∷ named k ∷ each ∷ ps) = refl
 
 -- a change that may not move the category by which a rule drops an event has another place
 fits_not : (r : Rule) (c : CategoryRule) (d : Doc) → moves r c ≡ false
-    → is_of_kind Event d ≡ true → has_name Event c.name d ≡ true → rule_applies r d ≡ true
-    → fits_place r.place category_path ≡ true → ⊥
-fits_not r c d h event called speaks fits =
+    → is_of_kind Event d ≡ true → has_name Event c.name d ≡ true
+    → applies_at r d category_path ≡ true → fits_place (plain_place_of r) category_path ≡ true → ⊥
+fits_not r c d h event called applies fits =
+    let speaks = and_left (rule_applies r d) (has_names r.place (Some d) category_path) applies in
     let kinds = kind_alike r.kind Event d (and_left (is_of_kind r.kind d)
     (has_name r.kind r.name d) speaks) event in
     let own : has_name Event r.name d ≡ true =
     subst (λ k. has_name k r.name d ≡ true) kinds.1
     (and_right (is_of_kind r.kind d) (has_name r.kind r.name d) speaks) in
     let names : share_name r.name c.name ≡ true = name_alike Event r.name c.name d own called in
-    true≢false (sym (and_both _ _ (sym (fits_category r.place) ∙ fits)
+    true≢false (sym (and_both _ _ (sym (fits_category (plain_place_of r)) ∙ fits)
     (and_both _ _ kinds.0 names)) ∙ h)
 
 -- so it makes no other value the text of the category
@@ -78,13 +81,14 @@ text_left : (r : Rule) (c : CategoryRule) (d : Doc) (o : Option Doc) → moves r
     → is_of_kind Event d ≡ true → has_name Event c.name d ≡ true
     → is_text c.category (left_by r d category_path o) ≡ true → is_text c.category o ≡ true
 text_left r c d o h event called =
-    go (rule_applies r d) (fits_place r.place category_path)
-    (is_below r.place category_path && takes_parts r.verb)
+    go (applies_at r d category_path) (fits_place (plain_place_of r) category_path)
+    (is_below (plain_place_of r) category_path && takes_parts r.verb)
     (fits_not r c d h event called) refl refl
   where
     go : (a b e : Bool)
-        → (rule_applies r d ≡ true → fits_place r.place category_path ≡ true → ⊥)
-        → rule_applies r d ≡ a → fits_place r.place category_path ≡ b
+        → (applies_at r d category_path ≡ true
+        → fits_place (plain_place_of r) category_path ≡ true → ⊥)
+        → applies_at r d category_path ≡ a → fits_place (plain_place_of r) category_path ≡ b
         → is_text c.category (cond a (cond b (option_map (of_verb r.verb) o) (cond e None o)) o)
         ≡ true
         → is_text c.category o ≡ true

@@ -26,7 +26,7 @@ use Rattle.dap_mask.specs.Rules.{is_telling_place}
 use Rattle.dap_mask.specs.declared.index.KindRules.{KindRules}
 use Rattle.dap_mask.specs.declared.rules.MaskRule.{MaskRule}
 use Rattle.dap_mask.proofs.ByPath.{first_safe, rest_safe, spoken-mask_by}
-use Rattle.dap_mask.proofs.Settled.{kind_alike}
+use Rattle.dap_mask.proofs.Matches.{kind_alike}
 
 -- ---- names that no rule contains
 

@@ -1,7 +1,7 @@
 -- If a document is serialisable, so is the masked document.
 use Rattle.std.proofs.Common.{◌≡◌, ℕ, ◌≤◌, max, Bool, true, false, cond, not, ◌&&◌, ◌||◌, List, []}
 use Rattle.std.proofs.Common.{◌∷◌, leb, Ordering, Less, Equal, Greater, nat_cmp}
-use Rattle.std.proofs.Common.{IsUtf8, refl, sym, ap, ◌∙◌, arith}
+use Rattle.std.proofs.Common.{Option, Some, IsUtf8, refl, sym, ap, ◌∙◌, arith}
 use Rattle.std.proofs.lemmas.Bool.{leb-true, le-leb}
 use Rattle.std.proofs.lemmas.Str.{IsUtf8-from_is_utf8, is_utf8-from_IsUtf8, IsUtf8-nil}
 use Rattle.std.specs.Cmp.Lexicographic.{slice_cmp}
@@ -13,8 +13,8 @@ use Rattle.dap_tree.specs.Doc.{all_in_range, items_in_range, members_in_range, i
 use Rattle.dap_tree.specs.Doc.{items_utf8, members_utf8, change_member, change_child, map_items}
 use Rattle.dap_tree.specs.Doc.{change_items, has_id, items_have_id, members_have_id}
 use Rattle.dap_tree.proofs.Booleans.{and_left, and_right, and_both}
-use Rattle.dap_profile.specs.PlaceSteps.{PlaceStep, named, each}
-use Rattle.dap_message.specs.Marks.{edit}
+use Rattle.dap_mask.specs.RuleSteps.{RuleStep, named, elements, is_called, change_called}
+use Rattle.dap_mask.specs.RuleSteps.{change_at_place}
 use Rattle.dap_mask.specs.Rules.{Rule, change_text, of_verb, rule_applies}
 use Rattle.dap_mask.specs.Masked.{mask_by, masked}
 use Rattle.dap_mask.specs.Texts.{digits, hex}
@@ -88,10 +88,19 @@ list_shallow f h (list ds) = let a = items_shallow f h ds in omega (arith, a)
 list_shallow f h (object ms) = omega arith
 list_shallow f h (id s z) = omega arith
 
-edit_shallow : (v : Verb) (ps : List PlaceStep) → Shallow (edit ps (of_verb v))
+called_shallow : (n : Option (List ℕ)) (f : Doc → Doc) → Shallow f → Shallow (change_called n f)
+called_shallow n f h d = go (is_called n (Some d)) (h d)
+  where
+    go : (b : Bool) → depth (f d) ≤ depth d → depth (cond b (f d) d) ≤ depth d
+    go true k = k
+    go false k = omega arith
+
+edit_shallow : (v : Verb) (ss : List RuleStep) → Shallow (change_at_place ss (of_verb v))
 edit_shallow v [] = verb_shallow v
-edit_shallow v (named k ∷ ps) = child_shallow k (edit ps (of_verb v)) (edit_shallow v ps)
-edit_shallow v (each ∷ ps) = list_shallow (edit ps (of_verb v)) (edit_shallow v ps)
+edit_shallow v (named k ∷ ss) = child_shallow k (change_at_place ss (of_verb v)) (edit_shallow v ss)
+edit_shallow v (elements n ∷ ss) =
+    list_shallow (change_called n (change_at_place ss (of_verb v)))
+    (called_shallow n (change_at_place ss (of_verb v)) (edit_shallow v ss))
 
 -- ---- a test of all parts
 
@@ -169,18 +178,28 @@ list_keeps T f h (list ds) g = T.of_list (map_items f ds) ∙ items_keep T f h d
 list_keeps T f h (object ms) g = g
 list_keeps T f h (id s z) g = g
 
-edit_keeps : (T : Test) (f : Doc → Doc) → Keeps T.doc f → (ps : List PlaceStep)
-    → Keeps T.doc (edit ps f)
+called_keeps : (T : Test) (n : Option (List ℕ)) (f : Doc → Doc) → Keeps T.doc f
+    → Keeps T.doc (change_called n f)
+called_keeps T n f h d g = go (is_called n (Some d))
+  where
+    go : (b : Bool) → T.doc (cond b (f d) d) ≡ true
+    go true = h d g
+    go false = g
+
+edit_keeps : (T : Test) (f : Doc → Doc) → Keeps T.doc f → (ss : List RuleStep)
+    → Keeps T.doc (change_at_place ss f)
 edit_keeps T f h [] = h
-edit_keeps T f h (named k ∷ ps) = child_keeps T k (edit ps f) (edit_keeps T f h ps)
-edit_keeps T f h (each ∷ ps) = list_keeps T (edit ps f) (edit_keeps T f h ps)
+edit_keeps T f h (named k ∷ ss) = child_keeps T k (change_at_place ss f) (edit_keeps T f h ss)
+edit_keeps T f h (elements n ∷ ss) =
+    list_keeps T (change_called n (change_at_place ss f))
+    (called_keeps T n (change_at_place ss f) (edit_keeps T f h ss))
 
 masked_keeps : (T : Test) → ((v : Verb) → Keeps T.doc (of_verb v)) → (rs : List Rule)
     → Keeps T.doc (masked rs)
 masked_keeps T h [] d g = g
 masked_keeps T h (r ∷ rs) d g = masked_keeps T h rs (mask_by r d) (go (rule_applies r d))
   where
-    go : (b : Bool) → T.doc (cond b (edit r.place (of_verb r.verb) d) d) ≡ true
+    go : (b : Bool) → T.doc (cond b (change_at_place r.place (of_verb r.verb) d) d) ≡ true
     go true = edit_keeps T (of_verb r.verb) (h r.verb) r.place d g
     go false = g
 
@@ -263,7 +282,7 @@ masked_shallow (r ∷ rs) d = let a = masked_shallow rs (mask_by r d) in let b =
     (rule_applies r d) in
     omega (arith, a, b)
   where
-    go : (b : Bool) → depth (cond b (edit r.place (of_verb r.verb) d) d) ≤ depth d
+    go : (b : Bool) → depth (cond b (change_at_place r.place (of_verb r.verb) d) d) ≤ depth d
     go true = edit_shallow r.verb r.place d
     go false = omega arith
 

@@ -11,7 +11,8 @@ use Rattle.dap_message.specs.Rows.{row_applies, is_text, is_of_kind, name_key}
 use Rattle.dap_message.specs.Rows.{may_have_body}
 use Rattle.dap_profile.specs.declared.profile.Kind.{Kind}
 use Rattle.dap_mask.specs.Rules.{Rule, of_verb, takes_parts, has_name, rule_applies}
-use Rattle.dap_mask.specs.Rules.{are_safe}
+use Rattle.dap_mask.specs.RuleSteps.{has_names}
+use Rattle.dap_mask.specs.Rules.{are_safe, applies_at, plain_place_of}
 use Rattle.dap_mask.specs.Masked.{is_below, left_by, left, masked}
 use Rattle.dap_mask.specs.Ids.{meets, takes_id, leave_row, takes_id_of}
 use Rattle.dap_mask.specs.Ids.{takes_profile_id, leave_ids, KeepsIds}
@@ -21,7 +22,7 @@ use Rattle.std.proofs.Common.{zero, suc, ◌<◌, length, arith}
 use Rattle.std.specs.Prelude.{Contains}
 use Rattle.std.specs.List.{slice_index_or}
 use Rattle.dap_mask.proofs.ByPath.{left_nothing, at-masked, none_from}
-use Rattle.dap_mask.proofs.Settled.{fits_same, kind_alike, name_alike}
+use Rattle.dap_mask.proofs.Matches.{fits_same, kind_alike, name_alike}
 
 -- if a rule and a row both apply to a document, they may apply to the same message
 both_meet : (r : Rule) (k : Option Kind) (n : Option (List ℕ)) (d : Doc) → rule_applies r d ≡ true
@@ -50,13 +51,15 @@ one_left : (r : Rule) (row : ProfileRow) (d : Doc) (p : List Step) (o : Option D
     → fits_place row.place p ≡ true
     → (left_by r d p o ≡ o) ⊎ (left_by r d p o ≡ None)
 one_left r row d p o free wants asked fits =
-    go (rule_applies r d) (fits_place r.place p) (is_below r.place p && takes_parts r.verb)
-    (λ s f. true≢false (sym (and_both _ _ wants (and_both _ _ (fits_same r.place row.place p f fits)
-    (both_meet r row.kind row.name d s asked))) ∙ free)) refl refl
+    go (applies_at r d p) (fits_place (plain_place_of r) p)
+    (is_below (plain_place_of r) p && takes_parts r.verb)
+    (λ s f. true≢false (sym (and_both _ _ wants (and_both _ _
+    (fits_same (plain_place_of r) row.place p f fits)
+    (both_meet r row.kind row.name d
+    (and_left (rule_applies r d) (has_names r.place (Some d) p) s) asked))) ∙ free)) refl refl
   where
-    go : (a b c : Bool) → (rule_applies r d ≡ true → fits_place r.place p ≡ true → ⊥)
-        → rule_applies r d
-        ≡ a → fits_place r.place p ≡ b
+    go : (a b c : Bool) → (applies_at r d p ≡ true → fits_place (plain_place_of r) p ≡ true → ⊥)
+        → applies_at r d p ≡ a → fits_place (plain_place_of r) p ≡ b
         → (cond a (cond b (option_map (of_verb r.verb) o) (cond c None o)) o ≡ o)
         ⊎ (cond a (cond b (option_map (of_verb r.verb) o) (cond c None o)) o ≡ None)
     go false b c not_both s f = inl refl

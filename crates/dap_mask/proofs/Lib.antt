@@ -1,6 +1,8 @@
 pub mod Squeezed
 pub mod Utf8
 pub mod Edited
+pub mod Matches
+pub mod ElementNames
 pub mod Relations
 pub mod ByPath
 pub mod Settled
@@ -9,6 +11,7 @@ pub mod Loosening
 pub mod LooseReading
 pub mod Counterexamples
 pub mod Keeping
+pub mod PlainPlaces
 pub mod LeftIds
 pub mod RulesBehind
 pub mod Lines

@@ -16,7 +16,7 @@ use Rattle.dap_mask.specs.Mask.{Mask}
 use Rattle.dap_mask.specs.RulesFile.{line_outcome, outcome_then, rules_from}
 use Rattle.dap_mask.specs.declared.fault.RulesCause.{RulesCause}
 use Rattle.dap_message.proofs.Edits.{by_bool}
-use Rattle.dap_profile.specs.PlaceSteps.{PlaceStep}
+use Rattle.dap_mask.specs.RuleSteps.{RuleStep}
 use Rattle.dap_texts.proofs.Utf8.{ascii_one}
 use Rattle.dap_mask.specs.RuleText.{text_in, string_of, next_step, steps_from, step_then}
 use Rattle.dap_mask.specs.Rules.{step_of, place_of}
@@ -67,13 +67,13 @@ plain_utf8 (b ∷ s) = by_bool (is_plain b)
 -- ---- steps of a place
 
 abbrev pub Steps : Type 0
-Steps = List PlaceStep × List ℕ
+Steps = List RuleStep × List ℕ
 
 -- adds steps before the remaining steps
-abbrev pub with_steps : List PlaceStep → Steps → Steps
+abbrev pub with_steps : List RuleStep → Steps → Steps
 with_steps ps r = (ps ++ r.0, r.1)
 
-abbrev one_more : PlaceStep → Steps → Steps
+abbrev one_more : RuleStep → Steps → Steps
 one_more p r = (p ∷ r.0, r.1)
 
 pushed : (steps : List Step) (step : Step) (r : Steps)
@@ -89,7 +89,7 @@ all_pushed steps step None = refl
 all_pushed steps step (Some r) = ap Some (pushed steps step r)
 
 -- the steps so far and the remaining steps, after one more step
-pub steps_on : (steps : List Step) (step : Step) (n : ℕ) (rest behind : List ℕ) (p : PlaceStep
+pub steps_on : (steps : List Step) (step : Step) (n : ℕ) (rest behind : List ℕ) (p : RuleStep
     × List ℕ)
     → next_step rest ≡ Some p → p.0 ≡ step_of step → p.1 ≡ behind
     → option_map (with_steps (place_of (steps ++ step ∷ []))) (steps_from n behind)
@@ -100,7 +100,7 @@ steps_on steps step n rest behind p e f g =
     (option_map (one_more q) (steps_from n s))) (sym f) (sym g)
     ∙ ap (λ o. option_map (with_steps (place_of steps)) (step_then rest (steps_from n) o)) (sym e)
 
-abbrev steps_pair : List PlaceStep → List ℕ → Steps
+abbrev steps_pair : List RuleStep → List ℕ → Steps
 steps_pair ps s = (ps, s)
 
 -- the same if no step remains

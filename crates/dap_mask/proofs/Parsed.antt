@@ -7,7 +7,6 @@ use Rattle.std.proofs.lemmas.Bool.{eqb-true}
 use Rattle.std.proofs.lemmas.Option.{none-some, same_Some}
 use Rattle.std.proofs.lemmas.Slice.Eq.{bytes_eq-Decides}
 use Rattle.std.specs.Prelude.{zero, codes}
-use Rattle.dap_profile.specs.PlaceSteps.{PlaceStep, named, each}
 use Rattle.dap_profile.specs.declared.profile.Kind.{Kind}
 use Rattle.dap_profile.specs.declared.profile.Kind.TheVariants.{Request, Response, Event}
 use Rattle.dap_mask.specs.Grammar.{IsGap, GoesOn, HasWords, IsName, bare, quoted}
@@ -17,6 +16,8 @@ use Rattle.dap_mask.specs.Categories.{CategoryRule}
 use Rattle.dap_mask.specs.Mask.{Statement, change, leave_out, leave_out_category, swap, restart}
 use Rattle.dap_mask.specs.Mask.{put}
 use Rattle.dap_mask.specs.Mask.{Line, nothing, rule, bad}
+use Rattle.dap_mask.specs.RuleSteps.{RuleStep, named, elements}
+use Rattle.dap_mask.specs.RuleText.{bracket_behind, called_step}
 use Rattle.dap_mask.specs.RuleText.{quoted_at, plain_at, name_at, this_name, any_name, each_step}
 use Rattle.dap_mask.specs.RuleText.{member_step, next_step, step_then, steps_from, place_at}
 use Rattle.dap_mask.specs.RuleText.{verb_named, kind_named, Head, name_behind, kind_then, head_at}
@@ -47,7 +48,7 @@ abbrev AnyRest : Type 0
 AnyRest = Option (List ℕ) × List ℕ
 
 abbrev StepRest : Type 0
-StepRest = PlaceStep × List ℕ
+StepRest = RuleStep × List ℕ
 
 -- ---- names
 
@@ -113,21 +114,11 @@ any_found (b ∷ s) name rest h = go (b == 42) refl h
 
 -- ---- places
 
-abbrev HasSteps : List ℕ → List PlaceStep → List ℕ → Type 0
+abbrev HasSteps : List ℕ → List RuleStep → List ℕ → Type 0
 HasSteps s steps rest = (w : List ℕ) × (s ≡ w ++ rest) × AreSteps w steps
 
-each_found : (s : List ℕ) (step : PlaceStep) (rest : List ℕ) → each_step s ≡ Some (step, rest)
-    → (each ≡ step) × (s ≡ 93 ∷ rest)
-each_found [] step rest h = absurd (none-some {A = StepRest} (step, rest) h)
-each_found (b ∷ s) step rest h =
-    let i = if_true {A = StepRest} (b == 93) (Some (each, s)) (step, rest) h in
-    let p = same_Some {A = StepRest} (each, s) (step, rest) i.1 in (
-      ap (λ (q : StepRest). q.0) p,
-      ap₂ (λ x t. x ∷ t) (eqb-true b 93 i.0) (ap (λ (q : StepRest). q.1) p),
-    )
-
 -- a first step, before further steps
-member_found : (s : List ℕ) (step : PlaceStep) (next more rest : List ℕ) (steps : List PlaceStep)
+member_found : (s : List ℕ) (step : RuleStep) (next more rest : List ℕ) (steps : List RuleStep)
     → option_map member_step (name_at s) ≡ Some (step, next) → next ≡ more ++ rest
     → AreSteps more steps → HasSteps (46 ∷ s) (step ∷ steps) rest
 member_found s step next more rest steps h is on =
@@ -139,26 +130,76 @@ member_found s step next more rest steps h is on =
     f.1 ∙ ap (λ (t : List ℕ). f.0 ++ t) (same_next ∙ is) ∙ sym (append_assoc f.0 more rest) in (
       46 ∷ (f.0 ++ more),
       ap (λ (t : List ℕ). 46 ∷ t) whole,
-      subst (λ (p : PlaceStep). AreSteps (46 ∷ (f.0 ++ more)) (p ∷ steps)) same_step
+      subst (λ (p : RuleStep). AreSteps (46 ∷ (f.0 ++ more)) (p ∷ steps)) same_step
           (f.0, more, refl, f.2, on),
     )
 
-elements_found : (s : List ℕ) (step : PlaceStep) (next more rest : List ℕ) (steps : List PlaceStep)
-    → each_step s ≡ Some (step, next) → next ≡ more ++ rest → AreSteps more steps
-    → HasSteps (91 ∷ s) (step ∷ steps) rest
-elements_found s step next more rest steps h is on =
-    let f = each_found s step next h in (
+abbrev all_step : List ℕ → Option StepRest
+all_step s = Some (elements None, s)
+
+each_found : (s : List ℕ) (b : ℕ) (step : RuleStep) (next more rest : List ℕ)
+    (steps : List RuleStep) → b ≡ 93
+    → all_step s ≡ Some (step, next) → next ≡ more ++ rest → AreSteps more steps
+    → HasSteps (91 ∷ b ∷ s) (step ∷ steps) rest
+each_found s b step next more rest steps e h is on =
+    let p = same_Some {A = StepRest} (elements None, s) (step, next) h in
+    let same_step : elements None ≡ step = ap (λ (q : StepRest). q.0) p in
+    let same_next : s ≡ next = ap (λ (q : StepRest). q.1) p in (
       91 ∷ 93 ∷ more,
-      ap (λ (t : List ℕ). 91 ∷ t) (f.1 ∙ ap (λ (t : List ℕ). 93 ∷ t) is),
-      subst (λ (p : PlaceStep). AreSteps (91 ∷ 93 ∷ more) (p ∷ steps)) f.0 (more, refl, on),
+      ap₂ (λ x (t : List ℕ). 91 ∷ x ∷ t) e (same_next ∙ is),
+      subst (λ (p : RuleStep). AreSteps (91 ∷ 93 ∷ more) (p ∷ steps)) same_step (more, refl, on),
     )
 
-at_byte : (b c : ℕ) (s : List ℕ) (steps : List PlaceStep) (rest : List ℕ) → b ≡ c
+bracket_found : (n s : List ℕ) (step : RuleStep) (next : List ℕ)
+    → bracket_behind n s ≡ Some (step, next) → (elements (Some n) ≡ step) × (s ≡ 93 ∷ next)
+bracket_found n [] step next h = absurd (none-some {A = StepRest} (step, next) h)
+bracket_found n (b ∷ s) step next h =
+    let i = if_true {A = StepRest} (b == 93) (Some (elements (Some n), s)) (step, next) h in
+    let p = same_Some {A = StepRest} (elements (Some n), s) (step, next) i.1 in (
+      ap (λ (q : StepRest). q.0) p,
+      ap₂ (λ x t. x ∷ t) (eqb-true b 93 i.0) (ap (λ (q : StepRest). q.1) p),
+    )
+
+called_found : (b : ℕ) (s : List ℕ) (step : RuleStep) (next more rest : List ℕ)
+    (steps : List RuleStep) → b ≡ 34
+    → option_and_then called_step (quoted_at (b ∷ s)) ≡ Some (step, next) → next ≡ more ++ rest
+    → AreSteps more steps → HasSteps (91 ∷ b ∷ s) (step ∷ steps) rest
+called_found b s step next more rest steps e h is on =
+    let x = bound called_step (quoted_at (b ∷ s)) (step, next) h in
+    let first : quoted_at (34 ∷ s) ≡ Some x.0 = ap (λ (c : ℕ). quoted_at (c ∷ s)) (sym e) ∙ x.1 in
+    let q = quoted_found s x.0.0 x.0.1 first in
+    let f = bracket_found x.0.0 x.0.1 step next x.2 in
+    let text = q.inside ++ 34 ∷ [] in
+    let whole : s ≡ (text ++ 93 ∷ more) ++ rest =
+    q.whole ∙ ap (λ (t : List ℕ). text ++ t) (f.1 ∙ ap (λ (t : List ℕ). 93 ∷ t) is)
+    ∙ sym (append_assoc text (93 ∷ more) rest) in (
+      91 ∷ 34 ∷ (text ++ 93 ∷ more),
+      ap₂ (λ c (t : List ℕ). 91 ∷ c ∷ t) e whole,
+      subst (λ (p : RuleStep). AreSteps (91 ∷ 34 ∷ (text ++ 93 ∷ more)) (p ∷ steps)) f.0
+          (34 ∷ text, more, refl, (q.inside, refl, q.is_inside, q.reads), on),
+    )
+
+elements_found : (s : List ℕ) (step : RuleStep) (next more rest : List ℕ) (steps : List RuleStep)
+    → each_step s ≡ Some (step, next) → next ≡ more ++ rest → AreSteps more steps
+    → HasSteps (91 ∷ s) (step ∷ steps) rest
+elements_found [] step next more rest steps h is on =
+    absurd (none-some {A = StepRest} (step, next) h)
+elements_found (b ∷ s) step next more rest steps h is on = go (b == 93) (b == 34) refl refl h
+  where
+    go : (c d : Bool) → (b == 93) ≡ c → (b == 34) ≡ d
+        → cond c (all_step s)
+        (cond d (option_and_then called_step (quoted_at (b ∷ s))) None) ≡ Some (step, next)
+        → HasSteps (91 ∷ b ∷ s) (step ∷ steps) rest
+    go true d e f k = each_found s b step next more rest steps (eqb-true b 93 e) k is on
+    go false true e f k = called_found b s step next more rest steps (eqb-true b 34 f) k is on
+    go false false e f k = absurd (none-some {A = StepRest} (step, next) k)
+
+at_byte : (b c : ℕ) (s : List ℕ) (steps : List RuleStep) (rest : List ℕ) → b ≡ c
     → HasSteps (c ∷ s) steps rest → HasSteps (b ∷ s) steps rest
 at_byte b c s steps rest e f =
     (f.0, ap (λ (x : ℕ). x ∷ s) e ∙ f.1, f.2)
 
-next_found : (s : List ℕ) (step : PlaceStep) (next more rest : List ℕ) (steps : List PlaceStep)
+next_found : (s : List ℕ) (step : RuleStep) (next more rest : List ℕ) (steps : List RuleStep)
     → next_step s ≡ Some (step, next) → next ≡ more ++ rest → AreSteps more steps
     → HasSteps s (step ∷ steps) rest
 next_found [] step next more rest steps h is on = absurd (none-some {A = StepRest} (step, next) h)
@@ -174,8 +215,8 @@ next_found (b ∷ s) step next more rest steps h is on = go (b == 46) (b == 91) 
         (elements_found s step next more rest steps k is on)
     go false false e f k = absurd (none-some {A = StepRest} (step, next) k)
 
-step_found : (n : ℕ) (s : List ℕ) (steps : List PlaceStep) (rest : List ℕ)
-    → ((t : List ℕ) (ps : List PlaceStep) (r : List ℕ) → steps_from n t ≡ Some (ps, r)
+step_found : (n : ℕ) (s : List ℕ) (steps : List RuleStep) (rest : List ℕ)
+    → ((t : List ℕ) (ps : List RuleStep) (r : List ℕ) → steps_from n t ≡ Some (ps, r)
     → HasSteps t ps r)
     → (o : Option StepRest) → next_step s ≡ o → step_then s (steps_from n) o ≡ Some (steps, rest)
     → HasSteps s steps rest
@@ -194,13 +235,13 @@ step_found n s steps rest more (Some p) e h =
       subst (AreSteps f.0) (ap (λ (q : Steps). q.0) m.2) f.2,
     )
 
-steps_found : (n : ℕ) (s : List ℕ) (steps : List PlaceStep) (rest : List ℕ)
+steps_found : (n : ℕ) (s : List ℕ) (steps : List RuleStep) (rest : List ℕ)
     → steps_from n s ≡ Some (steps, rest) → HasSteps s steps rest
 steps_found zero s steps rest h = absurd (none-some {A = Steps} (steps, rest) h)
 steps_found (suc n) s steps rest h =
     step_found n s steps rest (λ t ps r k. steps_found n t ps r k) (next_step s) refl h
 
-place_found : (s : List ℕ) (place : List PlaceStep) (rest : List ℕ)
+place_found : (s : List ℕ) (place : List RuleStep) (rest : List ℕ)
     → place_at s ≡ Some (place, rest) → (p : List ℕ) × (s ≡ p ++ rest) × IsPlace p place
 place_found s place rest h =
     let x = bound (place_on (length s)) (name_at s) (place, rest) h in

@@ -4,9 +4,10 @@ use Rattle.std.proofs.Common.{◌||◌, List, [], ◌∷◌, ◌++◌, length, O
 use Rattle.std.proofs.Common.{option_and_then, refl, sym, ap, ap₂, ◌∙◌, subst, true≢false, arith}
 use Rattle.std.proofs.Common.{append_assoc, length-append, bytes_eq}
 use Rattle.std.specs.Prelude.{zero, codes}
+use Rattle.serde_json.specs.Data as json
+use Rattle.dap_tree.specs.Json.{Reads}
 use Rattle.dap_tree.proofs.Booleans.{or_left, or_right}
 use Rattle.dap_message.proofs.Edits.{by_bool}
-use Rattle.dap_profile.specs.PlaceSteps.{PlaceStep, named, each}
 use Rattle.dap_profile.specs.declared.profile.Kind.{Kind}
 use Rattle.dap_profile.specs.declared.profile.Kind.TheVariants.{Request, Response, Event}
 use Rattle.dap_mask.specs.Grammar.{IsGap, GoesOn, HasWords, IsName, bare, quoted}
@@ -15,8 +16,9 @@ use Rattle.dap_mask.specs.Grammar.{AreWordsOf, SaysRule}
 use Rattle.dap_mask.specs.Categories.{CategoryRule}
 use Rattle.dap_mask.specs.Mask.{Statement, change, leave_out, leave_out_category, swap, restart}
 use Rattle.dap_mask.specs.Mask.{put, Line, nothing, rule}
+use Rattle.dap_mask.specs.RuleSteps.{RuleStep, named, elements}
 use Rattle.dap_mask.specs.RuleText.{quoted_at, plain_at, name_at, this_name, any_name}
-use Rattle.dap_mask.specs.RuleText.{member_step, next_step, step_then, steps_from, place_at}
+use Rattle.dap_mask.specs.RuleText.{called_step, member_step, next_step, step_then, steps_from, place_at}
 use Rattle.dap_mask.specs.RuleText.{verb_named, kind_named, Head}
 use Rattle.dap_mask.specs.RuleText.{name_behind, kind_then, head_at, placed, place_behind}
 use Rattle.dap_mask.specs.RuleText.{change_at, category_at, with_category, category_behind}
@@ -140,18 +142,20 @@ no_step (b ∷ s) h =
     let neither = or_right (is_plain b) ((b == 46) || (b == 91)) h in
     rw (or_left (b == 46) (b == 91) neither, or_right (b == 46) (b == 91) neither) refl
 
-steps_stop : (steps : List PlaceStep) (s rest : List ℕ) → AreSteps s steps
+steps_stop : (steps : List RuleStep) (s rest : List ℕ) → AreSteps s steps
     → begins_with is_plain rest ≡ false → begins_with is_plain (s ++ rest) ≡ false
 steps_stop [] s rest is e = ap (λ (t : List ℕ). begins_with is_plain (t ++ rest)) is ∙ e
 steps_stop (named name ∷ steps) s rest (n, more, is, c, on) e =
     ap (λ (t : List ℕ). begins_with is_plain (t ++ rest)) is
-steps_stop (each ∷ steps) s rest (more, is, on) e =
+steps_stop (elements None ∷ steps) s rest (more, is, on) e =
+    ap (λ (t : List ℕ). begins_with is_plain (t ++ rest)) is
+steps_stop (elements (Some name) ∷ steps) s rest (n, more, is, c, on) e =
     ap (λ (t : List ℕ). begins_with is_plain (t ++ rest)) is
 
-abbrev pub then_step : PlaceStep → Steps → Steps
+abbrev pub then_step : RuleStep → Steps → Steps
 then_step step r = (step ∷ r.0, r.1)
 
-steps_read : (steps : List PlaceStep) (s rest : List ℕ) (fuel : ℕ) → AreSteps s steps
+steps_read : (steps : List RuleStep) (s rest : List ℕ) (fuel : ℕ) → AreSteps s steps
     → begins_with goes_on rest ≡ false → length s < fuel
     → steps_from fuel (s ++ rest) ≡ Some (steps, rest)
 steps_read steps s rest zero is e l = absurd (omega arith)
@@ -169,19 +173,32 @@ steps_read (named name ∷ steps) s rest (suc n) (m, more, is, c, on) e l =
     ap (steps_from (suc n)) whole
     ∙ ap (step_then (46 ∷ text) (steps_from n)) (ap (option_map member_step) member)
     ∙ ap (option_map (then_step (named name))) (steps_read steps more rest n on e shorter)
-steps_read (each ∷ steps) s rest (suc n) (more, is, on) e l =
+steps_read (elements None ∷ steps) s rest (suc n) (more, is, on) e l =
     let long : length s ≡ suc (suc (length more)) = ap length is in
     let shorter : length more < n = omega arith in
     ap (λ (t : List ℕ). steps_from (suc n) (t ++ rest)) is
-    ∙ ap (option_map (then_step each)) (steps_read steps more rest n on e shorter)
+    ∙ ap (option_map (then_step (elements None))) (steps_read steps more rest n on e shorter)
+steps_read (elements (Some name) ∷ steps) s rest (suc n) (m, more, is, (inside, w, i, r), on) e l =
+    let text = (inside ++ 34 ∷ []) ++ (93 ∷ (more ++ rest)) in
+    let whole : s ++ rest ≡ 91 ∷ 34 ∷ text =
+    ap (λ (t : List ℕ). t ++ rest) (is ∙ ap (λ (t : List ℕ). 91 ∷ (t ++ 93 ∷ more)) w)
+    ∙ ap (λ (t : List ℕ). 91 ∷ 34 ∷ t) (append_assoc (inside ++ 34 ∷ []) (93 ∷ more) rest) in
+    let closed = quoted_read i name (93 ∷ (more ++ rest))
+    (subst (λ (t : List ℕ). Reads t (json.string name)) w r) in
+    let long : length s ≡ suc (length (m ++ 93 ∷ more)) = ap length is in
+    let sum = length-append m (93 ∷ more) in
+    let shorter : length more < n = omega arith in
+    ap (steps_from (suc n)) whole
+    ∙ ap (step_then (91 ∷ 34 ∷ text) (steps_from n)) (ap (option_and_then called_step) closed)
+    ∙ ap (option_map (then_step (elements (Some name)))) (steps_read steps more rest n on e shorter)
 
 abbrev pub place_on : ℕ → List ℕ × List ℕ → Option Steps
 place_on len n = option_map (then_step (named n.0)) (steps_from len n.1)
 
-place_read : (place : List PlaceStep) (p rest : List ℕ) → IsPlace p place
+place_read : (place : List RuleStep) (p rest : List ℕ) → IsPlace p place
     → begins_with goes_on rest ≡ false → place_at (p ++ rest) ≡ Some (place, rest)
 place_read [] p rest c e = absurd c
-place_read (each ∷ steps) p rest c e = absurd c
+place_read (elements n ∷ steps) p rest c e = absurd c
 place_read (named name ∷ steps) p rest (n, more, is, c, on) e =
     let whole : p ++ rest ≡ n ++ (more ++ rest) =
     ap (λ (t : List ℕ). t ++ rest) is ∙ append_assoc n more rest in
@@ -195,10 +212,10 @@ place_read (named name ∷ steps) p rest (n, more, is, c, on) e =
     ∙ ap (option_map (then_step (named name)))
     (steps_read steps more rest (length (p ++ rest)) on e shorter)
 
-place_opens : (place : List PlaceStep) (p : List ℕ) → IsPlace p place
+place_opens : (place : List RuleStep) (p : List ℕ) → IsPlace p place
     → begins_with is_opening p ≡ true
 place_opens [] p c = absurd c
-place_opens (each ∷ steps) p c = absurd c
+place_opens (elements n ∷ steps) p c = absurd c
 place_opens (named name ∷ steps) p (n, more, is, c, on) =
     ap (begins_with is_opening) is ∙ opens_longer n more (name_opens c)
 

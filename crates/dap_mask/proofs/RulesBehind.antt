@@ -1,5 +1,5 @@
 -- Rules followed by one more rule.
-use Rattle.std.proofs.Common.{◌≡◌, Bool, true, false, cond, not, ◌||◌, List, [], ◌∷◌, ◌++◌}
+use Rattle.std.proofs.Common.{◌≡◌, Bool, true, false, cond, not, ◌&&◌, ◌||◌, List, [], ◌∷◌, ◌++◌}
 use Rattle.std.proofs.Common.{Option, Some, None, map, option_map, string_bytes, refl, ap}
 use Rattle.std.proofs.Common.{nat_le, String}
 use Rattle.std.proofs.Common.{◌∙◌}
@@ -11,7 +11,7 @@ use Rattle.dap_mask.specs.Categories.{moves_one_of, is_moved_by, keep_categories
 use Rattle.dap_mask.specs.Categories.{is_category_among}
 use Rattle.dap_mask.specs.Mask.{Mask, change, leave_out_category, rule_count}
 use Rattle.dap_mask.specs.Rules.{Rule, rule_of, rules_of, is_telling_place, are_safe}
-use Rattle.dap_mask.specs.Rules.{are_idempotent}
+use Rattle.dap_mask.specs.Rules.{are_idempotent, renames, renames_among}
 use Rattle.dap_mask.specs.Rules.{clash, clashes_with, is_clashed_with, is_among}
 use Rattle.dap_mask.specs.RulesFile.{clash_cause, cause_of_pair, change_cause, or_clash}
 use Rattle.dap_mask.specs.RulesFile.{cause_against}
@@ -61,12 +61,31 @@ pushed_category_keeps false xs x ys e test h more = ap (λ zs. test (categories_
 
 -- ---- the invariants hold after adding a rule that has no error
 
+renames_more : (q r : Rule) (rs : List Rule) → renames_among q rs ≡ false → renames q r ≡ false
+    → renames r q ≡ false → renames_among q (rs ++ r ∷ []) ≡ false
+renames_more q r [] h a b = or_both _ _ (or_both _ _ a b) refl
+renames_more q r (t ∷ ts) h a b =
+    or_both _ _ (or_left (renames q t || renames t q) (renames_among q ts) h)
+    (renames_more q r ts (or_right (renames q t || renames t q) (renames_among q ts) h) a b)
+
 pub safe_more : (rs : List Rule) (r : Rule) → are_safe rs ≡ true → is_telling_place r.place ≡ false
-    → are_safe (rs ++ r ∷ []) ≡ true
-safe_more [] r h t = and_both _ _ (ap not t) refl
-safe_more (q ∷ rs) r h t =
-    and_both _ _ (and_left (not (is_telling_place q.place)) (are_safe rs) h)
-    (safe_more rs r (and_right (not (is_telling_place q.place)) (are_safe rs) h) t)
+    → renames r r ≡ false → renames_among r rs ≡ false → are_safe (rs ++ r ∷ []) ≡ true
+safe_more [] r h t own among = and_both _ _ (ap not t) (and_both _ _
+    (ap not (or_both _ _ own refl)) refl)
+safe_more (q ∷ rs) r h t own among =
+    let later = and_right (not (is_telling_place q.place))
+    (not (renames q q || renames_among q rs) && are_safe rs) h in
+    let none = not_true (renames q q || renames_among q rs)
+    (and_left (not (renames q q || renames_among q rs)) (are_safe rs) later) in
+    let both = or_left (renames r q || renames q r) (renames_among r rs) among in
+    and_both _ _ (and_left (not (is_telling_place q.place))
+    (not (renames q q || renames_among q rs) && are_safe rs) h)
+    (and_both _ _
+    (ap not (or_both _ _ (or_left (renames q q) (renames_among q rs) none)
+    (renames_more q r rs (or_right (renames q q) (renames_among q rs) none)
+    (or_right (renames r q) (renames q r) both) (or_left (renames r q) (renames q r) both))))
+    (safe_more rs r (and_right (not (renames q q || renames_among q rs)) (are_safe rs) later) t own
+    (or_right (renames r q || renames q r) (renames_among r rs) among)))
 
 pub leave_more : (rs : List Rule) (r : Rule) → leave_ids rs ≡ true → takes_profile_id r ≡ false
     → leave_ids (rs ++ r ∷ []) ≡ true
@@ -125,6 +144,7 @@ category_kept rs (e ∷ es) c h g =
 pub record MayStand (rs : List Rule) (r : Rule) : Type 0 where
   pub safe : is_telling_place r.place ≡ false
   pub leaves : takes_profile_id r ≡ false
+  pub own : renames r r ≡ false
   pub settled : is_clashed_with rs r ≡ false
 
 -- if `clash_cause` returns `None` for a rule, no rule clashes with it
@@ -140,15 +160,18 @@ no_clash (q ∷ rs) r h = go (clash q r) (cause_of_pair q.verb r.verb) (no_clash
 
 may_stand : (rs : List Rule) (r : Rule) → change_cause rs r ≡ None → MayStand rs r
 may_stand rs r h =
-    go (is_telling_place r.place) (takes_profile_id r) (is_among r rs) refl refl h
+    go (is_telling_place r.place) (takes_profile_id r) (renames r r) (is_among r rs) refl refl refl h
   where
-    go : (a b c : Bool) → is_telling_place r.place ≡ a → takes_profile_id r ≡ b
-        → cond (a || b) (Some BadPlace) (cond c (Some Repeated) (clash_cause rs r)) ≡ None
+    go : (a b d c : Bool) → is_telling_place r.place ≡ a → takes_profile_id r ≡ b
+        → renames r r ≡ d
+        → cond (a || (b || d)) (Some BadPlace) (cond c (Some Repeated) (clash_cause rs r)) ≡ None
         → MayStand rs r
-    go true b c p q k = cc
-    go false true c p q k = cc
-    go false false true p q k = cc
-    go false false false p q k = record { safe = p; leaves = q; settled = no_clash rs r k }
+    go true b d c p q o k = cc
+    go false true d c p q o k = cc
+    go false false true c p q o k = cc
+    go false false false true p q o k = cc
+    go false false false false p q o k =
+        record { safe = p; leaves = q; own = o; settled = no_clash rs r k }
 
 or_none : (o : Option RulesCause) (b : Bool) → or_clash o b ≡ None → (o ≡ None) × (b ≡ false)
 or_none None true h = cc
@@ -156,15 +179,18 @@ or_none None false h = (refl, refl)
 or_none (Some c) b h = cc
 
 no_cause : (m : Mask) (r : Rule) → cause_against m (change r) ≡ None
-    → (change_cause m.changes r ≡ None) × (moves_one_of r m.categories ≡ false)
+    → (change_cause m.changes r ≡ None)
+    × ((moves_one_of r m.categories || renames_among r m.changes) ≡ false)
 no_cause m r h = go (nat_le 1000 (rule_count m)) h
   where
     go : (b : Bool)
-        → cond b (Some TooMany) (or_clash (change_cause m.changes r) (moves_one_of r m.categories))
-        ≡ None
-        → (change_cause m.changes r ≡ None) × (moves_one_of r m.categories ≡ false)
+        → cond b (Some TooMany) (or_clash (change_cause m.changes r)
+        (moves_one_of r m.categories || renames_among r m.changes)) ≡ None
+        → (change_cause m.changes r ≡ None)
+        × ((moves_one_of r m.categories || renames_among r m.changes) ≡ false)
     go true k = cc
-    go false k = or_none (change_cause m.changes r) (moves_one_of r m.categories) k
+    go false k = or_none (change_cause m.changes r)
+        (moves_one_of r m.categories || renames_among r m.changes) k
 
 pub change_may_stand : (m : Mask) (r : Rule) → cause_against m (change r) ≡ None
     → MayStand m.changes r
@@ -172,7 +198,15 @@ change_may_stand m r h = let none = no_cause m r h in may_stand m.changes r none
 
 pub change_moves_none : (m : Mask) (r : Rule) → cause_against m (change r) ≡ None
     → moves_one_of r m.categories ≡ false
-change_moves_none m r h = let none = no_cause m r h in none.1
+change_moves_none m r h =
+    let none = no_cause m r h in
+    or_left (moves_one_of r m.categories) (renames_among r m.changes) none.1
+
+pub change_renames_none : (m : Mask) (r : Rule) → cause_against m (change r) ≡ None
+    → renames_among r m.changes ≡ false
+change_renames_none m r h =
+    let none = no_cause m r h in
+    or_right (moves_one_of r m.categories) (renames_among r m.changes) none.1
 
 pub category_not_moved : (m : Mask) (c : CategoryRule)
     → cause_against m (leave_out_category c) ≡ None → is_moved_by m.changes c ≡ false

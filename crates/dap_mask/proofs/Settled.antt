@@ -1,21 +1,18 @@
 -- Masking a masked document again does not change it.
 use Rattle.std.proofs.Common.{◌≡◌, ℕ, Bool, true, false, cond, not, ◌&&◌, List, [], ◌∷◌}
 use Rattle.std.proofs.Common.{Option, Some, None, option_map, codes, refl, sym, ◌∙◌, ap}
-use Rattle.std.proofs.Common.{bytes_eq, subst, true≢false}
-use Rattle.std.proofs.lemmas.Slice.Eq.{bytes_eq-Decides}
-use Rattle.dap_tree.specs.Doc.{Doc, null, boolean, whole, text, list, object, id, get, is_ordered}
-use Rattle.dap_tree.specs.Path.{Step, name, place, at}
-use Rattle.dap_tree.proofs.Booleans.{and_left, and_right, and_both, or_left, or_right}
-use Rattle.dap_profile.specs.PlaceSteps.{PlaceStep, named, each}
+use Rattle.std.proofs.Common.{◌⊎◌, inl, inr, ◌||◌, true≢false}
+use Rattle.std.proofs.lemmas.Option.{none-some}
+use Rattle.dap_tree.specs.Doc.{Doc, null, boolean, whole, text, list, object, id, is_ordered}
+use Rattle.dap_tree.specs.Path.{Step, at}
+use Rattle.dap_tree.proofs.Booleans.{and_left, and_right, and_both, or_left, or_right, or_both}
 use Rattle.dap_message.specs.Places.{fits_place}
 use Rattle.dap_message.specs.Marks.{top}
-use Rattle.dap_message.specs.Rows.{is_text, is_of_kind, name_key, type_name}
-use Rattle.dap_profile.specs.declared.profile.Kind.{Kind}
-use Rattle.dap_profile.specs.declared.profile.Kind.TheVariants.{Request, Response, Event}
-use Rattle.dap_mask.specs.Rules.{Rule, blank, change_text, of_verb, takes_parts, has_name}
-use Rattle.dap_mask.specs.Rules.{rule_applies, same_place, same_kind, share_name, unsettles}
+use Rattle.dap_mask.specs.RuleSteps.{has_names}
+use Rattle.dap_mask.specs.Rules.{Rule, blank, change_text, of_verb, takes_parts, plain_place_of}
+use Rattle.dap_mask.specs.Rules.{rule_applies, applies_at, unsettles, renames, renames_among}
 use Rattle.dap_mask.specs.Rules.{clash, clashes_with, are_safe, are_idempotent}
-use Rattle.dap_mask.specs.Masked.{is_below, left_by, left, masked}
+use Rattle.dap_mask.specs.Masked.{is_below, left_by, left, mask_by, masked}
 use Rattle.dap_mask.specs.Texts.{digits, hex}
 use Rattle.dap_texts.specs.Long.{long}
 use Rattle.dap_texts.specs.Uuids.{uuid}
@@ -27,8 +24,11 @@ use Rattle.dap_texts.proofs.Settled.{digits_after_long, long_after_digits}
 use Rattle.dap_mask.specs.declared.rules.Verb.{Verb}
 use Rattle.dap_mask.specs.declared.rules.Verb.TheVariants.{Blank, Digits, Hex, Long, Uuid}
 use Rattle.dap_mask.proofs.Squeezed.{digits_twice, hex_twice, digits_behind_hex}
-use Rattle.dap_mask.proofs.ByPath.{at-masked, spoken-masked, left-same, left-alike}
-use Rattle.dap_mask.proofs.ByPath.{ordered-masked, same_paths}
+use Rattle.dap_mask.proofs.ByPath.{at-masked, top-left, left-same, left-alike, left_nothing}
+use Rattle.dap_mask.proofs.ByPath.{ordered-masked, same_paths, none_new, first_safe, rest_safe}
+use Rattle.dap_mask.proofs.ByPath.{first_renames, is_renamed_by, Same, AreSame, same_by}
+use Rattle.dap_mask.proofs.ByPath.{blank_fixed}
+use Rattle.dap_mask.proofs.Matches.{fits_share, both_apply}
 
 -- ---- one value
 
@@ -135,77 +135,16 @@ map_twice v (Some d) = ap Some (verb_twice v d)
 
 -- ---- two rules for the same place of a document clash if the later one unsettles the earlier one
 
-pub fits_same : (ps qs : List PlaceStep) (p : List Step) → fits_place ps p ≡ true → fits_place qs p
-    ≡ true → same_place ps qs ≡ true
-fits_same [] [] p h k = refl
-fits_same [] (named j ∷ qs) [] h k = cc
-fits_same [] (each ∷ qs) [] h k = cc
-fits_same [] qs (st ∷ p) h k = cc
-fits_same (named i ∷ ps) qs [] h k = cc
-fits_same (each ∷ ps) qs [] h k = cc
-fits_same (named i ∷ ps) [] (st ∷ p) h k = cc
-fits_same (each ∷ ps) [] (st ∷ p) h k = cc
-fits_same (named i ∷ ps) (named j ∷ qs) (name l ∷ p) h k =
-    let one : i ≡ l = (bytes_eq-Decides i l).0 (and_left (bytes_eq i l) (fits_place ps p) h) in
-    let two : j ≡ l = (bytes_eq-Decides j l).0 (and_left (bytes_eq j l) (fits_place qs p) k) in
-    and_both _ _ ((bytes_eq-Decides i j).1 (one ∙ sym two))
-    (fits_same ps qs p (and_right (bytes_eq i l) (fits_place ps p) h)
-    (and_right (bytes_eq j l) (fits_place qs p) k))
-fits_same (named i ∷ ps) (each ∷ qs) (name l ∷ p) h k = cc
-fits_same (named i ∷ ps) (q ∷ qs) (place n ∷ p) h k = cc
-fits_same (each ∷ ps) (q ∷ qs) (name l ∷ p) h k = cc
-fits_same (each ∷ ps) (named j ∷ qs) (place n ∷ p) h k = cc
-fits_same (each ∷ ps) (each ∷ qs) (place n ∷ p) h k = fits_same ps qs p h k
-
-text_alike : (n m : List ℕ) (o : Option Doc) → is_text n o ≡ true → is_text m o ≡ true
-    → bytes_eq n m ≡ true
-text_alike n m None h k = cc
-text_alike n m (Some null) h k = cc
-text_alike n m (Some (boolean b)) h k = cc
-text_alike n m (Some (whole z)) h k = cc
-text_alike n m (Some (text s)) h k = (bytes_eq-Decides n m).1 ((bytes_eq-Decides n s).0 h
-    ∙ sym ((bytes_eq-Decides m s).0 k))
-text_alike n m (Some (list ds)) h k = cc
-text_alike n m (Some (object ms)) h k = cc
-text_alike n m (Some (id s z)) h k = cc
-
-pub kind_alike : (k l : Kind) (d : Doc) → is_of_kind k d ≡ true → is_of_kind l d ≡ true
-    → (same_kind k l ≡ true) × (k ≡ l)
-kind_alike k l d h g = go k l (text_alike (type_name k) (type_name l) (get (codes "type") d) h g)
-  where
-    go : (k l : Kind) → bytes_eq (type_name k) (type_name l) ≡ true → (same_kind k l ≡ true)
-        × (k ≡ l)
-    go Request Request e = (refl, refl)
-    go Request Response e = cc
-    go Request Event e = cc
-    go Response Request e = cc
-    go Response Response e = (refl, refl)
-    go Response Event e = cc
-    go Event Request e = cc
-    go Event Response e = cc
-    go Event Event e = (refl, refl)
-
-pub name_alike : (k : Kind) (n m : Option (List ℕ)) (d : Doc) → has_name k n d ≡ true
-    → has_name k m d ≡ true → share_name n m ≡ true
-name_alike k None None d h g = refl
-name_alike k None (Some m) d h g = refl
-name_alike k (Some n) None d h g = refl
-name_alike k (Some n) (Some m) d h g = text_alike n m (get (name_key k) d) h g
-
-does_not_unsettle : (r t : Rule) (d : Doc) (p : List Step) → clash r t ≡ false → rule_applies r d
-    ≡ true → rule_applies t d ≡ true → fits_place r.place p ≡ true → fits_place t.place p ≡ true
-    → unsettles r.verb t.verb ≡ false
+does_not_unsettle : (r t : Rule) (d : Doc) (p : List Step) → clash r t ≡ false → applies_at r d p
+    ≡ true → applies_at t d p ≡ true → fits_place (plain_place_of r) p ≡ true
+    → fits_place (plain_place_of t) p ≡ true → unsettles r.verb t.verb ≡ false
 does_not_unsettle r t d p h rs ts rp tp =
-    let kinds = kind_alike r.kind t.kind d (and_left (is_of_kind r.kind d)
-    (has_name r.kind r.name d) rs) (and_left (is_of_kind t.kind d) (has_name t.kind t.name d)
-    ts) in
-    let named_t : has_name r.kind t.name d ≡ true =
-    subst (λ k. has_name k t.name d ≡ true) (sym kinds.1) (and_right (is_of_kind t.kind d)
-    (has_name t.kind t.name d) ts) in
-    let names = name_alike r.kind r.name t.name d (and_right (is_of_kind r.kind d)
-    (has_name r.kind r.name d) rs) named_t in
-    left_false (unsettles r.verb t.verb) _ (and_both _ _ (fits_same r.place t.place p rp tp)
-    (and_both _ _ kinds.0 names)) h
+    left_false (unsettles r.verb t.verb) _ (and_both _ _
+    (fits_share r.place t.place (Some d) p rp tp
+    (and_right (rule_applies r d) (has_names r.place (Some d) p) rs)
+    (and_right (rule_applies t d) (has_names t.place (Some d) p) ts))
+    (both_apply r t d (and_left (rule_applies r d) (has_names r.place (Some d) p) rs)
+    (and_left (rule_applies t d) (has_names t.place (Some d) p) ts))) h
   where
     left_false : (a b : Bool) → b ≡ true → (a && b) ≡ false → a ≡ false
     left_false true b e f = absurd (true≢false (sym e ∙ f))
@@ -213,7 +152,7 @@ does_not_unsettle r t d p h rs ts rp tp =
 
 -- ---- the values after rules
 
--- `left_by` as a function of its conditions: the rule applies to the document, its place is at the
+-- `left_by` as a function of its conditions: the rule applies along the path, its place is at the
 -- path, and it removes the value because the path is below the place
 abbrev by : Verb → Bool → Bool → Bool → Option Doc → Option Doc
 by v a b c o = cond a (cond b (option_map (of_verb v) o) (cond c None o)) o
@@ -242,15 +181,15 @@ stays_by v w true false false true true f o h k = refl
 
 by_twice : (r : Rule) (d : Doc) (p : List Step) (o : Option Doc) → left_by r d p (left_by r d p o)
     ≡ left_by r d p o
-by_twice r d p o = twice_by r.verb (rule_applies r d) (fits_place r.place p) (is_below r.place p
-    && takes_parts r.verb) o
+by_twice r d p o = twice_by r.verb (applies_at r d p) (fits_place (plain_place_of r) p)
+    (is_below (plain_place_of r) p && takes_parts r.verb) o
 
 by_stays : (r t : Rule) (d : Doc) (p : List Step) (o : Option Doc) → clash r t ≡ false
     → left_by r d p o ≡ o → left_by r d p (left_by t d p o) ≡ left_by t d p o
 by_stays r t d p o h k =
-    stays_by r.verb t.verb (rule_applies r d) (fits_place r.place p) (is_below r.place p
-    && takes_parts r.verb) (rule_applies t d) (fits_place t.place p) (is_below t.place p
-    && takes_parts t.verb) o
+    stays_by r.verb t.verb (applies_at r d p) (fits_place (plain_place_of r) p)
+    (is_below (plain_place_of r) p && takes_parts r.verb) (applies_at t d p)
+    (fits_place (plain_place_of t) p) (is_below (plain_place_of t) p && takes_parts t.verb) o
     (does_not_unsettle r t d p h) k
 
 left_stays : (r : Rule) (rs : List Rule) (d : Doc) (p : List Step) (o : Option Doc)
@@ -274,13 +213,124 @@ left_twice (r ∷ rs) d p o h =
     ∙ left_twice rs d p (left_by r d p o)
     (and_right (not (clashes_with r rs)) (are_idempotent rs) h)
 
+-- ---- the masked document has the names by which the rules select elements
+
+-- each rule renames no element that one of these selects
+abbrev AreKept : List Rule → List Rule → Type 0
+AreKept rs [] = Unit {0}
+AreKept rs (q ∷ qs) = (is_renamed_by rs q ≡ false) × AreKept rs qs
+
+kept_by_more : (r : Rule) (rs qs : List Rule) → renames_among r qs ≡ false → AreKept rs qs
+    → AreKept (r ∷ rs) qs
+kept_by_more r rs [] h k = tt
+kept_by_more r rs (q ∷ qs) h k = (
+  or_both _ _ (or_left (renames r q) (renames q r)
+      (or_left (renames r q || renames q r) (renames_among r qs) h)) k.0,
+  kept_by_more r rs qs (or_right (renames r q || renames q r) (renames_among r qs) h) k.1,
+)
+
+not_renamed : (r : Rule) (rs : List Rule) → renames_among r rs ≡ false
+    → is_renamed_by rs r ≡ false
+not_renamed r [] h = refl
+not_renamed r (q ∷ qs) h =
+    or_both _ _ (or_right (renames r q) (renames q r)
+    (or_left (renames r q || renames q r) (renames_among r qs) h))
+    (not_renamed r qs (or_right (renames r q || renames q r) (renames_among r qs) h))
+
+all_kept : (rs : List Rule) → are_safe rs ≡ true → AreKept rs rs
+all_kept [] h = tt
+all_kept (r ∷ rs) h =
+    let none = first_renames r rs h in (
+      or_both _ _ none.0 (not_renamed r rs none.1),
+      kept_by_more r rs rs none.1 (all_kept rs (rest_safe r rs h)),
+    )
+
+-- a blank value stays, or is removed with a value that contains it
+blank_left_by : (r : Rule) (d : Doc) (p : List Step) (x : Doc)
+    → (left_by r d p (Some (blank x)) ≡ Some (blank x)) ⊎ (left_by r d p (Some (blank x)) ≡ None)
+blank_left_by r d p x =
+    go (applies_at r d p) (fits_place (plain_place_of r) p)
+    (is_below (plain_place_of r) p && takes_parts r.verb)
+  where
+    go : (a b c : Bool)
+        → (by r.verb a b c (Some (blank x)) ≡ Some (blank x))
+        ⊎ (by r.verb a b c (Some (blank x)) ≡ None)
+    go false b c = inl refl
+    go true true c = inl (blank_fixed x r.verb)
+    go true false true = inr refl
+    go true false false = inl refl
+
+blank_left : (rs : List Rule) (d : Doc) (p : List Step) (x : Doc)
+    → (left rs d p (Some (blank x)) ≡ Some (blank x)) ⊎ (left rs d p (Some (blank x)) ≡ None)
+blank_left [] d p x = inl refl
+blank_left (r ∷ rs) d p x =
+    elim (blank_left_by r d p x) [
+      | inl e ↦ elim (blank_left rs d p x) [
+        | inl k ↦ inl (ap (left rs d p) e ∙ k)
+        | inr k ↦ inr (ap (left rs d p) e ∙ k)
+      ]
+      | inr e ↦ inr (ap (left rs d p) e ∙ left_nothing rs d p)
+    ]
+
+-- a blank value at the path before the later rules is there after them
+still_blank : (rs : List Rule) (d : Doc) (p : List Step) (x y : Doc) → are_safe rs ≡ true
+    → option_map top (at p d) ≡ Some (blank x) → at p (masked rs d) ≡ Some y
+    → option_map top (at p (masked rs d)) ≡ Some (blank x)
+still_blank rs d p x y safe is there =
+    let now : option_map top (at p (masked rs d)) ≡ left rs d p (Some (blank x)) =
+    at-masked rs d safe p ∙ top-left rs d p (at p d) ∙ ap (left rs d p) is in
+    elim (blank_left rs d p x) [
+      | inl e ↦ (now ∙ e)
+      | inr e ↦ absurd (none-some (top y) (sym (now ∙ e) ∙ ap (option_map top) there))
+    ]
+
+-- the value before the later rules, if there is one after them
+was_there : (rs : List Rule) (d : Doc) (p : List Step) (y : Doc) → are_safe rs ≡ true
+    → at p (masked rs d) ≡ Some y → (o : Option Doc) → at p d ≡ o → (x : Doc) × (at p d ≡ Some x)
+was_there rs d p y safe there None e =
+    absurd (none-some y (sym (none_new rs d p safe e) ∙ there))
+was_there rs d p y safe there (Some x) e = (x, e)
+
+same_masked : (rs : List Rule) (q : Rule) (d : Doc) (p : List Step) (y : Doc) → are_safe rs ≡ true
+    → is_renamed_by rs q ≡ false → at p (masked rs d) ≡ Some y → Same q (masked rs d) d p
+same_masked [] q d p y safe h there = inl refl
+same_masked (r ∷ rs) q d p y safe h there =
+    let e = mask_by r d in
+    let later = rest_safe r rs safe in
+    let before = was_there rs e p y later there (at p e) refl in
+    elim (same_masked rs q e p y later (or_right (renames r q) (is_renamed_by rs q) h) there) [
+      | inr b ↦ inr b
+      | inl s ↦ elim (same_by r q d p before.0 (first_safe r rs safe)
+          (or_left (renames r q) (is_renamed_by rs q) h) before.1) [
+            | inl t ↦ inl (s ∙ t)
+            | inr b ↦ inr (record {
+              value = b.value;
+              is = still_blank rs e p b.value y later b.is there;
+              ends = b.ends;
+            })
+          ]
+    ]
+
+all_same_masked : (rs qs : List Rule) (d : Doc) (p : List Step) (y : Doc) → are_safe rs ≡ true
+    → AreKept rs qs → at p (masked rs d) ≡ Some y → AreSame qs (masked rs d) d p
+all_same_masked rs [] d p y safe k there = tt
+all_same_masked rs (q ∷ qs) d p y safe k there =
+    (same_masked rs q d p y safe k.0 there, all_same_masked rs qs d p y safe k.1 there)
+
+same_or_none : (rs : List Rule) (d : Doc) (p : List Step) → are_safe rs ≡ true → (o : Option Doc)
+    → at p (masked rs d) ≡ o → (at p (masked rs d) ≡ None) ⊎ AreSame rs (masked rs d) d p
+same_or_none rs d p safe None e = inl e
+same_or_none rs d p safe (Some y) e = inr (all_same_masked rs rs d p y safe (all_kept rs safe) e)
+
 pub masked_once : (rs : List Rule) (d : Doc) → are_safe rs ≡ true → are_idempotent rs ≡ true
     → is_ordered d ≡ true → masked rs (masked rs d) ≡ masked rs d
 masked_once rs d safe settled o =
     let m = masked rs d in
     same_paths m (masked rs m) (ordered-masked rs d o) (λ p.
     at-masked rs m safe p
-    ∙ ap (option_map top) (left-same rs d m (λ q. spoken-masked rs q d safe) p (at p m))
+    ∙ top-left rs m p (at p m)
+    ∙ left-same rs m d p (same_or_none rs d p safe (at p m) refl)
+    ∙ sym (top-left rs d p (at p m))
     ∙ left-alike rs d p (at p m) (left rs d p (at p d)) (at-masked rs d safe p)
     ∙ ap (option_map top) (left_twice rs d p (at p d) settled)
     ∙ sym (at-masked rs d safe p))

@@ -6,7 +6,7 @@ use Rattle.std.proofs.lemmas.Str.{IsUtf8-nil, IsUtf8-append}
 use Rattle.std.specs.Prelude.{codes}
 use Rattle.serde_json.proofs.OnLiterals.{serde_json_on_literals}
 use Rattle.serde_json.specs.Data as json
-use Rattle.dap_profile.specs.PlaceSteps.{named, each}
+use Rattle.dap_mask.specs.RuleSteps.{named, elements}
 use Rattle.dap_profile.specs.declared.profile.Kind.TheVariants.{Response, Event}
 use Rattle.dap_tree.proofs.Booleans.{and_left, and_right}
 use Rattle.dap_tree.specs.Json.{Reads}
@@ -16,7 +16,7 @@ use Rattle.dap_mask.specs.Mask.{Statement, change, leave_out, leave_out_category
 use Rattle.dap_mask.specs.Mask.{put}
 use Rattle.dap_mask.specs.Mask.{nothing, rule, bad}
 use Rattle.dap_mask.specs.RuleText.{line_said, string_of}
-use Rattle.dap_mask.specs.declared.rules.Verb.TheVariants.{Digits}
+use Rattle.dap_mask.specs.declared.rules.Verb.TheVariants.{Digits, Hex}
 use Rattle.dap_mask.proofs.Lines.{string_is}
 use Rattle.dap_texts.proofs.Utf8.{ascii_one}
 
@@ -43,7 +43,7 @@ digits_rule = change (record {
   verb = Digits;
   kind = Response;
   name = Some (codes "threads");
-  place = named (codes "body") ∷ named (codes "threads") ∷ each ∷ named (codes "name") ∷ [];
+  place = named (codes "body") ∷ named (codes "threads") ∷ elements None ∷ named (codes "name") ∷ [];
 })
 
 digits_ends : GoesOn [] (codes " # a name")
@@ -158,6 +158,67 @@ drop_says = (
 drop_parsed : line_said drop_line ≡ rule drop_rule
 unfolding drop_line drop_rule
 drop_parsed = rw drop_string refl
+
+-- ---- elements by their name, which is a JSON string
+
+element_line : List ℕ
+element_line = codes "hex event a b[\"a # \\\"b\\\"\"].c"
+
+element_rule : Statement
+element_rule = change (record {
+  verb = Hex;
+  kind = Event;
+  name = Some (codes "a");
+  place = named (codes "b") ∷ elements (Some (codes "a # \"b\"")) ∷ named (codes "c") ∷ [];
+})
+
+element_says : Says element_line (rule element_rule)
+unfolding element_line element_rule
+element_says = (
+  codes "hex" ∷ codes "event" ∷ codes "a" ∷ codes "b[\"a # \\\"b\\\"\"].c" ∷ [],
+  (
+    [],
+    codes " event a b[\"a # \\\"b\\\"\"].c",
+    refl,
+    refl,
+    (
+      codes " ",
+      codes " a b[\"a # \\\"b\\\"\"].c",
+      refl,
+      (refl, refl),
+      (
+        codes " ",
+        codes " b[\"a # \\\"b\\\"\"].c",
+        refl,
+        (refl, refl),
+        (codes " ", [], refl, (refl, refl), ([], [], refl, refl, tt)),
+      ),
+    ),
+  ),
+  (
+    codes "a",
+    codes "b[\"a # \\\"b\\\"\"].c",
+    refl,
+    bare refl refl,
+    (
+      codes "b",
+      codes "[\"a # \\\"b\\\"\"].c",
+      refl,
+      bare refl refl,
+      (
+        codes "\"a # \\\"b\\\"\"",
+        codes ".c",
+        refl,
+        (codes "a # \\\"b\\\"", refl, drop_inside, drop_reads),
+        (codes "c", [], refl, bare refl refl, refl),
+      ),
+    ),
+  ),
+)
+
+element_parsed : line_said element_line ≡ rule element_rule
+unfolding element_line element_rule
+element_parsed = rw drop_string refl
 
 -- ---- an event of one category
 

@@ -7,6 +7,7 @@ use Rattle.dap_profile.specs.PlaceSteps.{PlaceStep, named}
 use Rattle.dap_profile.specs.declared.profile.Kind.TheVariants.{Event}
 use Rattle.dap_message.specs.Rows.{is_text}
 use Rattle.dap_mask.specs.Rules.{Rule, has_name, same_kind, same_name, same_place, share_name}
+use Rattle.dap_mask.specs.Rules.{plain_place_of}
 use Rattle.dap_mask.specs.declared.categories.CategoryRule.{CategoryRule as ReadCategoryRule}
 
 -- The events of one name (`None` is any name) and one category.
@@ -47,7 +48,7 @@ is_category_among c (e ∷ es) = same_category c e || is_category_among c es
 -- The change may give an event the category by which the other rule drops it (own). If both were
 -- rules of one mask, masking twice could drop an event that masking once keeps.
 abbrev pub moves : Rule → CategoryRule → Bool
-moves r c = same_place r.place category_place
+moves r c = same_place (plain_place_of r) category_place
     && (same_kind r.kind Event && share_name r.name c.name)
 
 -- The change may give an event a category by which one of these rules drops it.

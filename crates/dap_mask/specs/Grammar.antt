@@ -3,12 +3,12 @@
 use Rattle.std.specs.Prelude.{◌≡◌, ◌≢◌, ◌↔◌, ℕ, true, List, [], ◌∷◌, ◌++◌, Option, Some, None}
 use Rattle.std.specs.Prelude.{codes}
 use Rattle.serde_json.specs.Data as json
-use Rattle.dap_profile.specs.PlaceSteps.{PlaceStep, named, each}
 use Rattle.dap_profile.specs.declared.profile.Kind.{Kind}
 use Rattle.dap_profile.specs.declared.profile.Kind.TheVariants.{Request, Response, Event}
 use Rattle.dap_tree.specs.Json.{Reads}
 use Rattle.dap_mask.specs.Mask.{Statement, change, leave_out, leave_out_category, swap, restart}
 use Rattle.dap_mask.specs.Mask.{put, Line, nothing, rule, bad}
+use Rattle.dap_mask.specs.RuleSteps.{RuleStep, named, elements}
 use Rattle.dap_mask.specs.RuleText.{line_said}
 use Rattle.dap_mask.specs.Runs.{is_blank, is_plain}
 use Rattle.dap_mask.specs.Texts.{all_of, begins_with}
@@ -69,20 +69,29 @@ IsNameOrAny w (Some name) = IsName w name
 
 -- ---- places
 
+-- The word is a JSON string, which represents this name.
+abbrev pub IsQuotedName : List ℕ → List ℕ → Type 0
+IsQuotedName w name = (inside : List ℕ) × (w ≡ 34 ∷ inside ++ 34 ∷ []) × IsInside inside
+    × Reads w (json.string name)
+
 -- The text represents these further steps of a place: `.` and a name for a member, `[]` for each
--- element.
-abbrev pub AreSteps : List ℕ → List PlaceStep → Type 0
+-- element, and a JSON string in brackets for the elements with that name.
+abbrev pub AreSteps : List ℕ → List RuleStep → Type 0
 AreSteps s [] = s ≡ []
 AreSteps s (named name ∷ steps) = (n : List ℕ) × (rest : List ℕ) × (s ≡ codes "." ++ (n ++ rest))
     × IsName n name × AreSteps rest steps
-AreSteps s (each ∷ steps) = (rest : List ℕ) × (s ≡ codes "[]" ++ rest) × AreSteps rest steps
+AreSteps s (elements None ∷ steps) =
+    (rest : List ℕ) × (s ≡ codes "[]" ++ rest) × AreSteps rest steps
+AreSteps s (elements (Some name) ∷ steps) =
+    (n : List ℕ) × (rest : List ℕ) × (s ≡ codes "[" ++ (n ++ (codes "]" ++ rest)))
+    × IsQuotedName n name × AreSteps rest steps
 
 -- The word represents this place: a name and further steps.
-abbrev pub IsPlace : List ℕ → List PlaceStep → Type 0
+abbrev pub IsPlace : List ℕ → List RuleStep → Type 0
 IsPlace w [] = ⊥
 IsPlace w (named name ∷ steps) = (n : List ℕ) × (rest : List ℕ) × (w ≡ n ++ rest)
     × IsName n name × AreSteps rest steps
-IsPlace w (each ∷ steps) = ⊥
+IsPlace w (elements n ∷ steps) = ⊥
 
 -- ---- rules
 

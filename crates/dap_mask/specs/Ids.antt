@@ -9,7 +9,7 @@ use Rattle.dap_profile.specs.Profile.{profile, wants_id}
 use Rattle.dap_profile.specs.ProfileRows.{ProfileRow}
 use Rattle.dap_message.specs.Rows.{row_applies}
 use Rattle.dap_profile.specs.declared.profile.Kind.{Kind}
-use Rattle.dap_mask.specs.Rules.{Rule, same_place, same_kind, share_name}
+use Rattle.dap_mask.specs.Rules.{Rule, same_place, same_kind, share_name, plain_place_of}
 use Rattle.dap_mask.specs.Masked.{left}
 
 -- The rule and the row may apply to the same message.
@@ -19,7 +19,8 @@ meets r (Some k) n = same_kind r.kind k && share_name r.name n
 
 -- The place of the rule is that of the ids of the row, and both may apply to the same message.
 abbrev pub takes_id : Rule → ProfileRow → Bool
-takes_id r row = wants_id row.want && (same_place r.place row.place && meets r row.kind row.name)
+takes_id r row =
+    wants_id row.want && (same_place (plain_place_of r) row.place && meets r row.kind row.name)
 
 -- The place of no rule is that of an id of the row.
 abbrev pub leave_row : List Rule → ProfileRow → Bool

@@ -1,8 +1,9 @@
 -- The theorems that the functions of `laws` state.
-use Rattle.std.specs.Prelude.{◌≡◌, ◌↔◌, ℕ, true, false, List, Option, None, option_map}
+use Rattle.std.specs.Prelude.{◌≡◌, ◌↔◌, ℕ, true, false, List, Option, Some, None, option_map}
 use Rattle.dap_tree.specs.Doc.{Doc, is_ordered, is_sound, all_utf8}
 use Rattle.dap_tree.specs.Path.{Step, at}
-use Rattle.dap_message.specs.Marks.{top}
+use Rattle.dap_message.specs.Marks.{top, edit}
+use Rattle.dap_mask.specs.RuleSteps.{RuleStep, plain_place, is_unnamed, has_names, change_at_place}
 use Rattle.dap_mask.specs.Rules.{Rule, are_safe, are_idempotent, is_dropped}
 use Rattle.dap_mask.specs.Categories.{keep_categories}
 use Rattle.dap_mask.specs.Mask.{Mask, leaves_out}
@@ -69,6 +70,16 @@ KeepsSound = (rules : List Rule) (d : Doc) → is_sound d ≡ true → is_sound 
 
 abbrev pub KeepsUtf8 : Type 0
 KeepsUtf8 = (rules : List Rule) (d : Doc) → all_utf8 d ≡ true → all_utf8 (masked rules d) ≡ true
+
+-- ---- places without names of elements
+
+-- If a place selects no elements by their name, the names along a path do not matter, and a change
+-- at the place is one at each path that matches it.
+abbrev pub PlainPlaces : Type 0
+PlainPlaces = (steps : List RuleStep) (f : Doc → Doc) (d : Doc) (p : List Step)
+    → is_unnamed steps ≡ true
+    → (has_names steps (Some d) p ≡ true)
+    × (change_at_place steps f d ≡ edit (plain_place steps) f d)
 
 -- ---- strings
 

@@ -1,4 +1,5 @@
 pub mod Texts
+pub mod RuleSteps
 pub mod Rules
 pub mod Swaps
 pub mod Categories

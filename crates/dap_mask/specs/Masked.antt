@@ -5,8 +5,10 @@ use Rattle.dap_tree.specs.Doc.{Doc}
 use Rattle.dap_tree.specs.Path.{Step, name, place, at}
 use Rattle.dap_profile.specs.PlaceSteps.{PlaceStep, named, each}
 use Rattle.dap_message.specs.Places.{fits_place}
-use Rattle.dap_message.specs.Marks.{top, edit}
-use Rattle.dap_mask.specs.Rules.{Rule, of_verb, takes_parts, rule_applies}
+use Rattle.dap_message.specs.Marks.{top}
+use Rattle.dap_mask.specs.RuleSteps.{change_at_place}
+use Rattle.dap_mask.specs.Rules.{Rule, of_verb, takes_parts, rule_applies, applies_at}
+use Rattle.dap_mask.specs.Rules.{plain_place_of}
 use Rattle.dap_mask.specs.declared.rules.Verb.{Verb}
 
 -- ---- path by path
@@ -25,9 +27,9 @@ abbrev pub left_at : Verb → List PlaceStep → List Step → Option Doc → Op
 left_at v ps p o = cond (fits_place ps p) (option_map (of_verb v) o)
     (cond (is_below ps p && takes_parts v) None o)
 
--- The value at a path of the document d after a rule.
+-- The value at a path of the document d after a rule. The names of elements are those in d.
 abbrev pub left_by : Rule → Doc → List Step → Option Doc → Option Doc
-left_by r d p o = cond (rule_applies r d) (left_at r.verb r.place p o) o
+left_by r d p o = cond (applies_at r d p) (left_at r.verb (plain_place_of r) p o) o
 
 -- The value at this path after the rules, applied in order.
 abbrev pub left : List Rule → Doc → List Step → Option Doc → Option Doc
@@ -47,13 +49,14 @@ unfoldable pub AgreeBut : List Rule → Doc → Doc → Type 0
 AgreeBut rules d e = (p : List Step) → option_map top (left rules d p (at p d))
     ≡ option_map top (left rules e p (at p e))
 
--- No rule that applies to the document has its place at the path, or removes the parts of a value
--- above the path.
+-- No rule that applies to the document and the elements along the path has its place at the path,
+-- or removes the parts of a value above the path.
 abbrev pub is_apart : List Rule → Doc → List Step → Bool
 is_apart [] d p = true
 is_apart (r ∷ rs) d p =
-    cond (rule_applies r d) (cond (fits_place r.place p) false (cond (is_below r.place p
-    && takes_parts r.verb) false (is_apart rs d p))) (is_apart rs d p)
+    cond (applies_at r d p) (cond (fits_place (plain_place_of r) p) false
+    (cond (is_below (plain_place_of r) p && takes_parts r.verb) false (is_apart rs d p)))
+    (is_apart rs d p)
 
 -- At each path that the rules do not affect, the masked document e has the same value as d.
 abbrev pub KeepsElsewhere : List Rule → Doc → Doc → Type 0
@@ -67,7 +70,7 @@ HasNoNewPath d e = (p : List Step) → at p d ≡ None → at p e ≡ None
 -- ---- as a function on documents
 
 abbrev pub mask_by : Rule → Doc → Doc
-mask_by r d = cond (rule_applies r d) (edit r.place (of_verb r.verb) d) d
+mask_by r d = cond (rule_applies r d) (change_at_place r.place (of_verb r.verb) d) d
 
 -- The document after the rules, applied in order.
 abbrev pub masked : List Rule → Doc → Doc

@@ -5,13 +5,13 @@ use Rattle.std.specs.Prelude.{codes, bytes_eq}
 use Rattle.std.specs.Str.{is_utf8}
 use Rattle.serde_json.specs.Data as json
 use Rattle.serde_json.specs.Read.{read}
-use Rattle.dap_profile.specs.PlaceSteps.{PlaceStep, named, each}
 use Rattle.dap_profile.specs.declared.profile.Kind.{Kind}
 use Rattle.dap_profile.specs.declared.profile.Kind.TheVariants.{Request, Response, Event}
 use Rattle.dap_texts.specs.Words.{Pair}
 use Rattle.dap_mask.specs.Mask.{Statement, change, leave_out, leave_out_category, swap, restart}
 use Rattle.dap_mask.specs.Mask.{put}
 use Rattle.dap_mask.specs.Mask.{Line, nothing, rule, bad}
+use Rattle.dap_mask.specs.RuleSteps.{RuleStep, named, elements}
 use Rattle.dap_mask.specs.Rules.{same_kind}
 use Rattle.dap_mask.specs.Runs.{is_plain, front, behind, closing, is_closed, gap, is_end}
 use Rattle.dap_mask.specs.Runs.{is_blank}
@@ -56,34 +56,44 @@ any_name (b ∷ s) = cond (b == 42) (Some (None, s)) (option_map this_name (name
 
 -- ---- places
 
--- The rest of `[]` after its first bracket: each element.
-abbrev pub each_step : List ℕ → Option (PlaceStep × List ℕ)
-each_step [] = None
-each_step (b ∷ s) = cond (b == 93) (Some (each, s)) None
+-- The step to the elements with this name, if a bracket closes it, and the rest.
+abbrev pub bracket_behind : List ℕ → List ℕ → Option (RuleStep × List ℕ)
+bracket_behind n [] = None
+bracket_behind n (b ∷ s) = cond (b == 93) (Some (elements (Some n), s)) None
 
-abbrev pub member_step : List ℕ × List ℕ → PlaceStep × List ℕ
+abbrev pub called_step : List ℕ × List ℕ → Option (RuleStep × List ℕ)
+called_step n = bracket_behind n.0 n.1
+
+-- The rest of `[]` after its first bracket: each element. Or the rest of `["NAME"]`: the elements
+-- with that name.
+abbrev pub each_step : List ℕ → Option (RuleStep × List ℕ)
+each_step [] = None
+each_step (b ∷ s) = cond (b == 93) (Some (elements None, s))
+    (cond (b == 34) (option_and_then called_step (quoted_at (b ∷ s))) None)
+
+abbrev pub member_step : List ℕ × List ℕ → RuleStep × List ℕ
 member_step n = (named n.0, n.1)
 
--- The next step of a place: a dot followed by a name, or `[]`.
-abbrev pub next_step : List ℕ → Option (PlaceStep × List ℕ)
+-- The next step of a place: a dot followed by a name, `[]`, or a string in brackets.
+abbrev pub next_step : List ℕ → Option (RuleStep × List ℕ)
 next_step [] = None
 next_step (b ∷ s) = cond (b == 46) (option_map member_step (name_at s))
     (cond (b == 91) (each_step s) None)
 
 -- No step, or this step and the steps that `more` returns for the rest.
-abbrev pub step_then : List ℕ → (List ℕ → Option (List PlaceStep × List ℕ))
-    → Option (PlaceStep × List ℕ) → Option (List PlaceStep × List ℕ)
+abbrev pub step_then : List ℕ → (List ℕ → Option (List RuleStep × List ℕ))
+    → Option (RuleStep × List ℕ) → Option (List RuleStep × List ℕ)
 step_then s more None = Some ([], s)
 step_then s more (Some p) = option_map (λ r. (p.0 ∷ r.0, r.1)) (more p.1)
 
 -- All further steps, and the rest of the text. There must be fewer steps than the given number.
-abbrev pub steps_from : ℕ → List ℕ → Option (List PlaceStep × List ℕ)
+abbrev pub steps_from : ℕ → List ℕ → Option (List RuleStep × List ℕ)
 steps_from zero s = None
 steps_from (suc n) s = step_then s (steps_from n) (next_step s)
 
 -- The place with which the text starts, and the rest: a name and the steps after it. The text has
 -- more bytes than steps.
-abbrev pub place_at : List ℕ → Option (List PlaceStep × List ℕ)
+abbrev pub place_at : List ℕ → Option (List RuleStep × List ℕ)
 place_at s = option_and_then (λ n. option_map (λ r. (named n.0 ∷ r.0, r.1))
     (steps_from (length s) n.1)) (name_at s)
 
@@ -117,7 +127,7 @@ kind_then s = option_and_then (λ k. option_and_then (name_behind k) (gap (behin
 abbrev pub head_at : List ℕ → Option Head
 head_at s = option_and_then kind_then (gap s)
 
-abbrev pub placed : Verb → Kind → Option (List ℕ) → List PlaceStep × List ℕ → Option Statement
+abbrev pub placed : Verb → Kind → Option (List ℕ) → List RuleStep × List ℕ → Option Statement
 placed v k n p = cond (is_end p.1)
     (Some (change (record { verb = v; kind = k; name = n; place = p.0 }))) None
 

@@ -4,17 +4,20 @@ use Rattle.std.specs.Prelude.{ℕ, Bool, true, false, not, ◌&&◌, ◌||◌, p
 use Rattle.std.specs.Prelude.{Option, Some, None, option_map, codes, bytes_eq, string_bytes}
 use Rattle.dap_tree.specs.Doc.{Doc, null, boolean, whole, text, list, object, id, no_items}
 use Rattle.dap_tree.specs.Doc.{no_members, get}
-use Rattle.dap_profile.specs.PlaceSteps.{PlaceStep, named, each}
+use Rattle.dap_tree.specs.Path.{Step}
+use Rattle.dap_profile.specs.PlaceSteps.{PlaceStep, named as member, each}
 use Rattle.dap_message.specs.Rows.{is_text, is_of_kind, name_key}
 use Rattle.dap_profile.specs.declared.profile.Kind.{Kind}
 use Rattle.dap_profile.specs.declared.profile.Kind.TheVariants.{Request, Response, Event}
 use Rattle.dap_texts.specs.Long.{long}
 use Rattle.dap_texts.specs.Uuids.{uuid}
+use Rattle.dap_mask.specs.RuleSteps.{RuleStep, named, elements, plain_step, plain_place}
+use Rattle.dap_mask.specs.RuleSteps.{has_names}
 use Rattle.dap_mask.specs.Texts.{digits, hex}
 use Rattle.dap_mask.specs.declared.rules.Verb.{Verb}
 use Rattle.dap_mask.specs.declared.rules.Verb.TheVariants.{Blank, Digits, Hex, Long, Uuid}
-use Rattle.dap_mask.specs.declared.rules.Step.{Step as RuleStep}
-use Rattle.dap_mask.specs.declared.rules.Step.TheVariants.{Member, Each}
+use Rattle.dap_mask.specs.declared.rules.Step.{Step as ReadStep}
+use Rattle.dap_mask.specs.declared.rules.Step.TheVariants.{Member, Each, Element}
 use Rattle.dap_mask.specs.declared.rules.MaskRule.{MaskRule}
 
 -- The model of a rule. `None` is any name.
@@ -22,14 +25,19 @@ pub record Rule : Type 0 where
   pub verb : Verb
   pub kind : Kind
   pub name : Option (List ℕ)
-  pub place : List PlaceStep
+  pub place : List RuleStep
 
-abbrev pub step_of : RuleStep → PlaceStep
+abbrev pub step_of : ReadStep → RuleStep
 step_of (Member s) = named (string_bytes s)
-step_of Each = each
+step_of Each = elements None
+step_of (Element s) = elements (Some (string_bytes s))
 
-abbrev pub place_of : List RuleStep → List PlaceStep
+abbrev pub place_of : List ReadStep → List RuleStep
 place_of steps = map step_of steps
+
+-- The place of a rule, without the names of elements.
+abbrev pub plain_place_of : Rule → List PlaceStep
+plain_place_of r = plain_place r.place
 
 -- The model of a rule of the program.
 abbrev pub rule_of : MaskRule → Rule
@@ -89,6 +97,11 @@ has_name k (Some n) d = is_text n (get (name_key k) d)
 abbrev pub rule_applies : Rule → Doc → Bool
 rule_applies r d = is_of_kind r.kind d && has_name r.kind r.name d
 
+-- The rule applies to the message, and each element along the path has the name that the place of
+-- the rule gives (own).
+abbrev pub applies_at : Rule → Doc → List Step → Bool
+applies_at r d p = rule_applies r d && has_names r.place (Some d) p
+
 -- The event has one of these names. `None` is any name.
 abbrev pub is_event_of : List (Option (List ℕ)) → Doc → Bool
 is_event_of [] d = false
@@ -109,18 +122,13 @@ abbrev pub is_telling : List ℕ → Bool
 is_telling k = bytes_eq (codes "type") k || (is_naming k || bytes_eq (codes "success") k)
 
 -- The place is the message itself, or its `type`, `command`, `event` or `success`.
-abbrev pub is_telling_place : List PlaceStep → Bool
+abbrev pub is_telling_place : List RuleStep → Bool
 is_telling_place [] = true
 is_telling_place (named k ∷ []) = is_telling k
 is_telling_place _ = false
 
--- The place of no rule is the message itself, or its `type`, `command`, `event` or `success`.
-abbrev pub are_safe : List Rule → Bool
-are_safe [] = true
-are_safe (r ∷ rs) = not (is_telling_place r.place) && are_safe rs
-
 abbrev pub same_step : PlaceStep → PlaceStep → Bool
-same_step (named k) (named l) = bytes_eq k l
+same_step (member k) (member l) = bytes_eq k l
 same_step each each = true
 same_step _ _ = false
 
@@ -146,6 +154,27 @@ same_name (Some n) (Some m) = bytes_eq n m
 same_name None None = true
 same_name _ _ = false
 
+abbrev pub same_rule_step : RuleStep → RuleStep → Bool
+same_rule_step (named k) (named l) = bytes_eq k l
+same_rule_step (elements n) (elements m) = same_name n m
+same_rule_step _ _ = false
+
+abbrev pub same_rule_place : List RuleStep → List RuleStep → Bool
+same_rule_place [] [] = true
+same_rule_place (p ∷ ps) (q ∷ qs) = same_rule_step p q && same_rule_place ps qs
+same_rule_place _ _ = false
+
+-- Some value may be at both places. An element has only one name.
+abbrev pub share_step : RuleStep → RuleStep → Bool
+share_step (named k) (named l) = bytes_eq k l
+share_step (elements n) (elements m) = share_name n m
+share_step _ _ = false
+
+abbrev pub share_place : List RuleStep → List RuleStep → Bool
+share_place [] [] = true
+share_place (p ∷ ps) (q ∷ qs) = share_step p q && share_place ps qs
+share_place _ _ = false
+
 abbrev pub same_verb : Verb → Verb → Bool
 same_verb Blank Blank = true
 same_verb Digits Digits = true
@@ -157,7 +186,7 @@ same_verb _ _ = false
 abbrev pub same_rule : Rule → Rule → Bool
 same_rule r t =
     same_verb r.verb t.verb && (same_kind r.kind t.kind && (same_name r.name t.name
-    && same_place r.place t.place))
+    && same_rule_place r.place t.place))
 
 -- The rule is one of these.
 abbrev pub is_among : Rule → List Rule → Bool
@@ -179,7 +208,7 @@ unsettles _ _ = false
 -- The two rules clash: the second rule is the later one, and its verb unsettles that of the first
 -- at the same place of some message.
 abbrev pub clash : Rule → Rule → Bool
-clash r t = unsettles r.verb t.verb && (same_place r.place t.place && (same_kind r.kind t.kind
+clash r t = unsettles r.verb t.verb && (share_place r.place t.place && (same_kind r.kind t.kind
     && share_name r.name t.name))
 
 abbrev pub clashes_with : Rule → List Rule → Bool
@@ -195,3 +224,36 @@ are_idempotent (r ∷ rs) = not (clashes_with r rs) && are_idempotent rs
 abbrev pub is_clashed_with : List Rule → Rule → Bool
 is_clashed_with [] t = false
 is_clashed_with (r ∷ rs) t = clash r t || is_clashed_with rs t
+
+-- ---- the names by which rules select elements
+
+-- The place leads from an element that is selected by a text to its member `name`.
+abbrev pub is_name_of : RuleStep → List PlaceStep → Bool
+is_name_of (elements (Some n)) (member k ∷ []) = bytes_eq (codes "name") k
+is_name_of _ _ = false
+
+-- The first place is that of the `name` of an element that the second place selects by a text, or
+-- of another element of the same array.
+abbrev pub is_name_in : List PlaceStep → List RuleStep → Bool
+is_name_in ps [] = false
+is_name_in [] (q ∷ qs) = false
+is_name_in (p ∷ ps) (q ∷ qs) = same_step p (plain_step q) && (is_name_of q ps || is_name_in ps qs)
+
+-- The first rule may change the name by which the second one selects an element (own). If both were
+-- rules of one mask, masking twice could change elements that masking once leaves.
+abbrev pub renames : Rule → Rule → Bool
+renames r t = is_name_in (plain_place_of r) t.place && (same_kind r.kind t.kind
+    && share_name r.name t.name)
+
+-- The rule may change a name by which one of these selects, or one of these a name by which the
+-- rule selects.
+abbrev pub renames_among : Rule → List Rule → Bool
+renames_among r [] = false
+renames_among r (t ∷ ts) = (renames r t || renames t r) || renames_among r ts
+
+-- The place of no rule is the message itself, or its `type`, `command`, `event` or `success`, and
+-- no rule changes a name by which a rule selects elements.
+abbrev pub are_safe : List Rule → Bool
+are_safe [] = true
+are_safe (r ∷ rs) =
+    not (is_telling_place r.place) && (not (renames r r || renames_among r rs) && are_safe rs)

@@ -8,7 +8,8 @@ use Rattle.dap_mask.specs.Ids.{takes_profile_id}
 use Rattle.dap_mask.specs.Mask.{Mask, no_rules, rule_count, with_rule, Statement, change, leave_out}
 use Rattle.dap_mask.specs.Mask.{leave_out_category, swap, restart, put, Line, nothing, rule, bad}
 use Rattle.dap_mask.specs.RuleText.{line_said}
-use Rattle.dap_mask.specs.Rules.{Rule, clash, is_among, is_telling_place, same_name}
+use Rattle.dap_mask.specs.Rules.{Rule, clash, is_among, is_telling_place, same_name, renames}
+use Rattle.dap_mask.specs.Rules.{renames_among}
 use Rattle.dap_mask.specs.Runs.{lines_of}
 use Rattle.dap_mask.specs.Swaps.{is_swap_among}
 use Rattle.dap_mask.specs.declared.fault.RulesCause.{RulesCause}
@@ -41,7 +42,7 @@ clash_cause (r ∷ rs) t = cond (clash r t) (Some (cause_of_pair r.verb t.verb))
 -- Why a change may not follow these changes, apart from the limit on their number.
 abbrev pub change_cause : List Rule → Rule → Option RulesCause
 change_cause rs r =
-    cond (is_telling_place r.place || takes_profile_id r) (Some BadPlace)
+    cond (is_telling_place r.place || (takes_profile_id r || renames r r)) (Some BadPlace)
     (cond (is_among r rs) (Some Repeated) (clash_cause rs r))
 
 -- The first cause, or `Clash` if there is none and the rules clash.
@@ -58,7 +59,8 @@ cause_of_word of_word.Memory = Memory
 
 -- Why a rule may not follow the rules of a mask, apart from the limit on their number.
 abbrev pub cause_of : Mask → Statement → Option RulesCause
-cause_of m (change r) = or_clash (change_cause m.changes r) (moves_one_of r m.categories)
+cause_of m (change r) = or_clash (change_cause m.changes r)
+    (moves_one_of r m.categories || renames_among r m.changes)
 cause_of m (leave_out n) = cond (is_name_among n m.dropped) (Some Repeated) None
 cause_of m (leave_out_category c) = cond (is_category_among c m.categories) (Some Repeated)
     (cond (is_moved_by m.changes c) (Some Clash) None)

@@ -32,8 +32,8 @@ pub enum RulesCause {
     /// - Fix: join rules, with `*` for the name.
     #[error("TooMany")]
     TooMany,
-    /// The place never changes: it is an id that the profile renames, the message itself, or its
-    /// `type`, `command`, `event` or `success`.
+    /// The place never changes: it is an id that the profile renames, the message itself, its
+    /// `type`, `command`, `event` or `success`, or the name by which the rule selects an element.
     ///
     /// - Cause: a rule for a number that `normalise` renames anyway.
     /// - Fix: leave the rule out.
@@ -55,7 +55,8 @@ pub enum RulesCause {
     DigitsBehindHex,
     /// An earlier rule has another action at the same place of messages that may be the same, and
     /// masking twice by both could change a text again. Or one of the two changes `body.category`
-    /// of events that the other drops by their category.
+    /// of events that the other drops by their category, or the `name` of the elements of an array
+    /// that the other selects by their name.
     ///
     /// - Cause: `hex` before `long`, `uuid` after another action, or `uuid` with `digits`.
     /// - Fix: write `uuid` before `long` and `hex` last, and do not use `uuid` and `digits` at one

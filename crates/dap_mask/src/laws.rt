@@ -3,7 +3,7 @@
 ghost use Rattle.dap_mask.specs.Grammar.{ParserFindsLine, LineSaysOne};
 ghost use Rattle.dap_mask.specs.Laws.{MaskedByPath, OneMasked, KeepsOthers, NoneNew, DropsAlike};
 ghost use Rattle.dap_mask.specs.Laws.{MaskedOnce, EqualWhereAgree, KeepsOrder, KeepsSound};
-ghost use Rattle.dap_mask.specs.Laws.{KeepsUtf8, StaysIn, DigitsAre, HexIs};
+ghost use Rattle.dap_mask.specs.Laws.{KeepsUtf8, StaysIn, DigitsAre, HexIs, PlainPlaces};
 ghost use Rattle.dap_mask.specs.Loose.{UnmaskedIsRead, OneLooseReading, LooseIsOrdered};
 ghost use Rattle.dap_mask.specs.Loose.{LeftIsRead};
 ghost use Rattle.dap_mask.specs.Ids.{LeavesIds};
@@ -31,6 +31,12 @@ pub fn masked_once()
 /// that the rules redact.
 pub fn equal_where_they_agree()
     ensures { EqualWhereAgree }
+{}
+
+/// If a place selects no elements by their name, the names along a path do not matter, and a change
+/// at the place is one at each path that matches it.
+pub fn plain_places()
+    ensures { PlainPlaces }
 {}
 
 /// `digits` and `hex` return the strings that their relations describe.

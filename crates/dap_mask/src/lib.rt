@@ -9,6 +9,7 @@
 #![tactic(auto)]
 
 mod categories;
+mod element_names;
 mod fault;
 mod index;
 pub mod laws;

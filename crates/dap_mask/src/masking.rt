@@ -1,11 +1,10 @@
 //! Masks the values of a message in place.
 ghost use Rattle.std.specs.Prelude.{◌≡◌, ◌↔◌, true, false, Some, map, option_map, string_bytes};
-ghost use Rattle.std.specs.Prelude.{slice_get};
+ghost use Rattle.std.specs.Prelude.{◌∷◌, slice_get};
 ghost use Rattle.dap_tree.specs.Doc.{Doc, is_sound, is_ordered, get, change_child, change_items};
 ghost use Rattle.dap_tree.specs.Doc.{map_items};
 ghost use Rattle.dap_tree.specs.Path.{at};
 ghost use Rattle.dap_tree.specs.View.{view, items_view};
-ghost use Rattle.dap_message.specs.Marks.{edit};
 ghost use Rattle.dap_message.specs.Rows.{is_text, is_of_kind, name_key};
 ghost use Rattle.dap_mask.specs.Ids.{KeepsIds};
 ghost use Rattle.dap_mask.specs.Index.{told_kind, told_name, masked_by, masked_at};
@@ -15,7 +14,9 @@ ghost use Rattle.dap_mask.specs.KeptRules.{changes_of, dropped_of, mask_of};
 ghost use Rattle.dap_mask.specs.Mask.{leaves_out};
 ghost use Rattle.dap_mask.specs.Masked.{mask_by, masked, IsMasked, AgreeBut, KeepsElsewhere};
 ghost use Rattle.dap_mask.specs.Masked.{HasNoNewPath};
-ghost use Rattle.dap_mask.specs.Rules.{rule_of, rules_of, place_of, of_verb, blank, has_name};
+ghost use Rattle.dap_mask.specs.RuleSteps.{change_at_place, change_called, is_called};
+ghost use Rattle.dap_mask.specs.Rules.{rule_of, rules_of, step_of, place_of, of_verb, blank};
+ghost use Rattle.dap_mask.specs.Rules.{has_name};
 ghost use Rattle.dap_mask.specs.Rules.{rule_applies, is_event_of, is_dropped};
 
 use crate::categories::CategoryRule;
@@ -218,21 +219,31 @@ fn rule_applies(rule: &MaskRule, tree: &Tree) -> bool
 
 #[cycle(mask_path)]
 fn mask_path(tree: &mut Tree, path: &[Step], verb: Verb)
-    ensures { view tree.new ≡ edit (place_of path.now) (of_verb verb) (view tree.old) }
+    ensures { view tree.new ≡ change_at_place (place_of path.now) (of_verb verb) (view tree.old) }
 {
     match path {
         [] => change(tree, verb),
-        [step, rest @ ..] => match step {
-            Step::Member(name) => mask_below(tree, name.as_str(), rest, verb),
-            Step::Each => mask_list(tree, rest, verb),
-        },
+        [step, rest @ ..] => mask_step(tree, step, rest, verb),
+    }
+}
+
+#[cycle(mask_path)]
+fn mask_step(tree: &mut Tree, step: &Step, path: &[Step], verb: Verb)
+    ensures { view tree.new
+        ≡ change_at_place (step_of step.now ∷ place_of path.now) (of_verb verb) (view tree.old) }
+{
+    match step {
+        Step::Member(name) => mask_below(tree, name.as_str(), path, verb),
+        Step::Each => mask_list(tree, None, path, verb),
+        Step::Element(name) => mask_list(tree, Some(name.as_str()), path, verb),
     }
 }
 
 #[cycle(mask_path)]
 fn mask_below(tree: &mut Tree, name: &str, path: &[Step], verb: Verb)
     ensures { view tree.new
-        ≡ change_child name.now (edit (place_of path.now) (of_verb verb)) (view tree.old) }
+        ≡ change_child name.now (change_at_place (place_of path.now) (of_verb verb))
+        (view tree.old) }
 {
     if let Some(members) = tree.members_mut() {
         if let Some(member) = members.get_mut(name) {
@@ -241,23 +252,46 @@ fn mask_below(tree: &mut Tree, name: &str, path: &[Step], verb: Verb)
     }
 }
 
+// Masks the elements of an array with this name, or all of them if no name is given.
 #[cycle(mask_path)]
-fn mask_list(tree: &mut Tree, path: &[Step], verb: Verb)
+fn mask_list(tree: &mut Tree, name: Option<&str>, path: &[Step], verb: Verb)
     ensures { view tree.new
-        ≡ change_items (edit (place_of path.now) (of_verb verb)) (view tree.old) }
+        ≡ change_items (change_called (option_map (λ s. s.now) name.entry)
+        (change_at_place (place_of path.now) (of_verb verb))) (view tree.old) }
 {
     if let Tree::List(items) = tree {
-        mask_each(items, path, verb);
+        mask_each(items, name, path, verb);
     }
 }
 
 #[cycle(mask_path)]
-fn mask_each(items: &mut Vec<Tree>, path: &[Step], verb: Verb)
+fn mask_each(items: &mut Vec<Tree>, name: Option<&str>, path: &[Step], verb: Verb)
     ensures { items_view items.new.items
-        ≡ map_items (edit (place_of path.now) (of_verb verb)) (items_view items.old.items) }
+        ≡ map_items (change_called (option_map (λ s. s.now) name.entry)
+        (change_at_place (place_of path.now) (of_verb verb))) (items_view items.old.items) }
 {
     for item in items.iter_mut() {
-        mask_path(item, path, verb);
+        mask_element(item, name, path, verb);
+    }
+}
+
+#[cycle(mask_path)]
+fn mask_element(tree: &mut Tree, name: Option<&str>, path: &[Step], verb: Verb)
+    ensures { view tree.new
+        ≡ change_called (option_map (λ s. s.now) name.entry)
+        (change_at_place (place_of path.now) (of_verb verb)) (view tree.old) }
+{
+    if is_called(tree, name) {
+        mask_path(tree, path, verb);
+    }
+}
+
+fn is_called(tree: &Tree, name: Option<&str>) -> bool
+    ensures { result ≡ is_called (option_map (λ s. s.now) name.entry) (Some (view tree.now)) }
+{
+    match name {
+        Some(name) => has_text(tree, "name", name),
+        None => true,
     }
 }
 

@@ -1,6 +1,7 @@
 //! Compares rules: by messages, by places, and by clashes between actions.
 ghost use Rattle.std.specs.Prelude.{◌≡◌, option_map, string_bytes};
-ghost use Rattle.dap_mask.specs.Rules.{rule_of, rules_of, step_of, place_of, same_step, same_place};
+ghost use Rattle.dap_mask.specs.Rules.{rule_of, rules_of, step_of, place_of, same_rule_step};
+ghost use Rattle.dap_mask.specs.Rules.{same_rule_place, share_step, share_place};
 ghost use Rattle.dap_mask.specs.Rules.{same_kind, share_name, same_name, same_verb, same_rule};
 ghost use Rattle.dap_mask.specs.Rules.{is_among, unsettles, clash};
 ghost use Rattle.dap_mask.specs.Rules.{is_naming, is_telling, is_telling_place};
@@ -64,24 +65,55 @@ fn same_verb(verb: Verb, other: Verb) -> bool
     }
 }
 
-fn same_step(step: &Step, other: &Step) -> bool
-    ensures { result ≡ same_step (step_of step.now) (step_of other.now) }
+fn same_rule_step(step: &Step, other: &Step) -> bool
+    ensures { result ≡ same_rule_step (step_of step.now) (step_of other.now) }
 {
     match (step, other) {
         (Step::Member(name), Step::Member(other)) => name.as_str() == other.as_str(),
         (Step::Each, Step::Each) => true,
+        (Step::Element(name), Step::Element(other)) => name.as_str() == other.as_str(),
         _ => false,
     }
 }
 
-pub(crate) fn same_place(place: &[Step], other: &[Step]) -> bool
-    ensures { result ≡ same_place (place_of place.now) (place_of other.now) }
+fn same_rule_place(place: &[Step], other: &[Step]) -> bool
+    ensures { result ≡ same_rule_place (place_of place.now) (place_of other.now) }
 {
     let mut rest = other;
     for step in place {
         match rest {
             [first, behind @ ..] => {
-                if !same_step(step, first) {
+                if !same_rule_step(step, first) {
+                    return false;
+                }
+                rest = behind;
+            }
+            [] => return false,
+        }
+    }
+    rest.is_empty()
+}
+
+fn share_step(step: &Step, other: &Step) -> bool
+    ensures { result ≡ share_step (step_of step.now) (step_of other.now) }
+{
+    match (step, other) {
+        (Step::Member(name), Step::Member(other)) => name.as_str() == other.as_str(),
+        (Step::Element(name), Step::Element(other)) => name.as_str() == other.as_str(),
+        (Step::Each, Step::Each | Step::Element(_)) | (Step::Element(_), Step::Each) => true,
+        _ => false,
+    }
+}
+
+/// Returns whether some value may be at both places.
+fn share_place(place: &[Step], other: &[Step]) -> bool
+    ensures { result ≡ share_place (place_of place.now) (place_of other.now) }
+{
+    let mut rest = other;
+    for step in place {
+        match rest {
+            [first, behind @ ..] => {
+                if !share_step(step, first) {
                     return false;
                 }
                 rest = behind;
@@ -98,7 +130,7 @@ fn same_rule(rule: &MaskRule, other: &MaskRule) -> bool
     same_verb(rule.verb, other.verb)
         && same_kind(rule.kind, other.kind)
         && same_name(text_of(&rule.name), text_of(&other.name))
-        && same_place(&rule.place, &other.place)
+        && same_rule_place(&rule.place, &other.place)
 }
 
 pub(crate) fn is_among(rule: &MaskRule, rules: &[MaskRule]) -> bool
@@ -127,7 +159,7 @@ fn clash(rule: &MaskRule, later: &MaskRule) -> bool
     ensures { result ≡ clash (rule_of rule.now) (rule_of later.now) }
 {
     unsettles(rule.verb, later.verb)
-        && same_place(&rule.place, &later.place)
+        && share_place(&rule.place, &later.place)
         && same_kind(rule.kind, later.kind)
         && share_name(text_of(&rule.name), text_of(&later.name))
 }
@@ -175,7 +207,7 @@ pub(crate) fn is_telling_place(place: &[Step]) -> bool
         [] => true,
         [step, rest @ ..] => match step {
             Step::Member(name) => rest.is_empty() && is_telling(name.as_str()),
-            Step::Each => false,
+            Step::Each | Step::Element(_) => false,
         },
     }
 }

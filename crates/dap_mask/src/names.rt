@@ -59,9 +59,9 @@ fn plain_at(alloc: Global, text: &[u8]) -> Result<Option<(String, &[u8])>, Alloc
     Ok(Some((String::from_utf8(name).unwrap(), rest)))
 }
 
-// Returns the name in quotes with which the text starts, and the rest. The caller has checked the
-// opening quote.
-fn quoted_at(alloc: Global, text: &[u8]) -> Result<Option<(String, &[u8])>, AllocError>
+/// Returns the name in quotes with which the text starts, and the rest; `None` if no quote closes it
+/// or it is not a JSON string. The caller has checked the opening quote.
+pub(crate) fn quoted_at(alloc: Global, text: &[u8]) -> Result<Option<(String, &[u8])>, AllocError>
     ensures { IfOk result
         (λ o. option_map (λ n. (string_bytes n.0, n.1.now)) o ≡ quoted_at text.now) }
 {

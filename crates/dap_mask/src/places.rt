@@ -1,9 +1,10 @@
 //! Parses the places of a rules file.
-ghost use Rattle.std.specs.Prelude.{◌≡◌, IfOk, option_map};
-ghost use Rattle.dap_mask.specs.RuleText.{each_step, next_step, place_at};
+ghost use Rattle.std.specs.Prelude.{◌≡◌, IfOk, option_map, option_and_then, string_bytes};
+ghost use Rattle.dap_mask.specs.RuleText.{bracket_behind, called_step, each_step, next_step};
+ghost use Rattle.dap_mask.specs.RuleText.{quoted_at, place_at};
 ghost use Rattle.dap_mask.specs.Rules.{step_of, place_of};
 
-use crate::names::name_at;
+use crate::names::{name_at, quoted_at};
 use crate::rules::Step;
 use std::alloc::{AllocError, Global};
 
@@ -45,7 +46,7 @@ fn next_step(alloc: Global, text: &[u8]) -> Result<Option<(Step, &[u8])>, AllocE
                     None => Ok(None),
                 }
             } else if *first == b'[' {
-                Ok(each_step(behind))
+                each_step(alloc, behind)
             } else {
                 Ok(None)
             }
@@ -54,14 +55,44 @@ fn next_step(alloc: Global, text: &[u8]) -> Result<Option<(Step, &[u8])>, AllocE
     }
 }
 
-// Parses the rest of `[]` after its first bracket.
-fn each_step(text: &[u8]) -> Option<(Step, &[u8])>
-    ensures { option_map (λ p. (step_of p.0, p.1.now)) result ≡ each_step text.now }
+// Parses the rest of `[]` or `["NAME"]` after its first bracket.
+fn each_step(alloc: Global, text: &[u8]) -> Result<Option<(Step, &[u8])>, AllocError>
+    ensures { IfOk result (λ o. option_map (λ p. (step_of p.0, p.1.now)) o ≡ each_step text.now) }
 {
     match text {
         [first, rest @ ..] => {
             if *first == b']' {
-                Some((Step::Each, rest))
+                Ok(Some((Step::Each, rest)))
+            } else if *first == b'"' {
+                called_step(alloc, text)
+            } else {
+                Ok(None)
+            }
+        }
+        [] => Ok(None),
+    }
+}
+
+// Parses a name in quotes and the bracket after it. The caller has checked the opening quote.
+fn called_step(alloc: Global, text: &[u8]) -> Result<Option<(Step, &[u8])>, AllocError>
+    ensures { IfOk result (λ o. option_map (λ p. (step_of p.0, p.1.now)) o
+        ≡ option_and_then called_step (quoted_at text.now)) }
+{
+    match quoted_at(alloc, text)? {
+        Some((name, behind)) => Ok(bracket_behind(name, behind)),
+        None => Ok(None),
+    }
+}
+
+// Returns the step to the elements with this name, and the rest; `None` if no bracket follows.
+fn bracket_behind(name: String, text: &[u8]) -> Option<(Step, &[u8])>
+    ensures { option_map (λ p. (step_of p.0, p.1.now)) result
+        ≡ bracket_behind (string_bytes name) text.now }
+{
+    match text {
+        [first, rest @ ..] => {
+            if *first == b']' {
+                Some((Step::Element(name), rest))
             } else {
                 None
             }

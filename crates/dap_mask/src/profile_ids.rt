@@ -2,6 +2,7 @@
 ghost use Rattle.std.specs.Prelude.{◌≡◌, map};
 ghost use Rattle.dap_profile.specs.ProfileRows.{row_of};
 ghost use Rattle.dap_profile.specs.PlaceSteps.{steps_of};
+ghost use Rattle.dap_mask.specs.RuleSteps.{plain_step, plain_place};
 ghost use Rattle.dap_mask.specs.Rules.{rule_of, step_of, place_of, same_step, same_place};
 ghost use Rattle.dap_mask.specs.Ids.{meets, takes_id, takes_id_of, takes_profile_id};
 ghost use Rattle.dap_mask.specs.RowSteps.{row_step_of, row_place_of};
@@ -51,9 +52,9 @@ fn meets(rule: &MaskRule, row: &Row) -> bool
     }
 }
 
-/// Returns whether the place is that of a row.
+/// Returns whether the place is that of a row, whatever elements it selects by their names.
 pub(crate) fn is_at(place: &[Step], row_place: Place) -> bool
-    ensures { result ≡ same_place (place_of place.now) (steps_of row_place) }
+    ensures { result ≡ same_place (plain_place (place_of place.now)) (steps_of row_place) }
 {
     match row_place {
         Place::Member(a) => is_same(place, &[RowStep::Member(a)]),
@@ -85,7 +86,8 @@ pub(crate) fn is_at(place: &[Step], row_place: Place) -> bool
 }
 
 fn is_same(place: &[Step], row_place: &[RowStep]) -> bool
-    ensures { result ≡ same_place (place_of place.now) (row_place_of row_place.now) }
+    ensures { result
+        ≡ same_place (plain_place (place_of place.now)) (row_place_of row_place.now) }
 {
     let mut rest = row_place;
     for step in place {
@@ -103,11 +105,11 @@ fn is_same(place: &[Step], row_place: &[RowStep]) -> bool
 }
 
 fn is_step(step: &Step, row_step: RowStep) -> bool
-    ensures { result ≡ same_step (step_of step.now) (row_step_of row_step) }
+    ensures { result ≡ same_step (plain_step (step_of step.now)) (row_step_of row_step) }
 {
     match (step, row_step) {
         (Step::Member(name), RowStep::Member(other)) => name.as_str() == other,
-        (Step::Each, RowStep::Each) => true,
+        (Step::Each | Step::Element(_), RowStep::Each) => true,
         _ => false,
     }
 }

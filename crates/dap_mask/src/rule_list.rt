@@ -11,6 +11,7 @@ ghost use Rattle.dap_texts.specs.Words.{pair_of};
 ghost use Rattle.dap_words.specs.Kept.{pairs_in};
 
 use crate::categories::{CategoryRule, is_category_among, is_moved_by, moves_one_of};
+use crate::element_names::{renames, renames_among};
 use crate::fault::{RulesCause, RulesFault};
 use crate::meets::{clash_cause, is_among, is_telling_place, same_name, text_of};
 use crate::profile_ids::takes_profile_id;
@@ -218,7 +219,7 @@ impl RuleList {
             Statement::Change(rule) => {
                 or_clash(
                     change_cause(&self.changes, rule),
-                    moves_one_of(rule, &self.categories),
+                    moves_one_of(rule, &self.categories) || renames_among(rule, &self.changes),
                 )
             }
             Statement::LeaveOut(name) => {
@@ -316,7 +317,7 @@ fn last_line(text: &[u8]) -> usize
 fn change_cause(changes: &[MaskRule], rule: &MaskRule) -> Option<RulesCause>
     ensures { result ≡ change_cause (rules_of changes.now) (rule_of rule.now) }
 {
-    if is_telling_place(&rule.place) || takes_profile_id(rule) {
+    if is_telling_place(&rule.place) || takes_profile_id(rule) || renames(rule, rule) {
         Some(RulesCause::BadPlace)
     } else if is_among(rule, changes) {
         Some(RulesCause::Repeated)

@@ -26,6 +26,8 @@ pub enum Step {
     Member(String),
     /// To each element of an array.
     Each,
+    /// To each element of an array that is an object whose member `name` is this string.
+    Element(String),
 }
 
 /// A rule that changes values.

@@ -91,7 +91,8 @@ impl Rules {
     }
 }
 
-/// Removes the rule of the line that is rejected.
+/// Removes the rule of the line that is rejected. If there are too many rules, removes those for
+/// elements by their name.
 ///
 /// # Errors
 ///
@@ -103,7 +104,13 @@ fn exclude_rejected(
     rules: &mut Rules,
 ) -> Result<(), Unsolved> {
     match fault.cause {
-        RulesCause::TooLong | RulesCause::TooMany => Err(Unsolved::NoRules(Obstacle::Unread)),
+        RulesCause::TooLong | RulesCause::TooMany => {
+            if rules.spots.join_elements() {
+                Ok(())
+            } else {
+                Err(Unsolved::NoRules(Obstacle::Unread))
+            }
+        }
         _ => rules.exclude(alloc, line_at(whole, fault.line)),
     }
 }

@@ -19,6 +19,7 @@ mod suggest_by_names;
 mod suggesting;
 mod suggestion;
 mod swapping;
+mod trial;
 mod walking;
 mod words;
 

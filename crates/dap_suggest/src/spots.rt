@@ -1,25 +1,38 @@
 //! The places at which the pairs of two recordings differ, and the rules for them.
-use crate::candidates::{are_equal_by, push_rules, tests};
+use crate::candidates::tests;
 use crate::matched::Pair;
 use crate::obstacle::{Reason, Unsolved, unsolved_at, unsolved_entry};
-use crate::walking::{Found, compare_trees};
-use crate::words::{push_class, push_count, push_value};
+use crate::trial::Trial;
+use crate::walking::{Element, Found, compare_trees};
+use crate::words::{push_class, push_quoted};
 use dap_compare::Which;
 use dap_mask::MaskRules;
-use dap_tree::Tree;
 use std::alloc::{AllocError, Global};
 use std::collections::BTreeMap;
+
+/// For how many elements by their name a place has rules at most.
+const MAX_ELEMENTS: usize = 8;
+
+/// An element by its name, at whose place some pair differs.
+#[derive(Drop)]
+struct Part {
+    trial: Trial,
+    /// The messages and the place of a rule for the names of the elements of the list.
+    names: Vec<u8>,
+}
 
 /// A place of the messages of one kind and name at which some pair differs.
 #[derive(Drop)]
 struct Spot {
-    /// For each candidate, whether it makes the values of all pairs equal.
-    works: Vec<bool>,
-    /// The comment that shows the first pair of values.
-    comment: Vec<u8>,
+    whole: Trial,
     /// The record of A in the first pair, and its head.
     number: u64,
     head: String,
+    /// The elements with a name to whose places the pairs differ, by the messages and the places of
+    /// their rules. Not used if `is_split` is false.
+    parts: BTreeMap<Vec<u8>, Part>,
+    /// Whether each pair differs at an element with a name, and these are few.
+    is_split: bool,
 }
 
 impl Spot {
@@ -29,69 +42,68 @@ impl Spot {
         pair: &Pair<'_>,
         found: &Found<'_>,
     ) -> Result<Spot, AllocError> {
-        let mut works = Vec::new(alloc);
-        for _ in 0..count {
-            works.push(true)?;
-        }
-        let comment = comment_of(alloc, pair, found)?;
+        let whole = Trial::new(alloc, count, pair, found)?;
         let head = pair.a.head.clone()?;
         Ok(Spot {
-            works,
-            comment,
+            whole,
             number: pair.a.number,
             head,
+            parts: BTreeMap::new(alloc),
+            is_split: true,
         })
     }
 
-    /// Tries the candidates at a pair of values.
+    /// Tries the candidates at a pair of values, for the whole place and for the element.
     fn try_at(
         &mut self,
         alloc: Global,
         tests: &[MaskRules],
+        pair: &Pair<'_>,
         found: &Found<'_>,
     ) -> Result<(), AllocError> {
-        let (Tree::Text(a), Tree::Text(b)) = (found.a, found.b) else {
-            self.works.clear();
-            return Ok(());
-        };
-        for (index, test) in tests.iter().enumerate() {
-            if let Some(works) = self.works.get_mut(index) {
-                if *works {
-                    *works = are_equal_by(alloc, test, a.as_str(), b.as_str())?;
-                }
+        self.whole.try_at(alloc, tests, found)?;
+        match found.element {
+            Some(element) if self.is_split => {
+                self.try_part(alloc, tests, pair, found, element)?;
             }
+            _ => self.is_split = false,
         }
         Ok(())
     }
 
-    /// Returns the first candidate that works. If there is none, the value is blanked.
-    fn candidate(&self) -> Option<usize> {
-        self.works.iter().position(|works| *works)
+    fn try_part(
+        &mut self,
+        alloc: Global,
+        tests: &[MaskRules],
+        pair: &Pair<'_>,
+        found: &Found<'_>,
+        element: Element<'_>,
+    ) -> Result<(), AllocError> {
+        let target = part_target(alloc, pair, found, element)?;
+        if !self.parts.contains_key(target.as_slice()) {
+            let trial = Trial::new(alloc, tests.len(), pair, found)?;
+            let names = names_target(alloc, pair, found, element)?;
+            let target = Vec::from_slice(alloc, target.as_slice())?;
+            drop(self.parts.insert(target, Part { trial, names })?);
+        }
+        if let Some(part) = self.parts.get_mut(target.as_slice()) {
+            part.trial.try_at(alloc, tests, found)?;
+        }
+        self.is_split = self.parts.len() <= MAX_ELEMENTS;
+        Ok(())
     }
 
-    /// Excludes the candidate, since a file cannot have its rules. Returns whether there was one.
-    fn exclude(&mut self) -> bool {
-        let Some(index) = self.candidate() else {
+    /// Excludes the candidate for an element, or all rules for elements by their name, since a file
+    /// cannot have the rule. Returns whether the element is one of this place.
+    fn exclude_part(&mut self, target: &[u8]) -> bool {
+        let Some(part) = self.parts.get_mut(target) else {
             return false;
         };
-        if let Some(works) = self.works.get_mut(index) {
-            *works = false;
+        if !part.trial.exclude() {
+            self.is_split = false;
         }
         true
     }
-}
-
-/// Returns the comment that shows a pair of values.
-fn comment_of(alloc: Global, pair: &Pair<'_>, found: &Found<'_>) -> Result<Vec<u8>, AllocError> {
-    let mut out = Vec::new(alloc);
-    push_count("# A record ", pair.a.number, &mut out)?;
-    out.extend_from_slice(b": ")?;
-    push_value(alloc, found.a, &mut out)?;
-    push_count("\n# B record ", pair.b.number, &mut out)?;
-    out.extend_from_slice(b": ")?;
-    push_value(alloc, found.b, &mut out)?;
-    out.push(b'\n')?;
-    Ok(out)
 }
 
 /// Returns the messages and the place of a rule for a place.
@@ -100,6 +112,36 @@ fn target_of(alloc: Global, pair: &Pair<'_>, place: &[u8]) -> Result<Vec<u8>, Al
     push_class(alloc, &pair.a.message, &mut out)?;
     out.push(b' ')?;
     out.extend_from_slice(place)?;
+    Ok(out)
+}
+
+/// Returns the messages and the place of a rule for a place at the elements of one name.
+fn part_target(
+    alloc: Global,
+    pair: &Pair<'_>,
+    found: &Found<'_>,
+    element: Element<'_>,
+) -> Result<Vec<u8>, AllocError> {
+    let place = found.place.as_slice();
+    let mut out = target_of(alloc, pair, place.get(..element.start).unwrap_or(&[]))?;
+    out.push(b'[')?;
+    push_quoted(alloc, element.name, &mut out)?;
+    out.push(b']')?;
+    // Two bytes are the brackets of the place.
+    out.extend_from_slice(place.get(element.start.saturating_add(2)..).unwrap_or(&[]))?;
+    Ok(out)
+}
+
+/// Returns the messages and the place of a rule for the names of the elements of a list.
+fn names_target(
+    alloc: Global,
+    pair: &Pair<'_>,
+    found: &Found<'_>,
+    element: Element<'_>,
+) -> Result<Vec<u8>, AllocError> {
+    let list = found.place.get(..element.start).unwrap_or(&[]);
+    let mut out = target_of(alloc, pair, list)?;
+    out.extend_from_slice(b"[].name")?;
     Ok(out)
 }
 
@@ -135,7 +177,7 @@ impl Spots {
             drop(self.by_target.insert(target, spot)?);
         }
         match self.by_target.get_mut(target.as_slice()) {
-            Some(spot) => spot.try_at(alloc, self.tests.as_slice(), found),
+            Some(spot) => spot.try_at(alloc, self.tests.as_slice(), pair, found),
             None => Ok(()),
         }
     }
@@ -145,17 +187,34 @@ impl Spots {
         let mut place = Vec::new(alloc);
         let mut found = Vec::new(alloc);
         let (a, b) = (pair.a.message.tree(), pair.b.message.tree());
-        let is_enough = compare_trees(alloc, a, b, &mut place, &mut found)?;
+        let is_enough = compare_trees(alloc, a, b, &mut place, None, &mut found)?;
         for one in found.iter() {
             self.add(alloc, pair, one)?;
         }
         Ok(is_enough)
     }
 
+    /// Returns whether a place has rules for elements by their name: no candidate works for all of
+    /// them, and no other rule changes their names.
+    fn is_split(&self, spot: &Spot) -> bool {
+        if !spot.is_split || spot.whole.candidate().is_some() {
+            return false;
+        }
+        for (_, part) in spot.parts.iter() {
+            if self.by_target.contains_key(part.names.as_slice()) {
+                return false;
+            }
+        }
+        true
+    }
+
     /// Returns whether a target is inside the place of another rule that blanks it.
     fn is_blanked(&self, target: &[u8]) -> bool {
         for (whole, spot) in self.by_target.iter() {
-            if spot.candidate().is_none() && is_inside(target, whole.as_slice()) {
+            if is_inside(target, whole.as_slice())
+                && spot.whole.candidate().is_none()
+                && !self.is_split(spot)
+            {
                 return true;
             }
         }
@@ -166,12 +225,41 @@ impl Spots {
     pub fn push(&self, out: &mut Vec<u8>) -> Result<(), AllocError> {
         for (target, spot) in self.by_target.iter() {
             if !self.is_blanked(target.as_slice()) {
-                out.extend_from_slice(spot.comment.as_slice())?;
-                push_rules(spot.candidate(), target.as_slice(), out)?;
-                out.push(b'\n')?;
+                self.push_spot(target.as_slice(), spot, out)?;
             }
         }
         Ok(())
+    }
+
+    /// Appends the rules for a place, or for its elements by their name.
+    fn push_spot(&self, target: &[u8], spot: &Spot, out: &mut Vec<u8>) -> Result<(), AllocError> {
+        if !self.is_split(spot) {
+            return spot.whole.push(target, out);
+        }
+        for (target, part) in spot.parts.iter() {
+            part.trial.push(target.as_slice(), out)?;
+        }
+        Ok(())
+    }
+
+    /// Excludes the candidate for elements by their name. Returns whether there are such elements.
+    fn exclude_part(&mut self, target: &[u8]) -> bool {
+        for (_, spot) in self.by_target.iter_mut() {
+            if spot.exclude_part(target) {
+                return true;
+            }
+        }
+        false
+    }
+
+    /// Gives up all rules for elements by their name. Returns whether there could be any.
+    pub fn join_elements(&mut self) -> bool {
+        let mut was_split = false;
+        for (_, spot) in self.by_target.iter_mut() {
+            was_split = was_split || spot.is_split;
+            spot.is_split = false;
+        }
+        was_split
     }
 
     /// Leaves out the candidate for a place, because a file of rules cannot have it. Returns
@@ -181,10 +269,13 @@ impl Spots {
     ///
     /// The place cannot be blanked either.
     pub fn exclude(&mut self, alloc: Global, target: &[u8]) -> Result<bool, Unsolved> {
+        if self.exclude_part(target) {
+            return Ok(true);
+        }
         let Some(spot) = self.by_target.get_mut(target) else {
             return Ok(false);
         };
-        if spot.exclude() {
+        if spot.whole.exclude() {
             return Ok(true);
         }
         Err(unsolved_at(

@@ -4,12 +4,23 @@ use dap_tree::Tree;
 use std::alloc::{AllocError, Global};
 use std::collections::BTreeMap;
 
+/// An element of a list that has one `name` in both messages.
+#[derive(Clone, Copy, Drop)]
+pub struct Element<'t> {
+    /// The number of bytes of its place before the brackets.
+    pub start: usize,
+    /// The text.
+    pub name: &'t Tree,
+}
+
 /// A place at which two messages differ, and what each has there. The blanks of the two values are
 /// equal.
 #[derive(Drop)]
 pub struct Found<'t> {
     /// The place, as rules have it.
     pub place: Vec<u8>,
+    /// The innermost element with a name on the way to the place.
+    pub element: Option<Element<'t>>,
     pub a: &'t Tree,
     pub b: &'t Tree,
 }
@@ -19,11 +30,39 @@ fn add_found<'t>(
     a: &'t Tree,
     b: &'t Tree,
     place: &[u8],
+    element: Option<Element<'t>>,
     found: &mut Vec<Found<'t>>,
 ) -> Result<(), AllocError> {
     let place = Vec::from_slice(alloc, place)?;
-    found.push(Found { place, a, b })?;
+    found.push(Found {
+        place,
+        element,
+        a,
+        b,
+    })?;
     Ok(())
+}
+
+/// Returns the element of two lists, if both have one name. Otherwise returns the element around
+/// the lists.
+fn element_of<'t>(
+    start: usize,
+    item: &'t Tree,
+    other: &'t Tree,
+    around: Option<Element<'t>>,
+) -> Option<Element<'t>> {
+    match (item.child("name"), other.child("name")) {
+        (Some(Tree::Text(a)), Some(Tree::Text(b))) => {
+            if a.as_str() != b.as_str() {
+                return around;
+            }
+            match item.child("name") {
+                Some(name) => Some(Element { start, name }),
+                None => around,
+            }
+        }
+        _ => around,
+    }
 }
 
 /// Returns whether two values are equal. Two ids are equal if both are 0 or neither is: a variable
@@ -54,6 +93,7 @@ fn compare_scalars<'t>(
     a: &'t Tree,
     b: &'t Tree,
     place: &[u8],
+    element: Option<Element<'t>>,
     found: &mut Vec<Found<'t>>,
 ) -> Result<bool, AllocError> {
     if are_equal(a, b) {
@@ -62,7 +102,7 @@ fn compare_scalars<'t>(
     if !have_one_blank(a, b) {
         return Ok(false);
     }
-    add_found(alloc, a, b, place, found)?;
+    add_found(alloc, a, b, place, element, found)?;
     Ok(true)
 }
 
@@ -80,6 +120,7 @@ fn settle<'t>(
     start: usize,
     pair: (&'t Tree, &'t Tree),
     place: &[u8],
+    element: Option<Element<'t>>,
     found: &mut Vec<Found<'t>>,
 ) -> Result<bool, AllocError> {
     if is_enough {
@@ -89,7 +130,7 @@ fn settle<'t>(
         return Ok(false);
     }
     found.truncate(start);
-    add_found(alloc, pair.0, pair.1, place, found)?;
+    add_found(alloc, pair.0, pair.1, place, element, found)?;
     Ok(true)
 }
 
@@ -100,19 +141,28 @@ pub fn compare_trees<'t>(
     a: &'t Tree,
     b: &'t Tree,
     place: &mut Vec<u8>,
+    element: Option<Element<'t>>,
     found: &mut Vec<Found<'t>>,
 ) -> Result<bool, AllocError> {
     let start = found.len();
     let is_enough = match (a, b) {
         (Tree::List(items), Tree::List(others)) => {
-            compare_items(alloc, items, others, place, found)?
+            compare_items(alloc, items, others, place, element, found)?
         }
         (Tree::Object(members), Tree::Object(others)) => {
-            compare_members(alloc, members, others, place, found)?
+            compare_members(alloc, members, others, place, element, found)?
         }
-        _ => return compare_scalars(alloc, a, b, place.as_slice(), found),
+        _ => return compare_scalars(alloc, a, b, place.as_slice(), element, found),
     };
-    settle(alloc, is_enough, start, (a, b), place.as_slice(), found)
+    settle(
+        alloc,
+        is_enough,
+        start,
+        (a, b),
+        place.as_slice(),
+        element,
+        found,
+    )
 }
 
 #[cycle(compare_trees)]
@@ -121,6 +171,7 @@ fn compare_items<'t>(
     items: &'t Vec<Tree>,
     others: &'t Vec<Tree>,
     place: &mut Vec<u8>,
+    element: Option<Element<'t>>,
     found: &mut Vec<Found<'t>>,
 ) -> Result<bool, AllocError> {
     let length = place.len();
@@ -128,7 +179,8 @@ fn compare_items<'t>(
     place.extend_from_slice(b"[]")?;
     for (index, item) in items.iter().enumerate() {
         if let Some(other) = others.get(index) {
-            let are_equal = compare_trees(alloc, item, other, place, found)?;
+            let inner = element_of(length, item, other, element);
+            let are_equal = compare_trees(alloc, item, other, place, inner, found)?;
             is_enough = is_enough && are_equal;
         }
     }
@@ -150,6 +202,7 @@ fn compare_members<'t>(
     members: &'t BTreeMap<String, Tree>,
     others: &'t BTreeMap<String, Tree>,
     place: &mut Vec<u8>,
+    element: Option<Element<'t>>,
     found: &mut Vec<Found<'t>>,
 ) -> Result<bool, AllocError> {
     let length = place.len();
@@ -158,7 +211,7 @@ fn compare_members<'t>(
         match others.get(name.as_str()) {
             Some(other) => {
                 push_member(alloc, name.as_str(), place)?;
-                let are_equal = compare_trees(alloc, member, other, place, found)?;
+                let are_equal = compare_trees(alloc, member, other, place, element, found)?;
                 is_enough = is_enough && are_equal;
                 place.truncate(length);
             }

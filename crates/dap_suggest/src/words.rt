@@ -24,6 +24,17 @@ pub fn push_name(alloc: Global, name: &str, out: &mut Vec<u8>) -> Result<(), All
     push_path(alloc, &[Step::Member(name)], out)
 }
 
+/// Appends a text as a JSON string.
+pub fn push_quoted(alloc: Global, text: &Tree, out: &mut Vec<u8>) -> Result<(), AllocError> {
+    if !text.sound() {
+        return Ok(());
+    }
+    let Ok(text) = write_tree(alloc, text) else {
+        return Err(AllocError);
+    };
+    out.extend_from_slice(text.as_bytes())
+}
+
 /// Appends the kind and the name of a message, as rules have them.
 pub fn push_class(alloc: Global, message: &Message, out: &mut Vec<u8>) -> Result<(), AllocError> {
     out.extend_from_slice(kind_word(message.kind()).as_bytes())?;

@@ -1,7 +1,7 @@
 use Rattle.std.proofs.Common.{◌≡◌, ℕ, suc, ◌-◌, List, Some, option_map, sym, ap, ◌∙◌, refl, rules}
 use Rattle.std.proofs.Common.{arith}
 use Rattle.std.proofs.lemmas.Grind.{common_steps}
-use Rattle.dap_profile.specs.PlaceSteps.{PlaceStep}
+use Rattle.dap_mask.specs.RuleSteps.{RuleStep}
 use Rattle.dap_mask.specs.RuleText.{next_step, steps_from}
 use Rattle.dap_mask.specs.Rules.{step_of, place_of}
 use Rattle.dap_mask.proofs.Lines.{with_steps, steps_on}
@@ -12,7 +12,7 @@ loop-left-preserved c =
     let l = c.loop-left in
     let step = c.in-Some-2.step in
     let behind = c.in-Some-2.behind.now in
-    let p : PlaceStep × List ℕ = (step_of step, behind) in
+    let p : RuleStep × List ℕ = (step_of step, behind) in
     let next : next_step l.rest.now ≡ Some p =
     first_of (search rules, grind (arith, common_steps)) in
     let left : l.left ≡ suc (l.left - 1) = omega arith in

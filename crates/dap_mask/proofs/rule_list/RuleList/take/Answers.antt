@@ -9,6 +9,7 @@ use Rattle.dap_mask.specs.Rules.{rule_of, are_safe, are_idempotent}
 use Rattle.dap_mask.specs.RulesFile.{cause_against}
 use Rattle.dap_mask.proofs.RulesBehind.{MayStand, change_may_stand, pushed_keeps, safe_more}
 use Rattle.dap_mask.proofs.RulesBehind.{settled_more, leave_more, kept_more, change_moves_none}
+use Rattle.dap_mask.proofs.RulesBehind.{change_renames_none}
 use Rattle.dap_mask.proofs.rule_list.RuleList.take.Goals as goal
 
 pub invariant_of-self : goal.invariant_of-self
@@ -25,7 +26,8 @@ invariant_of-self c =
     record {
       few = grind (arith, common_steps);
       safe = pushed_keeps ok old.changes.items c.in-Change.rule c.push.new.self.items
-          c.push.ensures.items are_safe old.safe (safe_more rules rule old.safe may.safe);
+          c.push.ensures.items are_safe old.safe (safe_more rules rule old.safe may.safe may.own
+          (change_renames_none (listed_mask c.args.self.now) rule none));
       settled = pushed_keeps ok old.changes.items c.in-Change.rule c.push.new.self.items
           c.push.ensures.items are_idempotent old.settled
           (settled_more rules rule old.settled may.settled);

@@ -1,0 +1,72 @@
+//! Finds rules that change the names by which rules select elements.
+ghost use Rattle.std.specs.Prelude.{◌≡◌};
+ghost use Rattle.dap_mask.specs.RuleSteps.{plain_step, plain_place};
+ghost use Rattle.dap_mask.specs.Rules.{rule_of, rules_of, step_of, place_of, same_step};
+ghost use Rattle.dap_mask.specs.Rules.{is_name_of, is_name_in, renames, renames_among};
+
+use crate::meets::{same_kind, share_name, text_of};
+use crate::rules::{MaskRule, Step};
+
+fn leads_alike(step: &Step, other: &Step) -> bool
+    ensures { result ≡ same_step (plain_step (step_of step.now)) (plain_step (step_of other.now)) }
+{
+    match (step, other) {
+        (Step::Member(name), Step::Member(other)) => name.as_str() == other.as_str(),
+        (Step::Member(_), _) | (_, Step::Member(_)) => false,
+        _ => true,
+    }
+}
+
+fn is_name_of(step: &Step, place: &[Step]) -> bool
+    ensures { result ≡ is_name_of (step_of step.now) (plain_place (place_of place.now)) }
+{
+    match (step, place) {
+        (Step::Element(_), [Step::Member(name)]) => name.as_str() == "name",
+        _ => false,
+    }
+}
+
+// Returns whether the place is that of the `name` of an element that the other place selects, or of
+// another element of the same array.
+fn is_name_in(place: &[Step], other: &[Step]) -> bool
+    ensures { result ≡ is_name_in (plain_place (place_of place.now)) (place_of other.now) }
+{
+    let mut rest = place;
+    for step in other {
+        match rest {
+            [first, behind @ ..] => {
+                if !leads_alike(first, step) {
+                    return false;
+                }
+                if is_name_of(step, behind) {
+                    return true;
+                }
+                rest = behind;
+            }
+            [] => return false,
+        }
+    }
+    false
+}
+
+/// Returns whether the first rule may change the name by which the other one selects an element.
+pub(crate) fn renames(rule: &MaskRule, other: &MaskRule) -> bool
+    ensures { result ≡ renames (rule_of rule.now) (rule_of other.now) }
+{
+    is_name_in(&rule.place, &other.place)
+        && same_kind(rule.kind, other.kind)
+        && share_name(text_of(&rule.name), text_of(&other.name))
+}
+
+/// Returns whether the rule may change a name by which one of the others selects, or one of them a
+/// name by which the rule selects.
+pub(crate) fn renames_among(rule: &MaskRule, rules: &[MaskRule]) -> bool
+    ensures { result ≡ renames_among (rule_of rule.now) (rules_of rules.now) }
+{
+    for other in rules {
+        if renames(rule, other) || renames(other, rule) {
+            return true;
+        }
+    }
+    false
+}
