@@ -1,10 +1,10 @@
 //! Defines the command line for `clap`.
 ghost use Rattle.std.specs.Prelude.{◌≡◌, codes, IfOk, false};
-ghost use Rattle.clap.specs.Words.{app_of, rule_of, with_subcommand};
-ghost use Rattle.clap.specs.declared.Command.TheViews.{out-Command as fields_of};
-ghost use Rattle.dap_command_line.specs.CommandLine.{IsCommand, bare, checker, file, masker};
-ghost use Rattle.dap_command_line.specs.CommandLine.{normaliser, of_two_files, per_stop_flag};
-ghost use Rattle.dap_command_line.specs.CommandLine.{plain, program, rows_app};
+ghost use Rattle.clap.specs.Words.{App, Rule, app_of, rule_of, with_rule};
+ghost use Rattle.clap.specs.Words.{with_subcommand};
+ghost use Rattle.dap_command_line.specs.CommandLine.{IsCommand, bare, checker, comparer, differ};
+ghost use Rattle.dap_command_line.specs.CommandLine.{file, masker, normaliser, of_two_files};
+ghost use Rattle.dap_command_line.specs.CommandLine.{per_stop_flag, plain, program, rows_app};
 
 use clap::{Arg, ArgAction, Command};
 use std::alloc::{AllocError, Global};
@@ -22,18 +22,11 @@ fn bare_command<'a>(alloc: Global) -> Command<'a>
         .subcommand_required(true)
 }
 
-/// Adds a subcommand without arguments to `command`.
-fn with_plain<'a>(
-    command: Command<'a>,
-    alloc: Global,
-    name: &'a str,
-    about: &'a str,
-    example: &'a str,
-) -> Result<Command<'a>, AllocError>
-    ensures { IfOk result (λ c. app_of c
-        ≡ with_subcommand (app_of command.entry) (plain name.entry.now).top) }
+/// Returns a subcommand without arguments.
+fn plain_command<'a>(alloc: Global, name: &'a str, about: &'a str, example: &'a str) -> Command<'a>
+    ensures { IsCommand (plain name.entry.now) result }
 {
-    command.subcommand(Command::new(alloc, name).about(about).after_help(example))
+    Command::new(alloc, name).about(about).after_help(example)
 }
 
 /// Returns the flag `--per-stop` of a subcommand that renumbers ids.
@@ -49,13 +42,53 @@ fn per_stop_flag<'a>(alloc: Global) -> Arg<'a>
         )
 }
 
+/// Adds an argument to a subcommand, unless creating the subcommand failed.
+fn with_argument<'a>(
+    command: Result<Command<'a>, AllocError>,
+    argument: Arg<'a>,
+) -> Result<Command<'a>, AllocError>
+    requires { argument.global ≡ false }
+    ensures { (app : App) (rule : Rule) → IfOk command.entry (IsCommand app)
+        → rule_of argument.entry ≡ rule → IfOk result (IsCommand (with_rule app rule)) }
+{
+    command?.arg(argument)
+}
+
+/// Returns the subcommand `compact`.
+fn compact_command<'a>(alloc: Global) -> Command<'a>
+    ensures { IsCommand (plain (codes "compact")) result }
+{
+    plain_command(
+        alloc,
+        "compact",
+        "Makes the contents of frames canonical, from standard input to standard output",
+        "Example: dapnorm compact < session.frames > session.compact",
+    )
+}
+
+/// Returns the subcommand `record`.
+fn record_command<'a>(alloc: Global) -> Command<'a>
+    ensures { IsCommand (plain (codes "record")) result }
+{
+    plain_command(
+        alloc,
+        "record",
+        "Makes a recording of a trace, from standard input to standard output",
+        "Example: dapnorm record < session.trace > session.rec",
+    )
+}
+
 /// Returns the subcommand `normalise`.
 fn normalise_command<'a>(alloc: Global) -> Result<Command<'a>, AllocError>
     ensures { IfOk result (IsCommand normaliser) }
 {
-    Command::new(alloc, "normalise")
-        .about("Writes the normal form of a recording, from standard input to standard output")
-        .arg(per_stop_flag(alloc))
+    plain_command(
+        alloc,
+        "normalise",
+        "Writes the normal form of a recording, from standard input to standard output",
+        "Example: dapnorm normalise < session.rec > session.golden",
+    )
+    .arg(per_stop_flag(alloc))
 }
 
 /// Returns the subcommand `check`.
@@ -66,10 +99,26 @@ fn check_command<'a>(alloc: Global) -> Result<Command<'a>, AllocError>
         .long("complete")
         .action(ArgAction::SetTrue)
         .help("Refuses a recording in which some request has no response");
-    Command::new(alloc, "check")
-        .about("Judges a recording from standard input")
-        .arg(complete)?
-        .arg(per_stop_flag(alloc))
+    plain_command(
+        alloc,
+        "check",
+        "Judges a recording from standard input",
+        "Example: dapnorm check --complete < session.rec",
+    )
+    .arg(complete)?
+    .arg(per_stop_flag(alloc))
+}
+
+/// Returns the subcommand `show`.
+fn show_command<'a>(alloc: Global) -> Command<'a>
+    ensures { IsCommand (plain (codes "show")) result }
+{
+    plain_command(
+        alloc,
+        "show",
+        "Prints a recording in lines, from standard input to standard output",
+        "Example: dapnorm show < session.rec",
+    )
 }
 
 /// Returns the argument for the name of a file, which is required.
@@ -88,23 +137,51 @@ fn two_files_command<'a>(
     alloc: Global,
     name: &'a str,
     about: &'a str,
+    example: &'a str,
 ) -> Result<Command<'a>, AllocError>
     ensures { IfOk result (IsCommand (of_two_files name.entry.now)) }
 {
-    Command::new(alloc, name)
-        .about(about)
-        .arg(file(alloc, "A", "The file of a recording"))?
-        .arg(file(alloc, "B", "The file of another"))?
-        .arg(per_stop_flag(alloc))
+    let command = Ok(plain_command(alloc, name, about, example));
+    let command = with_argument(command, file(alloc, "A", "The file of a recording"));
+    let command = with_argument(command, file(alloc, "B", "The file of another"));
+    with_argument(command, per_stop_flag(alloc))
+}
+
+/// Returns the subcommand `compare`.
+fn compare_command<'a>(alloc: Global) -> Result<Command<'a>, AllocError>
+    ensures { IfOk result (IsCommand comparer) }
+{
+    two_files_command(
+        alloc,
+        "compare",
+        "Tells how the recordings of two files are the same, or where they differ",
+        "Example: dapnorm compare session.golden session.rec",
+    )
+}
+
+/// Returns the subcommand `diff`.
+fn diff_command<'a>(alloc: Global) -> Result<Command<'a>, AllocError>
+    ensures { IfOk result (IsCommand differ) }
+{
+    two_files_command(
+        alloc,
+        "diff",
+        "Tells what differs at the first record where the recordings of two files differ",
+        "Example: dapnorm diff session.golden session.rec",
+    )
 }
 
 /// Returns the subcommand `mask`.
 fn mask_command<'a>(alloc: Global) -> Result<Command<'a>, AllocError>
     ensures { IfOk result (IsCommand masker) }
 {
-    Command::new(alloc, "mask")
-        .about("Takes away of a recording what changes from run to run, as the rules say")
-        .arg(file(alloc, "RULES", "The file of the rules"))
+    plain_command(
+        alloc,
+        "mask",
+        "Takes away of a recording what changes from run to run, as the rules say",
+        "Example: dapnorm mask lldb.mask < session.rec > session.masked",
+    )
+    .arg(file(alloc, "RULES", "The file of the rules"))
 }
 
 /// Returns the subcommand `rows`.
@@ -114,128 +191,62 @@ fn rows_command<'a>(alloc: Global) -> Result<Command<'a>, AllocError>
     let number = Arg::new(alloc, "N")
         .action(ArgAction::Set)
         .help("The number of a row");
-    Command::new(alloc, "rows")
-        .about("Prints the rows of the profile, or row N")
-        .arg(number)
+    plain_command(
+        alloc,
+        "rows",
+        "Prints the rows of the profile, or row N",
+        "Example: dapnorm rows 62",
+    )
+    .arg(number)
 }
 
-/// Adds a subcommand to `command`.
-fn with_other<'a>(
-    command: Command<'a>,
-    other: Command<'a>,
-    example: &'a str,
+/// Adds a subcommand, unless creating it or the command failed.
+fn with_subcommand<'a>(
+    command: Result<Command<'a>, AllocError>,
+    subcommand: Result<Command<'a>, AllocError>,
 ) -> Result<Command<'a>, AllocError>
-    requires { (fields_of other).has_globals ≡ false }
-    ensures { IfOk result (λ c. app_of c
-        ≡ with_subcommand (app_of command.entry) (app_of other.entry).top) }
+    ensures { (app added : App) → IfOk command.entry (λ c. app_of c ≡ app)
+        → IfOk subcommand.entry (IsCommand added)
+        → IfOk result (λ c. app_of c ≡ with_subcommand app added.top) }
 {
-    command.subcommand(other.after_help(example))
+    command?.subcommand(subcommand?)
 }
 
-/// Adds the subcommand `normalise` to `command`.
-fn with_normalise<'a>(command: Command<'a>, alloc: Global) -> Result<Command<'a>, AllocError>
-    ensures { IfOk result (λ c. app_of c
-        ≡ with_subcommand (app_of command.entry) normaliser.top) }
-{
-    let normalise = normalise_command(alloc)?;
-    with_other(
-        command,
-        normalise,
-        "Example: dapnorm normalise < session.rec > session.golden",
-    )
-}
-
-/// Adds the subcommand `check` to `command`.
-fn with_check<'a>(command: Command<'a>, alloc: Global) -> Result<Command<'a>, AllocError>
-    ensures { IfOk result (λ c. app_of c
-        ≡ with_subcommand (app_of command.entry) checker.top) }
-{
-    let check = check_command(alloc)?;
-    with_other(
-        command,
-        check,
-        "Example: dapnorm check --complete < session.rec",
-    )
-}
-
-/// Adds the subcommand `mask` to `command`.
-fn with_mask<'a>(command: Command<'a>, alloc: Global) -> Result<Command<'a>, AllocError>
-    ensures { IfOk result (λ c. app_of c
-        ≡ with_subcommand (app_of command.entry) masker.top) }
-{
-    let mask = mask_command(alloc)?;
-    with_other(
-        command,
-        mask,
-        "Example: dapnorm mask lldb.mask < session.rec > session.masked",
-    )
-}
-
-/// Adds the subcommand `rows` to `command`.
-fn with_rows<'a>(command: Command<'a>, alloc: Global) -> Result<Command<'a>, AllocError>
-    ensures { IfOk result (λ c. app_of c
-        ≡ with_subcommand (app_of command.entry) rows_app.top) }
-{
-    let rows = rows_command(alloc)?;
-    with_other(command, rows, "Example: dapnorm rows 62")
-}
-
-/// Adds a subcommand with two files to `command`.
-fn with_two_files<'a>(
-    command: Command<'a>,
+/// Adds the subcommands that convert their input.
+fn with_converters<'a>(
+    command: Result<Command<'a>, AllocError>,
     alloc: Global,
-    name: &'a str,
-    about: &'a str,
-    example: &'a str,
 ) -> Result<Command<'a>, AllocError>
-    ensures { IfOk result (λ c. app_of c
-        ≡ with_subcommand (app_of command.entry) (of_two_files name.entry.now).top) }
+    ensures { (app : App) → IfOk command.entry (λ c. app_of c ≡ app)
+        → IfOk result (λ c. app_of c ≡ with_subcommand (with_subcommand (with_subcommand app
+        (plain (codes "compact")).top) (plain (codes "record")).top) normaliser.top) }
 {
-    let other = two_files_command(alloc, name, about)?;
-    with_other(command, other, example)
+    let command = with_subcommand(command, Ok(compact_command(alloc)));
+    let command = with_subcommand(command, Ok(record_command(alloc)));
+    with_subcommand(command, normalise_command(alloc))
+}
+
+/// Adds the subcommands that read one recording.
+fn with_readers<'a>(
+    command: Result<Command<'a>, AllocError>,
+    alloc: Global,
+) -> Result<Command<'a>, AllocError>
+    ensures { (app : App) → IfOk command.entry (λ c. app_of c ≡ app)
+        → IfOk result (λ c. app_of c ≡ with_subcommand (with_subcommand (with_subcommand app
+        checker.top) (plain (codes "show")).top) masker.top) }
+{
+    let command = with_subcommand(command, check_command(alloc));
+    let command = with_subcommand(command, Ok(show_command(alloc)));
+    with_subcommand(command, mask_command(alloc))
 }
 
 /// Returns the definition of the command line.
 pub(crate) fn command<'a>(alloc: Global) -> Result<Command<'a>, AllocError>
     ensures { IfOk result (λ c. app_of c ≡ program) }
 {
-    let compact = with_plain(
-        bare_command(alloc),
-        alloc,
-        "compact",
-        "Makes the contents of frames canonical, from standard input to standard output",
-        "Example: dapnorm compact < session.frames > session.compact",
-    )?;
-    let tracing = with_plain(
-        compact,
-        alloc,
-        "record",
-        "Makes a recording of a trace, from standard input to standard output",
-        "Example: dapnorm record < session.trace > session.rec",
-    )?;
-    let normalising = with_normalise(tracing, alloc)?;
-    let judged = with_check(normalising, alloc)?;
-    let showing = with_plain(
-        judged,
-        alloc,
-        "show",
-        "Prints a recording in lines, from standard input to standard output",
-        "Example: dapnorm show < session.rec",
-    )?;
-    let masking = with_mask(showing, alloc)?;
-    let telling = with_rows(masking, alloc)?;
-    let comparing = with_two_files(
-        telling,
-        alloc,
-        "compare",
-        "Tells how the recordings of two files are the same, or where they differ",
-        "Example: dapnorm compare session.golden session.rec",
-    )?;
-    with_two_files(
-        comparing,
-        alloc,
-        "diff",
-        "Tells what differs at the first record where the recordings of two files differ",
-        "Example: dapnorm diff session.golden session.rec",
-    )
+    let command = with_converters(Ok(bare_command(alloc)), alloc);
+    let command = with_readers(command, alloc);
+    let command = with_subcommand(command, rows_command(alloc));
+    let command = with_subcommand(command, compare_command(alloc));
+    with_subcommand(command, diff_command(alloc))
 }

@@ -1,5 +1,6 @@
 -- The program's command line, as `clap` reads it, and the command that it selects. Source: own.
-use Rattle.std.specs.Prelude.{◌≡◌, ◌||◌, Bool, true, false, is_some, List, [], ◌∷◌, Option, Some, None, codes}
+use Rattle.std.specs.Prelude.{◌≡◌, ◌||◌, Bool, true, false, is_some, List, [], ◌∷◌, ◌++◌}
+use Rattle.std.specs.Prelude.{Option, Some, None, codes}
 use Rattle.std.specs.Prelude.{if◌then◌else◌, option_map, option_and_then}
 use Rattle.std.specs.Str.{bytes_eq}
 use Rattle.clap.specs.Words.{App, IsAmong, Kinds, Row, Rule, Shape, Text, app_of, first_of}
@@ -52,6 +53,10 @@ output_file = record (option (codes "output")) { short = Some 111 }
 -- A subcommand with these arguments.
 abbrev pub subcommand : Text → List Rule → Shape
 subcommand name rules = record (new_shape name) { rules = rules }
+
+-- A subcommand with one more argument.
+abbrev pub with_argument : Shape → Rule → Shape
+with_argument shape rule = record shape { rules = shape.rules ++ rule ∷ [] }
 
 -- The flag `--explain`.
 abbrev pub explain_flag : Rule

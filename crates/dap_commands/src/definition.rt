@@ -1,12 +1,12 @@
 //! Defines the command line for `clap`.
 ghost use Rattle.std.specs.Prelude.{[], ◌≡◌, codes, IfOk};
-ghost use Rattle.clap.specs.Words.{Shape, app_of, with_subcommand};
+ghost use Rattle.clap.specs.Words.{App, Rule, Shape, app_of, with_subcommand};
 ghost use Rattle.dap_command_line.specs.CommandLine.{bare, file};
 ghost use Rattle.dap_commands.specs.Commands.{IsArgument, IsSubcommand, checker, comparer, differ};
 ghost use Rattle.dap_commands.specs.Commands.{explain_flag, flag, golden_keeper, input_file, masker, normaliser};
 ghost use Rattle.dap_commands.specs.Commands.{of_two_files, option, optional, orderer, output_file};
 ghost use Rattle.dap_commands.specs.Commands.{program, row_printer, stream, subcommand, suggester};
-ghost use Rattle.dap_commands.specs.Commands.{viewer};
+ghost use Rattle.dap_commands.specs.Commands.{viewer, with_argument};
 
 use clap::{Arg, ArgAction, Command};
 use std::alloc::{AllocError, Global};
@@ -111,6 +111,18 @@ fn subcommand<'a>(alloc: Global, name: &'a str, about: &'a str, example: &'a str
     Command::new(alloc, name).about(about).after_help(example)
 }
 
+/// Adds an argument to a subcommand, unless creating the subcommand failed.
+fn with_argument<'a>(
+    command: Result<Command<'a>, AllocError>,
+    argument: Arg<'a>,
+) -> Result<Command<'a>, AllocError>
+    ensures { (shape : Shape) (rule : Rule) → IfOk command.entry (IsSubcommand shape)
+        → IsArgument rule argument.entry
+        → IfOk result (IsSubcommand (with_argument shape rule)) }
+{
+    command?.arg(argument)
+}
+
 /// Returns a subcommand that reads one input, writes one output, and has no other argument except
 /// `--explain`.
 fn stream_command<'a>(
@@ -121,10 +133,10 @@ fn stream_command<'a>(
 ) -> Result<Command<'a>, AllocError>
     ensures { IfOk result (IsSubcommand (stream name.entry.now)) }
 {
-    subcommand(alloc, name, about, example)
-        .arg(explain_flag(alloc))?
-        .arg(input_file(alloc))?
-        .arg(output_file(alloc))
+    let command = Ok(subcommand(alloc, name, about, example));
+    let command = with_argument(command, explain_flag(alloc));
+    let command = with_argument(command, input_file(alloc));
+    with_argument(command, output_file(alloc))
 }
 
 /// Returns the subcommand `record`.
@@ -143,27 +155,21 @@ fn record_command<'a>(alloc: Global) -> Result<Command<'a>, AllocError>
 fn show_command<'a>(alloc: Global) -> Result<Command<'a>, AllocError>
     ensures { IfOk result (IsSubcommand viewer) }
 {
-    subcommand(
+    let command = Ok(subcommand(
         alloc,
         "show",
         "Prints one line for each record",
         "Example: dapnorm show session.rec",
-    )
-    .arg(flag(
-        alloc,
-        "full",
-        "Prints each value of each record, with its path",
-    ))?
-    .arg(flag(alloc, "faulty", "Marks rejected records and continues"))?
-    .arg(option(
-        alloc,
-        "record",
-        "N",
-        "Prints only the content of record N, as indented JSON",
-    ))?
-    .arg(explain_flag(alloc))?
-    .arg(input_file(alloc))?
-    .arg(output_file(alloc))
+    ));
+    let full = "Prints each value of each record, with its path";
+    let command = with_argument(command, flag(alloc, "full", full));
+    let faulty = "Marks rejected records and continues";
+    let command = with_argument(command, flag(alloc, "faulty", faulty));
+    let record = "Prints only the content of record N, as indented JSON";
+    let command = with_argument(command, option(alloc, "record", "N", record));
+    let command = with_argument(command, explain_flag(alloc));
+    let command = with_argument(command, input_file(alloc));
+    with_argument(command, output_file(alloc))
 }
 
 /// Returns the subcommand `compact`.
@@ -182,67 +188,64 @@ fn compact_command<'a>(alloc: Global) -> Result<Command<'a>, AllocError>
 fn normalise_command<'a>(alloc: Global) -> Result<Command<'a>, AllocError>
     ensures { IfOk result (IsSubcommand normaliser) }
 {
-    subcommand(
+    let command = Ok(subcommand(
         alloc,
         "normalise",
         "Writes the normal form of a recording",
         "Example: dapnorm normalise session.rec -o session.normal",
-    )
-    .arg(per_stop_flag(alloc))?
-    .arg(explain_flag(alloc))?
-    .arg(input_file(alloc))?
-    .arg(output_file(alloc))
+    ));
+    let command = with_argument(command, per_stop_flag(alloc));
+    let command = with_argument(command, explain_flag(alloc));
+    let command = with_argument(command, input_file(alloc));
+    with_argument(command, output_file(alloc))
 }
 
 /// Returns the subcommand `mask`.
 fn mask_command<'a>(alloc: Global) -> Result<Command<'a>, AllocError>
     ensures { IfOk result (IsSubcommand masker) }
 {
-    subcommand(
+    let command = Ok(subcommand(
         alloc,
         "mask",
         "Redacts a recording by the rules of a file",
         "Example: dapnorm mask lldb.rules session.rec -o session.masked",
-    )
-    .arg(file(alloc, "RULES", RULES))?
-    .arg(explain_flag(alloc))?
-    .arg(input_file(alloc))?
-    .arg(output_file(alloc))
+    ));
+    let command = with_argument(command, file(alloc, "RULES", RULES));
+    let command = with_argument(command, explain_flag(alloc));
+    let command = with_argument(command, input_file(alloc));
+    with_argument(command, output_file(alloc))
 }
 
 /// Returns the subcommand `order`.
 fn order_command<'a>(alloc: Global) -> Result<Command<'a>, AllocError>
     ensures { IfOk result (IsSubcommand orderer) }
 {
-    subcommand(
+    let command = Ok(subcommand(
         alloc,
         "order",
         "Puts the records of a recording in the order that the rules define",
         "Example: dapnorm order lldb.rules session.rec -o session.ordered",
-    )
-    .arg(file(alloc, "RULES", SWAPS))?
-    .arg(input_file(alloc))?
-    .arg(output_file(alloc))
+    ));
+    let command = with_argument(command, file(alloc, "RULES", SWAPS));
+    let command = with_argument(command, input_file(alloc));
+    with_argument(command, output_file(alloc))
 }
 
 /// Returns the subcommand `check`.
 fn check_command<'a>(alloc: Global) -> Result<Command<'a>, AllocError>
     ensures { IfOk result (IsSubcommand checker) }
 {
-    subcommand(
+    let command = Ok(subcommand(
         alloc,
         "check",
         "Checks a recording, and prints the number of its records or the first error",
         "Example: dapnorm check --complete session.rec",
-    )
-    .arg(flag(
-        alloc,
-        "complete",
-        "Also requires a response to each request",
-    ))?
-    .arg(per_stop_flag(alloc))?
-    .arg(explain_flag(alloc))?
-    .arg(input_file(alloc))
+    ));
+    let complete = "Also requires a response to each request";
+    let command = with_argument(command, flag(alloc, "complete", complete));
+    let command = with_argument(command, per_stop_flag(alloc));
+    let command = with_argument(command, explain_flag(alloc));
+    with_argument(command, input_file(alloc))
 }
 
 /// Returns a subcommand with two files, and with the arguments that all such subcommands have.
@@ -254,12 +257,12 @@ fn two_files_command<'a>(
 ) -> Result<Command<'a>, AllocError>
     ensures { IfOk result (IsSubcommand (of_two_files name.entry.now [])) }
 {
-    subcommand(alloc, name, about, example)
-        .arg(file(alloc, "A", "The first recording"))?
-        .arg(file(alloc, "B", "The second recording"))?
-        .arg(option(alloc, "rules", "RULES", RULES))?
-        .arg(per_stop_flag(alloc))?
-        .arg(explain_flag(alloc))
+    let command = Ok(subcommand(alloc, name, about, example));
+    let command = with_argument(command, file(alloc, "A", "The first recording"));
+    let command = with_argument(command, file(alloc, "B", "The second recording"));
+    let command = with_argument(command, option(alloc, "rules", "RULES", RULES));
+    let command = with_argument(command, per_stop_flag(alloc));
+    with_argument(command, explain_flag(alloc))
 }
 
 /// Returns the subcommand `compare`.
@@ -278,38 +281,31 @@ fn compare_command<'a>(alloc: Global) -> Result<Command<'a>, AllocError>
 fn diff_command<'a>(alloc: Global) -> Result<Command<'a>, AllocError>
     ensures { IfOk result (IsSubcommand differ) }
 {
-    two_files_command(
+    let command = two_files_command(
         alloc,
         "diff",
         "Prints what differs in the first record that differs",
         "Example: dapnorm diff session.golden session.rec",
-    )?
-    .arg(flag(
-        alloc,
-        "all",
-        "Pairs the records of both files, and prints all differences",
-    ))
+    );
+    let all = "Pairs the records of both files, and prints all differences";
+    with_argument(command, flag(alloc, "all", all))
 }
 
 /// Returns the subcommand `suggest`.
 fn suggest_command<'a>(alloc: Global) -> Result<Command<'a>, AllocError>
     ensures { IfOk result (IsSubcommand suggester) }
 {
-    subcommand(
+    let command = Ok(subcommand(
         alloc,
         "suggest",
         "Prints rules that make the recordings of two files the same",
         "Example: dapnorm suggest run1.rec run2.rec",
-    )
-    .arg(file(alloc, "A", "The recording of one run"))?
-    .arg(file(alloc, "B", "The recording of another run"))?
-    .arg(option(
-        alloc,
-        "rules",
-        "RULES",
-        "The file of the rules that there are; only further rules are printed",
-    ))?
-    .arg(explain_flag(alloc))
+    ));
+    let command = with_argument(command, file(alloc, "A", "The recording of one run"));
+    let command = with_argument(command, file(alloc, "B", "The recording of another run"));
+    let rules = "The file of the rules that there are; only further rules are printed";
+    let command = with_argument(command, option(alloc, "rules", "RULES", rules));
+    with_argument(command, explain_flag(alloc))
 }
 
 /// Returns the subcommand `rows`.
@@ -329,30 +325,21 @@ fn rows_command<'a>(alloc: Global) -> Result<Command<'a>, AllocError>
 fn golden_command<'a>(alloc: Global) -> Result<Command<'a>, AllocError>
     ensures { IfOk result (IsSubcommand golden_keeper) }
 {
-    subcommand(
+    let command = Ok(subcommand(
         alloc,
         "golden",
         "Compares a session with its golden file, or makes it with --update",
         "Example: dapnorm golden session.golden session.trace",
-    )
-    .arg(option(alloc, "rules", "RULES", RULES))?
-    .arg(per_stop_flag(alloc))?
-    .arg(flag(
-        alloc,
-        "open",
-        "Accepts a session in which some request has no response",
-    ))?
-    .arg(flag(
-        alloc,
-        "update",
-        "Writes the golden file if it differs or does not exist",
-    ))?
-    .arg(file(alloc, "GOLDEN", "The golden file"))?
-    .arg(optional(
-        alloc,
-        "INPUT",
-        "A trace or a recording; without it, or with -, standard input",
-    ))
+    ));
+    let command = with_argument(command, option(alloc, "rules", "RULES", RULES));
+    let command = with_argument(command, per_stop_flag(alloc));
+    let open = "Accepts a session in which some request has no response";
+    let command = with_argument(command, flag(alloc, "open", open));
+    let update = "Writes the golden file if it differs or does not exist";
+    let command = with_argument(command, flag(alloc, "update", update));
+    let command = with_argument(command, file(alloc, "GOLDEN", "The golden file"));
+    let input = "A trace or a recording; without it, or with -, standard input";
+    with_argument(command, optional(alloc, "INPUT", input))
 }
 
 /// Returns the program's command without its subcommands.
@@ -365,31 +352,68 @@ fn bare_command<'a>(alloc: Global) -> Command<'a>
         .subcommand_required(true)
 }
 
-/// Adds a subcommand, unless creating it failed.
+/// Adds a subcommand, unless creating it or the command failed.
 fn with_subcommand<'a>(
-    command: Command<'a>,
+    command: Result<Command<'a>, AllocError>,
     subcommand: Result<Command<'a>, AllocError>,
 ) -> Result<Command<'a>, AllocError>
-    ensures { (shape : Shape) → IfOk subcommand.entry (IsSubcommand shape)
-        → IfOk result (λ c. app_of c ≡ with_subcommand (app_of command.entry) shape) }
+    ensures { (app : App) (shape : Shape) → IfOk command.entry (λ c. app_of c ≡ app)
+        → IfOk subcommand.entry (IsSubcommand shape)
+        → IfOk result (λ c. app_of c ≡ with_subcommand app shape) }
 {
-    command.subcommand(subcommand?)
+    command?.subcommand(subcommand?)
+}
+
+/// Adds the subcommands that validate, convert and normalise one session.
+fn with_session_commands<'a>(
+    command: Result<Command<'a>, AllocError>,
+    alloc: Global,
+) -> Result<Command<'a>, AllocError>
+    ensures { (app : App) → IfOk command.entry (λ c. app_of c ≡ app)
+        → IfOk result (λ c. app_of c ≡ with_subcommand (with_subcommand (with_subcommand
+        (with_subcommand app golden_keeper) (stream (codes "record"))) checker) normaliser) }
+{
+    let command = with_subcommand(command, golden_command(alloc));
+    let command = with_subcommand(command, record_command(alloc));
+    let command = with_subcommand(command, check_command(alloc));
+    with_subcommand(command, normalise_command(alloc))
+}
+
+/// Adds the subcommands that compare two recordings, and the one that prints a recording.
+fn with_comparing_commands<'a>(
+    command: Result<Command<'a>, AllocError>,
+    alloc: Global,
+) -> Result<Command<'a>, AllocError>
+    ensures { (app : App) → IfOk command.entry (λ c. app_of c ≡ app)
+        → IfOk result (λ c. app_of c ≡ with_subcommand (with_subcommand (with_subcommand
+        (with_subcommand app comparer) differ) suggester) viewer) }
+{
+    let command = with_subcommand(command, compare_command(alloc));
+    let command = with_subcommand(command, diff_command(alloc));
+    let command = with_subcommand(command, suggest_command(alloc));
+    with_subcommand(command, show_command(alloc))
+}
+
+/// Adds the subcommands that rewrite their input, and the one that prints the profile.
+fn with_rewriting_commands<'a>(
+    command: Result<Command<'a>, AllocError>,
+    alloc: Global,
+) -> Result<Command<'a>, AllocError>
+    ensures { (app : App) → IfOk command.entry (λ c. app_of c ≡ app)
+        → IfOk result (λ c. app_of c ≡ with_subcommand (with_subcommand (with_subcommand
+        (with_subcommand app masker) orderer) (stream (codes "compact"))) row_printer) }
+{
+    let command = with_subcommand(command, mask_command(alloc));
+    let command = with_subcommand(command, order_command(alloc));
+    let command = with_subcommand(command, compact_command(alloc));
+    with_subcommand(command, rows_command(alloc))
 }
 
 /// Returns the definition of the command line.
 pub(crate) fn program<'a>(alloc: Global) -> Result<Command<'a>, AllocError>
     ensures { IfOk result (λ c. app_of c ≡ program) }
 {
-    let golden = with_subcommand(bare_command(alloc), golden_command(alloc))?;
-    let record = with_subcommand(golden, record_command(alloc))?;
-    let check = with_subcommand(record, check_command(alloc))?;
-    let normalise = with_subcommand(check, normalise_command(alloc))?;
-    let compare = with_subcommand(normalise, compare_command(alloc))?;
-    let diff = with_subcommand(compare, diff_command(alloc))?;
-    let suggest = with_subcommand(diff, suggest_command(alloc))?;
-    let show = with_subcommand(suggest, show_command(alloc))?;
-    let mask = with_subcommand(show, mask_command(alloc))?;
-    let order = with_subcommand(mask, order_command(alloc))?;
-    let compact = with_subcommand(order, compact_command(alloc))?;
-    with_subcommand(compact, rows_command(alloc))
+    let command = with_session_commands(Ok(bare_command(alloc)), alloc);
+    let command = with_comparing_commands(command, alloc);
+    with_rewriting_commands(command, alloc)
 }

@@ -242,11 +242,8 @@ fn suggest_by<'a>(rows: &ArgMatches<'a>) -> Option<Command<'a>>
     ensures { option_map reported result ≡ suggest_of (given rows.now) }
 {
     let (a, b) = two_files(rows)?;
-    let action = Action::Suggest(Suggest {
-        a,
-        b,
-        rules: value_of(rows, "rules"),
-    });
+    let file = value_of(rows, "rules");
+    let action = Action::Suggest(Suggest { a, b, rules: file });
     Some(without_output(rows, action))
 }
 

@@ -5,7 +5,7 @@ ghost use Rattle.dap_input.specs.declared.limits.Limits.{Limits};
 ghost use Rattle.dap_explain.specs.Lines.{AreLines};
 
 use crate::fractions::explain_fraction;
-use crate::head::add_message;
+use crate::head::{Head, add_head, read_value};
 use crate::json_faults::explain_json;
 use crate::lines::Lines;
 use crate::message_faults::explain_message;
@@ -14,92 +14,93 @@ use crate::records::{RecordPart, record_numbered};
 use crate::session_rules::explain_rule;
 use crate::trace_faults::{explain_piece, explain_recorder};
 use crate::unanswered::explain_incomplete;
-use crate::words::Word;
 use dap_input::{Limits, Refused};
 use dap_mask::{MaskRule, MaskRules};
+use serde_json::Value;
 use std::alloc::{AllocError, Global};
 
 /// Explains the rejection of a record whose bytes are a record.
 fn explain_content(
-    alloc: Global,
     lines: &mut Lines,
     input: &[u8],
     record: RecordPart<'_>,
     refused: Refused,
     rules: &[MaskRule],
     limits: Limits,
-) -> Result<(), AllocError>
+)
     requires { IsSound limits.frame }
 {
-    match refused {
-        Refused::Json(_) => explain_json(alloc, lines, record),
-        Refused::Fraction(_) => explain_fraction(alloc, lines, record, rules),
-        Refused::Message(_, fault) => explain_message(alloc, lines, record, fault),
-        Refused::Rule(_, rule) => explain_rule(alloc, lines, input, record, rule, limits.frame),
-        Refused::TooManyIds(_) => {
-            add_message(alloc, lines, record)?;
-            add_id_limit(lines, limits)
-        }
-        Refused::Grew(_) => {
-            add_message(alloc, lines, record)?;
-            add_text_limits(lines, limits)
-        }
-        _ => Ok(()),
+    if let Refused::Json(_) = refused {
+        return explain_json(lines, record);
+    }
+    if let Some(message) = read_value(lines, record.content) {
+        explain_value(lines, input, record, &message, refused, rules, limits);
     }
 }
 
-/// Adds the line about the limit of ids.
-fn add_id_limit(lines: &mut Lines, limits: Limits) -> Result<(), AllocError> {
-    lines.add_words(&[
-        Word::Text("the limit is "),
-        Word::Number(limits.ids as u64),
-        Word::Text(" different ids of a kind: record shorter sessions"),
-    ])
+/// Explains the rejection of a record whose content is JSON.
+fn explain_value(
+    lines: &mut Lines,
+    input: &[u8],
+    record: RecordPart<'_>,
+    message: &Value,
+    refused: Refused,
+    rules: &[MaskRule],
+    limits: Limits,
+)
+    requires { IsSound limits.frame }
+{
+    if let Refused::Message(_, fault) = refused {
+        return explain_message(lines, record, message, fault);
+    }
+    let head = Head::of(record.side, message);
+    add_head(lines, record.number, &head);
+    match refused {
+        Refused::Fraction(_) => explain_fraction(lines, record.content, message, head, rules),
+        Refused::Rule(_, rule) => {
+            explain_rule(lines, input, record.number, &head, rule, limits.frame)
+        }
+        Refused::TooManyIds(_) => {
+            lines.number("the limit is ", limits.ids as u64);
+            lines.end(" different ids of a kind: record shorter sessions");
+        }
+        Refused::Grew(_) => add_text_limits(lines, limits),
+        _ => {}
+    }
 }
 
 /// Adds the line about the limits of the output.
-fn add_text_limits(lines: &mut Lines, limits: Limits) -> Result<(), AllocError> {
-    lines.add_words(&[
-        Word::Text("dapnorm writes at most "),
-        Word::Number(limits.frame.content as u64),
-        Word::Text(" bytes for a record and "),
-        Word::Number(limits.input),
-        Word::Text(" bytes in all: record shorter sessions"),
-    ])
-}
-
-/// Adds the line about an input that is too long.
-fn add_input_limit(lines: &mut Lines, limits: Limits) -> Result<(), AllocError> {
-    lines.add_words(&[
-        Word::Text("the limit of an input is "),
-        Word::Number(limits.input),
-        Word::Text(" bytes: record shorter sessions"),
-    ])
+fn add_text_limits(lines: &mut Lines, limits: Limits) {
+    lines.number("dapnorm writes at most ", limits.frame.content as u64);
+    lines.number(" bytes for a record and ", limits.input);
+    lines.end(" bytes in all: record shorter sessions");
 }
 
 /// Adds the lines about a rejection.
 fn add_refusal(
-    alloc: Global,
     lines: &mut Lines,
     input: &[u8],
     refused: Refused,
     rules: &[MaskRule],
     limits: Limits,
-) -> Result<(), AllocError>
+)
     requires { IsSound limits.frame }
 {
     match refused {
-        Refused::InputTooLong(_) | Refused::TraceTooLong(_) => add_input_limit(lines, limits),
+        Refused::InputTooLong(_) | Refused::TraceTooLong(_) => {
+            lines.number("the limit of an input is ", limits.input);
+            lines.end(" bytes: record shorter sessions");
+        }
         Refused::Record(number, cause) => {
-            explain_record(alloc, lines, input, number, cause, limits.frame)
+            explain_record(lines, input, number, cause, limits.frame)
         }
         Refused::Trace(number, cause) => explain_piece(lines, input, number, cause),
         Refused::Recorder(number, fault) => {
-            explain_recorder(alloc, lines, input, number, fault, limits.frame)
+            explain_recorder(lines, input, number, fault, limits.frame)
         }
         Refused::Incomplete(client, adapter) => {
             let count = client.saturating_add(adapter);
-            explain_incomplete(alloc, lines, input, count, limits.frame)
+            explain_incomplete(lines, input, count, limits.frame)
         }
         Refused::Json(number)
         | Refused::Fraction(number)
@@ -107,14 +108,12 @@ fn add_refusal(
         | Refused::Rule(number, _)
         | Refused::TooManyIds(number)
         | Refused::Grew(number) => {
-            match record_numbered(alloc, input, number, limits.frame) {
-                Some(record) => {
-                    explain_content(alloc, lines, input, record, refused, rules, limits)
-                }
-                None => Ok(()),
+            match record_numbered(lines.alloc(), input, number, limits.frame) {
+                Some(record) => explain_content(lines, input, record, refused, rules, limits),
+                None => {}
             }
         }
-        Refused::ReadFault | Refused::WriteFault | Refused::Memory => Ok(()),
+        Refused::ReadFault | Refused::WriteFault | Refused::Memory => {}
     }
 }
 
@@ -141,8 +140,8 @@ pub fn explain(
     ensures { IfOk result (λ text. ∥ AreLines (string_bytes text) ∥₁) }
 {
     let mut lines = Lines::new(alloc);
-    add_refusal(alloc, &mut lines, input, refused, &[], limits)?;
-    Ok(lines.into_text())
+    add_refusal(&mut lines, input, refused, &[], limits);
+    lines.into_text()
 }
 
 /// Explains a rejection as [`explain`] does, if these rules were applied to the messages of the
@@ -162,8 +161,8 @@ pub fn explain_masked(
     ensures { IfOk result (λ text. ∥ AreLines (string_bytes text) ∥₁) }
 {
     let mut lines = Lines::new(alloc);
-    add_refusal(alloc, &mut lines, input, refused, rules.changes(), limits)?;
-    Ok(lines.into_text())
+    add_refusal(&mut lines, input, refused, rules.changes(), limits);
+    lines.into_text()
 }
 
 /// Explains that a file cannot be read: returns its name and the reason that the system returned.
@@ -179,6 +178,7 @@ pub fn explain_unreadable<'a>(
     ensures { IfOk result (λ text. ∥ AreLines (string_bytes text) ∥₁) }
 {
     let mut lines = Lines::new(alloc);
-    lines.add_words(&[Word::Text(name), Word::Text(": "), Word::Text(reason)])?;
-    Ok(lines.into_text())
+    lines.text(name, ": ");
+    lines.end(reason);
+    lines.into_text()
 }

@@ -1,11 +1,9 @@
 //! Finds the numbers of a message that are not integers of 64 bits, and proposes mask rules that
 //! blank them.
-use crate::head::{Head, add_head, kind_word, read_value};
+use crate::head::{Head, kind_word};
 use crate::lines::Lines;
 use crate::number_text::number_text;
-use crate::path::Step;
-use crate::records::RecordPart;
-use crate::words::{Word, joined};
+use crate::path::{Step, push_name, push_path, push_place};
 use dap_mask::{MaskRule, MaskRules, RulesCause, Verb};
 use dap_profile::Kind;
 use json::{Reader, Scratch};
@@ -209,45 +207,34 @@ fn fault_of(text: &str) -> &'static str {
 }
 
 /// Adds the line about the number with this text.
-fn add_text<'a>(lines: &mut Lines, path: &'a [Step<'a>], text: &'a str) -> Result<(), AllocError> {
-    lines.add_words(&[
-        Word::Path(path),
-        Word::Text(" is "),
-        Word::Cut(text),
-        Word::Text(", which "),
-        Word::Text(fault_of(text)),
-        Word::Text("; dapnorm takes only integers of 64 bits"),
-    ])
+fn add_text(lines: &mut Lines, path: &[Step<'_>], text: &str) {
+    push_path(lines, path);
+    lines.cut(" is ", text);
+    lines.text(", which ", fault_of(text));
+    lines.end("; dapnorm takes only integers of 64 bits");
 }
 
 /// Adds the line that states which number is at a path, and what is wrong with it.
-fn add_number(
-    alloc: Global,
-    lines: &mut Lines,
-    content: &[u8],
-    path: &[Step<'_>],
-) -> Result<(), AllocError> {
-    let Ok(content) = str::from_utf8(content) else {
-        return Ok(());
-    };
-    let mut scratch = Scratch::new(alloc);
-    let mut reader = Reader::new(content, &mut scratch)?;
-    match number_text(&mut reader, path) {
-        Some(text) => add_text(lines, path, text),
-        None => Ok(()),
+fn add_number(lines: &mut Lines, content: &str, path: &[Step<'_>]) {
+    let mut scratch = Scratch::new(lines.alloc());
+    match Reader::new(content, &mut scratch) {
+        Ok(mut reader) => {
+            if let Some(text) = number_text(&mut reader, path) {
+                add_text(lines, path, text);
+            }
+        }
+        Err(_) => lines.fail(),
     }
 }
 
 /// Adds the line that states how many more such numbers there are.
-fn add_more(lines: &mut Lines, more: u64) -> Result<(), AllocError> {
+fn add_more(lines: &mut Lines, more: u64) {
     match more {
-        0 => Ok(()),
+        0 => {}
         1 => lines.add("one more number of this record is not an integer of 64 bits"),
         _ => {
-            lines.add_words(&[
-                Word::Number(more),
-                Word::Text(" more numbers of this record are not integers of 64 bits"),
-            ])
+            lines.number("", more);
+            lines.end(" more numbers of this record are not integers of 64 bits");
         }
     }
 }
@@ -256,134 +243,90 @@ fn add_more(lines: &mut Lines, more: u64) -> Result<(), AllocError> {
 const LONGEST_RULE: usize = 500;
 
 /// Returns the rule that blanks the value at a path of a message.
-fn rule_line<'a>(
-    alloc: Global,
-    kind: Kind,
-    name: &'a str,
-    place: &'a [Step<'a>],
-) -> Result<String, AllocError> {
-    let words = [
-        Word::Text("blank "),
-        Word::Text(kind_word(kind)),
-        Word::Text(" "),
-        Word::Name(name),
-        Word::Text(" "),
-        Word::Place(place),
-    ];
-    joined(alloc, &words)
+fn rule_line(lines: &mut Lines, kind: Kind, name: &str, place: &[Step<'_>]) -> String {
+    lines.text("blank ", kind_word(kind));
+    lines.push_str(" ");
+    push_name(lines, name);
+    lines.push_str(" ");
+    push_place(lines, place);
+    lines.take_line()
 }
 
 /// Returns whether a line is a mask rule that blanks the value at a path of a message.
-fn is_rule_for(
-    alloc: Global,
-    line: &str,
-    head: Head<'_>,
-    place: &[Step<'_>],
-) -> Result<bool, AllocError> {
+fn is_rule_for(lines: &mut Lines, line: &str, head: Head<'_>, place: &[Step<'_>]) -> bool {
     if line.len() > LONGEST_RULE {
-        return Ok(false);
+        return false;
     }
-    match MaskRules::read(alloc, line.as_bytes()) {
+    match MaskRules::read(lines.alloc(), line.as_bytes()) {
         Ok(rules) => {
             let masking = Masking {
                 rules: rules.changes(),
                 head,
             };
-            Ok(masking.blanks(place))
+            masking.blanks(place)
         }
-        Err(fault) if fault.cause == RulesCause::Memory => Err(AllocError),
-        Err(_) => Ok(false),
+        Err(fault) => {
+            if fault.cause == RulesCause::Memory {
+                lines.fail();
+            }
+            false
+        }
     }
 }
 
 /// Adds the line with the rule that blanks `what`, if it is a valid mask rule. Returns whether it
 /// is.
-fn add_rule(
-    alloc: Global,
-    lines: &mut Lines,
-    head: Head<'_>,
-    what: &str,
-    place: &[Step<'_>],
-) -> Result<bool, AllocError> {
+fn add_rule(lines: &mut Lines, head: Head<'_>, what: &str, place: &[Step<'_>]) -> bool {
     let (Some(kind), Some(name)) = (head.kind, head.name) else {
-        return Ok(false);
+        return false;
     };
-    let line = rule_line(alloc, kind, name, place)?;
-    let is_rule = is_rule_for(alloc, line.as_str(), head, place)?;
+    let rule = rule_line(lines, kind, name, place);
+    let is_rule = is_rule_for(lines, rule.as_str(), head, place);
     if is_rule {
-        add_rule_line(lines, what, line.as_str())?;
+        lines.text("to blank ", what);
+        lines.push_str(", write into a rules file: ");
+        lines.end(rule.as_str());
     }
-    Ok(is_rule)
-}
-
-/// Adds the line with the rule that blanks `what`.
-fn add_rule_line<'a>(lines: &mut Lines, what: &'a str, rule: &'a str) -> Result<(), AllocError> {
-    lines.add_words(&[
-        Word::Text("to blank "),
-        Word::Text(what),
-        Word::Text(", write into a rules file: "),
-        Word::Text(rule),
-    ])
+    is_rule
 }
 
 /// Adds the lines about the rules that blank the numbers found.
-fn add_rules(
-    alloc: Global,
-    lines: &mut Lines,
-    head: Head<'_>,
-    found: &Fractions<'_>,
-) -> Result<(), AllocError> {
-    let has_first = add_rule(alloc, lines, head, "this number", found.first.as_slice())?;
+fn add_rules(lines: &mut Lines, head: Head<'_>, found: &Fractions<'_>) {
+    let has_first = add_rule(lines, head, "this number", found.first.as_slice());
     let has_shared = match found.shared_path() {
-        Some(path) => add_rule(alloc, lines, head, "all of them", path)?,
+        Some(path) => add_rule(lines, head, "all of them", path),
         None => false,
     };
     lines.add(if has_first || has_shared {
         "apply the rules file with dapnorm mask RULES or dapnorm golden --rules RULES"
     } else {
         "no rule of a mask changes it: let the program that sent it write an integer"
-    })
+    });
 }
 
 /// Adds the lines about the numbers found in a message.
-fn add_found(
-    alloc: Global,
+fn add_found(lines: &mut Lines, content: &[u8], head: Head<'_>, found: &Fractions<'_>) {
+    if found.count == 0 {
+        return;
+    }
+    if let Ok(text) = str::from_utf8(content) {
+        add_number(lines, text, found.first.as_slice());
+    }
+    add_more(lines, found.count.saturating_sub(1));
+    add_rules(lines, head, found);
+}
+
+/// Explains that a number of a message is not an integer of 64 bits after these rules are applied.
+/// `content` is the text of the message.
+pub(crate) fn explain_fraction(
     lines: &mut Lines,
     content: &[u8],
-    head: Head<'_>,
-    found: &Fractions<'_>,
-) -> Result<(), AllocError> {
-    if found.count == 0 {
-        return Ok(());
-    }
-    add_number(alloc, lines, content, found.first.as_slice())?;
-    add_more(lines, found.count.saturating_sub(1))?;
-    add_rules(alloc, lines, head, found)
-}
-
-/// Adds the lines about a message that contains a number that is not an integer of 64 bits.
-fn add_fractions(
-    alloc: Global,
-    lines: &mut Lines,
-    record: RecordPart<'_>,
     message: &Value,
+    head: Head<'_>,
     rules: &[MaskRule],
-) -> Result<(), AllocError> {
-    let head = Head::of(record.side, message);
-    add_head(lines, record.number, &head)?;
-    let found = fractions_of(alloc, message, rules, head)?;
-    add_found(alloc, lines, record.content, head, &found)
-}
-
-/// Explains that a number of a record is not an integer of 64 bits after these rules are applied.
-pub(crate) fn explain_fraction(
-    alloc: Global,
-    lines: &mut Lines,
-    record: RecordPart<'_>,
-    rules: &[MaskRule],
-) -> Result<(), AllocError> {
-    match read_value(alloc, record.content)? {
-        Some(message) => add_fractions(alloc, lines, record, &message, rules),
-        None => Ok(()),
+) {
+    match fractions_of(lines.alloc(), message, rules, head) {
+        Ok(found) => add_found(lines, content, head, &found),
+        Err(_) => lines.fail(),
     }
 }

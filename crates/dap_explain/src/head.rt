@@ -1,11 +1,8 @@
 //! Reads the head of a message: its sender, its kind and its name.
 use crate::lines::Lines;
-use crate::records::RecordPart;
-use crate::words::Word;
 use dap_profile::Kind;
 use dap_tree::Side;
 use serde_json::Value;
-use std::alloc::{AllocError, Global};
 
 /// The members that every message of a kind has. A member that is absent or has another type is
 /// `None`.
@@ -101,15 +98,22 @@ fn number_at(message: &Value, name: &str) -> Option<i64> {
 }
 
 /// Adds the line that states which message a record contains.
-pub(crate) fn add_head(lines: &mut Lines, number: u64, head: &Head<'_>) -> Result<(), AllocError> {
-    lines.add_words(&[
-        Word::Record(number),
-        Word::Text(" is "),
-        Word::Text(marker(head.side)),
-        Word::Text(kind_words(head.kind)),
-        Word::Named(head.name),
-        Word::Answering(head.request_seq),
-    ])
+pub(crate) fn add_head(lines: &mut Lines, number: u64, head: &Head<'_>) {
+    lines.record("", number);
+    lines.text(" is ", marker(head.side));
+    lines.push_str(kind_words(head.kind));
+    push_name(lines, head.name);
+    if let Some(seq) = head.request_seq {
+        lines.seq(", to request ", seq);
+    }
+    lines.end("");
+}
+
+/// Appends a space and a name as JSON, if there is one.
+pub(crate) fn push_name(lines: &mut Lines, name: Option<&str>) {
+    if let Some(name) = name {
+        lines.quoted(" ", name);
+    }
 }
 
 /// Returns the words for the kind of a message.
@@ -129,18 +133,6 @@ fn marker(side: Option<Side>) -> &'static str {
     }
 }
 
-/// Adds the line that states which message a record contains, if the message can be read.
-pub(crate) fn add_message(
-    alloc: Global,
-    lines: &mut Lines,
-    record: RecordPart<'_>,
-) -> Result<(), AllocError> {
-    match read_value(alloc, record.content)? {
-        Some(message) => add_head(lines, record.number, &Head::of(record.side, &message)),
-        None => Ok(()),
-    }
-}
-
 /// Returns whom to fix if a message of this side is invalid.
 pub(crate) fn sender_words(side: Option<Side>) -> &'static str {
     match side {
@@ -150,11 +142,15 @@ pub(crate) fn sender_words(side: Option<Side>) -> &'static str {
     }
 }
 
-/// Reads a content as a JSON value. Returns `None` if it is not JSON.
-pub(crate) fn read_value(alloc: Global, content: &[u8]) -> Result<Option<Value>, AllocError> {
-    match Value::from_slice(alloc, content) {
-        Ok(value) => Ok(Some(value)),
-        Err(error) if error.is_memory() => Err(AllocError),
-        Err(_) => Ok(None),
+/// Reads a content as a JSON value. Returns `None` if it is not JSON, or after a failed allocation.
+pub(crate) fn read_value(lines: &mut Lines, content: &[u8]) -> Option<Value> {
+    match Value::from_slice(lines.alloc(), content) {
+        Ok(value) => Some(value),
+        Err(error) => {
+            if error.is_memory() {
+                lines.fail();
+            }
+            None
+        }
     }
 }

@@ -2,7 +2,6 @@
 use crate::head::{Head, add_head, kind_named, sender_words};
 use crate::lines::Lines;
 use crate::records::RecordPart;
-use crate::words::Word;
 use dap_profile::Kind;
 use json::{Reader, Scratch, Token};
 use serde_json::{Error, Value};
@@ -154,86 +153,47 @@ fn offset_of(text: &str, error: &Error) -> usize {
 }
 
 /// Adds the lines about a string that is not JSON.
-fn add_syntax(
-    lines: &mut Lines,
-    record: RecordPart<'_>,
-    text: &str,
-    error: &Error,
-) -> Result<(), AllocError> {
+fn add_syntax(lines: &mut Lines, record: RecordPart<'_>, text: &str, error: &Error) {
+    lines.record("the content of ", record.number);
     if error.is_eof() {
-        add_early_end(lines, record, text)?;
+        lines.number(" ends after ", text.len() as u64);
+        lines.end(" bytes, before its JSON text does");
     } else {
-        add_near(lines, record, text, offset_of(text, error))?;
+        add_near(lines, text.as_bytes(), offset_of(text, error));
     }
-    lines.add(sender_words(record.side))
+    lines.add(sender_words(record.side));
 }
 
-/// Adds the line about a string that ends before its JSON does.
-fn add_early_end(lines: &mut Lines, record: RecordPart<'_>, text: &str) -> Result<(), AllocError> {
-    lines.add_words(&[
-        Word::Text("the content of "),
-        Word::Record(record.number),
-        Word::Text(" ends after "),
-        Word::Number(text.len() as u64),
-        Word::Text(" bytes, before its JSON text does"),
-    ])
-}
-
-/// Adds the line about a string that is not JSON near this position.
-fn add_near(
-    lines: &mut Lines,
-    record: RecordPart<'_>,
-    text: &str,
-    offset: usize,
-) -> Result<(), AllocError> {
-    let near = text.as_bytes().get(offset.saturating_sub(BEFORE)..);
-    lines.add_words(&[
-        Word::Text("the content of "),
-        Word::Record(record.number),
-        Word::Text(" is not JSON near byte "),
-        Word::Number(offset as u64),
-        Word::Text(": "),
-        Word::Bytes(near.unwrap_or(&[])),
-    ])
+/// Ends the line about a string that is not JSON near this position.
+fn add_near(lines: &mut Lines, text: &[u8], offset: usize) {
+    let near = text.get(offset.saturating_sub(BEFORE)..);
+    lines.number(" is not JSON near byte ", offset as u64);
+    lines.bytes(": ", near.unwrap_or(&[]));
+    lines.end("");
 }
 
 /// Adds the line about arrays and objects that are nested too deep.
-fn add_depth(lines: &mut Lines, record: RecordPart<'_>) -> Result<(), AllocError> {
-    lines.add_words(&[
-        Word::Record(record.number),
-        Word::Text(" has more than "),
-        Word::Number(MAX_DEPTH as u64),
-        Word::Text(" arrays and objects inside one another, which dapnorm does not read"),
-    ])
+fn add_depth(lines: &mut Lines, record: RecordPart<'_>) {
+    lines.record("", record.number);
+    lines.number(" has more than ", MAX_DEPTH as u64);
+    lines.end(" arrays and objects inside one another, which dapnorm does not read");
 }
 
 /// Adds the lines about a number whose absolute value exceeds the largest 64-bit float.
-fn add_past_floats(
-    lines: &mut Lines,
-    record: RecordPart<'_>,
-    number: &str,
-) -> Result<(), AllocError> {
-    lines.add_words(&[
-        Word::Text("the number "),
-        Word::Cut(number),
-        Word::Text(" of "),
-        Word::Record(record.number),
-        Word::Text(" is outside the range of 64-bit floats"),
-    ])?;
-    lines.add("let the program that sent it write a number of that range")
+fn add_past_floats(lines: &mut Lines, record: RecordPart<'_>, number: &str) {
+    lines.cut("the number ", number);
+    lines.record(" of ", record.number);
+    lines.end(" is outside the range of 64-bit floats");
+    lines.add("let the program that sent it write a number of that range");
 }
 
 /// Adds the lines about a string that is not JSON because of this error.
-fn add_text(
-    alloc: Global,
-    lines: &mut Lines,
-    record: RecordPart<'_>,
-    text: &str,
-    error: &Error,
-) -> Result<(), AllocError> {
-    let mut scratch = Scratch::new(alloc);
-    let shown = shown_by(text, &mut scratch)?;
-    add_shown(lines, record, text, &shown, error)
+fn add_text(lines: &mut Lines, record: RecordPart<'_>, text: &str, error: &Error) {
+    let mut scratch = Scratch::new(lines.alloc());
+    match shown_by(text, &mut scratch) {
+        Ok(shown) => add_shown(lines, record, text, &shown, error),
+        Err(_) => lines.fail(),
+    }
 }
 
 /// Adds the lines about a string whose tokens contain this information.
@@ -243,9 +203,9 @@ fn add_shown(
     text: &str,
     shown: &Shown<'_>,
     error: &Error,
-) -> Result<(), AllocError> {
+) {
     if let Some(head) = shown.head(record) {
-        add_head(lines, record.number, &head)?;
+        add_head(lines, record.number, &head);
     }
     match shown.fault {
         Some(TokenFault::Depth) => add_depth(lines, record),
@@ -255,31 +215,27 @@ fn add_shown(
 }
 
 /// Adds the lines about a content that is not UTF-8 after this many bytes.
-fn add_not_utf8(lines: &mut Lines, record: RecordPart<'_>, valid: usize) -> Result<(), AllocError> {
-    lines.add_words(&[
-        Word::Text("the content of "),
-        Word::Record(record.number),
-        Word::Text(" is not UTF-8 after "),
-        Word::Number(valid as u64),
-        Word::Text(" bytes: "),
-        Word::Bytes(record.content.get(valid..).unwrap_or(&[])),
-    ])?;
-    lines.add(sender_words(record.side))
+fn add_not_utf8(lines: &mut Lines, record: RecordPart<'_>, valid: usize) {
+    lines.record("the content of ", record.number);
+    lines.number(" is not UTF-8 after ", valid as u64);
+    lines.bytes(" bytes: ", record.content.get(valid..).unwrap_or(&[]));
+    lines.end("");
+    lines.add(sender_words(record.side));
 }
 
 /// Explains that the content of a record is not JSON.
-pub(crate) fn explain_json(
-    alloc: Global,
-    lines: &mut Lines,
-    record: RecordPart<'_>,
-) -> Result<(), AllocError> {
-    let text = match str::from_utf8(record.content) {
-        Ok(text) => text,
-        Err(error) => return add_not_utf8(lines, record, error.valid_up_to()),
-    };
-    match Value::from_str(alloc, text) {
-        Ok(_) => Ok(()),
-        Err(error) if error.is_memory() => Err(AllocError),
-        Err(error) => add_text(alloc, lines, record, text, &error),
+pub(crate) fn explain_json(lines: &mut Lines, record: RecordPart<'_>) {
+    match str::from_utf8(record.content) {
+        Ok(text) => explain_text(lines, record, text),
+        Err(error) => add_not_utf8(lines, record, error.valid_up_to()),
+    }
+}
+
+/// Explains that a string is not JSON.
+fn explain_text(lines: &mut Lines, record: RecordPart<'_>, text: &str) {
+    match Value::from_str(lines.alloc(), text) {
+        Ok(_) => {}
+        Err(error) if error.is_memory() => lines.fail(),
+        Err(error) => add_text(lines, record, text, &error),
     }
 }

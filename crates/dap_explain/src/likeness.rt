@@ -1,7 +1,5 @@
 //! Recognises inputs of another format than the one that a command reads.
 use crate::lines::Lines;
-use crate::words::Word;
-use std::alloc::AllocError;
 
 /// The bytes of the byte order mark that some editors write before UTF-8.
 const BYTE_ORDER_MARK: &[u8] = b"\xef\xbb\xbf";
@@ -42,13 +40,10 @@ pub(crate) fn likeness_of(input: &[u8], expected: Expected) -> Option<&'static s
 }
 
 /// Adds the lines about an input that seems to have another format.
-pub(crate) fn add_likeness(
-    lines: &mut Lines,
-    input: &[u8],
-    likeness: &str,
-) -> Result<(), AllocError> {
-    lines.add_words(&[Word::Text("the input begins "), Word::Bytes(input)])?;
-    lines.add(likeness)
+pub(crate) fn add_likeness(lines: &mut Lines, input: &[u8], likeness: &str) {
+    lines.bytes("the input begins ", input);
+    lines.end("");
+    lines.add(likeness);
 }
 
 /// Returns whether the bytes start like a trace: with a marker, a count and LF.

@@ -3,17 +3,24 @@ ghost use Rattle.std.specs.Prelude.{◌≡◌, ◌≢◌, ◌<◌, ◌≤◌, tr
 ghost use Rattle.std.specs.Prelude.{string_bytes};
 ghost use Rattle.dap_explain.specs.Lines.{AreLines, IsPrinted, line_of};
 
-use crate::words::{Word, joined};
 use std::alloc::{AllocError, Global};
+use std::mem;
 
 /// The maximum number of characters that are written of a line.
 const LONGEST: usize = 1_000;
 
 /// The lines of an explanation.
+///
+/// `add` appends a whole line. The other methods append parts of the next line, which `end`
+/// completes. After a failed allocation, `into_text` returns an error, whatever is appended.
 #[derive(Drop)]
 pub(crate) struct Lines {
     alloc: Global,
     text: String,
+    /// The parts of the next line.
+    line: String,
+    /// Whether an allocation failed.
+    has_failed: bool,
     ghost are_lines: { ∥ AreLines (string_bytes text) ∥₁ },
 }
 
@@ -23,27 +30,85 @@ impl Lines {
         Lines {
             alloc,
             text: String::new(alloc),
+            line: String::new(alloc),
+            has_failed: false,
         }
     }
 
-    /// Appends a line, truncated after 1,000 characters. A character that a terminal does not print
-    /// is written as a JSON escape.
-    pub(crate) fn add(&mut self, line: &str) -> Result<(), AllocError> {
-        let line = indented(self.alloc, line)?;
+    pub(crate) fn alloc(&self) -> Global {
+        self.alloc
+    }
+
+    /// Stores that an allocation failed.
+    pub(crate) fn fail(&mut self) {
+        self.has_failed = true;
+    }
+
+    /// Stores whether an allocation failed.
+    fn note(&mut self, outcome: Result<(), AllocError>) {
+        if outcome.is_err() {
+            self.has_failed = true;
+        }
+    }
+
+    /// Appends a character.
+    pub(crate) fn push(&mut self, character: char) {
+        let outcome = self.line.push(character);
+        self.note(outcome);
+    }
+
+    /// Appends a string.
+    pub(crate) fn push_str(&mut self, text: &str) {
+        let outcome = self.line.push_str(text);
+        self.note(outcome);
+    }
+
+    /// Appends a string and a number.
+    pub(crate) fn number(&mut self, lead: &str, number: u64) {
+        let outcome = write!(self.line, "{lead}{number}");
+        self.note(outcome);
+    }
+
+    /// Appends a string and a number from a message.
+    pub(crate) fn seq(&mut self, lead: &str, number: i64) {
+        let outcome = write!(self.line, "{lead}{number}");
+        self.note(outcome);
+    }
+
+    /// Appends a string and ends the line. It is truncated after 1,000 characters. A character that
+    /// a terminal does not print is written as a JSON escape.
+    pub(crate) fn end(&mut self, rest: &str) {
+        self.push_str(rest);
+        let outcome = self.end_line();
+        self.note(outcome);
+    }
+
+    /// Appends a line.
+    pub(crate) fn add(&mut self, line: &str) {
+        self.end(line);
+    }
+
+    /// Appends the next line to the text.
+    fn end_line(&mut self) -> Result<(), AllocError> {
+        let line = indented(self.alloc, self.line.as_str())?;
+        self.line.clear();
         self.text.push_str(line.as_str())
     }
 
-    /// Appends a line that consists of these words, as `add` does.
-    pub(crate) fn add_words(&mut self, words: &[Word<'_>]) -> Result<(), AllocError> {
-        let line = joined(self.alloc, words)?;
-        self.add(line.as_str())
+    /// Returns the parts of the next line, and removes them.
+    pub(crate) fn take_line(&mut self) -> String {
+        mem::replace(&mut self.line, String::new(self.alloc))
     }
 
     /// Returns the text of the lines.
-    pub(crate) fn into_text(self) -> String
-        ensures { ∥ AreLines (string_bytes result) ∥₁ }
+    pub(crate) fn into_text(self) -> Result<String, AllocError>
+        ensures { IfOk result (λ text. ∥ AreLines (string_bytes text) ∥₁) }
     {
-        self.text
+        if self.has_failed {
+            Err(AllocError)
+        } else {
+            Ok(self.text)
+        }
     }
 }
 

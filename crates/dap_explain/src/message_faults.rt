@@ -1,14 +1,13 @@
 //! Explains contents that are not messages of the profile.
-use crate::head::{Head, add_head, read_value, sender_words};
+use crate::head::{Head, add_head, sender_words};
 use crate::lines::Lines;
+use crate::path::push_row_place;
 use crate::records::RecordPart;
 use crate::row_faults::{RowFault, row_fault};
-use crate::words::Word;
 use dap_message::MessageFault;
 use dap_profile::{Row, Want, profile_rows};
 use dap_tree::Side;
 use serde_json::Value;
-use std::alloc::{AllocError, Global};
 
 /// Returns the type that a row expects, in words.
 fn want_words(want: Want) -> &'static str {
@@ -40,72 +39,52 @@ fn sort_words(value: &Value) -> &'static str {
 }
 
 /// Adds the lines about a content that is not an object.
-fn add_not_object(
-    lines: &mut Lines,
-    record: RecordPart<'_>,
-    content: &Value,
-) -> Result<(), AllocError> {
-    lines.add_words(&[
-        Word::Text("the content of "),
-        Word::Record(record.number),
-        Word::Text(" is "),
-        Word::Text(sort_words(content)),
-        Word::Text("; a message is a JSON object"),
-    ])?;
-    lines.add(sender_words(record.side))
+fn add_not_object(lines: &mut Lines, record: RecordPart<'_>, content: &Value) {
+    lines.record("the content of ", record.number);
+    lines.text(" is ", sort_words(content));
+    lines.end("; a message is a JSON object");
+    lines.add(sender_words(record.side));
 }
 
 /// Adds the lines about a message whose type the protocol does not define.
-fn add_unknown_type(
-    lines: &mut Lines,
-    record: RecordPart<'_>,
-    message: &Value,
-) -> Result<(), AllocError> {
-    add_type(lines, record.number, message)?;
-    lines.add("a message has the type \"request\", \"response\" or \"event\"")?;
+fn add_unknown_type(lines: &mut Lines, record: RecordPart<'_>, message: &Value) {
+    add_type(lines, record.number, message.get("type"));
+    lines.add("a message has the type \"request\", \"response\" or \"event\"");
     if message.get("jsonrpc").is_none() {
-        return lines.add(sender_words(record.side));
+        lines.add(sender_words(record.side));
+    } else {
+        lines.add(
+            "its member \"jsonrpc\" is that of another protocol, such as a language server's",
+        );
+        lines.add("record the session of the debug adapter instead");
     }
-    lines.add("its member \"jsonrpc\" is that of another protocol, such as a language server's")?;
-    lines.add("record the session of the debug adapter instead")
 }
 
 /// Adds the line about the type of a message.
-fn add_type(lines: &mut Lines, number: u64, message: &Value) -> Result<(), AllocError> {
-    match message.get("type") {
+fn add_type(lines: &mut Lines, number: u64, found: Option<&Value>) {
+    match found {
         None => {
-            lines.add_words(&[
-                Word::Text("the message of "),
-                Word::Record(number),
-                Word::Text(" has no member \"type\""),
-            ])
+            lines.record("the message of ", number);
+            lines.end(" has no member \"type\"");
         }
         Some(value) => {
-            lines.add_words(&[
-                Word::Text("the type of "),
-                Word::Record(number),
-                Word::Text(" is "),
-                Word::Json(value),
-            ])
+            lines.record("the type of ", number);
+            lines.json(" is ", value);
+            lines.end("");
         }
     }
 }
 
 /// Adds the line about the value at the path of a row.
-fn add_place(lines: &mut Lines, row: &Row, fault: RowFault<'_>) -> Result<(), AllocError> {
-    lines.add_words(&[
-        Word::RowPlace(row.place, fault.element),
-        Word::Text(" is "),
-        match fault.value {
-            Some(value) => Word::Json(value),
-            None => Word::Text("missing"),
-        },
-        Word::Text("; the profile requires "),
-        Word::Text(want_words(row.want)),
-        Word::Text(" there (dapnorm rows "),
-        Word::Number(u64::from(row.number)),
-        Word::Text(")"),
-    ])
+fn add_place(lines: &mut Lines, row: &Row, fault: RowFault<'_>) {
+    push_row_place(lines, row.place, fault.element);
+    match fault.value {
+        Some(value) => lines.json(" is ", value),
+        None => lines.push_str(" is missing"),
+    }
+    lines.text("; the profile requires ", want_words(row.want));
+    lines.number(" there (dapnorm rows ", u64::from(row.number));
+    lines.end(")");
 }
 
 /// Returns the row of the profile with this number.
@@ -120,11 +99,10 @@ fn add_row(
     message: &Value,
     number: u16,
     is_missing: bool,
-) -> Result<(), AllocError> {
-    add_head(lines, record.number, &Head::of(record.side, message))?;
-    match row_numbered(number) {
-        Some(row) => add_row_fault(lines, record.side, row, message, is_missing),
-        None => Ok(()),
+) {
+    add_head(lines, record.number, &Head::of(record.side, message));
+    if let Some(row) = row_numbered(number) {
+        add_row_fault(lines, record.side, row, message, is_missing);
     }
 }
 
@@ -135,23 +113,23 @@ fn add_row_fault(
     row: &Row,
     message: &Value,
     is_missing: bool,
-) -> Result<(), AllocError> {
+) {
     match row_fault(row, message) {
         Some(fault) if fault.value.is_none() == is_missing => {
-            add_place(lines, row, fault)?;
-            lines.add(sender_words(side))
+            add_place(lines, row, fault);
+            lines.add(sender_words(side));
         }
-        _ => Ok(()),
+        _ => {}
     }
 }
 
-/// Adds the lines about a content that is not a message.
-fn add_fault(
+/// Explains that the content of a record, which is this value, is not a message.
+pub(crate) fn explain_message(
     lines: &mut Lines,
     record: RecordPart<'_>,
     message: &Value,
     fault: MessageFault,
-) -> Result<(), AllocError> {
+) {
     match fault {
         MessageFault::NotObject if !message.is_object() => {
             add_not_object(lines, record, message)
@@ -159,19 +137,6 @@ fn add_fault(
         MessageFault::UnknownType => add_unknown_type(lines, record, message),
         MessageFault::Missing(row) => add_row(lines, record, message, row, true),
         MessageFault::WrongType(row) => add_row(lines, record, message, row, false),
-        MessageFault::NotObject | MessageFault::Memory => Ok(()),
-    }
-}
-
-/// Explains that the content of a record is not a message.
-pub(crate) fn explain_message(
-    alloc: Global,
-    lines: &mut Lines,
-    record: RecordPart<'_>,
-    fault: MessageFault,
-) -> Result<(), AllocError> {
-    match read_value(alloc, record.content)? {
-        Some(message) => add_fault(lines, record, &message, fault),
-        None => Ok(()),
+        MessageFault::NotObject | MessageFault::Memory => {}
     }
 }

@@ -1,7 +1,6 @@
-//! Formats paths into a JSON value, and the corresponding paths of mask rules.
-use crate::words::push_quoted;
+//! Appends paths into a JSON value, and the corresponding paths of mask rules.
+use crate::lines::Lines;
 use dap_profile::Place;
-use std::alloc::AllocError;
 
 /// A step into a JSON value.
 #[derive(Clone, Copy)]
@@ -12,68 +11,77 @@ pub(crate) enum Step<'a> {
     Element(usize),
 }
 
-/// Appends a path in the notation of `diff`.
-pub(crate) fn push_path(text: &mut String, path: &[Step<'_>]) -> Result<(), AllocError> {
+/// Appends a path in the notation of `diff`, such as `body.stackFrames[2].line`.
+pub(crate) fn push_path(lines: &mut Lines, path: &[Step<'_>]) {
     if path.is_empty() {
-        return text.push('.');
+        lines.push_str(".");
     }
     for (index, step) in path.iter().enumerate() {
         match step {
-            Step::Member(name) => push_member(text, name, index == 0)?,
-            Step::Element(element) => write!(text, "[{element}]")?,
+            Step::Member(name) => push_member(lines, name, index == 0),
+            Step::Element(element) => push_element(lines, *element),
         }
     }
-    Ok(())
 }
 
-/// Appends the path of a row of the profile, with the index of the array element.
-pub(crate) fn push_row_place(
-    text: &mut String,
-    place: Place,
-    element: usize,
-) -> Result<(), AllocError> {
-    let element = Step::Element(element);
+/// Appends the path of a mask rule that matches a path, such as `body.stackFrames[].line`.
+pub(crate) fn push_place(lines: &mut Lines, path: &[Step<'_>]) {
+    for (index, step) in path.iter().enumerate() {
+        match step {
+            Step::Member(name) => push_member(lines, name, index == 0),
+            Step::Element(_) => lines.push_str("[]"),
+        }
+    }
+}
+
+/// Appends the path of a row of the profile, with the index of the array element, in the notation
+/// of `diff`.
+pub(crate) fn push_row_place(lines: &mut Lines, place: Place, element: usize) {
     match place {
-        Place::Member(a) => push_path(text, &[Step::Member(a)]),
-        Place::Inner(a, b) => push_path(text, &[Step::Member(a), Step::Member(b)]),
-        Place::Deep(a, b, c) => {
-            push_path(text, &[Step::Member(a), Step::Member(b), Step::Member(c)])
+        Place::Member(name) => push_member(lines, name, true),
+        Place::Inner(outer, name) => push_members(lines, outer, name),
+        Place::Deep(outer, inner, name) => {
+            push_members(lines, outer, inner);
+            push_member(lines, name, false);
         }
-        Place::Element(a, b) => { push_path(text, &[Step::Member(a), Step::Member(b), element]) }
-        Place::Part(a, b, c) => {
-            push_path(
-                text,
-                &[Step::Member(a), Step::Member(b), element, Step::Member(c)],
-            )
+        Place::Element(outer, list) => {
+            push_members(lines, outer, list);
+            push_element(lines, element);
+        }
+        Place::Part(outer, list, name) => {
+            push_members(lines, outer, list);
+            push_element(lines, element);
+            push_member(lines, name, false);
         }
     }
 }
 
-/// Appends the path of a mask rule that matches a path.
-pub(crate) fn push_place(text: &mut String, path: &[Step<'_>]) -> Result<(), AllocError> {
-    for (index, step) in path.iter().enumerate() {
-        match step {
-            Step::Member(name) => push_member(text, name, index == 0)?,
-            Step::Element(_) => text.push_str("[]")?,
-        }
-    }
-    Ok(())
+/// Appends the first two steps of a path, to members.
+fn push_members(lines: &mut Lines, outer: &str, name: &str) {
+    push_member(lines, outer, true);
+    push_member(lines, name, false);
 }
 
 /// Appends the step to a member, preceded by a dot unless it is the first step.
-fn push_member(text: &mut String, name: &str, is_first: bool) -> Result<(), AllocError> {
+fn push_member(lines: &mut Lines, name: &str, is_first: bool) {
     if !is_first {
-        text.push('.')?;
+        lines.push_str(".");
     }
-    push_name(text, name)
+    push_name(lines, name);
 }
 
-/// Appends a name in the notation of paths and rules.
-pub(crate) fn push_name(text: &mut String, name: &str) -> Result<(), AllocError> {
+/// Appends the step to an element.
+fn push_element(lines: &mut Lines, index: usize) {
+    lines.number("[", index as u64);
+    lines.push_str("]");
+}
+
+/// Appends a name in the notation of paths and rules: unchanged, or as a JSON string.
+pub(crate) fn push_name(lines: &mut Lines, name: &str) {
     if is_plain(name) {
-        text.push_str(name)
+        lines.push_str(name);
     } else {
-        push_quoted(text, name)
+        lines.quoted("", name);
     }
 }
 

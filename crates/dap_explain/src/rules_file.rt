@@ -4,7 +4,6 @@ ghost use Rattle.dap_explain.specs.Lines.{AreLines};
 
 use crate::lines::Lines;
 use crate::rules_line::{after_verb, is_drop, is_end, is_word, place_of};
-use crate::words::Word;
 use dap_mask::{MaskRules, RulesCause, RulesFault};
 use std::alloc::{AllocError, Global};
 use std::str;
@@ -36,48 +35,42 @@ fn line_of(rules: &[u8], number: usize) -> &[u8] {
 }
 
 /// Adds a line of the file, unchanged.
-fn add_line(lines: &mut Lines, number: usize, line: &[u8]) -> Result<(), AllocError> {
-    let number = Word::Number(number as u64);
+fn add_line(lines: &mut Lines, number: usize, line: &[u8]) {
+    lines.number("line ", number as u64);
     match str::from_utf8(line) {
-        Ok(text) => {
-            lines.add_words(&[
-                Word::Text("line "),
-                number,
-                Word::Text(" is: "),
-                Word::Cut(text.trim()),
-            ])
-        }
+        Ok(text) => lines.cut(" is: ", text.trim()),
         Err(error) => {
             let valid = error.valid_up_to();
-            lines.add_words(&[
-                Word::Text("line "),
-                number,
-                Word::Text(" is not UTF-8 after "),
-                Word::Number(valid as u64),
-                Word::Text(" bytes: "),
-                Word::Bytes(line.get(valid..).unwrap_or(&[])),
-            ])
+            lines.number(" is not UTF-8 after ", valid as u64);
+            lines.bytes(" bytes: ", line.get(valid..).unwrap_or(&[]));
         }
     }
+    lines.end("");
 }
 
 /// Adds the line about a line that is not a rule.
-fn add_bad_rule(lines: &mut Lines, line: &[u8]) -> Result<(), AllocError> {
-    let Err(fault) = place_of(line) else {
-        return lines.add_words(&[Word::Text(RULE_FORMS), Word::Text(OTHER_FORMS)]);
-    };
-    match fault.bytes_and_words() {
-        (Some(bytes), words) => lines.add_words(&[Word::Bytes(bytes), Word::Text(words)]),
-        (None, words) => lines.add(words),
+fn add_bad_rule(lines: &mut Lines, line: &[u8]) {
+    match place_of(line) {
+        Ok(_) => {
+            lines.push_str(RULE_FORMS);
+            lines.end(OTHER_FORMS);
+        }
+        Err(fault) => {
+            if let Some(word) = fault.word {
+                lines.bytes("", word);
+            }
+            lines.end(fault.what);
+        }
     }
 }
 
 /// Adds the lines about a rule with a path that no rule may change.
-fn add_bad_place(lines: &mut Lines, line: &[u8]) -> Result<(), AllocError> {
+fn add_bad_place(lines: &mut Lines, line: &[u8]) {
     let Ok(place) = place_of(line) else {
-        return Ok(());
+        return;
     };
-    let words = if is_head_member(place) {
+    lines.bytes("", place);
+    lines.end(if is_head_member(place) {
         " is a member by which dapnorm recognises messages: leave the rule out"
     } else if is_name(place) {
         " is the name by which the rule finds its element: leave the rule out"
@@ -85,8 +78,7 @@ fn add_bad_place(lines: &mut Lines, line: &[u8]) -> Result<(), AllocError> {
         " is an id, or a member by which dapnorm recognises messages: leave the rule out"
     } else {
         " is an id that normalise renames, so no rule changes it: leave the rule out"
-    };
-    lines.add_words(&[Word::Bytes(place), Word::Text(words)])
+    });
 }
 
 /// Returns whether a path is a member by which messages are recognised.
@@ -161,22 +153,21 @@ fn two_lines(alloc: Global, first: &[u8], second: &[u8]) -> Result<Vec<u8>, Allo
 
 /// Adds the line about the earlier line that contains the same rule, or a rule that must come
 /// later.
-fn add_earlier(
-    alloc: Global,
-    lines: &mut Lines,
-    rules: &[u8],
-    fault: RulesFault,
-    what: &str,
-) -> Result<(), AllocError> {
-    match earlier_line(alloc, rules, fault.line, fault.cause)? {
-        Some(number) => {
-            lines.add_words(&[
-                Word::Text("line "),
-                Word::Number(number as u64),
-                Word::Text(what),
-            ])
+fn add_earlier(lines: &mut Lines, rules: &[u8], fault: RulesFault, what: &str) {
+    if let Some(number) = find_earlier(lines, rules, fault) {
+        lines.number("line ", number as u64);
+        lines.end(what);
+    }
+}
+
+/// Returns the number of the first earlier line after which the line is rejected.
+fn find_earlier(lines: &mut Lines, rules: &[u8], fault: RulesFault) -> Option<usize> {
+    match earlier_line(lines.alloc(), rules, fault.line, fault.cause) {
+        Ok(number) => number,
+        Err(_) => {
+            lines.fail();
+            None
         }
-        None => Ok(()),
     }
 }
 
@@ -200,136 +191,96 @@ fn is_renaming(alloc: Global, earlier: &[u8], line: &[u8]) -> Result<bool, Alloc
     )
 }
 
-/// Adds the lines about a change that an earlier one excludes.
-fn add_clash_of_changes(
-    alloc: Global,
-    lines: &mut Lines,
-    rules: &[u8],
-    fault: RulesFault,
-    earlier: usize,
-) -> Result<(), AllocError> {
-    if is_renaming(alloc, line_of(rules, earlier), line_of(rules, fault.line))? {
-        add_earlier(alloc, lines, rules, fault, " is about the same elements")?;
-        return lines.add(NAME_ADVICE);
+/// Adds the lines about a change that the change in the line `earlier` excludes.
+fn add_clash_of_changes(lines: &mut Lines, rules: &[u8], fault: RulesFault, earlier: usize) {
+    let (first, second) = (line_of(rules, earlier), line_of(rules, fault.line));
+    lines.number("line ", earlier as u64);
+    match is_renaming(lines.alloc(), first, second) {
+        Ok(true) => {
+            lines.end(" is about the same elements");
+            lines.add(NAME_ADVICE);
+        }
+        Ok(false) => {
+            lines.end(" has another action for the same place");
+            lines.add("write uuid before long and hex last, and do not join uuid and digits");
+        }
+        Err(_) => lines.fail(),
     }
-    add_earlier(
-        alloc,
-        lines,
-        rules,
-        fault,
-        " has another action for the same place",
-    )?;
-    lines.add("write uuid before long and hex last, and do not join uuid and digits")
 }
 
 /// Adds the lines about a rule that an earlier one excludes.
-fn add_clash(
-    alloc: Global,
-    lines: &mut Lines,
-    rules: &[u8],
-    fault: RulesFault,
-) -> Result<(), AllocError> {
+fn add_clash(lines: &mut Lines, rules: &[u8], fault: RulesFault) {
     if is_drop(line_of(rules, fault.line)) {
-        add_earlier(alloc, lines, rules, fault, " changes the category")?;
+        add_earlier(lines, rules, fault, " changes the category");
         return lines.add(CATEGORY_ADVICE);
     }
-    let Some(earlier) = earlier_line(alloc, rules, fault.line, fault.cause)? else {
-        return Ok(());
-    };
-    if is_drop(line_of(rules, earlier)) {
-        add_earlier(alloc, lines, rules, fault, " drops events by this category")?;
-        return lines.add(CATEGORY_ADVICE);
+    match find_earlier(lines, rules, fault) {
+        Some(number) if is_drop(line_of(rules, number)) => {
+            add_earlier(lines, rules, fault, " drops events by this category");
+            lines.add(CATEGORY_ADVICE);
+        }
+        Some(number) => add_clash_of_changes(lines, rules, fault, number),
+        None => {}
     }
-    add_clash_of_changes(alloc, lines, rules, fault, earlier)
 }
 
 /// Adds the lines about a rule that is there already.
-fn add_repeated(
-    alloc: Global,
-    lines: &mut Lines,
-    rules: &[u8],
-    fault: RulesFault,
-) -> Result<(), AllocError> {
+fn add_repeated(lines: &mut Lines, rules: &[u8], fault: RulesFault) {
     let what = if is_word(line_of(rules, fault.line)) {
         " has a word for this text"
     } else {
         " has the same rule"
     };
-    add_earlier(alloc, lines, rules, fault, what)?;
-    lines.add("leave one of them out")
+    add_earlier(lines, rules, fault, what);
+    lines.add("leave one of them out");
 }
 
 /// Adds the lines about a text that is empty, or a word that can overlap a text.
-fn add_bad_word(
-    alloc: Global,
-    lines: &mut Lines,
-    rules: &[u8],
-    fault: RulesFault,
-) -> Result<(), AllocError> {
-    if is_word_refused(alloc, line_of(rules, fault.line))? {
-        lines.add("the text is empty, or its word can overlap it")?;
-    } else {
-        add_earlier(
-            alloc,
+fn add_bad_word(lines: &mut Lines, rules: &[u8], fault: RulesFault) {
+    match is_word_refused(lines.alloc(), line_of(rules, fault.line)) {
+        Ok(true) => lines.add("the text is empty, or its word can overlap it"),
+        Ok(false) => add_earlier(
             lines,
             rules,
             fault,
             " has a text or a word that can overlap those of this line",
-        )?;
+        ),
+        Err(_) => lines.fail(),
     }
-    lines.add(WORD_ADVICE)
+    lines.add(WORD_ADVICE);
 }
 
 /// Adds the lines about why a line is rejected.
-fn add_cause(
-    alloc: Global,
-    lines: &mut Lines,
-    rules: &[u8],
-    fault: RulesFault,
-) -> Result<(), AllocError> {
+fn add_cause(lines: &mut Lines, rules: &[u8], fault: RulesFault) {
     match fault.cause {
         RulesCause::BadRule => add_bad_rule(lines, line_of(rules, fault.line)),
         RulesCause::TooMany => {
             lines.add("a file has at most 1000 rules: join some by * in the place of a name")
         }
         RulesCause::BadPlace => add_bad_place(lines, line_of(rules, fault.line)),
-        RulesCause::Repeated => { add_repeated(alloc, lines, rules, fault) }
+        RulesCause::Repeated => add_repeated(lines, rules, fault),
         RulesCause::DigitsBehindHex => {
-            add_earlier(
-                alloc,
-                lines,
-                rules,
-                fault,
-                " has a hex rule for the same place",
-            )?;
-            lines.add("write the digits rule before the hex rule")
+            add_earlier(lines, rules, fault, " has a hex rule for the same place");
+            lines.add("write the digits rule before the hex rule");
         }
-        RulesCause::Clash => { add_clash(alloc, lines, rules, fault) }
-        RulesCause::BadWord => { add_bad_word(alloc, lines, rules, fault) }
+        RulesCause::Clash => add_clash(lines, rules, fault),
+        RulesCause::BadWord => add_bad_word(lines, rules, fault),
         RulesCause::NotUtf8 => lines.add("save the file as UTF-8"),
-        RulesCause::TooLong | RulesCause::Memory => Ok(()),
+        RulesCause::TooLong | RulesCause::Memory => {}
     }
 }
 
 /// Adds the lines about a rejected file of rules.
-fn add_fault(
-    alloc: Global,
-    lines: &mut Lines,
-    rules: &[u8],
-    fault: RulesFault,
-) -> Result<(), AllocError> {
+fn add_fault(lines: &mut Lines, rules: &[u8], fault: RulesFault) {
     match fault.cause {
-        RulesCause::Memory => Ok(()),
+        RulesCause::Memory => {}
         RulesCause::TooLong => {
-            lines.add_words(&[
-                Word::Text("the file has "),
-                Word::Number(rules.len() as u64),
-                Word::Text(" bytes; a file of rules has at most 65536"),
-            ])
+            lines.number("the file has ", rules.len() as u64);
+            lines.end(" bytes; a file of rules has at most 65536");
         }
         _ => {
-            add_line(lines, fault.line, line_of(rules, fault.line))?;
-            add_cause(alloc, lines, rules, fault)
+            add_line(lines, fault.line, line_of(rules, fault.line));
+            add_cause(lines, rules, fault);
         }
     }
 }
@@ -346,6 +297,6 @@ pub fn explain_rules(alloc: Global, rules: &[u8], fault: RulesFault) -> Result<S
     ensures { IfOk result (λ text. ∥ AreLines (string_bytes text) ∥₁) }
 {
     let mut lines = Lines::new(alloc);
-    add_fault(alloc, &mut lines, rules, fault)?;
-    Ok(lines.into_text())
+    add_fault(&mut lines, rules, fault);
+    lines.into_text()
 }

@@ -1,89 +1,58 @@
 //! Finds what is wrong with a line of a file of rules that is not a rule.
 
-/// What is said of a word that is not a name.
-const NO_NAME: &str =
-    " is not a name: quote one with other characters than letters, digits, _, - and $";
-
-/// What is said of a word that is not a verb.
 const NO_VERB: &str =
     " is not a verb: write blank, digits, hex, long, uuid, drop, swap, word or per-stop";
 
-/// What is said of a word that is not a text.
+const NO_KIND: &str = " is not a kind: write request, response or event";
+
+const NO_NAME: &str =
+    " is not a name: quote one with other characters than letters, digits, _, - and $";
+
 const NO_TEXT: &str =
     " is not a text: quote one with other characters than letters, digits, _, - and $";
 
-/// What is said of a word that is not a place.
+/// The rule drops messages that are not events.
+const NOT_DROPPED: &str = " cannot be dropped: write drop event NAME";
+
+/// The rule drops events by a word that does not start with `category=`.
+const NO_CATEGORY: &str = " is not a category: write category= and a word or a JSON string";
+
 const NO_PLACE: &str =
     " is not a place: write names with dots between them, [] for elements, and quotes as for names";
 
-/// What is wrong with a line that is not a rule, with the bytes that are wrong.
+/// The rule is followed by further text.
+const MORE: &str = " is after the rule: only a comment may be there";
+
+/// What is wrong with a line that is not a rule.
 #[derive(Clone, Copy)]
-pub(crate) enum LineFault<'l> {
-    Verb(&'l [u8]),
-    NoKind,
-    /// A rule for the order has only its first half.
-    NoHalf,
-    Kind(&'l [u8]),
-    NoName,
-    Name(&'l [u8]),
-    /// The rule drops messages that are not events.
-    Dropped(&'l [u8]),
-    /// The rule drops events by a word that does not start with `category=`.
-    Category(&'l [u8]),
-    NoPlace,
-    Place(&'l [u8]),
-    /// A rule `word` lacks its text or its word.
-    NoText,
-    Text(&'l [u8]),
-    /// The rule is followed by further text.
-    More(&'l [u8]),
+pub(crate) struct LineFault<'l> {
+    /// The bytes that are wrong. `None` if something is missing.
+    pub(crate) word: Option<&'l [u8]>,
+    /// What is wrong, and what is allowed there.
+    pub(crate) what: &'static str,
 }
 
-impl<'l> LineFault<'l> {
-    /// Returns the bytes that are wrong, if there are any, and what is wrong.
-    pub(crate) fn bytes_and_words(self) -> (Option<&'l [u8]>, &'static str) {
-        match self {
-            LineFault::Verb(word) => { (Some(word), NO_VERB) }
-            LineFault::NoKind => (
-                None,
-                "after the verb comes a kind: request, response or event",
-            ),
-            LineFault::NoHalf => (
-                None,
-                "a swap names two messages: write swap KIND NAME KIND NAME",
-            ),
-            LineFault::Kind(word) => {
-                (
-                    Some(word),
-                    " is not a kind: write request, response or event",
-                )
-            }
-            LineFault::NoName => (
-                None,
-                "after the kind comes a command or an event, or * for any",
-            ),
-            LineFault::Name(word) => { (Some(word), NO_NAME) }
-            LineFault::Dropped(word) => {
-                (Some(word), " cannot be dropped: write drop event NAME")
-            }
-            LineFault::Category(word) => {
-                (
-                    Some(word),
-                    " is not a category: write category= and a word or a JSON string",
-                )
-            }
-            LineFault::NoPlace => (None, "after the name comes a place, such as body.reason"),
-            LineFault::Place(word) => { (Some(word), NO_PLACE) }
-            LineFault::NoText => (None, "a text and its word are needed: write word TEXT WORD"),
-            LineFault::Text(word) => { (Some(word), NO_TEXT) }
-            LineFault::More(word) => {
-                (
-                    Some(word),
-                    " is after the rule: only a comment may be there",
-                )
-            }
-        }
+/// Returns that a word is wrong.
+fn wrong<'l>(word: &'l [u8], what: &'static str) -> LineFault<'l> {
+    LineFault {
+        word: Some(word),
+        what,
     }
+}
+
+/// Returns that something is missing.
+fn missing<'l>(what: &'static str) -> LineFault<'l> {
+    LineFault { word: None, what }
+}
+
+/// Returns that no kind follows the verb.
+fn no_kind<'l>() -> LineFault<'l> {
+    missing("after the verb comes a kind: request, response or event")
+}
+
+/// Returns that no name follows the kind.
+fn no_name<'l>() -> LineFault<'l> {
+    missing("after the kind comes a command or an event, or * for any")
 }
 
 /// A class of bytes.
@@ -222,17 +191,17 @@ pub(crate) fn place_of(line: &[u8]) -> Result<&[u8], LineFault<'_>> {
     }
     let is_drop = verb == b"drop".as_slice();
     if !is_drop && !is_change(verb) {
-        return Err(LineFault::Verb(verb));
+        return Err(wrong(verb, NO_VERB));
     }
     if is_end(rest) {
-        return Err(LineFault::NoKind);
+        return Err(no_kind());
     }
     let (kind, rest) = split_run(after_blanks(rest), ByteClass::Word);
     if !is_kind(kind) {
-        return Err(LineFault::Kind(kind));
+        return Err(wrong(kind, NO_KIND));
     }
     if is_drop && kind != b"event".as_slice() {
-        return Err(LineFault::Dropped(kind));
+        return Err(wrong(kind, NOT_DROPPED));
     }
     place_after_kind(after_blanks(rest), is_drop)
 }
@@ -240,9 +209,9 @@ pub(crate) fn place_of(line: &[u8]) -> Result<&[u8], LineFault<'_>> {
 /// Returns no bytes if these are the two halves of a rule for the order, and otherwise what is
 /// wrong.
 fn after_halves(text: &[u8]) -> Result<&[u8], LineFault<'_>> {
-    let rest = after_half(text, LineFault::NoKind)?;
-    let rest = after_half(rest, LineFault::NoHalf)?;
-    nothing_after(rest)
+    let rest = after_half(text, no_kind())?;
+    let half = missing("a swap names two messages: write swap KIND NAME KIND NAME");
+    nothing_after(after_half(rest, half)?)
 }
 
 /// Returns no bytes if the line ends here, and otherwise what is wrong.
@@ -250,7 +219,7 @@ fn nothing_after(text: &[u8]) -> Result<&[u8], LineFault<'_>> {
     if is_end(text) {
         Ok(&[])
     } else {
-        Err(LineFault::More(after_blanks(text)))
+        Err(wrong(after_blanks(text), MORE))
     }
 }
 
@@ -262,27 +231,27 @@ fn after_half<'l>(text: &'l [u8], none: LineFault<'l>) -> Result<&'l [u8], LineF
     }
     let (kind, rest) = split_run(after_blanks(text), ByteClass::Word);
     if !is_kind(kind) {
-        return Err(LineFault::Kind(kind));
+        return Err(wrong(kind, NO_KIND));
     }
     let name = after_blanks(rest);
     if is_end(name) {
-        return Err(LineFault::NoName);
+        return Err(no_name());
     }
     match after_name(name) {
         Some(rest) if is_end(rest) || after_blanks(rest).len() < rest.len() => Ok(rest),
-        _ => Err(LineFault::Name(first_word(name))),
+        _ => Err(wrong(first_word(name), NO_NAME)),
     }
 }
 
 /// Returns the bytes after a text of a rule `word`, or what is wrong there.
 fn after_text(text: &[u8]) -> Result<&[u8], LineFault<'_>> {
     if is_end(text) {
-        return Err(LineFault::NoText);
+        return Err(missing("a text and its word are needed: write word TEXT WORD"));
     }
     let part = after_blanks(text);
     match after_member(part) {
         Some(rest) if is_end(rest) || after_blanks(rest).len() < rest.len() => Ok(rest),
-        _ => Err(LineFault::Text(first_word(part))),
+        _ => Err(wrong(first_word(part), NO_TEXT)),
     }
 }
 
@@ -303,21 +272,21 @@ fn is_kind(word: &[u8]) -> bool {
 /// Returns the path of a rule after its kind, or what is wrong there.
 fn place_after_kind(text: &[u8], is_drop: bool) -> Result<&[u8], LineFault<'_>> {
     if is_end(text) {
-        return Err(LineFault::NoName);
+        return Err(no_name());
     }
     let Some(rest) = after_name(text) else {
-        return Err(LineFault::Name(first_word(text)));
+        return Err(wrong(first_word(text), NO_NAME));
     };
     if is_end(rest) {
         return if is_drop {
             Ok(&[])
         } else {
-            Err(LineFault::NoPlace)
+            Err(missing("after the name comes a place, such as body.reason"))
         };
     }
     let place = after_blanks(rest);
     if place.len() == rest.len() {
-        return Err(LineFault::Name(first_word(text)));
+        return Err(wrong(first_word(text), NO_NAME));
     }
     if is_drop {
         return after_category(place);
@@ -334,26 +303,26 @@ fn after_category(text: &[u8]) -> Result<&[u8], LineFault<'_>> {
         _ => None,
     };
     match value {
-        None => Err(LineFault::Category(first_word(text))),
+        None => Err(wrong(first_word(text), NO_CATEGORY)),
         Some(rest) if is_end(rest) => Ok(&[]),
         Some(rest) if after_blanks(rest).len() < rest.len() => {
-            Err(LineFault::More(after_blanks(rest)))
+            Err(wrong(after_blanks(rest), MORE))
         }
-        Some(_) => Err(LineFault::Category(first_word(text))),
+        Some(_) => Err(wrong(first_word(text), NO_CATEGORY)),
     }
 }
 
 /// Returns the path of a rule, or what is wrong with it or after it.
 fn place_at(text: &[u8]) -> Result<&[u8], LineFault<'_>> {
     let Some(rest) = after_place(text) else {
-        return Err(LineFault::Place(first_word(text)));
+        return Err(wrong(first_word(text), NO_PLACE));
     };
     let more = after_blanks(rest);
     if is_end(rest) {
         Ok(&text[..text.len().saturating_sub(rest.len())])
     } else if more.len() == rest.len() {
-        Err(LineFault::Place(first_word(text)))
+        Err(wrong(first_word(text), NO_PLACE))
     } else {
-        Err(LineFault::More(more))
+        Err(wrong(more, MORE))
     }
 }

@@ -1,15 +1,14 @@
 //! Explains messages that violate a session rule.
 ghost use Rattle.dap_frame.specs.Limits.{IsSound};
 
-use crate::head::{Head, add_head, read_value};
+use crate::head::{Head, push_name, read_value};
 use crate::lines::Lines;
 use crate::records::{Form, RecordPart, RecordParts};
-use crate::words::Word;
+use crate::words::side_word;
 use dap_frame::FrameLimits;
 use dap_profile::Kind;
 use dap_session::Rule;
 use dap_tree::Side;
-use std::alloc::{AllocError, Global};
 
 /// A message to search for among the messages before the rejected one.
 #[derive(Clone, Copy)]
@@ -56,29 +55,30 @@ struct Earlier<'a> {
 }
 
 /// Returns the record of the first matching message.
-fn find<'a>(
-    alloc: Global,
-    earlier: Earlier<'a>,
-    sought: Sought,
-) -> Result<Option<RecordPart<'a>>, AllocError>
+fn find<'a>(lines: &mut Lines, earlier: Earlier<'a>, sought: Sought) -> Option<RecordPart<'a>>
     requires { IsSound earlier.limits }
 {
-    for record in RecordParts::new(alloc, Form::Recording, earlier.input, earlier.limits) {
+    for record in RecordParts::new(
+        lines.alloc(),
+        Form::Recording,
+        earlier.input,
+        earlier.limits,
+    ) {
         if record.number >= earlier.before {
             break;
         }
-        if is_sought(alloc, record, sought)? {
-            return Ok(Some(record));
+        if is_sought(lines, record, sought) {
+            return Some(record);
         }
     }
-    Ok(None)
+    None
 }
 
 /// Returns whether the message of a record matches.
-fn is_sought(alloc: Global, record: RecordPart<'_>, sought: Sought) -> Result<bool, AllocError> {
-    match read_value(alloc, record.content)? {
-        Some(message) => Ok(sought.is_met_by(&Head::of(record.side, &message))),
-        None => Ok(false),
+fn is_sought(lines: &mut Lines, record: RecordPart<'_>, sought: Sought) -> bool {
+    match read_value(lines, record.content) {
+        Some(message) => sought.is_met_by(&Head::of(record.side, &message)),
+        None => false,
     }
 }
 
@@ -91,9 +91,9 @@ fn other(side: Option<Side>) -> Option<Side> {
     }
 }
 
-/// Adds the meaning of a rule, in a sentence.
-fn add_rule(lines: &mut Lines, rule: Rule) -> Result<(), AllocError> {
-    lines.add(match rule {
+/// Returns the meaning of a rule, in a sentence.
+fn meaning(rule: Rule) -> &'static str {
+    match rule {
         Rule::EventFromClient => "only the adapter sends events",
         Rule::NotInitialized => {
             "only output events may come before the client's initialize request"
@@ -111,12 +111,12 @@ fn add_rule(lines: &mut Lines, rule: Rule) -> Result<(), AllocError> {
         Rule::NoRequest => "a response answers an earlier request of the other side",
         Rule::AnsweredTwice => "a request has one response",
         Rule::OtherCommand => "a response has the command of its request",
-    })
+    }
 }
 
-/// Adds what to do about a violation of a rule.
-fn add_advice(lines: &mut Lines, rule: Rule) -> Result<(), AllocError> {
-    lines.add(match rule {
+/// Returns what to do about a violation of a rule.
+fn advice(rule: Rule) -> &'static str {
+    match rule {
         Rule::EventFromClient => {
             "if > and < are exchanged in the input, fix the program that wrote it"
         }
@@ -133,188 +133,107 @@ fn add_advice(lines: &mut Lines, rule: Rule) -> Result<(), AllocError> {
         Rule::ConfiguredTwice => "fix the client",
         Rule::NoRequest => "let the recorder write each message before it passes it on",
         Rule::AnsweredTwice | Rule::OtherCommand => "fix the program that sent the response",
-    })
+    }
 }
 
 /// Adds a line about the first matching message, with these words and the number of its record.
-fn add_found(
-    alloc: Global,
-    lines: &mut Lines,
-    earlier: Earlier<'_>,
-    sought: Sought,
-    words: &str,
-) -> Result<(), AllocError>
+fn add_found(lines: &mut Lines, earlier: Earlier<'_>, sought: Sought, words: &str)
     requires { IsSound earlier.limits }
 {
-    match find(alloc, earlier, sought)? {
-        Some(record) => lines.add_words(&[Word::Text(words), Word::Record(record.number)]),
-        None => Ok(()),
+    if let Some(record) = find(lines, earlier, sought) {
+        lines.record(words, record.number);
+        lines.end("");
     }
 }
 
 /// Adds a line about the earlier request of a side with this `seq`.
-fn add_request(
-    alloc: Global,
-    lines: &mut Lines,
-    earlier: Earlier<'_>,
-    side: Option<Side>,
-    seq: Option<i64>,
-) -> Result<(), AllocError>
+fn add_request(lines: &mut Lines, earlier: Earlier<'_>, side: Option<Side>, seq: Option<i64>)
     requires { IsSound earlier.limits }
 {
-    let (Some(side), Some(seq)) = (side, seq) else {
-        return Ok(());
-    };
-    match find(alloc, earlier, Sought::Request(side, seq))? {
-        Some(record) => add_named(alloc, lines, record, side, seq),
-        None => add_no_request(lines, side, seq),
+    if let (Some(side), Some(seq)) = (side, seq) {
+        match find(lines, earlier, Sought::Request(side, seq)) {
+            Some(record) => add_named(lines, record, side, seq),
+            None => add_no_request(lines, side, seq),
+        }
     }
 }
 
 /// Adds the line about a request that does not exist.
-fn add_no_request(lines: &mut Lines, side: Side, seq: i64) -> Result<(), AllocError> {
-    lines.add_words(&[
-        Word::Text("the "),
-        Word::Side(side),
-        Word::Text(" sent no request with seq "),
-        Word::Seq(seq),
-        Word::Text(" before it"),
-    ])
+fn add_no_request(lines: &mut Lines, side: Side, seq: i64) {
+    lines.text("the ", side_word(side));
+    lines.seq(" sent no request with seq ", seq);
+    lines.end(" before it");
 }
 
 /// Adds the line about a request that was found.
-fn add_named(
-    alloc: Global,
-    lines: &mut Lines,
-    record: RecordPart<'_>,
-    side: Side,
-    seq: i64,
-) -> Result<(), AllocError> {
-    match read_value(alloc, record.content)? {
-        Some(message) => {
-            let head = Head::of(record.side, &message);
-            add_request_line(lines, record.number, head, side, seq)
-        }
-        None => Ok(()),
+fn add_named(lines: &mut Lines, record: RecordPart<'_>, side: Side, seq: i64) {
+    if let Some(message) = read_value(lines, record.content) {
+        lines.text("the ", side_word(side));
+        lines.seq("'s request with seq ", seq);
+        lines.push_str(" is");
+        push_name(lines, Head::of(record.side, &message).name);
+        lines.record(", in ", record.number);
+        lines.end("");
     }
 }
 
-/// Adds the line that states which request has this `seq`.
-fn add_request_line(
-    lines: &mut Lines,
-    number: u64,
-    head: Head<'_>,
-    side: Side,
-    seq: i64,
-) -> Result<(), AllocError> {
-    lines.add_words(&[
-        Word::Text("the "),
-        Word::Side(side),
-        Word::Text("'s request with seq "),
-        Word::Seq(seq),
-        Word::Text(" is"),
-        Word::Named(head.name),
-        Word::Text(", in "),
-        Word::Record(number),
-    ])
-}
-
 /// Adds a line about the first response to the request that a response answers.
-fn add_response(
-    alloc: Global,
-    lines: &mut Lines,
-    earlier: Earlier<'_>,
-    head: &Head<'_>,
-) -> Result<(), AllocError>
+fn add_response(lines: &mut Lines, earlier: Earlier<'_>, head: &Head<'_>)
     requires { IsSound earlier.limits }
 {
-    let (Some(side), Some(seq)) = (head.side, head.request_seq) else {
-        return Ok(());
-    };
-    match find(alloc, earlier, Sought::Response(side, seq))? {
-        Some(record) => {
-            lines.add_words(&[
-                Word::Record(record.number),
-                Word::Text(" is its first response"),
-            ])
+    if let (Some(side), Some(seq)) = (head.side, head.request_seq) {
+        if let Some(record) = find(lines, earlier, Sought::Response(side, seq)) {
+            lines.record("", record.number);
+            lines.end(" is its first response");
         }
-        None => Ok(()),
     }
 }
 
 /// Adds the lines about the earlier messages that are relevant for a rule.
-fn add_earlier(
-    alloc: Global,
-    lines: &mut Lines,
-    earlier: Earlier<'_>,
-    head: &Head<'_>,
-    rule: Rule,
-) -> Result<(), AllocError>
+fn add_earlier(lines: &mut Lines, earlier: Earlier<'_>, head: &Head<'_>, rule: Rule)
     requires { IsSound earlier.limits }
 {
     match rule {
-        Rule::EventFromClient | Rule::NotInitialized | Rule::ConfiguredEarly => Ok(()),
+        Rule::EventFromClient | Rule::NotInitialized | Rule::ConfiguredEarly => {}
         Rule::StillInitializing | Rule::InitializeTwice => {
-            let sought = Sought::Command("initialize");
             let words = "the client's initialize request is ";
-            add_found(alloc, lines, earlier, sought, words)
+            add_found(lines, earlier, Sought::Command("initialize"), words);
         }
         Rule::ConfiguredTwice => {
-            let sought = Sought::Command("configurationDone");
             let words = "the client's configurationDone request is ";
-            add_found(alloc, lines, earlier, sought, words)
+            add_found(lines, earlier, Sought::Command("configurationDone"), words);
         }
         Rule::AfterDisconnect => {
-            add_found(alloc, lines, earlier, Sought::Farewell, "that response is ")
+            add_found(lines, earlier, Sought::Farewell, "that response is ")
         }
-        Rule::SeqUsed => add_request(alloc, lines, earlier, head.side, head.seq),
+        Rule::SeqUsed => add_request(lines, earlier, head.side, head.seq),
         Rule::NoRequest | Rule::OtherCommand => {
-            add_request(alloc, lines, earlier, other(head.side), head.request_seq)
+            add_request(lines, earlier, other(head.side), head.request_seq)
         }
         Rule::AnsweredTwice => {
-            add_request(alloc, lines, earlier, other(head.side), head.request_seq)?;
-            add_response(alloc, lines, earlier, head)
+            add_request(lines, earlier, other(head.side), head.request_seq);
+            add_response(lines, earlier, head);
         }
     }
 }
 
-/// Adds the lines about a message that violates a session rule.
-fn add_violation(
-    alloc: Global,
-    lines: &mut Lines,
-    earlier: Earlier<'_>,
-    head: &Head<'_>,
-    rule: Rule,
-) -> Result<(), AllocError>
-    requires { IsSound earlier.limits }
-{
-    add_head(lines, earlier.before, head)?;
-    add_rule(lines, rule)?;
-    add_earlier(alloc, lines, earlier, head, rule)?;
-    add_advice(lines, rule)
-}
-
-/// Explains that the message of a record violates a session rule.
+/// Explains that the message of the record with this number violates a session rule.
 pub(crate) fn explain_rule(
-    alloc: Global,
     lines: &mut Lines,
     input: &[u8],
-    record: RecordPart<'_>,
+    number: u64,
+    head: &Head<'_>,
     rule: Rule,
     limits: FrameLimits,
-) -> Result<(), AllocError>
+)
     requires { IsSound limits }
 {
     let earlier = Earlier {
         input,
-        before: record.number,
+        before: number,
         limits,
     };
-    match read_value(alloc, record.content)? {
-        Some(message) => {
-            let head = Head::of(record.side, &message);
-            add_violation(alloc, lines, earlier, &head, rule)
-        }
-        None => Ok(()),
-    }
+    lines.add(meaning(rule));
+    add_earlier(lines, earlier, head, rule);
+    lines.add(advice(rule));
 }

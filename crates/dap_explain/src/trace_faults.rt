@@ -2,12 +2,11 @@
 ghost use Rattle.std.specs.Prelude.{◌≡◌};
 ghost use Rattle.dap_frame.specs.Limits.{IsSound};
 
-use crate::frame_faults::{BadFrame, explain_frame};
+use crate::frame_faults::{BadFrame, FrameName, explain_frame};
 use crate::header::KEEP_LINE_ENDS;
 use crate::likeness::{Expected, add_likeness, count_of, first_line, likeness_of, number_of};
 use crate::lines::Lines;
 use crate::pieces::{PieceParts, bytes_from};
-use crate::words::Word;
 use dap_frame::{FrameFault, FrameLimits, Framer};
 use dap_recording::{RecorderFault, TraceCause, TraceReader};
 use dap_tree::Side;
@@ -26,81 +25,44 @@ fn is_refused(bytes: &[u8], cause: TraceCause) -> bool {
 }
 
 /// Adds the lines about a piece that starts incorrectly.
-fn add_bad_piece(lines: &mut Lines, number: u64, bytes: &[u8]) -> Result<(), AllocError> {
-    lines.add_words(&[
-        Word::Text("piece "),
-        Word::Number(number),
-        Word::Text(" begins "),
-        Word::Bytes(bytes),
-    ])?;
-    lines.add("a piece begins with > or <, its length in decimal digits without leading 0, and LF")
-}
-
-/// Adds the lines about a piece that does not start with a marker.
-fn add_bad_marker(lines: &mut Lines, number: u64, bytes: &[u8]) -> Result<(), AllocError> {
-    add_bad_piece(lines, number, bytes)?;
-    if number > 1 {
-        lines.add("the length of the piece before it may be wrong: it counts bytes")
-    } else {
-        Ok(())
-    }
-}
-
-/// Adds the lines about a piece whose length is not a number.
-fn add_bad_count(lines: &mut Lines, number: u64, bytes: &[u8]) -> Result<(), AllocError> {
-    add_bad_piece(lines, number, bytes)?;
-    if first_line(bytes).ends_with(b"\r") {
-        lines.add("line ends may have been converted")?;
-        lines.add(KEEP_LINE_ENDS)
-    } else {
-        Ok(())
-    }
+fn add_bad_piece(lines: &mut Lines, number: u64, bytes: &[u8]) {
+    lines.number("piece ", number);
+    lines.bytes(" begins ", bytes);
+    lines.end("");
+    lines.add("a piece begins with > or <, its length in decimal digits without leading 0, and LF");
 }
 
 /// Adds the lines about an incomplete piece.
-fn add_cut(lines: &mut Lines, number: u64, bytes: &[u8]) -> Result<(), AllocError> {
+fn add_cut(lines: &mut Lines, number: u64, bytes: &[u8]) {
     let after = match bytes {
         [_, after @ ..] => after,
         [] => bytes,
     };
-    let Some(digits) = count_of(after) else {
-        return add_cut_length(lines, number, bytes);
-    };
-    let count = number_of(digits);
-    let came = after
-        .len()
-        .saturating_sub(first_line(after).len())
-        .saturating_sub(1);
-    lines.add_words(&[
-        Word::Text("piece "),
-        Word::Number(number),
-        Word::Text(" has "),
-        Word::Number(count),
-        Word::Text(" bytes, and "),
-        Word::Number(count.saturating_sub(came as u64)),
-        Word::Text(" of them are missing"),
-    ])?;
-    lines.add("the program that wrote the input may have been stopped early")
+    match count_of(after) {
+        Some(digits) => {
+            let front = first_line(after).len().saturating_add(1);
+            let came = after.len().saturating_sub(front);
+            add_missing(lines, number, number_of(digits), came as u64);
+        }
+        None => {
+            lines.number("the trace ends in the length of piece ", number);
+            lines.bytes(": ", bytes);
+            lines.end("");
+        }
+    }
+    lines.add("the program that wrote the input may have been stopped early");
 }
 
-/// Adds the lines about a piece whose length is incomplete.
-fn add_cut_length(lines: &mut Lines, number: u64, bytes: &[u8]) -> Result<(), AllocError> {
-    lines.add_words(&[
-        Word::Text("the trace ends in the length of piece "),
-        Word::Number(number),
-        Word::Text(": "),
-        Word::Bytes(bytes),
-    ])?;
-    lines.add("the program that wrote the input may have been stopped early")
+/// Adds the line about a piece of this many bytes, of which these came.
+fn add_missing(lines: &mut Lines, number: u64, count: u64, came: u64) {
+    lines.number("piece ", number);
+    lines.number(" has ", count);
+    lines.number(" bytes, and ", count.saturating_sub(came));
+    lines.end(" of them are missing");
 }
 
 /// Explains that the bytes of a piece are not a piece of a trace.
-pub(crate) fn explain_piece(
-    lines: &mut Lines,
-    trace: &[u8],
-    number: u64,
-    cause: TraceCause,
-) -> Result<(), AllocError> {
+pub(crate) fn explain_piece(lines: &mut Lines, trace: &[u8], number: u64, cause: TraceCause) {
     match bytes_from(trace, number) {
         Some(bytes) if is_refused(bytes, cause) => {
             match likeness_of(trace, Expected::Trace) {
@@ -108,20 +70,26 @@ pub(crate) fn explain_piece(
                 _ => add_cause(lines, number, bytes, cause),
             }
         }
-        _ => Ok(()),
+        _ => {}
     }
 }
 
 /// Adds the lines about why a piece is rejected.
-fn add_cause(
-    lines: &mut Lines,
-    number: u64,
-    bytes: &[u8],
-    cause: TraceCause,
-) -> Result<(), AllocError> {
+fn add_cause(lines: &mut Lines, number: u64, bytes: &[u8], cause: TraceCause) {
     match cause {
-        TraceCause::BadMarker => add_bad_marker(lines, number, bytes),
-        TraceCause::BadCount => add_bad_count(lines, number, bytes),
+        TraceCause::BadMarker => {
+            add_bad_piece(lines, number, bytes);
+            if number > 1 {
+                lines.add("the length of the piece before it may be wrong: it counts bytes");
+            }
+        }
+        TraceCause::BadCount => {
+            add_bad_piece(lines, number, bytes);
+            if first_line(bytes).ends_with(b"\r") {
+                lines.add("line ends may have been converted");
+                lines.add(KEEP_LINE_ENDS);
+            }
+        }
         TraceCause::Cut => add_cut(lines, number, bytes),
     }
 }
@@ -193,26 +161,38 @@ fn frame_in_piece(
 
 /// Explains that a frame of a side is invalid in the piece with this number, or is incomplete.
 pub(crate) fn explain_recorder(
-    alloc: Global,
     lines: &mut Lines,
     trace: &[u8],
     number: u64,
     fault: RecorderFault,
     limits: FrameLimits,
-) -> Result<(), AllocError>
+)
     requires { IsSound limits }
 {
     let RecorderFault::Frame(side, fault) = fault else {
-        return Ok(());
+        return;
     };
-    let frame = frame_in_piece(alloc, trace, number, side, limits)?;
+    match frame_in_piece(lines.alloc(), trace, number, side, limits) {
+        Ok(frame) => explain_last(lines, frame, side, fault, limits),
+        Err(_) => lines.fail(),
+    }
+}
+
+/// Explains that the last frame of a side is invalid or incomplete, if it is so for this reason.
+fn explain_last(
+    lines: &mut Lines,
+    frame: LastFrame,
+    side: Side,
+    fault: FrameFault,
+    limits: FrameLimits,
+) {
     let bad = BadFrame {
-        name: Word::FrameOf(side),
+        name: FrameName::Of(side),
         front: frame.front.as_slice(),
         len: frame.len,
     };
     match frame.framer.finish() {
         Err(found) if found == fault => explain_frame(lines, bad, fault, limits),
-        _ => Ok(()),
+        _ => {}
     }
 }

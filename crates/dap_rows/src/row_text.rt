@@ -1,7 +1,8 @@
 //! Formats the rows of the profile.
 ghost use Rattle.std.specs.Prelude.{◌≡◌, ◌++◌, [], false, IfOk, IsOk, OnOk, codes, option_map};
-ghost use Rattle.std.specs.Prelude.{string_bytes};
+ghost use Rattle.std.specs.Prelude.{decimal, string_bytes};
 ghost use Rattle.dap_profile.specs.PlaceSteps.{steps_of};
+ghost use Rattle.dap_profile.specs.Profile.{want_word};
 ghost use Rattle.dap_profile.specs.ProfileRows.{row_of};
 ghost use Rattle.dap_rows.specs.RowLines.{asked_line, has_number, kind_word, lines_of};
 ghost use Rattle.dap_rows.specs.RowLines.{messages_words};
@@ -75,20 +76,36 @@ fn push_messages(out: &mut String, row: &Row) -> Result<(), AllocError>
     out.push_str(row.name.unwrap_or("*"))
 }
 
+/// Appends the number of a row, and the messages to which it applies.
+fn push_head(out: &mut String, row: &Row) -> Result<(), AllocError>
+    ensures { OnOk result (string_bytes out.new ≡ string_bytes out.old
+        ++ decimal (row_of row.now).number ++ codes " " ++ messages_words (row_of row.now)) }
+{
+    let mut digits = Buffer::new();
+    out.push_str(digits.format(row.number))?;
+    out.push_str(" ")?;
+    push_messages(out, row)
+}
+
+/// Appends whether the member of a row is required, the expected type, and LF.
+fn push_tail(out: &mut String, row: &Row) -> Result<(), AllocError>
+    ensures { OnOk result (string_bytes out.new ≡ string_bytes out.old
+        ++ need_word (row_of row.now).needed ++ want_word (row_of row.now).want ++ codes "\n") }
+{
+    out.push_str(need_word(row.needed))?;
+    out.push_str(row.want.word())?;
+    out.push_str("\n")
+}
+
 /// Appends the line of a row.
 fn push_row(out: &mut String, row: &Row) -> Result<(), AllocError>
     ensures { OnOk result (string_bytes out.new
         ≡ string_bytes out.old ++ row_line (row_of row.now)) }
 {
-    let mut digits = Buffer::new();
-    out.push_str(digits.format(row.number))?;
-    out.push_str(" ")?;
-    push_messages(out, row)?;
+    push_head(out, row)?;
     out.push_str(" ")?;
     push_place(out, row.place)?;
-    out.push_str(need_word(row.needed))?;
-    out.push_str(row.want.word())?;
-    out.push_str("\n")
+    push_tail(out, row)
 }
 
 /// Returns whether a row has the number that this argument writes, or no number is given.

@@ -1,11 +1,10 @@
-use Rattle.dap_commands.proofs.DefinitionLemmas.{added, added_last}
 use Rattle.dap_commands.proofs.definition.golden_command.Goals as goal
 
 pub returns : goal.returns
 returns c =
-    let rules = added c.in_ok-arg.ensures c.option.ensures c.subcommand.ensures in
-    let per_stop = added c.in_ok-arg-2.ensures c.per_stop_flag.ensures rules in
-    let open_flag = added c.in_ok-arg-3.ensures c.flag.ensures per_stop in
-    let update = added c.in_ok-arg-4.ensures c.flag-2.ensures open_flag in
-    let golden = added c.in_ok-arg-5.ensures c.file.ensures update in
-    added_last c.arg-6.result c.arg-6.ensures c.optional.ensures golden
+    let with-1 = c.with_argument-command.ensures _ _ c.subcommand.ensures c.option.ensures in
+    let with-2 = c.with_argument-command-2.ensures _ _ with-1 c.per_stop_flag.ensures in
+    let with-3 = c.with_argument-command-3.ensures _ _ with-2 c.flag.ensures in
+    let with-4 = c.with_argument-command-4.ensures _ _ with-3 c.flag-2.ensures in
+    let with-5 = c.with_argument-command-5.ensures _ _ with-4 c.file.ensures in
+    c.with_argument.ensures _ _ with-5 c.optional.ensures

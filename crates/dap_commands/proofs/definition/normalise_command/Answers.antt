@@ -1,9 +1,8 @@
-use Rattle.dap_commands.proofs.DefinitionLemmas.{added, added_last}
 use Rattle.dap_commands.proofs.definition.normalise_command.Goals as goal
 
 pub returns : goal.returns
 returns c =
-    let per_stop = added c.in_ok-arg.ensures c.per_stop_flag.ensures c.subcommand.ensures in
-    let explain = added c.in_ok-arg-2.ensures c.explain_flag.ensures per_stop in
-    let input = added c.in_ok-arg-3.ensures c.input_file.ensures explain in
-    added_last c.arg-4.result c.arg-4.ensures c.output_file.ensures input
+    let with-1 = c.with_argument-command.ensures _ _ c.subcommand.ensures c.per_stop_flag.ensures in
+    let with-2 = c.with_argument-command-2.ensures _ _ with-1 c.explain_flag.ensures in
+    let with-3 = c.with_argument-command-3.ensures _ _ with-2 c.input_file.ensures in
+    c.with_argument.ensures _ _ with-3 c.output_file.ensures

@@ -1,11 +1,10 @@
-use Rattle.dap_commands.proofs.DefinitionLemmas.{added, added_last}
 use Rattle.dap_commands.proofs.definition.show_command.Goals as goal
 
 pub returns : goal.returns
 returns c =
-    let full = added c.in_ok-arg.ensures c.flag.ensures c.subcommand.ensures in
-    let faulty = added c.in_ok-arg-2.ensures c.flag-2.ensures full in
-    let number = added c.in_ok-arg-3.ensures c.option.ensures faulty in
-    let explain = added c.in_ok-arg-4.ensures c.explain_flag.ensures number in
-    let input = added c.in_ok-arg-5.ensures c.input_file.ensures explain in
-    added_last c.arg-6.result c.arg-6.ensures c.output_file.ensures input
+    let with-1 = c.with_argument-command.ensures _ _ c.subcommand.ensures c.flag.ensures in
+    let with-2 = c.with_argument-command-2.ensures _ _ with-1 c.flag-2.ensures in
+    let with-3 = c.with_argument-command-3.ensures _ _ with-2 c.option.ensures in
+    let with-4 = c.with_argument-command-4.ensures _ _ with-3 c.explain_flag.ensures in
+    let with-5 = c.with_argument-command-5.ensures _ _ with-4 c.input_file.ensures in
+    c.with_argument.ensures _ _ with-5 c.output_file.ensures

@@ -1,9 +1,8 @@
-use Rattle.dap_commands.proofs.DefinitionLemmas.{added, added_last}
 use Rattle.dap_commands.proofs.definition.suggest_command.Goals as goal
 
 pub returns : goal.returns
 returns c =
-    let a = added c.in_ok-arg.ensures c.file.ensures c.subcommand.ensures in
-    let b = added c.in_ok-arg-2.ensures c.file-2.ensures a in
-    let rules = added c.in_ok-arg-3.ensures c.option.ensures b in
-    added_last c.arg-4.result c.arg-4.ensures c.explain_flag.ensures rules
+    let with-1 = c.with_argument-command.ensures _ _ c.subcommand.ensures c.file.ensures in
+    let with-2 = c.with_argument-command-2.ensures _ _ with-1 c.file-2.ensures in
+    let with-3 = c.with_argument-command-3.ensures _ _ with-2 c.option.ensures in
+    c.with_argument.ensures _ _ with-3 c.explain_flag.ensures

@@ -1,10 +1,9 @@
-use Rattle.dap_commands.proofs.DefinitionLemmas.{added, added_last}
 use Rattle.dap_commands.proofs.definition.two_files_command.Goals as goal
 
 pub returns : goal.returns
 returns c =
-    let a = added c.in_ok-arg.ensures c.file.ensures c.subcommand.ensures in
-    let b = added c.in_ok-arg-2.ensures c.file-2.ensures a in
-    let rules = added c.in_ok-arg-3.ensures c.option.ensures b in
-    let per_stop = added c.in_ok-arg-4.ensures c.per_stop_flag.ensures rules in
-    added_last c.arg-5.result c.arg-5.ensures c.explain_flag.ensures per_stop
+    let with-1 = c.with_argument-command.ensures _ _ c.subcommand.ensures c.file.ensures in
+    let with-2 = c.with_argument-command-2.ensures _ _ with-1 c.file-2.ensures in
+    let with-3 = c.with_argument-command-3.ensures _ _ with-2 c.option.ensures in
+    let with-4 = c.with_argument-command-4.ensures _ _ with-3 c.per_stop_flag.ensures in
+    c.with_argument.ensures _ _ with-4 c.explain_flag.ensures
