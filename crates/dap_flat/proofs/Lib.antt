@@ -6,3 +6,4 @@ pub mod Position
 pub mod IdPieces
 pub mod Found
 pub mod Documents
+pub mod SameTexts

@@ -1,7 +1,8 @@
--- The last two items of a list, moved to its start.
+-- The last two items of a list, moved to its start, and the first items, moved to its end.
 use Rattle.std.proofs.Common.{◌≡◌, ℕ, ◌+◌, ◌-◌, ◌<◌, ◌≤◌, suc, List, [], ◌∷◌, ◌++◌, length, take}
 use Rattle.std.proofs.Common.{drop, get_or, set, refl, sym, ap, ap₂, ◌∙◌, arith, append-nil}
 use Rattle.std.proofs.Common.{drop-cons}
+use Rattle.std.proofs.lemmas.List.{take_all, take-append-le, length-drop}
 use Rattle.std.proofs.Math.ListN.{drop_of_length-le}
 use Rattle.std.specs.List.{copy_within}
 
@@ -41,3 +42,21 @@ last_moved xs mid d long =
     ap (λ ys. set (set ys 0 a) 1 b) (copied xs mid long)
     ∙ first_two xs (take mid xs) a b some
     ∙ sym (ap (λ ys. ys ++ take mid xs) (last_two xs mid d long))
+
+moved_down : {X : Type 0} (xs : List X) (mid : ℕ) → copy_within xs mid (length xs) 0
+    ≡ drop mid xs ++ drop (0 + (length xs - mid)) xs
+moved_down xs mid =
+    let short : length (drop mid xs) ≤ length xs - mid =
+    omega (arith, length-drop mid xs) in
+    ap (λ ys. ys ++ drop (0 + (length xs - mid)) xs)
+    (take_all (length xs - mid) (drop mid xs) short)
+
+pub front_moved : {X : Type 0} (xs : List X) (mid rest : ℕ) → rest ≡ length xs - mid
+    → take rest (copy_within xs mid (length xs) 0) ++ take mid xs ≡ drop mid xs ++ take mid xs
+front_moved xs mid rest is =
+    let long : rest ≤ length (drop mid xs) = omega (arith, is, length-drop mid xs) in
+    let all : length (drop mid xs) ≤ rest = omega (arith, is, length-drop mid xs) in
+    ap (λ ys. take rest ys ++ take mid xs) (moved_down xs mid)
+    ∙ ap (λ ys. ys ++ take mid xs)
+    (take-append-le rest (drop mid xs) (drop (0 + (length xs - mid)) xs) long
+    ∙ take_all rest (drop mid xs) all)

@@ -14,7 +14,7 @@ mod unread;
 mod write;
 
 pub use canonical::append_canonical;
-pub use find::child;
+pub use find::{child, same_text};
 pub use ids::{add_ids, replace_ids};
 pub use node::Node;
 pub use parse::read_flat;

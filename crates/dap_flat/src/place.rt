@@ -11,6 +11,10 @@ use crate::node::Node;
 use crate::unread::Unread;
 use std::cmp::Ordering;
 
+/// The number of nodes that are moved by way of a buffer, at most. The members of a message before
+/// its body have fewer.
+const FEW: usize = 16;
+
 /// Moves the last member, which starts at `at`, to its place among those that start at `start`.
 ///
 /// Returns `Unclear` if one of them has its name, or if too many nodes were moved before.
@@ -81,6 +85,8 @@ fn swap_halves(nodes: &mut [Node<'_>], mid: usize)
 {
     if nodes.len() - mid == 2 {
         move_last_two(nodes, mid);
+    } else if mid <= FEW {
+        move_few(nodes, mid);
     } else {
         swap_by_reversals(nodes, mid);
     }
@@ -96,6 +102,37 @@ fn move_last_two(nodes: &mut [Node<'_>], mid: usize)
     nodes.copy_within(..mid, 2);
     nodes[0] = first;
     nodes[1] = second;
+}
+
+/// Moves the nodes before `mid` to the end.
+fn move_few(nodes: &mut [Node<'_>], mid: usize)
+    requires few { mid ≤ FEW }
+    requires within { mid ≤ length nodes.old }
+    ensures { nodes.new ≡ drop mid nodes.old ++ take mid nodes.old }
+{
+    let mut room = [Node::Null; FEW];
+    let few = copied(&mut room, &nodes[..mid]);
+    let rest = nodes.len() - mid;
+    nodes.copy_within(mid.., 0);
+    put_last(nodes, rest, few);
+}
+
+/// Copies the nodes into the room, and returns the copies.
+fn copied<'r, 'a>(room: &'r mut [Node<'a>], nodes: &[Node<'a>]) -> &'r [Node<'a>]
+    requires { length nodes.now ≤ length room.old }
+    ensures { result.now ≡ nodes.now }
+{
+    let copies = &mut room[..nodes.len()];
+    copies.copy_from_slice(nodes);
+    copies
+}
+
+/// Replaces the nodes from `from` on.
+fn put_last<'a>(nodes: &mut [Node<'a>], from: usize, last: &[Node<'a>])
+    requires { from + length last.now ≡ length nodes.old }
+    ensures { nodes.new ≡ take from nodes.old ++ last.now }
+{
+    nodes[from..].copy_from_slice(last);
 }
 
 /// Exchanges the two parts by three reversals: the standard library's `rotate_left` clears a buffer

@@ -12,7 +12,7 @@ ghost use Rattle.dap_flat_message.specs.Places.{IsEnvelope, FindsTop, word, plac
 ghost use Rattle.dap_flat_message.specs.declared.members.Key.{Key};
 
 use crate::rows::is_object;
-use dap_flat::{Node, Unread, child, value_end};
+use dap_flat::{Node, Unread, child, same_text, value_end};
 use dap_profile::Kind;
 
 /// A member at the top of a message that rows look at.
@@ -179,23 +179,23 @@ fn key_named(name: &str) -> Option<Key>
     ensures { MatchOption result ((k : Key) → bytes_eq (word k) name.now ≡ false)
         (λ k. name.now ≡ word k) }
 {
-    if name == "body" {
+    if same_text(name, "body") {
         Some(Key::Body)
-    } else if name == "arguments" {
+    } else if same_text(name, "arguments") {
         Some(Key::Arguments)
-    } else if name == "seq" {
+    } else if same_text(name, "seq") {
         Some(Key::Seq)
-    } else if name == "command" {
+    } else if same_text(name, "command") {
         Some(Key::Command)
-    } else if name == "type" {
+    } else if same_text(name, "type") {
         Some(Key::Kind)
-    } else if name == "request_seq" {
+    } else if same_text(name, "request_seq") {
         Some(Key::RequestSeq)
-    } else if name == "success" {
+    } else if same_text(name, "success") {
         Some(Key::Success)
-    } else if name == "event" {
+    } else if same_text(name, "event") {
         Some(Key::Event)
-    } else if name == "message" {
+    } else if same_text(name, "message") {
         Some(Key::Message)
     } else {
         None
@@ -294,11 +294,11 @@ pub fn kind_of_tree(nodes: &[Node<'_>], envelope: &Envelope) -> Result<Option<Ki
 fn kind_typed(text: &str) -> Option<Kind>
     ensures { result ≡ kind_typed text.now }
 {
-    if text == "request" {
+    if same_text(text, "request") {
         Some(Kind::Request)
-    } else if text == "response" {
+    } else if same_text(text, "response") {
         Some(Kind::Response)
-    } else if text == "event" {
+    } else if same_text(text, "event") {
         Some(Kind::Event)
     } else {
         None

@@ -10,8 +10,8 @@ use std::hash::BuildHasher;
 
 /// An interning table that looks numbers up by their hashes.
 ///
-/// A lookup computes one hash, and inserting a new number computes one more. Numbers with equal
-/// hashes are searched linearly, and with a fixed hasher an adapter could choose such numbers. Pass
+/// A lookup or an insertion computes one hash. Numbers with equal hashes are searched linearly, and
+/// with a fixed hasher an adapter could choose such numbers. Pass
 /// a randomly seeded hasher such as `RandomState`. The hasher must return equal hashes for equal
 /// numbers, as the contract of `BuildHasher` requires.
 #[derive(Drop)]
@@ -62,11 +62,11 @@ impl<S: BuildHasher + Drop> NameTable for IndexNames<S> {
     ghost small = { λ t. t.small };
 
     fn name(&mut self, number: i64) -> Result<i64, NameFault> {
-        if let Some(index) = self.place_of(number) {
-            return Ok(index as i64 + 1);
-        }
         if self.items.len() == self.limit {
-            return Err(NameFault::Full);
+            return match self.place_of(number) {
+                Some(index) => Ok(index as i64 + 1),
+                None => Err(NameFault::Full),
+            };
         }
         match self.items.insert_full(number) {
             Ok((index, _)) => Ok(index as i64 + 1),

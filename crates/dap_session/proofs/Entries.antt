@@ -1,4 +1,4 @@
--- A list of requests after one more request, and after a response.
+-- Requests that are in no slot: one more request, and a response.
 use Rattle.std.proofs.Common.{◌≡◌, ℕ, ◌+◌, ℤ, Bool, true, false, cond, not, List, [], ◌∷◌, map}
 use Rattle.std.proofs.Common.{Some, None, option_map, sym, ap, ◌∙◌, refl, subst, arith}
 use Rattle.std.specs.declared.cmp.Ordering.{Ordering}
@@ -8,9 +8,9 @@ use Rattle.std.specs.Map.{lookup, set_value}
 use Rattle.std.specs.BTreeMap.{insert_entry}
 use Rattle.std.proofs.lemmas.Bool.Decides.{Decides-int_eq}
 use Rattle.std.proofs.lemmas.List.Sums.{sum_by-cons}
-use Rattle.dap_session.specs.SessionState.{Requests, RequestEntry, request_numbered, unanswered}
-use Rattle.dap_session.specs.SessionState.{with_request}
-use Rattle.dap_session.specs.SessionState.{with_answer}
+use Rattle.dap_session.specs.SessionState.{RequestEntry, Others, other_numbered, unanswered_others}
+use Rattle.dap_session.specs.SessionState.{with_other}
+use Rattle.dap_session.specs.SessionState.{with_other_answer}
 
 module _ {X Y : Type 0} (f : X → Y) where
   pub lookup-map : (test : ℤ → Bool) (es : List (ℤ × X))
@@ -65,106 +65,110 @@ apart q n k ne a b =
     let same : int_eq n k ≡ true = (Decides-int_eq n k).1 (sym at_n ∙ at_k) in
     cc
 
-unanswered-cons : (e : ℤ × RequestEntry) (es : Requests)
-    → unanswered (e ∷ es) ≡ cond (not e.1.1) 1 0 + unanswered es
+unanswered-cons : (e : ℤ × RequestEntry) (es : Others)
+    → unanswered_others (e ∷ es) ≡ cond (not e.1.1) 1 0 + unanswered_others es
 unanswered-cons e es = sum_by-cons (λ (x : ℤ × RequestEntry). cond (not x.1.1) 1 0) e es
 
 -- one more request
-found_step : (q n : ℤ) (c : List ℕ) (e : ℤ × RequestEntry) (es : Requests) (o : Ordering)
+found_step : (q n : ℤ) (c : List ℕ) (e : ℤ × RequestEntry) (es : Others) (o : Ordering)
     → int_cmp n e.0 ≡ o →
-    request_numbered q (with_request n c es)
-    ≡ cond (int_eq q n) (Some (c, false)) (request_numbered q es) →
-    request_numbered q
+    other_numbered q (with_other n (c, false) es)
+    ≡ cond (int_eq q n) (Some (c, false)) (other_numbered q es) →
+    other_numbered q
     (match_ordering o ((n, (c, false)) ∷ e ∷ es) ((e.0, (c, false)) ∷ es) (e
-    ∷ with_request n c es))
-    ≡ cond (int_eq q n) (Some (c, false)) (cond (int_eq q e.0) (Some e.1) (request_numbered q es))
+    ∷ with_other n (c, false) es))
+    ≡ cond (int_eq q n) (Some (c, false)) (cond (int_eq q e.0) (Some e.1) (other_numbered q es))
 found_step q n c e es Less is ih = refl
 found_step q n c e es Equal is ih =
     let here : int_eq n e.0 ≡ true = ap is_eq is in
     let same : n ≡ e.0 = (Decides-int_eq n e.0).0 here in
-    subst (λ k. cond (int_eq q e.0) (Some (c, false)) (request_numbered q es)
+    subst (λ k. cond (int_eq q e.0) (Some (c, false)) (other_numbered q es)
     ≡ cond (int_eq q k) (Some (c, false))
-    (cond (int_eq q e.0) (Some e.1) (request_numbered q es))) (sym same)
-    (cond_twice (int_eq q e.0) (Some (c, false)) (request_numbered q es) (Some e.1))
+    (cond (int_eq q e.0) (Some e.1) (other_numbered q es))) (sym same)
+    (cond_twice (int_eq q e.0) (Some (c, false)) (other_numbered q es) (Some e.1))
 found_step q n c e es Greater is ih =
     let ne : int_eq n e.0 ≡ false = ap is_eq is in
     ap (λ o. cond (int_eq q e.0) (Some e.1) o) ih
-    ∙ cond_swap (int_eq q e.0) (int_eq q n) (Some e.1) (Some (c, false)) (request_numbered q es)
+    ∙ cond_swap (int_eq q e.0) (int_eq q n) (Some e.1) (Some (c, false)) (other_numbered q es)
     (apart q n e.0 ne)
 
-pub found-with_request : (q n : ℤ) (c : List ℕ) (es : Requests)
-    → request_numbered q (with_request n c es)
-    ≡ cond (int_eq q n) (Some (c, false)) (request_numbered q es)
-found-with_request q n c [] = refl
-found-with_request q n c (e ∷ es) =
-    found_step q n c e es (int_cmp n e.0) refl (found-with_request q n c es)
+pub found-with_other : (q n : ℤ) (c : List ℕ) (es : Others)
+    → other_numbered q (with_other n (c, false) es)
+    ≡ cond (int_eq q n) (Some (c, false)) (other_numbered q es)
+found-with_other q n c [] = refl
+found-with_other q n c (e ∷ es) =
+    found_step q n c e es (int_cmp n e.0) refl (found-with_other q n c es)
 
-unanswered_step : (n : ℤ) (c : List ℕ) (e : ℤ × RequestEntry) (es : Requests) (o : Ordering)
-    → cond (is_eq o) (Some e.1) (request_numbered n es) ≡ None →
-    (request_numbered n es ≡ None → unanswered (with_request n c es) ≡ unanswered es + 1) →
-    unanswered (match_ordering o ((n, (c, false)) ∷ e ∷ es) ((e.0, (c, false)) ∷ es) (e
-    ∷ with_request n c es)) ≡ unanswered (e ∷ es) + 1
+unanswered_step : (n : ℤ) (c : List ℕ) (e : ℤ × RequestEntry) (es : Others) (o : Ordering)
+    → cond (is_eq o) (Some e.1) (other_numbered n es) ≡ None →
+    (other_numbered n es ≡ None
+    → unanswered_others (with_other n (c, false) es) ≡ unanswered_others es + 1) →
+    unanswered_others (match_ordering o ((n, (c, false)) ∷ e ∷ es) ((e.0, (c, false)) ∷ es) (e
+    ∷ with_other n (c, false) es)) ≡ unanswered_others (e ∷ es) + 1
 unanswered_step n c e es Less h ih = omega (arith, unanswered-cons (n, (c, false)) (e ∷ es))
 unanswered_step n c e es Equal h ih = absurd (cc)
 unanswered_step n c e es Greater h ih =
-    omega (arith, unanswered-cons e (with_request n c es), unanswered-cons e es, ih h)
+    omega (arith, unanswered-cons e (with_other n (c, false) es), unanswered-cons e es, ih h)
 
-pub unanswered-with_request : (n : ℤ) (c : List ℕ) (es : Requests) → request_numbered n es ≡ None
-    → unanswered (with_request n c es) ≡ unanswered es + 1
-unanswered-with_request n c [] h = refl
-unanswered-with_request n c (e ∷ es) h =
-    unanswered_step n c e es (int_cmp n e.0) h (unanswered-with_request n c es)
+pub unanswered-with_other : (n : ℤ) (c : List ℕ) (es : Others) → other_numbered n es ≡ None
+    → unanswered_others (with_other n (c, false) es) ≡ unanswered_others es + 1
+unanswered-with_other n c [] h = refl
+unanswered-with_other n c (e ∷ es) h =
+    unanswered_step n c e es (int_cmp n e.0) h (unanswered-with_other n c es)
 
 -- one more response
-found_answer_step : (q n : ℤ) (c : List ℕ) (a : RequestEntry) (e : ℤ × RequestEntry)
-    (es : Requests) (b : Bool)
-    → int_eq n e.0 ≡ b → cond b (Some e.1) (request_numbered n es) ≡ Some a →
-    (request_numbered n es ≡ Some a
-    → request_numbered q (with_answer n c es)
-    ≡ cond (int_eq q n) (Some (c, true)) (request_numbered q es)) →
-    request_numbered q (cond b ((e.0, (c, true)) ∷ es) (e ∷ with_answer n c es))
+found_answer_step : (q n : ℤ) (c : List ℕ) (a : RequestEntry) (e : ℤ × RequestEntry) (es : Others)
+    (b : Bool)
+    → int_eq n e.0 ≡ b → cond b (Some e.1) (other_numbered n es) ≡ Some a →
+    (other_numbered n es ≡ Some a
+    → other_numbered q (with_other_answer n c es)
+    ≡ cond (int_eq q n) (Some (c, true)) (other_numbered q es)) →
+    other_numbered q (cond b ((e.0, (c, true)) ∷ es) (e ∷ with_other_answer n c es))
     ≡ cond (int_eq q n) (Some (c, true))
-    (cond (int_eq q e.0) (Some e.1) (request_numbered q es))
+    (cond (int_eq q e.0) (Some e.1) (other_numbered q es))
 found_answer_step q n c a e es true is h ih =
     let same : n ≡ e.0 = (Decides-int_eq n e.0).0 is in
-    subst (λ k. cond (int_eq q e.0) (Some (c, true)) (request_numbered q es)
+    subst (λ k. cond (int_eq q e.0) (Some (c, true)) (other_numbered q es)
     ≡ cond (int_eq q k) (Some (c, true))
-    (cond (int_eq q e.0) (Some e.1) (request_numbered q es))) (sym same)
-    (cond_twice (int_eq q e.0) (Some (c, true)) (request_numbered q es) (Some e.1))
+    (cond (int_eq q e.0) (Some e.1) (other_numbered q es))) (sym same)
+    (cond_twice (int_eq q e.0) (Some (c, true)) (other_numbered q es) (Some e.1))
 found_answer_step q n c a e es false is h ih =
     ap (λ o. cond (int_eq q e.0) (Some e.1) o) (ih h)
-    ∙ cond_swap (int_eq q e.0) (int_eq q n) (Some e.1) (Some (c, true)) (request_numbered q es)
+    ∙ cond_swap (int_eq q e.0) (int_eq q n) (Some e.1) (Some (c, true)) (other_numbered q es)
     (apart q n e.0 is)
 
-pub found-with_answer : (q n : ℤ) (c : List ℕ) (a : RequestEntry) (es : Requests)
-    → request_numbered n es ≡ Some a
-    → request_numbered q (with_answer n c es)
-    ≡ cond (int_eq q n) (Some (c, true)) (request_numbered q es)
-found-with_answer q n c a [] h = absurd (cc)
-found-with_answer q n c a (e ∷ es) h =
-    found_answer_step q n c a e es (int_eq n e.0) refl h (found-with_answer q n c a es)
+pub found-with_other_answer : (q n : ℤ) (c : List ℕ) (a : RequestEntry) (es : Others)
+    → other_numbered n es ≡ Some a
+    → other_numbered q (with_other_answer n c es)
+    ≡ cond (int_eq q n) (Some (c, true)) (other_numbered q es)
+found-with_other_answer q n c a [] h = absurd (cc)
+found-with_other_answer q n c a (e ∷ es) h =
+    found_answer_step q n c a e es (int_eq n e.0) refl h (found-with_other_answer q n c a es)
 
-unanswered_answer_step : (n : ℤ) (c d : List ℕ) (e : ℤ × RequestEntry) (es : Requests) (b : Bool)
-    → cond b (Some e.1) (request_numbered n es) ≡ Some (d, false) →
-    (request_numbered n es ≡ Some (d, false) → unanswered (with_answer n c es) + 1 ≡ unanswered es)
+unanswered_answer_step : (n : ℤ) (c d : List ℕ) (e : ℤ × RequestEntry) (es : Others) (b : Bool)
+    → cond b (Some e.1) (other_numbered n es) ≡ Some (d, false) →
+    (other_numbered n es ≡ Some (d, false)
+    → unanswered_others (with_other_answer n c es) + 1 ≡ unanswered_others es)
     →
-    unanswered (cond b ((e.0, (c, true)) ∷ es) (e ∷ with_answer n c es)) + 1 ≡ unanswered (e ∷ es)
+    unanswered_others (cond b ((e.0, (c, true)) ∷ es) (e ∷ with_other_answer n c es)) + 1
+    ≡ unanswered_others (e ∷ es)
 unanswered_answer_step n c d e es true h ih =
     let pair : e.1 ≡ (d, false) = cc in
     let one : ℕ = 1 in
     let none : ℕ = 0 in
     let not_yet : cond (not e.1.1) one none ≡ 1 =
     ap (λ (a : RequestEntry). cond (not a.1) one none) pair in
-    let before : unanswered (e ∷ es) ≡ cond (not e.1.1) one none + unanswered es =
+    let before : unanswered_others (e ∷ es) ≡ cond (not e.1.1) one none + unanswered_others es =
     unanswered-cons e es in
-    let after : unanswered ((e.0, (c, true)) ∷ es) ≡ 0 + unanswered es =
+    let after : unanswered_others ((e.0, (c, true)) ∷ es) ≡ 0 + unanswered_others es =
     unanswered-cons (e.0, (c, true)) es in
     omega (arith, before, after, not_yet)
 unanswered_answer_step n c d e es false h ih =
-    omega (arith, unanswered-cons e (with_answer n c es), unanswered-cons e es, ih h)
+    omega (arith, unanswered-cons e (with_other_answer n c es), unanswered-cons e es, ih h)
 
-pub unanswered-with_answer : (n : ℤ) (c d : List ℕ) (es : Requests)
-    → request_numbered n es ≡ Some (d, false) → unanswered (with_answer n c es) + 1 ≡ unanswered es
-unanswered-with_answer n c d [] h = absurd (cc)
-unanswered-with_answer n c d (e ∷ es) h =
-    unanswered_answer_step n c d e es (int_eq n e.0) h (unanswered-with_answer n c d es)
+pub unanswered-with_other_answer : (n : ℤ) (c d : List ℕ) (es : Others)
+    → other_numbered n es ≡ Some (d, false)
+    → unanswered_others (with_other_answer n c es) + 1 ≡ unanswered_others es
+unanswered-with_other_answer n c d [] h = absurd (cc)
+unanswered-with_other_answer n c d (e ∷ es) h =
+    unanswered_answer_step n c d e es (int_eq n e.0) h (unanswered-with_other_answer n c d es)

@@ -1,6 +1,8 @@
 pub mod Sides
 pub mod RulesOneByOne
 pub mod Entries
+pub mod Slots
+pub mod StoredSlots
 pub mod AnsweredRequest
 pub mod KeptAfter
 pub mod RequestsAfter

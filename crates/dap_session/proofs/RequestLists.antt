@@ -19,8 +19,8 @@ use Rattle.dap_session.specs.SessionState.{with_answer}
 use Rattle.dap_session.specs.SessionState.{answered_in, requests_after}
 use Rattle.dap_session.specs.RequestSteps.{FitsRequests}
 use Rattle.dap_session.specs.Representation.{AreRequests, request_at}
-use Rattle.dap_session.proofs.Entries.{found-with_request, unanswered-with_request}
-use Rattle.dap_session.proofs.Entries.{found-with_answer, unanswered-with_answer}
+use Rattle.dap_session.proofs.Slots.{found-with_request, unanswered-with_request}
+use Rattle.dap_session.proofs.Slots.{found-with_answer, unanswered-with_answer}
 use Rattle.dap_session.proofs.Sides.{no_request, no_response}
 use Rattle.dap_session.proofs.RequestsAfter.{after_request, after_response, after_other}
 use Rattle.dap_session.proofs.KeptAfter.{any_push, or_else, request_at_push, tally, count_push}
@@ -171,7 +171,7 @@ request_step : (side : Side) (es : Requests) (ms : List Sent) (m : Sent) → Are
     → AreRequests side (with_request (seq_of m) (name_of m) es) (ms ++ m ∷ [])
 unfolding open_requests
 request_step side es ms m r h g new = record {
-  listed = λ n. found-with_request n (seq_of m) (name_of m) es
+  listed = λ n. found-with_request n (seq_of m) (name_of m) es new
       ∙ request_listed side es ms m n (int_eq n (seq_of m)) refl r h g new;
   count =
       let push = open_push side ms m (λ n. is_answered side n ms)

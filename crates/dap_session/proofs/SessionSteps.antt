@@ -23,15 +23,16 @@ use Rattle.dap_session.specs.Messages.{is_configuration_done, is_initialized, is
 use Rattle.dap_session.specs.Messages.{is_output}
 use Rattle.dap_session.specs.Rules.{at_number, is_answered, is_broken, rules, first_of}
 use Rattle.dap_session.specs.Rules.{first_broken, open_requests}
-use Rattle.dap_session.specs.SessionState.{SessionState, Requests, RequestEntry, request_numbered}
-use Rattle.dap_session.specs.SessionState.{requests_of}
-use Rattle.dap_session.specs.SessionState.{phase_after, state_after}
+use Rattle.dap_session.specs.SessionState.{SessionState, Requests, no_requests, RequestEntry}
+use Rattle.dap_session.specs.SessionState.{request_numbered}
+use Rattle.dap_session.specs.SessionState.{requests_of, phase_after, state_after}
 use Rattle.dap_session.specs.KeptRules.{first_broken_in_state, is_broken_in_state}
 use Rattle.dap_session.specs.KeptRules.{request_if_numbered, has_answer}
 use Rattle.dap_session.specs.KeptRules.{has_other_command}
 use Rattle.dap_session.specs.Representation.{Represents, AreRequests, IsPhase, request_at}
 use Rattle.dap_session.proofs.KeptAfter.{any_push, request_at-any, none_with, one_with}
 use Rattle.dap_session.proofs.RequestLists.{requests_follow, map_none}
+use Rattle.dap_session.proofs.Slots.{none_numbered}
 use Rattle.dap_session.proofs.RuleTests.{after_and, may_follow, told_none, request_output}
 use Rattle.dap_session.proofs.InitializePhase.{started_is, waiting_is, asked_is, phase_asks}
 use Rattle.dap_session.proofs.InitializePhase.{phase_goes}
@@ -150,17 +151,22 @@ judged_is k ms m s =
 
 -- ---- the empty list
 
-no_requests : (side : Side) → AreRequests side [] []
+none_asked : (side : Side) → AreRequests side no_requests []
 unfolding open_requests
-no_requests side =
-    record { listed = λ n. refl; count = refl; once = λ n. omega arith; asked = λ n e. refl }
+none_asked side = record {
+  listed = λ n. none_numbered n;
+  count = refl;
+  once = λ n. omega arith;
+  asked = λ n e. refl;
+}
 
-pub new_stands : (k : SessionState) → k.client ≡ [] → k.adapter ≡ [] → k.phase ≡ Waiting
+pub new_stands : (k : SessionState) → k.client ≡ no_requests → k.adapter ≡ no_requests → k.phase
+    ≡ Waiting
     → k.initialized ≡ false → k.configured ≡ false → k.disconnected ≡ false → Represents k []
 new_stands k c a p i f d = record {
   rules = none_keep;
-  client = subst (λ es. AreRequests Client es []) (sym c) (no_requests Client);
-  adapter = subst (λ es. AreRequests Adapter es []) (sym a) (no_requests Adapter);
+  client = subst (λ es. AreRequests Client es []) (sym c) (none_asked Client);
+  adapter = subst (λ es. AreRequests Adapter es []) (sym a) (none_asked Adapter);
   phase = subst (λ x. IsPhase x []) (sym p) refl;
   initialized = i;
   configured = f;

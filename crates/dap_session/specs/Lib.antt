@@ -6,6 +6,7 @@ pub mod Laws
 pub mod SessionState
 pub mod KeptRules
 pub mod Representation
+pub mod Stored
 pub mod View
 pub mod RequestSteps
 pub mod SessionView

@@ -12,6 +12,7 @@ mod phase;
 mod requests;
 mod rule;
 mod session;
+mod store;
 
 pub use rule::{Rule, SessionFault};
 pub use session::Session;

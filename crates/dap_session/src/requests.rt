@@ -1,27 +1,21 @@
 //! The requests of one side.
 ghost use Rattle.dap_session.specs.EnvelopeView.{message_of};
-ghost use Rattle.std.specs.Prelude.{◌≡◌, ◌&&◌, [], OnOk, OnErr, option_map, false, true};
-ghost use Rattle.std.specs.Prelude.{None, Some, IfOk};
+ghost use Rattle.std.specs.Prelude.{◌≡◌, ◌&&◌, OnOk, OnErr, option_map, false, true};
+ghost use Rattle.std.specs.Prelude.{None, Some, IfOk, IfSome};
 ghost use Rattle.std.specs.Rc.{rc_str_bytes};
 ghost use Rattle.dap_session.specs.SessionState.{request_numbered, unanswered, with_request};
 ghost use Rattle.dap_session.specs.SessionState.{with_answer};
-ghost use Rattle.dap_session.specs.SessionState.{requests_after};
+ghost use Rattle.dap_session.specs.SessionState.{no_requests, requests_after};
 ghost use Rattle.dap_session.specs.RequestSteps.{FitsRequests, adds_to};
 
 use crate::envelope::Envelope;
 use crate::message::{is_from, is_request, is_response, name_of, request_seq_of, seq_of};
+use crate::store::{Request, Store};
 use dap_message::{AnyMessage, Side};
 use std::alloc::{AllocError, Global};
-use std::collections::{BTreeMap, BTreeSet};
+use std::collections::BTreeSet;
 use std::marker::Model;
 use std::rc::RcStr;
-
-/// A request that was accepted.
-#[derive(Drop)]
-pub struct Request {
-    command: RcStr,
-    answered: bool,
-}
 
 /// The requests of one side by their numbers, and the number of requests without a response.
 #[derive(Drop)]
@@ -29,7 +23,7 @@ pub struct Requests {
     alloc: Global,
     /// The commands of the requests. Each string is stored once.
     commands: BTreeSet<RcStr>,
-    seen: BTreeMap<i64, Request>,
+    store: Store,
     open: usize,
 }
 
@@ -47,12 +41,12 @@ impl Model for Requests {
 
 impl Requests {
     pub fn new(alloc: Global) -> Requests
-        ensures { result ≡ [] }
+        ensures { result ≡ no_requests }
     {
         Requests {
             alloc,
             commands: BTreeSet::new(alloc),
-            seen: BTreeMap::new(alloc),
+            store: Store::new(alloc),
             open: 0,
         }
     }
@@ -68,7 +62,7 @@ impl Requests {
     pub fn find(&self, number: i64) -> Option<(&str, bool)>
         ensures { option_map (λ a. (a.0.now, a.1)) result ≡ request_numbered number self.now }
     {
-        match self.seen.get(&number) {
+        match self.store.find(number) {
             Some(request) => Some((request.command.as_str(), request.answered)),
             None => None,
         }
@@ -80,16 +74,19 @@ impl Requests {
         ensures ok { OnOk result (self.new ≡ with_request number command.now self.old) }
         ensures err { OnErr result (self.new ≡ self.old) }
     {
-        prove!(self.open <= self.seen.len());
-        let command = shared_text(&mut self.commands, self.alloc, command)?;
-        self.seen.insert(
+        let Some(open) = self.open.checked_add(1) else {
+            return Err(AllocError);
+        };
+        let last = self.store.last_command(command)?;
+        let command = text_or_shared(last, &mut self.commands, self.alloc, command)?;
+        self.store.put(
             number,
             Request {
                 command,
                 answered: false,
             },
         )?;
-        self.open += 1;
+        self.open = open;
         Ok(())
     }
 
@@ -98,10 +95,8 @@ impl Requests {
         requires { request_numbered number self.old ≡ Some (command.now, false) }
         ensures { self.new ≡ with_answer number command.now self.old }
     {
-        if let Some(request) = self.seen.get_mut(&number) {
-            request.answered = true;
-            self.open -= 1;
-        }
+        self.store.answer(number, command);
+        self.open -= 1;
     }
 
     /// Adds the message if it is a request of this side. Marks its request as answered if it is a
@@ -125,6 +120,22 @@ impl Requests {
             }
         }
         Ok(())
+    }
+}
+
+/// Returns the last string, if there is one, and otherwise that of the set.
+fn text_or_shared(
+    last: Option<RcStr>,
+    texts: &mut BTreeSet<RcStr>,
+    alloc: Global,
+    text: &str,
+) -> Result<RcStr, AllocError>
+    requires { IfSome last (λ shared. rc_str_bytes shared ≡ text.now) }
+    ensures { IfOk result (λ shared. rc_str_bytes shared ≡ text.now) }
+{
+    match last {
+        Some(shared) => Ok(shared),
+        None => shared_text(texts, alloc, text),
     }
 }
 

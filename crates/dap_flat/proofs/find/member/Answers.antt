@@ -17,7 +17,7 @@ loop-p-preserved c =
     let s = c.in-Name.other.now in
     let p = c.loop-p.p in
     let there : get_or ns p node.Null ≡ node.Name c.in-Name.other = c.in-Name.is in
-    let other : bytes_eq k s ≡ false = sym c.eq.ensures ∙ c.if-eq.false in
+    let other : bytes_eq k s ≡ false = sym c.same_text.ensures ∙ c.if-same_text.false in
     let found = c.in_ok-p-in-Name.ensures.ok_part in
     let within : (p + 1 < c.in_ok-p-in-Name.p) × (c.in_ok-p-in-Name.p ≤ length ns) =
     subst (λ r. IfSome r (λ end. (p + 1 < end) × (end ≤ length ns))) found
@@ -29,12 +29,13 @@ loop-p-preserved c =
     (λ ms h. member_passed ns c.args.from p c.in_ok-p-in-Name.p k s ms (node.Name c.in-Name.other)
     node.Null (c.loop-p.invariant ms h) there refl other some width)
 
-pub returns-then-eq : goal.returns-then-eq
-returns-then-eq c =
+pub returns-then-same_text : goal.returns-then-same_text
+returns-then-same_text c =
     let ns = c.args.nodes.now in
     let k = c.args.name.now in
     let there : get_or ns c.loop-p.p node.Null ≡ node.Name c.in-Name.other = c.in-Name.is in
-    let equal : bytes_eq k c.in-Name.other.now ≡ true = sym c.eq.ensures ∙ c.if-eq.true in
+    let equal : bytes_eq k c.in-Name.other.now ≡ true =
+    sym c.same_text.ensures ∙ c.if-same_text.true in
     (λ ms h. member_found ns c.args.from c.loop-p.p k c.in-Name.other.now ms
     (node.Name c.in-Name.other) node.Null (c.loop-p.invariant ms h) there refl equal)
 
