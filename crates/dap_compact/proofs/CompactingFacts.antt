@@ -11,8 +11,8 @@ use Rattle.dap_tree.specs.Json as reading
 use Rattle.dap_tree.proofs.Outcomes.{read_once, whole_or_fraction, some_outcome}
 use Rattle.dap_frame.specs.Frame.{AreFrames, frame_text, frames}
 use Rattle.dap_frame.proofs.Frames.{readable}
-use Rattle.dap_items.proofs.Ends.{IsReadable}
-use Rattle.dap_items.proofs.Then.{faults_as_readable}
+use Rattle.dap_frame.proofs.Ends.{IsReadable}
+use Rattle.dap_frame.proofs.Then.{faults_as_readable}
 use Rattle.dap_recording.specs.declared.record_fault.RecordCause.TheVariants.{Frame}
 use Rattle.dap_input.specs.declared.limits.Limits.{Limits}
 use Rattle.dap_input.specs.Limits.{AreSound}

@@ -3,7 +3,7 @@
 use Rattle.std.specs.Prelude.{◌≡◌, ℕ, ◌≤◌, List, [], ◌∷◌, ◌++◌, length}
 use Rattle.std.specs.List.{flat_map, AllByRecursion}
 use Rattle.dap_frame.specs.Frame.{AreFrames, frames, frame_text}
-use Rattle.dap_items.specs.Combinators.{map_fault}
+use Rattle.dap_frame.specs.Combinators.{map_fault}
 use Rattle.dap_message.specs.Message.{no_reading, fraction}
 use Rattle.dap_recording.specs.declared.record_fault.RecordCause.TheVariants.{Frame}
 use Rattle.dap_tree.specs.Doc.{Doc}

@@ -2,7 +2,7 @@
 use Rattle.std.proofs.Common.{◌≡◌, ◌≢◌, ◌⊎◌, inl, inr, ℕ, ◌+◌, ◌<◌, ◌≤◌, List, [], ◌++◌, length}
 use Rattle.std.proofs.Common.{refl, sym, ◌∙◌, ap, ap₂, subst, arith, append-nil}
 use Rattle.std.proofs.lemmas.Bool.{cases_lt}
-use Rattle.dap_items.proofs.Ends.{IsReadable}
+use Rattle.dap_frame.proofs.Ends.{IsReadable}
 use Rattle.dap_input.specs.Validation.{Validation}
 use Rattle.dap_input.specs.Inputs.{Input, IsRefusedAt, IsNotRefusedAt, IsTaken, AcceptedBefore}
 use Rattle.dap_compare.specs.Comparing.{AreSameBefore, DifferAt, AreSameInputs, Verdict, are_same}

@@ -3,7 +3,7 @@
 use Rattle.std.proofs.Common.{◌≡◌, inl, inr, ⊎_elim, ℕ, zero, suc, ◌+◌, ◌<◌, Bool, true, false}
 use Rattle.std.proofs.Common.{List, [], ◌∷◌, length}
 use Rattle.std.proofs.Common.{refl, sym, ◌∙◌, ap, arith, length-append}
-use Rattle.dap_items.proofs.Ends.{IsReadable}
+use Rattle.dap_frame.proofs.Ends.{IsReadable}
 use Rattle.dap_input.specs.Validation.{Validation}
 use Rattle.dap_input.specs.Inputs.{Input, Fault, read_fault, IsRefusedAt, IsNotRefusedAt, IsTaken}
 use Rattle.dap_input.specs.Inputs.{AcceptedBefore}

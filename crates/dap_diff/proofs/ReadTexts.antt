@@ -4,7 +4,7 @@ use Rattle.std.proofs.Common.{MatchOption}
 use Rattle.std.proofs.Common.{refl, sym, ◌∙◌, subst, append-nil, take-append-drop}
 use Rattle.dap_frame.specs.declared.limits.FrameLimits.{FrameLimits}
 use Rattle.dap_tree.specs.Json.{text_of}
-use Rattle.dap_items.proofs.Ends.{item_not_faulty, item_not_open, one_item}
+use Rattle.dap_frame.proofs.Ends.{item_not_faulty, item_not_open, one_item}
 use Rattle.dap_message.specs.Message.{Sent}
 use Rattle.dap_message.proofs.Contents.{typed_not_refused}
 use Rattle.dap_recording.specs.Recording.{IsOpenRecord, IsRecord, ShowsFault}

@@ -10,8 +10,8 @@ use Rattle.dap_message.specs.Message.{Sent}
 use Rattle.dap_recording.specs.Recording.{IsRecord, IsRecording, recording_text}
 use Rattle.dap_recording.proofs.Records.{record_grammar, readable}
 use Rattle.dap_recording.proofs.RecordsWritten.{written_is_record, written_is_recording}
-use Rattle.dap_items.proofs.Ends.{not_empty, one_item}
-use Rattle.dap_items.proofs.Streams.{one_list}
+use Rattle.dap_frame.proofs.Ends.{not_empty, one_item}
+use Rattle.dap_frame.proofs.ItemStreams.{one_list}
 use Rattle.dap_rename.specs.Messages.{IsNormal}
 use Rattle.dap_rename.specs.Modes.{stop_in}
 use Rattle.dap_rename.specs.declared.mode.Mode.{Mode}

@@ -1,6 +1,6 @@
 -- An error is proved by one of the bytes, and it is neither `Cut` nor `Memory`.
 use Rattle.std.proofs.Common.{◌≡◌, ◌≢◌, ℕ, ◌<◌, ◌≤◌, List, length, Result, Err, refl, sym, ◌∙◌}
-use Rattle.dap_items.proofs.Ends as items
+use Rattle.dap_frame.proofs.Ends as items
 use Rattle.dap_frame.specs.declared.limits.FrameLimits.{FrameLimits}
 use Rattle.dap_frame.specs.declared.fault.FrameFault.{FrameFault}
 use Rattle.dap_frame.specs.declared.fault.FrameFault.TheVariants.{Cut, Memory}

@@ -20,8 +20,8 @@ use Rattle.dap_frame.specs.Progress.{GoesOn, HasEnded, IsAtContent, ShowsInHeade
 use Rattle.dap_frame.specs.Progress.{TakesRestOfHeader}
 use Rattle.dap_frame.proofs.MarkEnds.{BeginsWith-more}
 use Rattle.dap_frame.proofs.Frames.{frame_grammar, frame_of, open_in_content}
-use Rattle.dap_items.proofs.Ends.{item_not_faulty, item_not_open, one_item}
-use Rattle.dap_items.specs.Combinators.{first_open}
+use Rattle.dap_frame.proofs.Ends.{item_not_faulty, item_not_open, one_item}
+use Rattle.dap_frame.specs.Combinators.{first_open}
 
 -- the fields represent the rest that the framer represents
 pub kept_of : (fields : Inside) (framer : Reading) (progress : Progress) (rest : List ℕ)

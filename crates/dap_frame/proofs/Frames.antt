@@ -4,11 +4,11 @@ use Rattle.std.proofs.Common.{Err, refl, sym, ap, ◌∙◌, subst, arith}
 use Rattle.std.proofs.lemmas.List.{take_at, take-append-drop, take-take, length-append, length-drop}
 use Rattle.std.proofs.lemmas.List.{length-take-le, nil_from_length}
 use Rattle.std.proofs.lemmas.Bool.{false≢true}
-use Rattle.dap_items.specs.Grammar.{IsGrammar, NoEmptyItem}
-use Rattle.dap_items.specs.Combinators.{in_first, in_second, first_open, second_open}
-use Rattle.dap_items.proofs.Ends.{IsReadable}
-use Rattle.dap_items.proofs.Fronts.{same_front}
-use Rattle.dap_items.proofs.Then.{and_then_grammar, so_many_grammar}
+use Rattle.dap_frame.specs.Grammar.{IsGrammar, NoEmptyItem}
+use Rattle.dap_frame.specs.Combinators.{in_first, in_second, first_open, second_open}
+use Rattle.dap_frame.proofs.Ends.{IsReadable}
+use Rattle.dap_frame.proofs.Fronts.{same_front}
+use Rattle.dap_frame.proofs.Then.{and_then_grammar, so_many_grammar}
 use Rattle.dap_frame.specs.declared.limits.FrameLimits.{FrameLimits}
 use Rattle.dap_frame.specs.declared.fault.FrameFault.{FrameFault}
 use Rattle.dap_frame.specs.Limits.{IsSound}

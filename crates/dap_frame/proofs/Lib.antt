@@ -18,3 +18,8 @@ pub mod WrittenFrames
 pub mod UsualNames
 pub mod PlainLengths
 pub mod Streams
+pub mod Fronts
+pub mod Ends
+pub mod ItemStreams
+pub mod Pieces
+pub mod Then

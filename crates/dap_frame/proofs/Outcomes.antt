@@ -11,7 +11,7 @@ use Rattle.dap_frame.specs.declared.header_scan.HeaderScan.{HeaderScan}
 use Rattle.dap_frame.specs.declared.header_scan.ScanStep.{ScanStep}
 use Rattle.dap_frame.specs.declared.header_scan.ScanStep.TheVariants.{Unfinished, Ended}
 use Rattle.dap_frame.specs.declared.header_scan.Findings.{Findings}
-use Rattle.dap_items.specs.Grammar.{HasEnd}
+use Rattle.dap_frame.specs.Grammar.{HasEnd}
 use Rattle.dap_frame.specs.Lines.{header_end, Lacks, ends_at}
 use Rattle.dap_frame.specs.Frame.{in_header, too_long, headers, parsed_length}
 use Rattle.dap_frame.specs.HeaderScan.{IsScanOf, HeaderEnds, StepGives, header_step}

@@ -4,10 +4,10 @@ use Rattle.std.proofs.Common.{MatchOption, Err, refl, sym, ap, ◌∙◌, subst,
 use Rattle.std.specs.Prelude.{option_to_list}
 use Rattle.std.specs.List.{concat}
 use Rattle.std.proofs.lemmas.List.{append-nil, take_all}
-use Rattle.dap_items.specs.Grammar.{ParsesAs}
-use Rattle.dap_items.proofs.Streams.{one_item_alone}
-use Rattle.dap_items.proofs.Pieces as items
-use Rattle.dap_items.proofs.Pieces.{IsReader}
+use Rattle.dap_frame.specs.Grammar.{ParsesAs}
+use Rattle.dap_frame.proofs.ItemStreams.{one_item_alone}
+use Rattle.dap_frame.proofs.Pieces as items
+use Rattle.dap_frame.proofs.Pieces.{IsReader}
 use Rattle.dap_frame.specs.declared.limits.FrameLimits.{FrameLimits}
 use Rattle.dap_frame.specs.declared.fault.FrameFault.{FrameFault}
 use Rattle.dap_frame.specs.declared.fault.FrameFault.TheVariants.{Memory}

@@ -9,7 +9,7 @@ use Rattle.std.proofs.lemmas.Fmt.{decimal_by_steps}
 use Rattle.std.proofs.lemmas.List.{append_assoc, append-nil, length-append}
 use Rattle.std.specs.List.{list_all}
 use Rattle.std.specs.Char.{is_ascii_digit}
-use Rattle.dap_items.specs.Combinators.{in_second}
+use Rattle.dap_frame.specs.Combinators.{in_second}
 use Rattle.dap_frame.specs.declared.limits.FrameLimits.{FrameLimits}
 use Rattle.dap_frame.specs.declared.length_scan.LengthScan.TheVariants.{Blank, Digits}
 use Rattle.dap_frame.specs.declared.line_scan.LineScan.{LineScan}

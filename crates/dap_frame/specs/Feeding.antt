@@ -1,7 +1,7 @@
 -- Calls of `feed` over the chunks of a stream, one after another.
 use Rattle.std.specs.Prelude.{◌≡◌, ℕ, List, option_to_list, Result, Ok, Err}
-use Rattle.dap_items.specs.Feeding as feeding
-use Rattle.dap_items.specs.Feeding.{Calls}
+use Rattle.dap_frame.specs.ItemFeeding as feeding
+use Rattle.dap_frame.specs.ItemFeeding.{Calls}
 use Rattle.dap_frame.specs.declared.fault.FrameFault.{FrameFault}
 use Rattle.dap_frame.specs.declared.fault.FrameFault.TheVariants.{Memory}
 use Rattle.dap_frame.specs.declared.fed.Fed.{Fed}

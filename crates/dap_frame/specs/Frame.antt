@@ -2,9 +2,9 @@
 use Rattle.std.specs.Prelude.{◌≡◌, ℕ, ◌<◌, ◌≤◌, not, if◌then◌else◌, List, [], ◌∷◌, ◌++◌, length}
 use Rattle.std.specs.Prelude.{take, nat_le, Result, Ok, Err, map, filter, codes, decimal}
 use Rattle.std.specs.List.{list_all}
-use Rattle.dap_items.specs.Grammar as items
-use Rattle.dap_items.specs.Grammar.{Grammar, IsItem, ParsesAs, HasItem, IsStream}
-use Rattle.dap_items.specs.Combinators.{and_then, take_bytes}
+use Rattle.dap_frame.specs.Grammar as items
+use Rattle.dap_frame.specs.Grammar.{Grammar, IsItem, ParsesAs, HasItem, IsStream}
+use Rattle.dap_frame.specs.Combinators.{and_then, take_bytes}
 use Rattle.dap_frame.specs.declared.limits.FrameLimits.{FrameLimits}
 use Rattle.dap_frame.specs.declared.fault.FrameFault.{FrameFault}
 use Rattle.dap_frame.specs.declared.fault.FrameFault.TheVariants.{HeaderLine, NoLength, TwoLengths}

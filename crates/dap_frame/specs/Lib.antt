@@ -11,3 +11,6 @@ pub mod Reading
 pub mod Framer
 pub mod Feeding
 pub mod Laws
+pub mod Grammar
+pub mod ItemFeeding
+pub mod Combinators

@@ -5,8 +5,8 @@ use Rattle.std.proofs.Common.{length, take, min, refl, sym, ◌∙◌, ap, subst
 use Rattle.std.proofs.Common.{length-append, Err}
 use Rattle.std.proofs.lemmas.List.{take_min}
 use Rattle.dap_device.specs.Pieces.{Window}
-use Rattle.dap_items.specs.Grammar.{Grammar, IsItem, FailsAt}
-use Rattle.dap_items.proofs.Ends.{IsReadable, open_shorter, shown_inside, shown_later}
+use Rattle.dap_frame.specs.Grammar.{Grammar, IsItem, FailsAt}
+use Rattle.dap_frame.proofs.Ends.{IsReadable, open_shorter, shown_inside, shown_later}
 use Rattle.dap_recording.specs.declared.record_fault.RecordCause.{RecordCause}
 use Rattle.dap_input.specs.Inputs.{EndsAt}
 use Rattle.dap_input.specs.Validation.{Validation, ContentError, Reason, faulty, input_too_long}

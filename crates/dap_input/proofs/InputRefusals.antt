@@ -4,7 +4,7 @@ use Rattle.std.proofs.Common.{◌∷◌, ◌++◌, length}
 use Rattle.std.proofs.Common.{refl, sym, ◌∙◌, ap, subst, arith, append_assoc, append-nil}
 use Rattle.std.proofs.Common.{length-append, true≢false, zero-add}
 use Rattle.std.proofs.lemmas.List.{length_push}
-use Rattle.dap_items.proofs.Ends.{IsReadable}
+use Rattle.dap_frame.proofs.Ends.{IsReadable}
 use Rattle.dap_input.specs.Validation.{Validation, Reason, faulty, input_too_long, cut, objected}
 use Rattle.dap_input.specs.Validation.{IsFirstRefusal, Refuses}
 use Rattle.dap_input.specs.Inputs.{Input, Fault, refused, read_fault, EndsAt, IsRefusedAt}

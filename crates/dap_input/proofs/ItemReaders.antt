@@ -2,9 +2,9 @@
 use Rattle.std.proofs.Common.{◌≡◌, ◌≢◌, inl, inr, ℕ, ◌≤◌, List, [], ◌++◌, length, take, Option}
 use Rattle.std.proofs.Common.{Some, None, Err, sym, ◌∙◌, subst}
 use Rattle.std.specs.Prelude.{MatchOption}
-use Rattle.dap_items.specs.Grammar.{IsItem}
-use Rattle.dap_items.specs.Grammar as items
-use Rattle.dap_items.proofs.Then.{shows_as}
+use Rattle.dap_frame.specs.Grammar.{IsItem}
+use Rattle.dap_frame.specs.Grammar as items
+use Rattle.dap_frame.proofs.Then.{shows_as}
 use Rattle.dap_frame.specs.Frame.{IsFrame, frames}
 use Rattle.dap_frame.specs.Reading.{GivesFault, Reading, Represents, limits_of}
 use Rattle.dap_frame.specs.declared.fault.FrameFault.{FrameFault}

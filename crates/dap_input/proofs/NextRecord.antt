@@ -3,9 +3,9 @@ use Rattle.std.proofs.Common.{◌≡◌, ◌≢◌, ◌⊎◌, inl, inr, ⊎_eli
 use Rattle.std.proofs.Common.{◌++◌, length}
 use Rattle.std.proofs.Common.{refl, sym, ◌∙◌, ap, arith, append_assoc, length-append}
 use Rattle.std.proofs.lemmas.Bool.{cases_lt}
-use Rattle.dap_items.specs.Grammar.{IsItem, FailsAt}
-use Rattle.dap_items.proofs.Ends.{IsReadable, item_not_faulty, item_not_open, one_fault, one_item}
-use Rattle.dap_items.proofs.Ends.{open_not_faulty, shown_inside, some_outcome}
+use Rattle.dap_frame.specs.Grammar.{IsItem, FailsAt}
+use Rattle.dap_frame.proofs.Ends.{IsReadable, item_not_faulty, item_not_open, one_fault, one_item}
+use Rattle.dap_frame.proofs.Ends.{open_not_faulty, shown_inside, some_outcome}
 use Rattle.dap_recording.specs.declared.record_fault.RecordCause.{RecordCause}
 use Rattle.dap_input.specs.Validation.{Validation, ContentError, Reason, faulty, input_too_long}
 use Rattle.dap_input.specs.Validation.{cut}

@@ -1,8 +1,8 @@
 -- An input is accepted, or has one rejection, which remains if more bytes follow.
 use Rattle.std.proofs.Common.{◌≡◌, ◌≢◌, inl, inr, ⊎_elim, ℕ, List, ◌++◌, Option, Some, None}
 use Rattle.std.proofs.Common.{MatchOption, refl, sym, ◌∙◌, ap, ap₂}
-use Rattle.dap_items.specs.Grammar.{FailsAt}
-use Rattle.dap_items.proofs.Ends.{IsReadable}
+use Rattle.dap_frame.specs.Grammar.{FailsAt}
+use Rattle.dap_frame.proofs.Ends.{IsReadable}
 use Rattle.dap_message.specs.Message.{no_reading, fraction, faulty as profile_fault}
 use Rattle.dap_recording.specs.declared.record_fault.RecordCause.{RecordCause}
 use Rattle.dap_recording.specs.declared.record_fault.RecordCause.TheVariants.{Cut}

@@ -6,8 +6,8 @@ use Rattle.std.proofs.Common.{refl, sym, ◌∙◌, ap, arith, append_assoc, app
 use Rattle.std.proofs.Common.{zero-add}
 use Rattle.std.proofs.lemmas.Bool.{cases_lt}
 use Rattle.std.proofs.lemmas.List.{append_cancel_left}
-use Rattle.dap_items.proofs.Fronts.{same_front, shorter_front}
-use Rattle.dap_items.proofs.Ends.{IsReadable, fault_early, fault_stays}
+use Rattle.dap_frame.proofs.Fronts.{same_front, shorter_front}
+use Rattle.dap_frame.proofs.Ends.{IsReadable, fault_early, fault_stays}
 use Rattle.dap_input.specs.Validation.{Validation, Reason, faulty, input_too_long, cut, objected}
 use Rattle.dap_input.specs.Validation.{Refuses}
 use Rattle.dap_input.specs.Validation.{IsFirstRefusal}

@@ -3,8 +3,8 @@ use Rattle.std.proofs.Common.{◌≡◌, ◌⊎◌, inl, inr, ⊎_elim, ℕ, ◌
 use Rattle.std.proofs.Common.{length, sym, ◌∙◌, ap, subst, arith, append_assoc, length-append}
 use Rattle.std.proofs.lemmas.Bool.{cases_lt}
 use Rattle.std.proofs.lemmas.List.{append_cancel_left}
-use Rattle.dap_items.specs.Grammar.{IsItem, FailsAt}
-use Rattle.dap_items.proofs.Ends.{IsReadable, open_shorter, shown_later}
+use Rattle.dap_frame.specs.Grammar.{IsItem, FailsAt}
+use Rattle.dap_frame.proofs.Ends.{IsReadable, open_shorter, shown_later}
 use Rattle.dap_input.specs.Inputs.{EndsAt}
 use Rattle.dap_recording.specs.declared.record_fault.RecordCause.{RecordCause}
 use Rattle.dap_input.specs.Validation.{Validation, cut, IsFirstRefusal}

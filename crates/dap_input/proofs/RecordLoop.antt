@@ -11,7 +11,7 @@ use Rattle.dap_device.specs.Pieces.{HasReadSoFar, HasNextPiece, HasNoPiece, HasP
 use Rattle.dap_device.specs.Pieces.{Window}
 use Rattle.dap_device.specs.declared.reading.Stop.{Stop}
 use Rattle.dap_device.specs.declared.reading.Stop.TheVariants.{End, Full, Failed}
-use Rattle.dap_items.specs.Grammar.{Grammar, IsItem, FailsAt}
+use Rattle.dap_frame.specs.Grammar.{Grammar, IsItem, FailsAt}
 use Rattle.dap_recording.specs.declared.record_fault.RecordCause.{RecordCause}
 use Rattle.dap_recording.specs.declared.record_fault.RecordCause.TheVariants as cause
 use Rattle.dap_input.specs.ItemReading.{GivesFedItem, GivesItem}

@@ -7,7 +7,7 @@ use Rattle.dap_device.specs.declared.reading.Stop.TheVariants.{End, Full, Failed
 use Rattle.dap_recording.specs.declared.record_fault.RecordCause.{RecordCause}
 use Rattle.dap_recording.specs.declared.record_fault.RecordCause.TheVariants.{Cut}
 use Rattle.dap_recording.specs.declared.record_fault.RecordCause.TheVariants.{Memory as NoMemory}
-use Rattle.dap_items.proofs.Ends.{IsReadable}
+use Rattle.dap_frame.proofs.Ends.{IsReadable}
 use Rattle.dap_input.specs.Inputs.{Input, Fault, refused, read_fault, IsRefusedAt}
 use Rattle.dap_input.specs.Validation.{Validation, ContentError, Reason, faulty, cut, objected}
 use Rattle.dap_input.specs.Validation.{IsFirstRefusal}

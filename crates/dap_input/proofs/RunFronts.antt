@@ -4,7 +4,7 @@ use Rattle.std.proofs.Common.{◌++◌, length}
 use Rattle.std.proofs.Common.{sym, ◌∙◌, ap, subst, arith, append-nil, length-append}
 use Rattle.std.proofs.lemmas.Bool.{cases_lt}
 use Rattle.std.proofs.lemmas.List.{append_cancel_left, nil_from_length}
-use Rattle.dap_items.proofs.Ends.{IsReadable}
+use Rattle.dap_frame.proofs.Ends.{IsReadable}
 use Rattle.dap_input.specs.Validation.{Validation}
 use Rattle.dap_input.proofs.Runs.{ValueLaws, Run, GoesOn, no_values, run_goes_on}
 

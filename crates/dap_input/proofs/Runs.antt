@@ -4,8 +4,8 @@ use Rattle.std.proofs.Common.{◌≡◌, ◌⊎◌, ℕ, ◌+◌, ◌<◌, ◌�
 use Rattle.std.proofs.Common.{refl, ap, arith, append_assoc, append-nil, length-append, add-zero}
 use Rattle.std.proofs.Common.{add_assoc}
 use Rattle.std.proofs.lemmas.List.{append_cancel_left}
-use Rattle.dap_items.specs.Grammar.{IsItem}
-use Rattle.dap_items.proofs.Ends.{IsReadable, not_empty, one_item}
+use Rattle.dap_frame.specs.Grammar.{IsItem}
+use Rattle.dap_frame.proofs.Ends.{IsReadable, not_empty, one_item}
 use Rattle.dap_input.specs.Validation.{Validation, ContentError}
 
 -- The bytes start with a complete record, within the limit, that is validated as this value.

@@ -9,7 +9,7 @@ use Rattle.dap_device.specs.Written.{AllWritten, PrefixWritten}
 use Rattle.dap_device.specs.Pieces.{HasReadSoFar}
 use Rattle.dap_device.specs.declared.reading.Stop.TheVariants.{End}
 use Rattle.dap_device.proofs.Sending.{all_then_all}
-use Rattle.dap_items.specs.Grammar.{Grammar}
+use Rattle.dap_frame.specs.Grammar.{Grammar}
 use Rattle.dap_recording.specs.declared.record_fault.RecordCause.{RecordCause}
 use Rattle.dap_recording.specs.declared.record_fault.RecordCause.TheVariants.{Cut}
 use Rattle.dap_input.specs.InputSteps.{RefusalHolds}

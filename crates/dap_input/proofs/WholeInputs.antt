@@ -10,7 +10,7 @@ use Rattle.dap_device.specs.Pieces.{HasReadSoFar}
 use Rattle.dap_device.specs.Reading.{HasReadInput, HasLength}
 use Rattle.dap_device.specs.declared.reading.Stop.{Stop}
 use Rattle.dap_device.specs.declared.reading.Stop.TheVariants.{End, Full, Failed}
-use Rattle.dap_items.specs.Grammar.{Grammar}
+use Rattle.dap_frame.specs.Grammar.{Grammar}
 use Rattle.dap_recording.specs.declared.record_fault.RecordCause.{RecordCause}
 use Rattle.dap_recording.specs.declared.record_fault.RecordCause.TheVariants.{Cut}
 use Rattle.dap_input.specs.Engine.{Answers, FailsToRead, ReadsNoneOrAll, RefusesInput}

@@ -3,7 +3,7 @@ use Rattle.std.specs.Prelude.{◌≡◌, ◌⊎◌, ℕ, ◌+◌, ◌≤◌, Boo
 use Rattle.std.specs.Prelude.{Option, Some, None}
 use Rattle.dap_device.specs.declared.reading.Stop.{Stop}
 use Rattle.dap_device.specs.declared.reading.Stop.TheVariants.{End, Failed}
-use Rattle.dap_items.specs.Grammar.{IsItem, FailsAt}
+use Rattle.dap_frame.specs.Grammar.{IsItem, FailsAt}
 use Rattle.dap_recording.specs.declared.record_fault.RecordCause.{RecordCause}
 use Rattle.dap_input.specs.Inputs.{AcceptedBefore, EndsAt, Input}
 use Rattle.dap_input.specs.Validation.{Validation}

@@ -1,7 +1,7 @@
 -- Inputs validated record by record: the first rejection of an input that is not accepted, for any
 -- kind of record and any validation. Source: own.
 use Rattle.std.specs.Prelude.{◌≡◌, ◌≢◌, ℕ, ◌+◌, ◌<◌, ◌≤◌, List, [], ◌++◌, length}
-use Rattle.dap_items.specs.Grammar.{Grammar, IsItem, FailsAt}
+use Rattle.dap_frame.specs.Grammar.{Grammar, IsItem, FailsAt}
 use Rattle.dap_message.specs.Message.{Refusal}
 use Rattle.dap_recording.specs.declared.record_fault.RecordCause.{RecordCause}
 use Rattle.dap_session.specs.declared.rule.Rule.{Rule}

@@ -1,7 +1,7 @@
 //! Reads the items of an input while its bytes are received.
 ghost use Rattle.std.specs.Prelude.{◌≡◌, ◌<◌, ◌≤◌, ◌↔◌, ◌++◌, ℕ, List, [], length, IfErr, IfOk};
 ghost use Rattle.std.specs.Prelude.{IsErrOf, IsOk, IsTrue};
-ghost use Rattle.dap_items.specs.Grammar.{HasItem, Grammar};
+ghost use Rattle.dap_frame.specs.Grammar.{HasItem, Grammar};
 ghost use Rattle.dap_frame.specs.declared.limits.FrameLimits.{FrameLimits};
 ghost use Rattle.dap_recording.specs.declared.record_fault.RecordCause.{RecordCause};
 

@@ -1,7 +1,7 @@
 //! Reads the records of an input one by one.
 ghost use Rattle.std.specs.Prelude.{◌≡◌, ◌+◌, ◌-◌, ◌<◌, ◌≤◌, ◌^◌, [], IfOk, IsTrue, true};
 ghost use Rattle.std.specs.Prelude.{false};
-ghost use Rattle.dap_items.specs.Grammar.{HasItem};
+ghost use Rattle.dap_frame.specs.Grammar.{HasItem};
 ghost use Rattle.dap_frame.specs.declared.limits.FrameLimits.{FrameLimits};
 
 use crate::item_reader::ItemReader;

@@ -5,8 +5,8 @@ use Rattle.std.proofs.Common.{refl, sym, ◌∙◌, ap, ap₂, subst}
 use Rattle.std.specs.List.{AllByRecursion, AllZip}
 use Rattle.dap_tree.specs.Doc.{is_ordered}
 use Rattle.dap_tree.specs.Json.{text_of}
-use Rattle.dap_items.proofs.Ends.{not_empty}
-use Rattle.dap_items.proofs.Streams as items
+use Rattle.dap_frame.proofs.Ends.{not_empty}
+use Rattle.dap_frame.proofs.ItemStreams as items
 use Rattle.dap_message.specs.Message.{Sent, IsTyped}
 use Rattle.dap_recording.specs.Recording.{IsRecording, record_text}
 use Rattle.dap_recording.proofs.Records.{readable, record_grammar}

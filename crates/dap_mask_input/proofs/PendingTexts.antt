@@ -14,8 +14,8 @@ use Rattle.dap_device.specs.Pieces.{HasReadSoFar}
 use Rattle.dap_device.specs.Written.{AllWritten, PrefixWritten}
 use Rattle.dap_device.specs.declared.reading.Stop.{Stop}
 use Rattle.dap_device.proofs.Sending.{some_of_both}
-use Rattle.dap_items.specs.Grammar.{HasItem}
-use Rattle.dap_items.proofs.Ends.{item_not_open}
+use Rattle.dap_frame.specs.Grammar.{HasItem}
+use Rattle.dap_frame.proofs.Ends.{item_not_open}
 use Rattle.dap_message.specs.Message.{Sent}
 use Rattle.dap_recording.proofs.Records.{readable}
 use Rattle.dap_recording.specs.Recording.{IsOpenRecord}

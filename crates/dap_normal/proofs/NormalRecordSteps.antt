@@ -8,7 +8,7 @@ use Rattle.dap_message.specs.Message.{Sent}
 use Rattle.dap_recording.specs.declared.record.Record.{Record as WholeRecord}
 use Rattle.dap_recording.specs.RecordReading.{RecordReading}
 use Rattle.dap_recording.specs.declared.record_fault.RecordCause.TheVariants.{Cut}
-use Rattle.dap_items.proofs.Ends.{item_not_open}
+use Rattle.dap_frame.proofs.Ends.{item_not_open}
 use Rattle.dap_recording.specs.Recording.{IsOpenRecord}
 use Rattle.dap_recording.proofs.Records.{readable}
 use Rattle.dap_input.specs.InputSteps.{RefusalHolds}

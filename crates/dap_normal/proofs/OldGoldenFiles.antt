@@ -3,8 +3,8 @@
 use Rattle.std.proofs.Common.{◌≡◌, ℕ, true, List, [], ◌∷◌, map, refl, sym, ◌∙◌, ap, ap₂, subst}
 use Rattle.std.proofs.Common.{arith}
 use Rattle.std.specs.List.{AllByRecursion}
-use Rattle.dap_items.proofs.Ends.{not_empty}
-use Rattle.dap_items.proofs.Streams as items
+use Rattle.dap_frame.proofs.Ends.{not_empty}
+use Rattle.dap_frame.proofs.ItemStreams as items
 use Rattle.dap_tree.specs.Doc.{Doc}
 use Rattle.dap_tree.specs.Ids.{ids}
 use Rattle.dap_tree.specs.declared.side.Side.{Side}

@@ -1,8 +1,8 @@
 -- An output in the mode `Whole` is accepted in each mode in which its recording is, and has the
 -- same normal form in that mode.
 use Rattle.std.proofs.Common.{◌≡◌, ℕ, List, [], ◌∷◌, sym, subst, arith, refl}
-use Rattle.dap_items.proofs.Ends.{not_empty}
-use Rattle.dap_items.proofs.Streams as items
+use Rattle.dap_frame.proofs.Ends.{not_empty}
+use Rattle.dap_frame.proofs.ItemStreams as items
 use Rattle.dap_message.specs.Message.{Sent}
 use Rattle.dap_recording.proofs.Records.{record_grammar, readable}
 use Rattle.dap_rename.specs.Messages.{AreSame, IsNormal, no_stop}

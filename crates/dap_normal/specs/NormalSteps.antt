@@ -5,7 +5,7 @@ use Rattle.dap_device.specs.declared.device.Source.{Ghosts as Source}
 use Rattle.dap_device.specs.Pieces.{HasReadSoFar}
 use Rattle.dap_device.specs.declared.reading.Stop.{Stop}
 use Rattle.dap_device.specs.declared.reading.Stop.TheVariants.{End}
-use Rattle.dap_items.specs.Grammar.{HasItem}
+use Rattle.dap_frame.specs.Grammar.{HasItem}
 use Rattle.dap_message.specs.Message.{Sent}
 use Rattle.dap_rename.specs.declared.mode.Mode.{Mode}
 use Rattle.dap_recording.specs.declared.record_fault.RecordCause.TheVariants.{Cut}

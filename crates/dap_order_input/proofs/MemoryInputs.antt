@@ -6,7 +6,7 @@ use Rattle.dap_device.specs.declared.reading.Stop.TheVariants.{End, Full, Failed
 use Rattle.dap_device.specs.Memory.{GivenBytes}
 use Rattle.dap_device.specs.Pieces.{HasReadSoFar}
 use Rattle.dap_device.specs.Reading.{HasReadInput}
-use Rattle.dap_items.proofs.Ends.{IsReadable}
+use Rattle.dap_frame.proofs.Ends.{IsReadable}
 use Rattle.dap_recording.proofs.Records.{readable}
 use Rattle.dap_rename.specs.declared.mode.Mode.{Mode}
 use Rattle.dap_input.specs.declared.limits.Limits.{Limits}

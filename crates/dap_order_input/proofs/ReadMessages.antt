@@ -7,8 +7,8 @@ use Rattle.dap_device.specs.Memory.{GivenBytes}
 use Rattle.dap_device.specs.Pieces.{HasPaused}
 use Rattle.dap_device.specs.declared.reading.Stop.{Stop}
 use Rattle.dap_device.specs.declared.reading.Stop.TheVariants.{End, Full, Failed}
-use Rattle.dap_items.specs.Grammar.{IsItem}
-use Rattle.dap_items.proofs.Ends.{one_item}
+use Rattle.dap_frame.specs.Grammar.{IsItem}
+use Rattle.dap_frame.proofs.Ends.{one_item}
 use Rattle.dap_message.specs.Message.{Sent}
 use Rattle.dap_recording.proofs.Records.{readable}
 use Rattle.dap_recording.specs.RecordReading.{RecordReading}

@@ -4,8 +4,8 @@ use Rattle.std.proofs.Common.{◌≡◌, ℕ, ◌+◌, ◌≤◌, List, [], ◌�
 use Rattle.std.proofs.Common.{sym, ◌∙◌, ap, subst, arith, append_assoc, append-nil, length-append}
 use Rattle.std.proofs.Common.{zero-add}
 use Rattle.std.proofs.lemmas.List.{append_cancel_left}
-use Rattle.dap_items.specs.Grammar.{IsItem, FailsAt}
-use Rattle.dap_items.proofs.Ends.{item_not_faulty, item_not_open, one_item}
+use Rattle.dap_frame.specs.Grammar.{IsItem, FailsAt}
+use Rattle.dap_frame.proofs.Ends.{item_not_faulty, item_not_open, one_item}
 use Rattle.dap_message.specs.Message.{Sent, no_reading, fraction, faulty as profile_fault}
 use Rattle.dap_message.proofs.Contents.{typed_not_refused}
 use Rattle.dap_recording.proofs.Records.{readable}

@@ -15,8 +15,8 @@ use Rattle.dap_message.specs.declared.message.Message.{Message}
 use Rattle.dap_message.proofs.Contents.{typed_back}
 use Rattle.dap_recording.specs.Recording.{IsRecording}
 use Rattle.dap_recording.proofs.Records.{record_grammar, readable}
-use Rattle.dap_items.proofs.Ends.{not_empty}
-use Rattle.dap_items.proofs.Streams as streams
+use Rattle.dap_frame.proofs.Ends.{not_empty}
+use Rattle.dap_frame.proofs.ItemStreams as streams
 use Rattle.dap_rename.proofs.Lists.{each-append}
 use Rattle.dap_rename.specs.declared.mode.Mode.{Mode}
 use Rattle.dap_message.specs.SwapRules.{SwapRule}

@@ -8,10 +8,10 @@ use Rattle.std.proofs.lemmas.Bool.{and_parts, cases_Bool, cases_lt, false≢true
 use Rattle.std.proofs.lemmas.Bool.Decides.{eqb_tells}
 use Rattle.std.specs.List.{list_all}
 use Rattle.std.specs.Char.{is_ascii_digit}
-use Rattle.dap_items.specs.Grammar.{IsItem, IsGrammar}
-use Rattle.dap_items.proofs.Fronts.{same_front}
-use Rattle.dap_items.proofs.Ends.{one_item}
-use Rattle.dap_items.proofs.Then.{until_grammar}
+use Rattle.dap_frame.specs.Grammar.{IsItem, IsGrammar}
+use Rattle.dap_frame.proofs.Fronts.{same_front}
+use Rattle.dap_frame.proofs.Ends.{one_item}
+use Rattle.dap_frame.proofs.Then.{until_grammar}
 use Rattle.dap_frame.specs.Lines.{number_of}
 use Rattle.dap_recording.specs.declared.trace_fault.TraceCause.{TraceCause}
 use Rattle.dap_recording.specs.declared.trace_fault.TraceCause.TheVariants.{BadCount}

@@ -2,8 +2,8 @@
 use Rattle.std.proofs.Common.{◌≡◌, ℕ, inl, inr, List, [], ◌∷◌, ◌++◌, Result, Ok, Err, refl, sym, ap}
 use Rattle.std.proofs.Common.{◌∙◌, arith}
 use Rattle.std.proofs.lemmas.Bool.Decides.{eqb_tells}
-use Rattle.dap_items.specs.Grammar.{IsItem, IsGrammar}
-use Rattle.dap_items.proofs.Then.{byte_grammar}
+use Rattle.dap_frame.specs.Grammar.{IsItem, IsGrammar}
+use Rattle.dap_frame.proofs.Then.{byte_grammar}
 use Rattle.dap_tree.specs.declared.side.Side.{Side}
 use Rattle.dap_tree.specs.declared.side.Side.TheVariants.{Client, Adapter}
 use Rattle.dap_recording.specs.Marker.{marker, IsNoMarker, SaysSide, markers}

@@ -3,10 +3,10 @@ use Rattle.std.proofs.Common.{◌≡◌, ◌≢◌, ℕ, List, [], ◌∷◌, �
 use Rattle.std.proofs.Common.{MatchOption, Err, refl, sym, ap, ◌∙◌, subst, arith}
 use Rattle.std.specs.List.{concat}
 use Rattle.std.proofs.lemmas.List.{append-nil, take_all, length-append}
-use Rattle.dap_items.specs.Grammar.{ParsesAs}
-use Rattle.dap_items.proofs.Streams.{one_item_alone}
-use Rattle.dap_items.proofs.Pieces as items
-use Rattle.dap_items.proofs.Pieces.{IsReader}
+use Rattle.dap_frame.specs.Grammar.{ParsesAs}
+use Rattle.dap_frame.proofs.ItemStreams.{one_item_alone}
+use Rattle.dap_frame.proofs.Pieces as items
+use Rattle.dap_frame.proofs.Pieces.{IsReader}
 use Rattle.dap_frame.specs.declared.limits.FrameLimits.{FrameLimits}
 use Rattle.dap_tree.specs.declared.side.Side.{Side}
 use Rattle.dap_recording.specs.declared.record.Record.{Record}

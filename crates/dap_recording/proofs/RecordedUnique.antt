@@ -2,7 +2,7 @@
 use Rattle.std.proofs.Common.{◌≡◌, ℕ, ◌⊎◌, inl, inr, false, List, [], ◌∷◌, ◌++◌, length, map, refl}
 use Rattle.std.proofs.Common.{sym, ap, ◌∙◌, subst, arith}
 use Rattle.std.proofs.lemmas.List.{append_assoc, append-nil, append_cancel_left, length-append}
-use Rattle.dap_items.proofs.Streams.{one_stream, stream_more}
+use Rattle.dap_frame.proofs.ItemStreams.{one_stream, stream_more}
 use Rattle.dap_frame.specs.declared.limits.FrameLimits.{FrameLimits}
 use Rattle.dap_frame.specs.Frame.{Stream}
 use Rattle.dap_frame.proofs.Frames.{frame_grammar, no_empty_frame}

@@ -6,8 +6,8 @@ use Rattle.std.specs.List.{filter}
 use Rattle.std.proofs.lemmas.List.{append_assoc, append-nil, map-append, take_all, take-append-drop}
 use Rattle.std.proofs.lemmas.List.Elements.{filter-append}
 use Rattle.std.proofs.lemmas.List.Concat.{flat_map-append}
-use Rattle.dap_items.proofs.Ends.{item_of_more, no_item_before, open_has_no_item}
-use Rattle.dap_items.proofs.Streams.{items_append, nothing_has_no_item, one_item_alone}
+use Rattle.dap_frame.proofs.Ends.{item_of_more, no_item_before, open_has_no_item}
+use Rattle.dap_frame.proofs.ItemStreams.{items_append, nothing_has_no_item, one_item_alone}
 use Rattle.dap_frame.specs.declared.limits.FrameLimits.{FrameLimits}
 use Rattle.dap_frame.specs.declared.fault.FrameFault.{FrameFault}
 use Rattle.dap_frame.specs.Frame.{IsFrame, HasFrame, Stream, IsOpen, frames}

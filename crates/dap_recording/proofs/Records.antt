@@ -2,10 +2,10 @@
 use Rattle.std.proofs.Common.{◌≡◌, ◌⊎◌, ℕ, inl, inr, List, [], ◌∷◌, ◌++◌, Result, Ok, Err, refl}
 use Rattle.std.proofs.Common.{sym, ap, ◌∙◌}
 use Rattle.std.proofs.lemmas.Bool.Decides.{eqb_tells}
-use Rattle.dap_items.specs.Grammar.{IsGrammar}
-use Rattle.dap_items.specs.Combinators.{in_first, in_second, first_open}
-use Rattle.dap_items.proofs.Ends.{IsReadable}
-use Rattle.dap_items.proofs.Then.{and_then_grammar, byte_grammar}
+use Rattle.dap_frame.specs.Grammar.{IsGrammar}
+use Rattle.dap_frame.specs.Combinators.{in_first, in_second, first_open}
+use Rattle.dap_frame.proofs.Ends.{IsReadable}
+use Rattle.dap_frame.proofs.Then.{and_then_grammar, byte_grammar}
 use Rattle.dap_frame.specs.declared.limits.FrameLimits.{FrameLimits}
 use Rattle.dap_frame.specs.declared.fault.FrameFault.{FrameFault}
 use Rattle.dap_frame.specs.Frame.{IsFrame, frames}

@@ -2,10 +2,10 @@
 use Rattle.std.proofs.Common.{◌≡◌, ◌⊎◌, ℕ, ◌<◌, inl, inr, List, [], ◌∷◌, ◌++◌, length, Err, refl}
 use Rattle.std.proofs.Common.{sym, ap, ◌∙◌}
 use Rattle.std.proofs.lemmas.List.{append_assoc}
-use Rattle.dap_items.specs.Grammar.{IsGrammar}
-use Rattle.dap_items.specs.Combinators.{in_first, in_second, first_open, second_open}
-use Rattle.dap_items.proofs.Ends.{one_item, IsReadable}
-use Rattle.dap_items.proofs.Then.{and_then_grammar, so_many_grammar}
+use Rattle.dap_frame.specs.Grammar.{IsGrammar}
+use Rattle.dap_frame.specs.Combinators.{in_first, in_second, first_open, second_open}
+use Rattle.dap_frame.proofs.Ends.{one_item, IsReadable}
+use Rattle.dap_frame.proofs.Then.{and_then_grammar, so_many_grammar}
 use Rattle.dap_frame.specs.Lines.{number_of}
 use Rattle.dap_tree.specs.declared.side.Side.{Side}
 use Rattle.dap_recording.specs.declared.trace_fault.TraceCause.{TraceCause}

@@ -6,8 +6,8 @@ use Rattle.std.specs.List.{concat, flat_map, AllByRecursion}
 use Rattle.std.proofs.lemmas.List.{append_assoc, append-nil, take-append-drop, length-append}
 use Rattle.std.proofs.lemmas.List.{length-drop, nil_from_length}
 use Rattle.std.proofs.lemmas.List.Concat.{flat_map-append}
-use Rattle.dap_items.proofs.Streams.{items_append, one_item_alone, faulty_stream}
-use Rattle.dap_items.specs.Feeding.{begun, next_piece, fed_on, refused}
+use Rattle.dap_frame.proofs.ItemStreams.{items_append, one_item_alone, faulty_stream}
+use Rattle.dap_frame.specs.ItemFeeding.{begun, next_piece, fed_on, refused}
 use Rattle.dap_recording.proofs.TracePieces.{piece_grammar}
 use Rattle.dap_recording.specs.declared.trace_fault.TraceFault.{TraceFault}
 use Rattle.dap_tree.specs.declared.side.Side.{Side}

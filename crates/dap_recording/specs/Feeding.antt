@@ -2,7 +2,7 @@
 -- receives the rest of the current chunk. When the rest is empty, the next chunk follows. A call
 -- that returned `Memory` may be repeated.
 use Rattle.std.specs.Prelude.{◌≡◌, ℕ, List, [], ◌∷◌, drop, Option, Some, None, Result, Ok, Err}
-use Rattle.dap_items.specs.Feeding.{Calls, Feeds}
+use Rattle.dap_frame.specs.ItemFeeding.{Calls, Feeds}
 use Rattle.dap_tree.specs.declared.side.Side.{Side}
 use Rattle.dap_recording.specs.declared.record.Record.{Record}
 use Rattle.dap_recording.specs.declared.record_fault.RecordCause.TheVariants as cause

@@ -1,7 +1,7 @@
 -- The bytes that represent the two sides. A byte is its number: 62 is `>`, 60 is `<`.
 use Rattle.std.specs.Prelude.{◌≡◌, ◌≢◌, ℕ, Result, Ok, Err}
-use Rattle.dap_items.specs.Grammar.{Grammar}
-use Rattle.dap_items.specs.Combinators.{one_byte}
+use Rattle.dap_frame.specs.Grammar.{Grammar}
+use Rattle.dap_frame.specs.Combinators.{one_byte}
 use Rattle.dap_tree.specs.declared.side.Side.{Side}
 use Rattle.dap_tree.specs.declared.side.Side.TheVariants.{Client, Adapter}
 

@@ -2,8 +2,8 @@
 -- of the DAP base protocol. A message is its side and its content.
 use Rattle.std.specs.Prelude.{◌≡◌, ◌≢◌, ℕ, List, [], ◌∷◌, ◌++◌, Result, Ok, Err}
 use Rattle.std.specs.List.{flat_map}
-use Rattle.dap_items.specs.Grammar.{Grammar, IsItem, ParsesAs, HasItem, IsStream, FailsAt}
-use Rattle.dap_items.specs.Combinators.{and_then, one_byte}
+use Rattle.dap_frame.specs.Grammar.{Grammar, IsItem, ParsesAs, HasItem, IsStream, FailsAt}
+use Rattle.dap_frame.specs.Combinators.{and_then, one_byte}
 use Rattle.dap_frame.specs.declared.limits.FrameLimits.{FrameLimits}
 use Rattle.dap_frame.specs.Frame.{frames, frame_text}
 use Rattle.dap_tree.specs.declared.side.Side.{Side}

@@ -3,8 +3,8 @@ use Rattle.std.specs.Prelude.{◌≡◌, ◌≢◌, ℕ, ◌<◌, ◌≤◌, ◌
 use Rattle.std.specs.Prelude.{slice_index, Result, Ok, Err}
 use Rattle.std.specs.List.{list_all}
 use Rattle.std.specs.Char.{is_ascii_digit}
-use Rattle.dap_items.specs.Grammar.{Grammar, IsItem, ParsesAs, HasItem, IsStream, FailsAt}
-use Rattle.dap_items.specs.Combinators.{and_then, until, take_bytes}
+use Rattle.dap_frame.specs.Grammar.{Grammar, IsItem, ParsesAs, HasItem, IsStream, FailsAt}
+use Rattle.dap_frame.specs.Combinators.{and_then, until, take_bytes}
 use Rattle.dap_frame.specs.Lines.{number_of}
 use Rattle.dap_tree.specs.declared.side.Side.{Side}
 use Rattle.dap_recording.specs.declared.trace_fault.TraceCause.{TraceCause}

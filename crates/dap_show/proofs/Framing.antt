@@ -4,7 +4,7 @@ use Rattle.std.proofs.Common.{[], ◌∷◌, ◌++◌, length, Option, Some, Non
 use Rattle.std.proofs.Common.{◌∙◌, ap, subst, arith, append_assoc, length-append}
 use Rattle.dap_device.specs.Pieces.{HasReadSoFar}
 use Rattle.dap_device.specs.declared.device.Source.{Ghosts as Source}
-use Rattle.dap_items.specs.Grammar.{IsItem}
+use Rattle.dap_frame.specs.Grammar.{IsItem}
 use Rattle.dap_recording.proofs.Records.{readable}
 use Rattle.dap_recording.specs.Recording.{IsRecording, records as recorded}
 use Rattle.dap_recording.specs.RecordReading.{RecordReading}

@@ -4,7 +4,7 @@ use Rattle.std.proofs.Common.{Ok, Err, refl, ◌∙◌, ap, arith, append_assoc}
 use Rattle.dap_device.specs.declared.device.Source.{Ghosts as Source}
 use Rattle.dap_device.specs.declared.reading.Stop.{Stop}
 use Rattle.dap_device.specs.declared.reading.Stop.TheVariants.{End, Full, Failed}
-use Rattle.dap_items.specs.Grammar.{Grammar}
+use Rattle.dap_frame.specs.Grammar.{Grammar}
 use Rattle.dap_recording.specs.declared.record_fault.RecordCause.{RecordCause}
 use Rattle.dap_recording.specs.declared.record_fault.RecordCause.TheVariants.{Cut}
 use Rattle.dap_input.specs.InputSteps.{RefusalHolds}

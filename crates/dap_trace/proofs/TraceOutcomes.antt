@@ -4,9 +4,9 @@ use Rattle.std.proofs.Common.{drop, refl, sym, ◌∙◌, ap, ap₂, subst, arit
 use Rattle.std.proofs.lemmas.Bool.{cases_lt}
 use Rattle.std.proofs.lemmas.List.{append_assoc, append-nil, append_cancel_left, length-append}
 use Rattle.std.proofs.lemmas.List.Concat.{flat_map-append}
-use Rattle.dap_items.proofs.Ends.{one_fault, fault_stays, open_not_faulty, item_not_faulty}
-use Rattle.dap_items.proofs.Ends.{item_not_open}
-use Rattle.dap_items.proofs.Streams.{begun_not_open, one_stream, two_lists}
+use Rattle.dap_frame.proofs.Ends.{one_fault, fault_stays, open_not_faulty, item_not_faulty}
+use Rattle.dap_frame.proofs.Ends.{item_not_open}
+use Rattle.dap_frame.proofs.ItemStreams.{begun_not_open, one_stream, two_lists}
 use Rattle.dap_frame.proofs.Frames.{frame_grammar, open_at_first}
 use Rattle.dap_recording.proofs.TracePieces.{one_piece, piece_grammar}
 use Rattle.dap_frame.specs.declared.fault.FrameFault.TheVariants.{Cut}
@@ -22,7 +22,7 @@ use Rattle.dap_recording.proofs.RecorderRuns.{nothing_recorded}
 use Rattle.dap_recording.proofs.RecordedUnique.{one_recorded}
 use Rattle.dap_tree.specs.declared.side.Side.{Side}
 use Rattle.dap_tree.specs.declared.side.Side.TheVariants.{Client, Adapter}
-use Rattle.dap_items.proofs.Fronts.{same_front}
+use Rattle.dap_frame.proofs.Fronts.{same_front}
 use Rattle.dap_input.specs.declared.limits.Limits.{Limits}
 use Rattle.dap_input.specs.declared.refused.Refused.{Refused}
 use Rattle.dap_input.specs.declared.refused.Refused.TheVariants.{TraceTooLong, Trace, Recorder}

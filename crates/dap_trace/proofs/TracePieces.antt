@@ -3,9 +3,9 @@ use Rattle.std.proofs.Common.{◌≡◌, ◌⊎◌, inl, inr, ℕ, ◌-◌, ◌�
 use Rattle.std.proofs.Common.{take, drop, refl, sym, ◌∙◌, ap, ap₂, subst, arith}
 use Rattle.std.proofs.lemmas.Bool.{cases_lt}
 use Rattle.std.proofs.lemmas.List.{append_assoc, length-append, length-take-le, take-append-drop}
-use Rattle.dap_items.specs.Combinators.{first_open, second_open}
-use Rattle.dap_items.proofs.Ends.{open_has_no_item, open_not_faulty, item_not_faulty}
-use Rattle.dap_items.proofs.Streams.{one_stream}
+use Rattle.dap_frame.specs.Combinators.{first_open, second_open}
+use Rattle.dap_frame.proofs.Ends.{open_has_no_item, open_not_faulty, item_not_faulty}
+use Rattle.dap_frame.proofs.ItemStreams.{one_stream}
 use Rattle.dap_frame.specs.Lines.{number_of}
 use Rattle.dap_recording.specs.declared.trace_fault.TraceCause.{TraceCause}
 use Rattle.dap_recording.specs.declared.trace_fault.TraceCause.TheVariants.{BadMarker}

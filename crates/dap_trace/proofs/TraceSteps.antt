@@ -5,9 +5,9 @@ use Rattle.std.proofs.lemmas.Bool.{cases_lt}
 use Rattle.std.proofs.lemmas.List.{append_assoc, append-nil, length-append, map-append}
 use Rattle.std.proofs.lemmas.List.{nil_from_length}
 use Rattle.std.proofs.lemmas.List.Concat.{flat_map-append}
-use Rattle.dap_items.proofs.Ends.{fault_stays, one_more, open_has_no_item, faulty_has_no_item}
-use Rattle.dap_items.proofs.Ends.{open_not_faulty, item_not_open, item_of_more}
-use Rattle.dap_items.proofs.Streams.{one_stream, items_append, one_item_alone}
+use Rattle.dap_frame.proofs.Ends.{fault_stays, one_more, open_has_no_item, faulty_has_no_item}
+use Rattle.dap_frame.proofs.Ends.{open_not_faulty, item_not_open, item_of_more}
+use Rattle.dap_frame.proofs.ItemStreams.{one_stream, items_append, one_item_alone}
 use Rattle.dap_frame.proofs.Frames.{frame_grammar, open_at_first}
 use Rattle.dap_recording.specs.Trace.{pieces_of}
 use Rattle.dap_recording.proofs.TracePieces.{parts_of, piece_grammar}

@@ -7,8 +7,8 @@ use Rattle.std.proofs.Common.{◌++◌, length, take, drop, Option, Some, None, 
 use Rattle.std.proofs.Common.{Err, refl, sym, ◌∙◌, ap, ap₂, subst, arith}
 use Rattle.std.proofs.lemmas.List.{append_assoc, append-nil, length-append, length-drop}
 use Rattle.std.proofs.lemmas.List.{length-take, nil_from_length, take-append-drop, take_all}
-use Rattle.dap_items.proofs.Ends.{not_empty, shown_by_byte}
-use Rattle.dap_items.proofs.Streams.{few_items}
+use Rattle.dap_frame.proofs.Ends.{not_empty, shown_by_byte}
+use Rattle.dap_frame.proofs.ItemStreams.{few_items}
 use Rattle.dap_frame.specs.declared.fault.FrameFault.{FrameFault}
 use Rattle.dap_frame.specs.Frame.{IsOpen}
 use Rattle.dap_frame.specs.Lines.{number_of}

@@ -1,4 +1,4 @@
-use Rattle.dap_items.proofs.Ends as items
+use Rattle.dap_frame.proofs.Ends as items
 use Rattle.dap_frame.proofs.Frames.{frame_grammar}
 use Rattle.dap_frame.proofs.laws.one_outcome.Goals as goal
 

@@ -1,4 +1,4 @@
-use Rattle.dap_items.proofs.Streams as items
+use Rattle.dap_frame.proofs.ItemStreams as items
 use Rattle.dap_frame.proofs.Frames.{frame_grammar, no_empty_frame}
 use Rattle.dap_frame.proofs.laws.one_stream.Goals as goal
 

@@ -1,4 +1,4 @@
-use Rattle.dap_items.proofs.Ends as items
+use Rattle.dap_frame.proofs.Ends as items
 use Rattle.dap_recording.proofs.Records.{record_grammar}
 use Rattle.dap_recording.proofs.laws.fault_stays.Goals as goal
 

@@ -1,5 +1,5 @@
-use Rattle.dap_items.proofs.Ends.{not_empty}
-use Rattle.dap_items.proofs.Streams as items
+use Rattle.dap_frame.proofs.Ends.{not_empty}
+use Rattle.dap_frame.proofs.ItemStreams as items
 use Rattle.dap_recording.proofs.TracePieces.{piece_grammar, readable}
 use Rattle.dap_recording.proofs.laws.one_piece_stream.Goals as goal
 

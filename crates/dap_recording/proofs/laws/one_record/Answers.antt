@@ -1,5 +1,5 @@
 use Rattle.std.proofs.Common.{ap}
-use Rattle.dap_items.proofs.Ends as items
+use Rattle.dap_frame.proofs.Ends as items
 use Rattle.dap_recording.proofs.Records.{record_grammar, readable}
 use Rattle.dap_recording.proofs.laws.one_record.Goals as goal
 

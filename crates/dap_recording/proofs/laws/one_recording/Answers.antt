@@ -1,6 +1,6 @@
 use Rattle.std.proofs.Common.{refl}
-use Rattle.dap_items.proofs.Ends.{not_empty}
-use Rattle.dap_items.proofs.Streams as items
+use Rattle.dap_frame.proofs.Ends.{not_empty}
+use Rattle.dap_frame.proofs.ItemStreams as items
 use Rattle.dap_recording.proofs.Records.{record_grammar, readable}
 use Rattle.dap_recording.proofs.laws.one_recording.Goals as goal
 

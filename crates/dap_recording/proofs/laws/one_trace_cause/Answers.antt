@@ -1,4 +1,4 @@
-use Rattle.dap_items.proofs.Ends as items
+use Rattle.dap_frame.proofs.Ends as items
 use Rattle.dap_recording.proofs.TracePieces.{piece_grammar, readable}
 use Rattle.dap_recording.proofs.laws.one_trace_cause.Goals as goal
 

@@ -1,4 +1,4 @@
-use Rattle.dap_items.proofs.Ends as items
+use Rattle.dap_frame.proofs.Ends as items
 use Rattle.dap_recording.proofs.TracePieces.{piece_grammar}
 use Rattle.dap_recording.proofs.TraceSteps.{stands_open_piece}
 use Rattle.dap_recording.proofs.laws.one_trace_outcome.Goals as goal

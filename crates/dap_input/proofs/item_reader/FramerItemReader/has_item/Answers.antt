@@ -1,6 +1,6 @@
 use Rattle.std.proofs.Common.{sym, subst, take, drop}
 use Rattle.std.proofs.lemmas.List.{take-append-drop}
-use Rattle.dap_items.specs.Grammar.{HasItem}
+use Rattle.dap_frame.specs.Grammar.{HasItem}
 use Rattle.dap_input.specs.ItemReading.{frame_items}
 use Rattle.dap_input.proofs.item_reader.FramerItemReader.has_item.Goals as goal
 

@@ -1,5 +1,5 @@
 use Rattle.std.proofs.Common.{subst}
-use Rattle.dap_items.specs.Grammar.{HasItem}
+use Rattle.dap_frame.specs.Grammar.{HasItem}
 use Rattle.dap_input.specs.ItemReading.{record_items}
 use Rattle.dap_input.proofs.item_reader.RecordReaderItemReader.has_item.Goals as goal
 

@@ -1,7 +1,7 @@
 -- Grammars made from other grammars: one item after another, mapped errors, a prefix and the byte
 -- that ends it, a fixed number of bytes.
 use Rattle.std.specs.Prelude.{◌≡◌, ℕ, ◌<◌, List, [], ◌∷◌, ◌++◌, length, Result, Ok, Err}
-use Rattle.dap_items.specs.Grammar.{Grammar, IsItem}
+use Rattle.dap_frame.specs.Grammar.{Grammar, IsItem}
 
 module _ {A B E F : Type 0} (g : Grammar A E) (h : A → Grammar B F) (of_first : E → F) where
   -- The first item has an error; or it is complete, and the second one, chosen by its value, ends

@@ -2,10 +2,10 @@
 use Rattle.std.proofs.Common.{◌≡◌, ◌⊎◌, ℕ, zero, suc, ◌<◌, ◌≤◌, inl, inr, List, [], ◌∷◌, ◌++◌}
 use Rattle.std.proofs.Common.{length, refl, sym, ap, ◌∙◌, subst, arith}
 use Rattle.std.proofs.lemmas.List.{append_assoc, append-nil, append_cancel_left, length-append}
-use Rattle.dap_items.specs.Grammar.{Grammar, IsItem, IsGrammar, NoEmptyItem, HasItem, ParsesAs}
-use Rattle.dap_items.specs.Grammar.{IsStream, FailsAt}
-use Rattle.dap_items.proofs.Ends.{one_item, item_not_open, fault_stays, some_outcome}
-use Rattle.dap_items.proofs.Ends.{open_has_no_item, faulty_has_no_item}
+use Rattle.dap_frame.specs.Grammar.{Grammar, IsItem, IsGrammar, NoEmptyItem, HasItem, ParsesAs}
+use Rattle.dap_frame.specs.Grammar.{IsStream, FailsAt}
+use Rattle.dap_frame.proofs.Ends.{one_item, item_not_open, fault_stays, some_outcome}
+use Rattle.dap_frame.proofs.Ends.{open_has_no_item, faulty_has_no_item}
 
 module _ {Value Fault : Type 0} (g : Grammar Value Fault) where
   -- the concatenation of two lists of items

@@ -4,12 +4,12 @@ use Rattle.std.proofs.Common.{Result, Ok, Err, refl, sym, ap, ◌∙◌, subst, 
 use Rattle.std.proofs.lemmas.List.{append_assoc, append-nil, append_cancel_left, length-append}
 use Rattle.std.proofs.lemmas.List.{length-take-le, take-append-drop, nil_from_length}
 use Rattle.std.proofs.lemmas.Bool.{cases_lt}
-use Rattle.dap_items.specs.Grammar.{Grammar, IsItem, HasEnd, IsGrammar, FailsAt}
-use Rattle.dap_items.specs.Combinators.{in_first, in_second, first_open, second_open, and_then}
-use Rattle.dap_items.specs.Combinators.{EndsAs}
-use Rattle.dap_items.specs.Combinators.{map_fault, until, one_byte, take_bytes}
-use Rattle.dap_items.proofs.Ends.{IsReadable}
-use Rattle.dap_items.proofs.Fronts.{same_front, shorter_front}
+use Rattle.dap_frame.specs.Grammar.{Grammar, IsItem, HasEnd, IsGrammar, FailsAt}
+use Rattle.dap_frame.specs.Combinators.{in_first, in_second, first_open, second_open, and_then}
+use Rattle.dap_frame.specs.Combinators.{EndsAs}
+use Rattle.dap_frame.specs.Combinators.{map_fault, until, one_byte, take_bytes}
+use Rattle.dap_frame.proofs.Ends.{IsReadable}
+use Rattle.dap_frame.proofs.Fronts.{same_front, shorter_front}
 
 module _ {A B E F : Type 0} {g : Grammar A E} {h : A → Grammar B F} (of_first : E
     → F) (is : IsGrammar g) (are : (a : A) → IsGrammar (h a)) where

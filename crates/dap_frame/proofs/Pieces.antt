@@ -2,10 +2,10 @@
 use Rattle.std.proofs.Common.{◌≡◌, ℕ, List, [], ◌∷◌, ◌++◌, take, drop, refl, sym, ap, ◌∙◌}
 use Rattle.std.specs.List.{concat}
 use Rattle.std.proofs.lemmas.List.{append_assoc, append-nil, take-append-drop}
-use Rattle.dap_items.specs.Grammar.{Grammar, IsGrammar, ParsesAs, IsStream, FailsAt}
-use Rattle.dap_items.specs.Feeding.{Calls, Feeds, begun, next_piece, fed_on, refused}
-use Rattle.dap_items.proofs.Ends.{open_has_no_item}
-use Rattle.dap_items.proofs.Streams.{items_append, faulty_stream}
+use Rattle.dap_frame.specs.Grammar.{Grammar, IsGrammar, ParsesAs, IsStream, FailsAt}
+use Rattle.dap_frame.specs.ItemFeeding.{Calls, Feeds, begun, next_piece, fed_on, refused}
+use Rattle.dap_frame.proofs.Ends.{open_has_no_item}
+use Rattle.dap_frame.proofs.ItemStreams.{items_append, faulty_stream}
 
 -- The conditions for a reader. `Stands state values rest` states that the state represents `rest`,
 -- the bytes received after items with these values.

@@ -7,8 +7,8 @@ use Rattle.std.proofs.lemmas.List.{append_assoc, append-nil, length-append, leng
 use Rattle.std.proofs.lemmas.List.{take-append-le, take-append-drop}
 use Rattle.std.proofs.lemmas.Bool.{cases_lt}
 use Rattle.std.proofs.Math.Seq.{drop-cons}
-use Rattle.dap_items.specs.Grammar.{Grammar, IsItem, IsGrammar, NoEmptyItem, HasItem, FailsAt}
-use Rattle.dap_items.proofs.Fronts.{shorter_front}
+use Rattle.dap_frame.specs.Grammar.{Grammar, IsItem, IsGrammar, NoEmptyItem, HasItem, FailsAt}
+use Rattle.dap_frame.proofs.Fronts.{shorter_front}
 
 -- the statement for every byte string
 abbrev pub Outcome : {Value Fault : Type 0} → Grammar Value Fault → List ℕ → Type 0

@@ -1,5 +1,0 @@
-pub mod Fronts
-pub mod Ends
-pub mod Streams
-pub mod Pieces
-pub mod Then

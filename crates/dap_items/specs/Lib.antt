@@ -1,3 +1,0 @@
-pub mod Grammar
-pub mod Feeding
-pub mod Combinators
