@@ -1,2 +1,3 @@
 pub mod AskedRows
 mod KindRows
+pub mod EmptyLines

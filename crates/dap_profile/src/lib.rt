@@ -7,6 +7,8 @@
 
 mod asked_rows;
 mod profile;
+mod row_text;
 
 pub use asked_rows::{AskedRows, rows_of};
 pub use profile::{Kind, PROFILE, Place, Row, Want, profile_rows};
+pub use row_text::row_lines;

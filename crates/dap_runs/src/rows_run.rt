@@ -1,13 +1,13 @@
 //! Prints rows of the profile.
 ghost use Rattle.std.specs.Prelude.{◌<◌, ◌^◌, option_map};
 ghost use Rattle.dap_runs.specs.RowsRun.{RowsArePrinted, ReportsRows};
-ghost use Rattle.dap_rows.specs.RowLines.{lines_of};
+ghost use Rattle.dap_profile.specs.RowLines.{lines_of};
 
 use crate::fault_line::{send, tell_answer};
 use crate::status::USAGE;
 use dap_device::{Sink, write_and_flush};
 use dap_input::Refused;
-use dap_rows::row_lines;
+use dap_profile::row_lines;
 use std::alloc::Global;
 
 /// The line that is reported if no row has the number.

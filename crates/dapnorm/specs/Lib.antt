@@ -41,7 +41,7 @@ pub use Rattle.dap_normal.specs.Normalised
 pub use Rattle.dap_normal.specs.Normalising
 pub use Rattle.dap_normal.specs.OldGoldenFiles
 pub use Rattle.dap_normal.specs.Streaming
-pub use Rattle.dap_rows.specs.RowLines
+pub use Rattle.dap_profile.specs.RowLines
 pub use Rattle.dap_runs.specs.ComparingRun
 pub use Rattle.dap_runs.specs.FaultLine
 pub use Rattle.dap_runs.specs.MaskRun

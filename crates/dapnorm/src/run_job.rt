@@ -8,7 +8,7 @@ ghost use Rattle.dap_input.specs.Limits.{AreSound};
 ghost use Rattle.dap_input.specs.Refusals.{IsRefused};
 ghost use Rattle.dap_normal.specs.NameTables.{AreReady};
 ghost use Rattle.dap_normal.specs.Streaming.{Streams};
-ghost use Rattle.dap_rows.specs.RowLines.{lines_of};
+ghost use Rattle.dap_profile.specs.RowLines.{lines_of};
 ghost use Rattle.dap_runs.specs.RowsRun.{ReportsRows};
 ghost use Rattle.dap_runs.specs.Reporting.{Answered, IsReported};
 ghost use Rattle.dapnorm.specs.Run.{CheckIsPrinted, CheckIsReported};

@@ -1,7 +1,7 @@
 use Rattle.std.proofs.Common.{arith, ◌<◌, length, option_map, string_bytes, sym, true≢false}
-use Rattle.dap_rows.specs.RowLines.{lines_of}
-use Rattle.dap_rows.proofs.EmptyLines.{not_asked}
-use Rattle.dap_rows.proofs.row_text.row_lines.Goals as goal
+use Rattle.dap_profile.specs.RowLines.{lines_of}
+use Rattle.dap_profile.proofs.EmptyLines.{not_asked}
+use Rattle.dap_profile.proofs.row_text.row_lines.Goals as goal
 
 pub returns-in_err-push_asked-clause-none : goal.returns-in_err-push_asked-clause-none
 returns-in_err-push_asked-clause-none c none =

@@ -4,11 +4,11 @@ ghost use Rattle.std.specs.Prelude.{decimal, string_bytes};
 ghost use Rattle.dap_profile.specs.PlaceSteps.{steps_of};
 ghost use Rattle.dap_profile.specs.Profile.{want_word};
 ghost use Rattle.dap_profile.specs.ProfileRows.{row_of};
-ghost use Rattle.dap_rows.specs.RowLines.{asked_line, has_number, kind_word, lines_of};
-ghost use Rattle.dap_rows.specs.RowLines.{messages_words};
-ghost use Rattle.dap_rows.specs.RowLines.{need_word, place_words, row_line};
+ghost use Rattle.dap_profile.specs.RowLines.{asked_line, has_number, kind_word, lines_of};
+ghost use Rattle.dap_profile.specs.RowLines.{messages_words};
+ghost use Rattle.dap_profile.specs.RowLines.{need_word, place_words, row_line};
 
-use dap_profile::{Kind, Place, Row, profile_rows};
+use crate::{Kind, Place, Row, profile_rows};
 use itoa::Buffer;
 use std::alloc::{AllocError, Global};
 

@@ -6,8 +6,8 @@ use Rattle.std.specs.List.{flat_map}
 use Rattle.dap_profile.specs.Profile.{want_word}
 use Rattle.dap_profile.specs.ProfileRows.{ProfileRow, row_of}
 use Rattle.dap_profile.specs.declared.profile.Row.{Row}
-use Rattle.dap_rows.specs.RowLines.{asked_line, has_number, messages_words, need_word}
-use Rattle.dap_rows.specs.RowLines.{place_words, row_line}
+use Rattle.dap_profile.specs.RowLines.{asked_line, has_number, messages_words, need_word}
+use Rattle.dap_profile.specs.RowLines.{place_words, row_line}
 
 left_nil : (a b : List ℕ) → a ++ b ≡ [] → a ≡ []
 left_nil [] b h = refl
