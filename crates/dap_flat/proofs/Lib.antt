@@ -7,3 +7,13 @@ pub mod IdPieces
 pub mod Found
 pub mod Documents
 pub mod SameTexts
+pub mod Tops
+pub mod Heads
+pub mod Located
+pub mod KeptPlaces
+pub mod Judged
+pub mod Named
+pub mod Replacing
+pub mod Shown
+pub mod Untold
+pub mod Told

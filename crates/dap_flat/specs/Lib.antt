@@ -7,3 +7,11 @@ pub mod Canonical
 pub mod Ids
 pub mod Finding
 pub mod Document
+pub mod Places
+pub mod Judging
+pub mod Heads
+pub mod Marking
+pub mod Marked
+pub mod Typed
+pub mod Made
+pub mod FlatMessages

@@ -1,14 +1,14 @@
 //! Reads the message of a record, and writes the record of a content.
 ghost use Rattle.std.specs.Prelude.{◌≡◌, ◌≤◌, List, IfOk, IfErr, IfSome, OnErr};
 ghost use Rattle.dap_tree.specs.Json.{text_of};
-ghost use Rattle.dap_flat_message.specs.FlatMessages.{flat_sent};
+ghost use Rattle.dap_flat.specs.FlatMessages.{flat_sent};
 ghost use Rattle.dap_message.specs.Message.{Sent, sent};
 ghost use Rattle.dap_normal.specs.Accepting.{HoldsNoMessage, IsMessage, Rejects};
 ghost use Rattle.dap_normal.specs.JudgingSteps.{Writes};
 ghost use Rattle.dap_input.specs.Limits.{AreSound};
 ghost use Rattle.dap_input.specs.Refusals.{RejectsPayload};
 
-use dap_flat_message::{FlatFault, FlatMessage, read_flat_message};
+use dap_flat::{FlatFault, FlatMessage, read_flat_message};
 use dap_frame::FrameFault;
 use dap_input::{Limits, Refused};
 use dap_message::{Message, MessageFault, Side, typed};
