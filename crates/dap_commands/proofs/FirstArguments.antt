@@ -4,8 +4,8 @@ use Rattle.clap.specs.Simple.{argument_words, built}
 use Rattle.clap.specs.Walk.{Text}
 use Rattle.clap.specs.declared.error.kind.ErrorKind.TheVariants as kind
 use Rattle.clap.proofs.OnLiterals.{clap_on_literals}
-use Rattle.dap_command_line.specs.FirstWords.{words_show}
-use Rattle.dap_command_line.proofs.FirstWords.{nothing_shown}
+use Rattle.dap_commands.specs.FirstWords.{words_show}
+use Rattle.dap_commands.proofs.FirstWords.{nothing_shown}
 use Rattle.dap_commands.specs.Commands.{program}
 
 -- The arguments after the name of the program, if there are any.

@@ -6,3 +6,7 @@ pub mod NoFault
 pub mod RequiredValues
 pub mod TakenCommands
 pub mod WorkedLines
+pub mod CommandFiles
+pub mod CommandWalk
+pub mod FirstWords
+pub mod ToldWords

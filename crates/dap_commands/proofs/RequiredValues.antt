@@ -23,7 +23,7 @@ use Rattle.clap.specs.declared.builder.value_parser.Reading.{Reading}
 use Rattle.clap.specs.declared.parser.matches.ValueSource.{ValueSource}
 use Rattle.clap.specs.declared.parser.matches.ValueSource.TheVariants.{CommandLine, DefaultValue}
 use Rattle.clap.proofs.WalkLemmas.{both}
-use Rattle.dap_command_line.proofs.CommandWalk.{finished_keeps}
+use Rattle.dap_commands.proofs.CommandWalk.{finished_keeps}
 use Rattle.dap_commands.proofs.Found.{each_passes, found_in}
 
 -- ---- each row that the parser found has a value

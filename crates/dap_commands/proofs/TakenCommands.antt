@@ -16,8 +16,8 @@ use Rattle.clap.specs.Takes.{settle_passes, takes, walk_passes}
 use Rattle.clap.specs.Walk.{Text, answers_to, first_of, nothing_held, rows_after}
 use Rattle.clap.specs.Walk.{stop_after, walk, walk_from}
 use Rattle.clap.proofs.WalkLemmas.{both}
-use Rattle.dap_command_line.specs.CommandLine.{two_files}
-use Rattle.dap_command_line.specs.CommandLine as line
+use Rattle.dap_commands.specs.CommandLine.{two_files}
+use Rattle.dap_commands.specs.CommandLine as line
 use Rattle.dap_commands.specs.Commands.{command_named, command_of, comparer, differ}
 use Rattle.dap_commands.specs.Commands.{golden_keeper, masker, orderer, program, suggester}
 use Rattle.dap_commands.specs.Commands.{with_files}

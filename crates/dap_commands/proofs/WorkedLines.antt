@@ -2,7 +2,7 @@
 use Rattle.std.proofs.Common.{◌≡◌, refl, true, false, [], ◌∷◌, Some, None, codes}
 use Rattle.clap.specs.Words.{subcommand_of}
 use Rattle.clap.proofs.OnLiterals.{clap_on_literals}
-use Rattle.dap_command_line.specs.CommandLine as line
+use Rattle.dap_commands.specs.CommandLine as line
 use Rattle.dap_commands.specs.Commands.{command_named, comparison, golden, job, order, program}
 use Rattle.dap_commands.specs.Commands.{view}
 use Rattle.dap_commands.specs.declared.commands.Printed.TheVariants.{Verdict, AllDifferences}

@@ -13,13 +13,13 @@ use Rattle.clap.specs.declared.Arg.{Arg}
 use Rattle.clap.specs.declared.ArgMatches.{ArgMatches}
 use Rattle.clap.specs.declared.builder.ArgAction.TheVariants.{Set, SetTrue}
 use Rattle.clap.specs.declared.error.kind.ErrorKind.{ErrorKind}
-use Rattle.dap_command_line.specs.CommandLine.{asks_per_stop, file, is_help_or_version, is_set}
-use Rattle.dap_command_line.specs.CommandLine.{job_of}
-use Rattle.dap_command_line.specs.CommandLine.{text_in}
-use Rattle.dap_command_line.specs.CommandLine.{JobSpec as ToldJob, job_spec as told_job}
-use Rattle.dap_command_line.specs.CommandLine as line
-use Rattle.dap_command_line.specs.declared.jobs.UsageFault.{UsageFault}
-use Rattle.dap_command_line.specs.declared.jobs.UsageFault.TheVariants as usage
+use Rattle.dap_commands.specs.CommandLine.{asks_per_stop, file, is_help_or_version, is_set}
+use Rattle.dap_commands.specs.CommandLine.{job_of}
+use Rattle.dap_commands.specs.CommandLine.{text_in}
+use Rattle.dap_commands.specs.CommandLine.{JobSpec as ToldJob, job_spec as told_job}
+use Rattle.dap_commands.specs.CommandLine as line
+use Rattle.dap_commands.specs.declared.jobs.UsageFault.{UsageFault}
+use Rattle.dap_commands.specs.declared.jobs.UsageFault.TheVariants as usage
 use Rattle.dap_commands.specs.declared.commands.Action.{Action}
 use Rattle.dap_commands.specs.declared.commands.Action.TheVariants as action
 use Rattle.dap_commands.specs.declared.commands.Comparison.{Comparison}

@@ -1,1 +1,4 @@
 pub mod Commands
+pub mod CommandLine
+pub mod FirstWords
+pub mod Jobs

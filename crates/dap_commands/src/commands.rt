@@ -1,8 +1,8 @@
 //! Defines the command that a command line requests.
 ghost use Rattle.std.specs.Prelude.{◌≡◌};
-ghost use Rattle.dap_command_line.specs.Jobs.{mode_for};
+ghost use Rattle.dap_commands.specs.Jobs.{mode_for};
 
-use dap_command_line::Job;
+use crate::Job;
 use dap_rename::Mode;
 
 /// The task of the program, and the files that it reads and writes.

@@ -1,7 +1,7 @@
 //! Defines the command line for `clap`.
 ghost use Rattle.std.specs.Prelude.{[], ◌≡◌, codes, IfOk};
 ghost use Rattle.clap.specs.Words.{App, Rule, Shape, app_of, with_subcommand};
-ghost use Rattle.dap_command_line.specs.CommandLine.{bare, file};
+ghost use Rattle.dap_commands.specs.CommandLine.{bare, file};
 ghost use Rattle.dap_commands.specs.Commands.{IsArgument, IsSubcommand, checker, comparer, differ};
 ghost use Rattle.dap_commands.specs.Commands.{explain_flag, flag, golden_keeper, input_file, masker, normaliser};
 ghost use Rattle.dap_commands.specs.Commands.{of_two_files, option, optional, orderer, output_file};

@@ -4,13 +4,13 @@ ghost use Rattle.std.specs.Prelude.{if◌then◌else◌, option_map};
 ghost use Rattle.clap.specs.Walk.{texts};
 ghost use Rattle.clap.specs.Words.{fault_of as faults_of, first_of, kind_of, subcommand_of};
 ghost use Rattle.clap.specs.Words.{subcommand_rows_of, takes};
-ghost use Rattle.dap_command_line.specs.CommandLine.{IsUsageErrorOf, compare, diff};
-ghost use Rattle.dap_command_line.specs.CommandLine.{is_help_or_version};
-ghost use Rattle.dap_command_line.specs.CommandLine.{is_set, job_of, mask, over_files, text_in};
-ghost use Rattle.dap_command_line.specs.CommandLine.{texts_in, two_files};
-ghost use Rattle.dap_command_line.specs.CommandLine.{job_spec as told_job};
-ghost use Rattle.dap_command_line.specs.FirstWords.{FirstDecides};
-ghost use Rattle.dap_command_line.specs.declared.jobs.UsageFault.TheVariants.{Memory};
+ghost use Rattle.dap_commands.specs.CommandLine.{IsUsageErrorOf, compare, diff};
+ghost use Rattle.dap_commands.specs.CommandLine.{is_help_or_version};
+ghost use Rattle.dap_commands.specs.CommandLine.{is_set, job_of, mask, over_files, text_in};
+ghost use Rattle.dap_commands.specs.CommandLine.{texts_in, two_files};
+ghost use Rattle.dap_commands.specs.CommandLine.{job_spec as told_job};
+ghost use Rattle.dap_commands.specs.FirstWords.{FirstDecides};
+ghost use Rattle.dap_commands.specs.declared.jobs.UsageFault.TheVariants.{Memory};
 ghost use Rattle.dap_commands.specs.Commands.{IsFaultFor, command_named, command_of};
 ghost use Rattle.dap_commands.specs.Commands.{compare_action, compare_of, comparison_of};
 ghost use Rattle.dap_commands.specs.Commands.{diff_action, diff_of, given, golden_of, has_flag};
@@ -24,7 +24,7 @@ use crate::commands::{Action, Command, Comparison, Golden, Order, Printed, Show,
 use crate::definition;
 use clap::error::ErrorKind;
 use clap::{ArgMatches, Error};
-use dap_command_line::{Job, UsageFault};
+use crate::{Job, UsageFault};
 use std::alloc::Global;
 
 /// Returns the value of an argument, if it has one.

@@ -3,7 +3,7 @@ ghost use Rattle.dap_input.specs.Limits.{AreSound};
 ghost use Rattle.dap_normal.specs.NameTables.{AreReady};
 ghost use Rattle.dap_rename.specs.IndexNames.{index_limit, index_numbers};
 
-use dap_command_line::Job;
+use dap_commands::Job;
 use dap_compact::compact;
 use dap_device::{MemorySource, StdSink};
 use dap_explain::explain;

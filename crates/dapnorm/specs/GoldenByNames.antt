@@ -2,7 +2,7 @@
 use Rattle.std.specs.Prelude.{◌≡◌, ℕ, ◌≤◌, Bool, true, false, List, [], Option, Some, None, Result}
 use Rattle.std.specs.Prelude.{Ok, Err, codes, option_map}
 use Rattle.std.specs.Borrow.{Bor}
-use Rattle.dap_command_line.specs.Jobs.{mode_for}
+use Rattle.dap_commands.specs.Jobs.{mode_for}
 use Rattle.dap_commands.specs.declared.commands.Golden.{Golden}
 use Rattle.dap_device.specs.Memory.{GivenBytes}
 use Rattle.dap_device.specs.declared.device.Sink.{Ghosts as Sink}

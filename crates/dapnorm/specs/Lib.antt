@@ -11,8 +11,8 @@ pub mod TaskRun
 pub mod TwoFiles
 pub mod ViewRun
 pub mod WrittenRun
-pub use Rattle.dap_command_line.specs.CommandLine
-pub use Rattle.dap_command_line.specs.Jobs
+pub use Rattle.dap_commands.specs.CommandLine
+pub use Rattle.dap_commands.specs.Jobs
 pub use Rattle.dap_compact.specs.Compacting
 pub use Rattle.dap_compare.specs.Comparing
 pub use Rattle.dap_compare.specs.Verdicts

@@ -1,9 +1,9 @@
 -- What the program does with one file that is given by its name. Source: own.
 use Rattle.std.specs.Prelude.{◌≡◌, ℕ, List, Option, Some, None, Result, Ok, Err, codes, option_map}
 use Rattle.std.specs.Borrow.{Bor}
-use Rattle.dap_command_line.specs.Jobs.{mode_for}
-use Rattle.dap_command_line.specs.declared.jobs.Job.{Job}
-use Rattle.dap_command_line.specs.declared.jobs.Job.TheVariants as job
+use Rattle.dap_commands.specs.Jobs.{mode_for}
+use Rattle.dap_commands.specs.declared.jobs.Job.{Job}
+use Rattle.dap_commands.specs.declared.jobs.Job.TheVariants as job
 use Rattle.dap_compact.specs.Compacting.{Compacts, compacting}
 use Rattle.dap_device.specs.declared.device.Sink.{Ghosts as Sink}
 use Rattle.dap_device.specs.declared.device.Source.{Ghosts as Source}

@@ -1,8 +1,8 @@
 -- What the program prints and reports for a job. Source: own.
 use Rattle.std.specs.Prelude.{◌≡◌, ℕ, ◌++◌, Bool, List, Result, Ok, Err, codes}
 use Rattle.std.specs.Prelude.{decimal, string_bytes}
-use Rattle.dap_command_line.specs.declared.jobs.UsageFault.{UsageFault}
-use Rattle.dap_command_line.specs.declared.jobs.UsageFault.TheVariants as usage
+use Rattle.dap_commands.specs.declared.jobs.UsageFault.{UsageFault}
+use Rattle.dap_commands.specs.declared.jobs.UsageFault.TheVariants as usage
 use Rattle.dap_device.specs.declared.device.Source.{Ghosts as Source}
 use Rattle.dap_device.specs.declared.device.Sink.{Ghosts as Sink}
 use Rattle.dap_normal.specs.declared.checked.Checked.{Checked}

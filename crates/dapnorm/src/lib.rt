@@ -18,9 +18,9 @@ mod two_files;
 mod view_run;
 mod written_run;
 
-pub use dap_command_line::Job;
-pub use dap_command_line::UsageFault;
-pub use dap_command_line::job;
+pub use dap_commands::Job;
+pub use dap_commands::UsageFault;
+pub use dap_commands::job;
 pub use dap_commands::Action;
 pub use dap_commands::Command;
 pub use dap_commands::Comparison;

@@ -7,7 +7,7 @@ ghost use Rattle.dapnorm.specs.OneFile.{FileIsRun, FileIsViewed, input_name, uno
 
 use crate::run_job::run_stream_with;
 use crate::view_run::run_view;
-use dap_command_line::Job;
+use dap_commands::Job;
 use dap_device::{Sink, Source};
 use dap_input::Refused;
 use dap_rename::{NameTable, Tables};

@@ -1,7 +1,7 @@
 //! Does a job, prints its output, and returns a status.
 ghost use Rattle.std.specs.Prelude.{◌≡◌, ℕ, ◌+◌, ◌<◌, ◌≤◌, ◌^◌, Bool, List, Option, option_map};
 ghost use Rattle.std.specs.Borrow.{Bor};
-ghost use Rattle.dap_command_line.specs.Jobs.{mode_for};
+ghost use Rattle.dap_commands.specs.Jobs.{mode_for};
 ghost use Rattle.dap_compact.specs.Compacting.{Compacts, compacting};
 ghost use Rattle.dap_input.specs.Engine.{Answers};
 ghost use Rattle.dap_input.specs.Limits.{AreSound};
@@ -18,7 +18,7 @@ ghost use Rattle.dap_show.specs.Showing.{IsShownBy, showing};
 ghost use Rattle.dap_trace.specs.TracingRun.{RecordsTrace};
 
 use arrayvec::ArrayString;
-use dap_command_line::{Job, UsageFault};
+use dap_commands::{Job, UsageFault};
 use dap_compact::compact;
 use dap_device::{Sink, Source, write_and_flush};
 use dap_input::{Limits, Refused};

@@ -13,7 +13,7 @@ use crate::one_file::{input_name, report_unopened};
 use crate::ruled_file::RuledRun;
 use crate::targets::Targets;
 use crate::task::{Task, run_task};
-use dap_command_line::Job;
+use dap_commands::Job;
 use dap_device::{Sink, Source, write_and_flush};
 use dap_file::Replaceable;
 use dap_input::Refused;

@@ -6,7 +6,7 @@ ghost use Rattle.dapnorm.specs.TaskRun.{TaskIsDone};
 use crate::ruled_file::{RuledRun, run_mask_by, run_order_by};
 use crate::run_job::run_stream_with;
 use crate::view_run::run_view;
-use dap_command_line::Job;
+use dap_commands::Job;
 use dap_device::{Sink, Source};
 use dap_rename::{NameTable, Tables};
 use dap_runs::{LIMITS, RulesFiles};

@@ -9,7 +9,7 @@ use crate::devices::Devices;
 use crate::one_file::{input_name, report_unopened};
 use crate::saved_run::{SaveEnd, SavedRun, report_unfound};
 use crate::task::{Task, run_task};
-use dap_command_line::Job;
+use dap_commands::Job;
 use dap_device::{Sink, Source};
 use dap_rename::{NameTable, Tables};
 use dap_runs::{Files, LIMITS, RulesFiles, is_standard};

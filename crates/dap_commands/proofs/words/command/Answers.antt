@@ -7,10 +7,10 @@ use Rattle.clap.specs.Words.{HasKind, Kinds, fault_of as faults_of, is_simple_an
 use Rattle.clap.specs.Words.{subcommand_of, takes}
 use Rattle.clap.specs.declared.error.Error.{Error}
 use Rattle.clap.specs.declared.error.kind.ErrorKind.TheVariants as kind
-use Rattle.dap_command_line.specs.CommandLine.{IsUsageErrorOf}
-use Rattle.dap_command_line.specs.declared.jobs.UsageFault.{UsageFault}
-use Rattle.dap_command_line.specs.declared.jobs.UsageFault.TheVariants as usage
-use Rattle.dap_command_line.proofs.FirstWords.{first_decides}
+use Rattle.dap_commands.specs.CommandLine.{IsUsageErrorOf}
+use Rattle.dap_commands.specs.declared.jobs.UsageFault.{UsageFault}
+use Rattle.dap_commands.specs.declared.jobs.UsageFault.TheVariants as usage
+use Rattle.dap_commands.proofs.FirstWords.{first_decides}
 use Rattle.dap_commands.specs.Commands.{IsFaultFor, command_named, program, reported}
 use Rattle.dap_commands.proofs.FirstArguments.{program_splits}
 use Rattle.dap_commands.proofs.TakenCommands.{accepted_command}

@@ -1,4 +1,0 @@
-pub mod CommandFiles
-pub mod CommandWalk
-pub mod FirstWords
-pub mod ToldWords

@@ -1,3 +1,0 @@
-pub mod CommandLine
-pub mod FirstWords
-pub mod Jobs
