@@ -3,7 +3,7 @@ use crate::explaining::{explain_no_rules, print};
 use crate::files::{OpenedInput, SystemFiles, SystemRules};
 use crate::reports::{report_failure, report_reason};
 use crate::{REFUSED, Setting, tables};
-use dap_explanations::{explain_applying, explain_comparison};
+use dap_explain::{explain_applying, explain_comparison};
 use dap_file::KeptInput;
 use dap_matching::{diff_all_by_rules, diff_all_files};
 use dapnorm::{

@@ -3,7 +3,7 @@ use crate::USAGE;
 use crate::explaining::{explain_file, explain_no_rules, print};
 use crate::files::{OpenedInput, SystemFile, SystemFiles, SystemRules, SystemTargets};
 use crate::reports::{explain_unopened, explain_unread, report_reason};
-use dap_explanations::explain_golden;
+use dap_explain::explain_golden;
 use dapnorm::{
     Golden, GoldenEnd, GoldenFilesRun, GoldenStop, LIMITS, MaskRules, StdSink, golden_files,
 };

@@ -8,7 +8,7 @@ use crate::files::{
 };
 use crate::reports::{explain_unopened, report_failure, report_reason};
 use crate::{REFUSED, Setting, tables};
-use dap_explanations::{explain_job, explain_view};
+use dap_explain::{explain_job, explain_view};
 use dap_file::{KeptInput, is_standard};
 use dapnorm::{
     Job, LIMITS, OneFileRun, OpenFault, Printed, RuledFileRun, RulesOpenFault, SaveEnd, SavedRun,

@@ -3,7 +3,7 @@ use crate::explaining::{explain_no_rules, print};
 use crate::files::{OpenedInput, SystemFiles, SystemRules};
 use crate::reports::explain_unread;
 use crate::{REFUSED, Setting};
-use dap_explanations::explain_comparison;
+use dap_explain::explain_comparison;
 use dap_suggest::{SuggestEnd, SuggestFilesRun, suggest_files};
 use dapnorm::{LIMITS, Mode, StdSink, Which};
 

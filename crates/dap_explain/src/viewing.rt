@@ -2,7 +2,7 @@
 ghost use Rattle.dap_input.specs.Limits.{AreSound};
 
 use dap_device::{MemorySource, StdSink};
-use dap_explain::explain;
+use crate::explain;
 use dap_input::{Limits, Refused};
 use dap_show::{ShowRequest, show_faulty, show_record, show_with};
 use std::alloc::{AllocError, Global};

@@ -2,7 +2,7 @@
 ghost use Rattle.dap_input.specs.Limits.{AreSound};
 
 use dap_device::{MemorySource, StdSink};
-use dap_explain::{explain, explain_rules};
+use crate::{explain, explain_rules};
 use dap_input::{Limits, Refused};
 use dap_mask::MaskRules;
 use dap_order_input::order;

@@ -3,7 +3,7 @@ ghost use Rattle.dap_input.specs.Limits.{AreSound};
 
 use dap_compare::{CompareRefused, Which, compare_with};
 use dap_device::MemorySource;
-use dap_explain::explain;
+use crate::explain;
 use dap_input::Limits;
 use dap_rename::{Mode, Tables};
 use std::alloc::{AllocError, Global};

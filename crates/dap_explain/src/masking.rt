@@ -2,7 +2,7 @@
 ghost use Rattle.dap_input.specs.Limits.{AreSound};
 
 use dap_device::{MemorySource, StdSink};
-use dap_explain::{explain_masked, explain_rules};
+use crate::{explain_masked, explain_rules};
 use dap_input::Limits;
 use dap_mask::MaskRules;
 use dap_mask_input::mask;

@@ -2,7 +2,7 @@
 ghost use Rattle.dap_input.specs.Limits.{AreSound};
 
 use crate::applying::explain_session;
-use dap_explain::{explain, explain_masked};
+use crate::{explain, explain_masked};
 use dap_golden::{GoldenRefused, recording_of};
 use dap_input::{Limits, Refused};
 use dap_mask::MaskRules;

@@ -6,7 +6,7 @@ ghost use Rattle.dap_rename.specs.IndexNames.{index_limit, index_numbers};
 use dap_commands::Job;
 use dap_compact::compact;
 use dap_device::{MemorySource, StdSink};
-use dap_explain::explain;
+use crate::explain;
 use dap_input::{Limits, Refused};
 use dap_normal::{check_with, normalise_with};
 use dap_rename::{IndexNames, Tables};

@@ -1,7 +1,7 @@
 //! Explains why rules cannot be applied to a recording.
 ghost use Rattle.dap_input.specs.Limits.{AreSound};
 
-use dap_explain::{explain, explain_masked};
+use crate::{explain, explain_masked};
 use dap_input::{Limits, Refused};
 use dap_mask::MaskRules;
 use dap_rules_input::{ApplyRefused, mask_bytes};
