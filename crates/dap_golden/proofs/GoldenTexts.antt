@@ -9,7 +9,7 @@ use Rattle.dap_rename.specs.declared.mode.Mode.{Mode}
 use Rattle.dap_input.specs.declared.limits.Limits.{Limits}
 use Rattle.dap_input.specs.declared.refused.Refused.{Refused}
 use Rattle.dap_input.specs.declared.refused.Refused.TheVariants.{Memory}
-use Rattle.dap_mask_input.specs.MaskedRecordings.{IsMaskedTo}
+use Rattle.dap_rules_input.specs.MaskedRecordings.{IsMaskedTo}
 use Rattle.dap_normal.specs.declared.checked.Checked.{Checked}
 use Rattle.dap_normal.specs.Checking.{AreCounted}
 use Rattle.dap_rules_input.specs.Applying.{IsRefusedByRules, RefusesOrderBy, RefusesToMask}

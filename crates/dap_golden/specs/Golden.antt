@@ -17,7 +17,7 @@ use Rattle.dap_input.specs.declared.refused.Refused.{Refused}
 use Rattle.dap_input.specs.declared.refused.Refused.TheVariants.{Incomplete}
 use Rattle.dap_input.specs.Refusals.{IsRefused}
 use Rattle.dap_trace.specs.Tracing.{IsRecordedAs, IsTraceRefused}
-use Rattle.dap_mask_input.specs.MaskedRecordings.{IsMaskedTo}
+use Rattle.dap_rules_input.specs.MaskedRecordings.{IsMaskedTo}
 use Rattle.dap_rules_input.specs.Applying.{AppliesRules, IsRefusedByRules}
 use Rattle.dap_rules_input.specs.Modes.{mode_by}
 use Rattle.dap_rules_input.specs.declared.fault.ApplyRefused.{ApplyRefused}

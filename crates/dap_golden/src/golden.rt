@@ -3,7 +3,7 @@ ghost use Rattle.std.specs.Prelude.{◌≡◌, ◌↔◌, IfErr, IfOk, IsTrue, L
 ghost use Rattle.std.specs.Cow.{cow_slice_items};
 ghost use Rattle.dap_input.specs.Limits.{AreSound};
 ghost use Rattle.dap_mask.specs.KeptRules.{mask_of, swaps_of_mask};
-ghost use Rattle.dap_mask_input.specs.MaskedRecordings.{IsMaskedTo};
+ghost use Rattle.dap_rules_input.specs.MaskedRecordings.{IsMaskedTo};
 ghost use Rattle.dap_rules_input.specs.Applying.{OrdersBy};
 ghost use Rattle.dap_golden.specs.Golden.{AppliesBy, IsGolden, IsGoldenOf, IsRecordingOf};
 ghost use Rattle.dap_golden.specs.Golden.{IsRefusedGolden, MasksBy, mask_given, mode_given};

@@ -2,3 +2,10 @@ pub mod MemoryRuns
 pub mod Applied
 pub mod InputAnswers
 pub mod OneOutcome
+pub mod LeftLists
+pub mod MaskingFacts
+pub mod MaskedTexts
+pub mod MaskedRecords
+pub mod PendingTexts
+pub mod MaskingLoop
+pub mod MaskedMachines

@@ -9,9 +9,9 @@ use Rattle.dap_input.specs.declared.limits.Limits.{Limits}
 use Rattle.dap_input.specs.declared.refused.Refused.{Refused}
 use Rattle.dap_input.specs.declared.refused.Refused.TheVariants.{Memory, WriteFault}
 use Rattle.dap_input.specs.Streaming.{Streams}
-use Rattle.dap_mask_input.specs.MaskedRecordings.{IsMaskedTo, Masks}
-use Rattle.dap_mask_input.specs.Masking.{masking}
-use Rattle.dap_mask_input.proofs.MaskingFacts.{accepted_facts, value_laws}
+use Rattle.dap_rules_input.specs.MaskedRecordings.{IsMaskedTo, Masks}
+use Rattle.dap_rules_input.specs.Masking.{masking}
+use Rattle.dap_rules_input.proofs.MaskingFacts.{accepted_facts, value_laws}
 use Rattle.dap_normal.proofs.WholeInput.{memory}
 use Rattle.dap_order_input.proofs.MemoryInputs.{all_came, refused_whole}
 use Rattle.dap_rules_input.specs.Applying.{RefusesToMask}

@@ -4,3 +4,7 @@ pub mod Inputs
 pub mod Laws
 pub mod Memory
 pub mod Modes
+pub mod Masking
+pub mod MaskedRecordings
+pub mod MaskingSteps
+pub mod Outcomes

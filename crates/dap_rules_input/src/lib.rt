@@ -12,6 +12,8 @@ mod masking;
 mod modes;
 mod reading;
 mod text_sink;
+pub mod mask_laws;
+mod mask_records;
 
 pub use applying::{apply_rules, order_masked};
 pub use fault::ApplyRefused;
@@ -19,3 +21,4 @@ pub use masking::mask_bytes;
 pub use modes::mode_by;
 pub use reading::read_by_rules;
 pub use text_sink::{TextSink, is_out_of_memory};
+pub use mask_records::mask;

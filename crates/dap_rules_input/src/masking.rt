@@ -2,14 +2,14 @@
 ghost use Rattle.std.specs.Prelude.{IfErr, IfOk};
 ghost use Rattle.dap_input.specs.Limits.{AreSound};
 ghost use Rattle.dap_mask.specs.KeptRules.{mask_of};
-ghost use Rattle.dap_mask_input.specs.MaskedRecordings.{IsMaskedTo};
+ghost use Rattle.dap_rules_input.specs.MaskedRecordings.{IsMaskedTo};
 ghost use Rattle.dap_rules_input.specs.Applying.{RefusesToMask};
 
 use crate::text_sink::{TextSink, is_out_of_memory};
 use dap_device::MemorySource;
 use dap_input::{Limits, Refused};
 use dap_mask::MaskRules;
-use dap_mask_input::mask;
+use crate::mask;
 use std::alloc::Global;
 
 /// Returns the text of a masked recording, as [`mask`] writes it.

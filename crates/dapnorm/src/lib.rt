@@ -73,7 +73,7 @@ pub use dap_input::Refused;
 pub use dap_mask::MaskRules;
 pub use dap_mask::RulesCause;
 pub use dap_mask::RulesFault;
-pub use dap_mask_input::mask;
+pub use dap_rules_input::mask;
 pub use dap_message::MessageFault;
 pub use dap_normal::Checked;
 pub use dap_normal::Normalised;

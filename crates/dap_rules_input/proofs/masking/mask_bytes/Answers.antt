@@ -1,7 +1,7 @@
 use Rattle.std.proofs.Common.{◌∙◌, ap, sym, subst, true≢false}
 use Rattle.dap_device.specs.Memory.{GivenBytes}
 use Rattle.dap_mask.specs.KeptRules.{mask_of}
-use Rattle.dap_mask_input.specs.MaskedRecordings.{IsMaskedTo}
+use Rattle.dap_rules_input.specs.MaskedRecordings.{IsMaskedTo}
 use Rattle.dap_rules_input.specs.Applying.{RefusesToMask}
 use Rattle.dap_rules_input.specs.Memory.{WrittenBytes}
 use Rattle.dap_rules_input.proofs.MemoryRuns.{mask_refused, masked_whole}

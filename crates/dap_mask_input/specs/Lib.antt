@@ -1,4 +1,0 @@
-pub mod Masking
-pub mod MaskedRecordings
-pub mod MaskingSteps
-pub mod Outcomes
