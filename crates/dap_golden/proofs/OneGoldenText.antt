@@ -20,7 +20,7 @@ use Rattle.dap_normal.specs.Accepting.{IsAccepted, accepting}
 use Rattle.dap_normal.specs.Normalising.{Normalises}
 use Rattle.dap_normal.proofs.AcceptingFacts as normal
 use Rattle.dap_normal.proofs.NormalFormLaws.{one_normal_text}
-use Rattle.dap_order_input.proofs.OrderedTexts.{one_accepted}
+use Rattle.dap_rules_input.proofs.OrderedTexts.{one_accepted}
 use Rattle.dap_rules_input.specs.Applying.{IsRefusedByRules}
 use Rattle.dap_rules_input.specs.declared.fault.ApplyRefused.{ApplyRefused}
 use Rattle.dap_rules_input.specs.declared.fault.ApplyRefused.TheVariants as step

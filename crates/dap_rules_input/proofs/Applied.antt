@@ -10,7 +10,7 @@ use Rattle.dap_input.specs.declared.limits.Limits.{Limits}
 use Rattle.dap_input.specs.declared.refused.Refused.{Refused}
 use Rattle.dap_input.specs.declared.refused.Refused.TheVariants.{Memory}
 use Rattle.dap_rules_input.specs.MaskedRecordings.{IsMaskedTo}
-use Rattle.dap_order_input.specs.Ordering.{Orders, RefusesToOrder}
+use Rattle.dap_rules_input.specs.Ordering.{Orders, RefusesToOrder}
 use Rattle.dap_rules_input.specs.Applying.{IsRefusedByRules, OrdersBy}
 use Rattle.dap_rules_input.specs.Applying.{RefusesOrderBy, RefusesToMask}
 use Rattle.dap_rules_input.specs.ApplyingSteps.{mask_refusal, order_refusal}

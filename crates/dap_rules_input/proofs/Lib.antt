@@ -9,3 +9,11 @@ pub mod MaskedRecords
 pub mod PendingTexts
 pub mod MaskingLoop
 pub mod MaskedMachines
+pub mod MemoryInputs
+pub mod OrderedTexts
+pub mod WrittenTexts
+pub mod DistinctCounts
+pub mod TextErrors
+pub mod ReadMessages
+pub mod OrderAnswers
+pub mod OneOrderOutcome

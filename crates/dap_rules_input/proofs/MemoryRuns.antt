@@ -13,7 +13,7 @@ use Rattle.dap_rules_input.specs.MaskedRecordings.{IsMaskedTo, Masks}
 use Rattle.dap_rules_input.specs.Masking.{masking}
 use Rattle.dap_rules_input.proofs.MaskingFacts.{accepted_facts, value_laws}
 use Rattle.dap_normal.proofs.WholeInput.{memory}
-use Rattle.dap_order_input.proofs.MemoryInputs.{all_came, refused_whole}
+use Rattle.dap_rules_input.proofs.MemoryInputs.{all_came, refused_whole}
 use Rattle.dap_rules_input.specs.Applying.{RefusesToMask}
 use Rattle.dap_rules_input.specs.Memory.{IsOutOfMemory, WrittenBytes}
 

@@ -13,8 +13,8 @@ use Rattle.dap_input.proofs.Outcomes.{one_list}
 use Rattle.dap_rules_input.specs.MaskedRecordings.{IsMaskedTo}
 use Rattle.dap_rules_input.specs.Masking.{masked_text, masking}
 use Rattle.dap_rules_input.proofs.MaskingFacts.{accepted_facts, value_facts, value_laws}
-use Rattle.dap_order_input.proofs.OneOutcome.{ordered_has_no_error}
-use Rattle.dap_order_input.proofs.OrderedTexts.{one_ordered_text}
+use Rattle.dap_rules_input.proofs.OneOrderOutcome.{ordered_has_no_error}
+use Rattle.dap_rules_input.proofs.OrderedTexts.{one_ordered_text}
 use Rattle.dap_rules_input.specs.Applying.{IsNotOrderedBy, OrdersBy}
 use Rattle.dap_rules_input.specs.Laws.{AppliedHasNoError, OneTextByRules}
 use Rattle.dap_rules_input.specs.declared.fault.ApplyRefused.TheVariants as because

@@ -10,7 +10,7 @@ use Rattle.dap_input.specs.declared.refused.Refused.TheVariants.{Memory}
 use Rattle.dap_input.specs.Refusals.{IsRefused}
 use Rattle.dap_rules_input.specs.MaskedRecordings.{IsMaskedTo}
 use Rattle.dap_rules_input.specs.Masking.{masking}
-use Rattle.dap_order_input.specs.Ordering.{IsNotOrdered, Orders}
+use Rattle.dap_rules_input.specs.Ordering.{IsNotOrdered, Orders}
 use Rattle.dap_rules_input.specs.declared.fault.ApplyRefused.{ApplyRefused}
 use Rattle.dap_rules_input.specs.declared.fault.ApplyRefused.TheVariants as because
 

@@ -9,7 +9,7 @@ use Rattle.dap_rename.specs.declared.mode.Mode.{Mode}
 use Rattle.dap_input.specs.declared.limits.Limits.{Limits}
 use Rattle.dap_input.specs.declared.refused.Refused.{Refused}
 use Rattle.dap_input.specs.Engine.{Accepts, FailsToRead, RefusesInput}
-use Rattle.dap_order_input.specs.Ordering.{ReadsSomeOrAll}
+use Rattle.dap_rules_input.specs.Ordering.{ReadsSomeOrAll}
 use Rattle.dap_rules_input.specs.Applying.{AppliesRules, IsRefusedByRules}
 use Rattle.dap_rules_input.specs.declared.fault.ApplyRefused.{ApplyRefused}
 use Rattle.dap_rules_input.specs.declared.fault.ApplyRefused.TheVariants as because

@@ -8,3 +8,6 @@ pub mod Masking
 pub mod MaskedRecordings
 pub mod MaskingSteps
 pub mod Outcomes
+pub mod Ordering
+pub mod OrderingSteps
+pub mod OrderLaws

@@ -10,7 +10,7 @@ use crate::fault::ApplyRefused;
 use crate::masking::mask_bytes;
 use dap_input::{Limits, Refused};
 use dap_mask::MaskRules;
-use dap_order_input::order_bytes;
+use crate::order_bytes;
 use dap_rename::Mode;
 use std::alloc::Global;
 

@@ -14,6 +14,11 @@ mod reading;
 mod text_sink;
 pub mod mask_laws;
 mod mask_records;
+mod checking;
+pub mod order_laws;
+mod ordering;
+mod order_reading;
+mod writing;
 
 pub use applying::{apply_rules, order_masked};
 pub use fault::ApplyRefused;
@@ -22,3 +27,4 @@ pub use modes::mode_by;
 pub use reading::read_by_rules;
 pub use text_sink::{TextSink, is_out_of_memory};
 pub use mask_records::mask;
+pub use ordering::{order, order_bytes};

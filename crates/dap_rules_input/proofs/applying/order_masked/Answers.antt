@@ -1,7 +1,7 @@
 use Rattle.std.proofs.Common.{◌∙◌, sym, subst}
 use Rattle.std.specs.Prelude.{IfErr}
 use Rattle.dap_message.specs.SwapRules.{swaps_of}
-use Rattle.dap_order_input.specs.Ordering.{RefusesToOrder}
+use Rattle.dap_rules_input.specs.Ordering.{RefusesToOrder}
 use Rattle.dap_rules_input.specs.Applying.{RefusesOrderBy}
 use Rattle.dap_rules_input.proofs.Applied.{all_refuse, not_empty}
 use Rattle.dap_rules_input.proofs.applying.order_masked.Goals as goal

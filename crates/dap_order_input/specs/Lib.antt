@@ -1,3 +1,0 @@
-pub mod Ordering
-pub mod OrderingSteps
-pub mod Laws
