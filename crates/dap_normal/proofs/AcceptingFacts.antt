@@ -11,7 +11,7 @@ use Rattle.dap_recording.specs.Recording.{IsRecording}
 use Rattle.dap_rename.specs.Messages.{AreProper, HasFewIds, HasTooManyIds}
 use Rattle.dap_rename.specs.Modes.{stop_in}
 use Rattle.dap_rename.specs.declared.mode.Mode.{Mode}
-use Rattle.dap_names.specs.Numbering.{table}
+use Rattle.dap_rename.specs.Numbering.{table}
 use Rattle.dap_rename.proofs.NormalForms.{front_has_few_ids}
 use Rattle.dap_session.specs.declared.rule.Rule.{Rule}
 use Rattle.dap_session.specs.Rules.{KeepsRules, first_broken}

@@ -9,14 +9,14 @@ use Rattle.dap_tree.specs.Json.{text_of}
 use Rattle.dap_message.specs.Message.{Sent}
 use Rattle.dap_message.specs.Numbers.{is_proper}
 use Rattle.dap_recording.specs.Recording.{record_text}
-use Rattle.dap_names.specs.Numbering.{numbers, table}
+use Rattle.dap_rename.specs.Numbering.{numbers, table}
 use Rattle.dap_rename.specs.Renamings.{IsIn}
 use Rattle.dap_rename.specs.Messages.{Class, AreProper, HasFewIds, HasTooManyIds, IsNormal}
 use Rattle.dap_rename.specs.Messages.{normal_of, numbers_of_class, occurrences}
 use Rattle.dap_rename.specs.Messages.{all_classes, same_class, stops_after}
 use Rattle.dap_rename.specs.Modes.{stop_in}
 use Rattle.dap_rename.specs.declared.mode.Mode.{Mode}
-use Rattle.dap_names.proofs.Additions.{by_bool}
+use Rattle.dap_rename.proofs.Additions.{by_bool}
 use Rattle.dap_rename.proofs.Lists.{at_each, each-append, each_left}
 use Rattle.dap_rename.proofs.Occurrences.{class_decides}
 use Rattle.dap_rename.proofs.Classes.{all_reached}

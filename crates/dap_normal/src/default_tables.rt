@@ -1,5 +1,5 @@
 //! The interning tables that a command function uses if it is not passed any.
-ghost use Rattle.dap_names.specs.IndexNames.{index_limit, index_numbers};
+ghost use Rattle.dap_rename.specs.IndexNames.{index_limit, index_numbers};
 ghost use Rattle.dap_input.specs.Limits.{AreSound};
 ghost use Rattle.dap_normal.specs.NameTables.{AreReady};
 

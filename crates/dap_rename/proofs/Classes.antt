@@ -13,7 +13,7 @@ use Rattle.dap_rename.specs.Messages.{Class, class_after, occurrence, occurrence
 use Rattle.dap_rename.specs.Messages.{first_classes, classes_of_sort, all_classes}
 use Rattle.dap_rename.specs.Renamings.{IsIn}
 use Rattle.dap_rename.specs.Sorts.{all_sorts, same_sort}
-use Rattle.dap_names.proofs.Additions.{by_bool}
+use Rattle.dap_rename.proofs.Additions.{by_bool}
 use Rattle.dap_tree.proofs.Sorts.{told_same_sort}
 use Rattle.dap_rename.proofs.AllSorts.{in_all_sorts}
 use Rattle.dap_rename.proofs.Lists.{each-append, each-more, in-left, in-right}

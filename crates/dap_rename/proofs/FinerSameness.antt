@@ -10,8 +10,8 @@ use Rattle.dap_tree.specs.Ids.{ids}
 use Rattle.dap_tree.specs.declared.sort.Sort.{Sort}
 use Rattle.dap_tree.proofs.Booleans.{and_left, and_right}
 use Rattle.dap_message.specs.Message.{Sent}
-use Rattle.dap_names.proofs.Additions.{by_bool}
-use Rattle.dap_names.proofs.MixedNames.{firsts}
+use Rattle.dap_rename.proofs.Additions.{by_bool}
+use Rattle.dap_rename.proofs.MixedNames.{firsts}
 use Rattle.dap_rename.specs.Laws.{SameInEachMode}
 use Rattle.dap_rename.specs.Messages.{Class, IsProperId, AreSame, no_stop}
 use Rattle.dap_rename.specs.Messages.{occurrence, occurrences, same_class}

@@ -14,3 +14,8 @@ pub mod CarriesTest
 pub mod PairFaults
 pub mod MixedSameness
 pub mod PairIndexing
+pub mod Additions
+pub mod FreshLists
+pub mod MixedNames
+pub mod Places
+pub mod Distinct

@@ -8,10 +8,10 @@ use Rattle.std.proofs.lemmas.List.{take-append-le, take_more}
 use Rattle.std.specs.List.{list_any}
 use Rattle.std.specs.Ordering.{int_eq}
 use Rattle.dap_tree.specs.declared.sort.Sort.{Sort}
-use Rattle.dap_names.specs.Numbering.{add}
-use Rattle.dap_names.proofs.Additions.{by_bool}
+use Rattle.dap_rename.specs.Numbering.{add}
+use Rattle.dap_rename.proofs.Additions.{by_bool}
 use Rattle.dap_rename.specs.declared.tables.Tables.{Tables}
-use Rattle.dap_names.specs.Table.{place, has}
+use Rattle.dap_rename.specs.Table.{place, has}
 use Rattle.dap_rename.specs.Sorts.{EachSort, same_sort}
 use Rattle.dap_rename.specs.Tables.{table_of, Lists, lists, counts, added, added_all, names_from}
 use Rattle.dap_rename.specs.Tables.{Extends, AllExtend, Limits, limits, AllFit, SomeExceedsLimit}

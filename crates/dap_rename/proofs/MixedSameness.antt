@@ -4,9 +4,9 @@ use Rattle.std.proofs.Common.{◌≡◌, ℤ, Bool, not, List, [], ◌∷◌, �
 use Rattle.dap_tree.specs.Ids.{ids}
 use Rattle.dap_tree.specs.declared.sort.Sort.{Sort}
 use Rattle.dap_message.specs.Message.{Sent}
-use Rattle.dap_names.specs.Numbering.{named}
-use Rattle.dap_names.proofs.Additions.{by_bool}
-use Rattle.dap_names.proofs.MixedNames.{part, part-append, names_of_parts}
+use Rattle.dap_rename.specs.Numbering.{named}
+use Rattle.dap_rename.proofs.Additions.{by_bool}
+use Rattle.dap_rename.proofs.MixedNames.{part, part-append, names_of_parts}
 use Rattle.dap_rename.specs.Laws.{of_sorts, AreMixed, SameByParts}
 use Rattle.dap_rename.specs.Messages.{Class, class_after, no_stop, message_skeleton, occurrence}
 use Rattle.dap_rename.specs.Messages.{occurrences, same_class}

@@ -12,7 +12,7 @@ use Rattle.dap_tree.specs.declared.sort.Sort.{Sort}
 use Rattle.dap_tree.proofs.IdNumbers.{ids-with_numbers, skeleton-with}
 use Rattle.dap_message.specs.Message.{Sent}
 use Rattle.dap_message.specs.Numbers.{is_small, has_small_ids}
-use Rattle.dap_names.specs.Numbering.{add, add_all, numbers, table, name, named, IsFresh}
+use Rattle.dap_rename.specs.Numbering.{add, add_all, numbers, table, name, named, IsFresh}
 use Rattle.dap_rename.specs.Renamings.{IsIn}
 use Rattle.dap_rename.specs.Messages.{Class, AreProper, AreSame, class_after, occurrence}
 use Rattle.dap_rename.specs.Messages.{occurrences}
@@ -21,10 +21,10 @@ use Rattle.dap_rename.specs.Messages.{normal_from, normal_of}
 use Rattle.dap_rename.specs.Laws.{IsToldBySkeleton, WholeIffRenaming, SomeNormal, NormalOfFront}
 use Rattle.dap_rename.specs.Laws.{NormalOfNext, NamesAreCounted, NamesAreSmall, SameCounts}
 use Rattle.dap_rename.specs.Laws.{FrontHasFewIds}
-use Rattle.dap_names.proofs.Additions.{by_bool, numbers-append, add_all-append, any-table, up_to}
-use Rattle.dap_names.proofs.Additions.{length-up_to, place_up_to, place_below}
-use Rattle.dap_names.proofs.FreshLists.{IsCounted, Counts, counted-push, counts-push, fresh-next}
-use Rattle.dap_names.proofs.FreshLists.{fresh-step, length-push}
+use Rattle.dap_rename.proofs.Additions.{by_bool, numbers-append, add_all-append, any-table, up_to}
+use Rattle.dap_rename.proofs.Additions.{length-up_to, place_up_to, place_below}
+use Rattle.dap_rename.proofs.FreshLists.{IsCounted, Counts, counted-push, counts-push, fresh-next}
+use Rattle.dap_rename.proofs.FreshLists.{fresh-step, length-push}
 use Rattle.dap_rename.proofs.Lists.{same_cons, each_of, each-append, each_left, each_right}
 use Rattle.dap_rename.proofs.Occurrences.{class_decides, class_sort, occurrences-append}
 use Rattle.dap_rename.proofs.Occurrences.{occurrences-push, stops_alike, same_sent, seconds}

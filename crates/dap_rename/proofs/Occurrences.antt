@@ -17,7 +17,7 @@ use Rattle.dap_tree.proofs.Booleans.{and_left, and_right, and_both}
 use Rattle.dap_tree.proofs.IdNumbers.{count_alike, count_ids, sorts_alike, with_own, with_others}
 use Rattle.dap_message.specs.Message.{Sent}
 use Rattle.dap_message.specs.Numbers.{is_proper_number, are_proper}
-use Rattle.dap_names.proofs.MixedNames.{firsts}
+use Rattle.dap_rename.proofs.MixedNames.{firsts}
 use Rattle.dap_rename.specs.Messages.{Class, IsProperId, AreProper, class_after, occurrence}
 use Rattle.dap_rename.specs.Messages.{occurrences, message_skeleton, same_class}
 use Rattle.dap_rename.specs.Sorts.{sort_number, same_sort}

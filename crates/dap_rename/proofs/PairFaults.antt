@@ -16,7 +16,7 @@ use Rattle.dap_tree.specs.declared.sort.Sort.{Sort}
 use Rattle.dap_tree.proofs.Booleans.{or_left, or_right}
 use Rattle.dap_message.specs.Message.{Sent}
 use Rattle.dap_message.specs.Numbers.{is_proper_number}
-use Rattle.dap_names.specs.Numbering.{table}
+use Rattle.dap_rename.specs.Numbering.{table}
 use Rattle.dap_rename.specs.Messages.{Class, IsProperId, same_class, occurrences, stops_after}
 use Rattle.dap_rename.specs.Messages.{numbers_of_class, first_classes, classes_of_sort}
 use Rattle.dap_rename.specs.Messages.{all_classes, equal_places}

@@ -5,10 +5,10 @@ use Rattle.std.specs.List.{list_any, position_or_len, AllByRecursion}
 use Rattle.std.specs.Ordering.{int_eq}
 use Rattle.std.specs.Bool.{Decides}
 use Rattle.std.proofs.lemmas.Bool.Decides.{Decides-int_eq, Decides-like, same_from_decides}
-use Rattle.dap_names.specs.Numbering.{add, table, name, named}
+use Rattle.dap_rename.specs.Numbering.{add, table, name, named}
 use Rattle.dap_rename.specs.Renamings.{IsIn, AreApart, IsRenaming, AreRelated, pairs_of_class}
 use Rattle.dap_rename.specs.Renamings.{pairs}
-use Rattle.dap_names.proofs.Additions.{by_bool, table-push}
+use Rattle.dap_rename.proofs.Additions.{by_bool, table-push}
 use Rattle.dap_rename.proofs.Lists.{at_each, in-left, in-right}
 
 pub same_head : {K : Type 0} (c d : K) (x y : ℤ) (xs ys : List (K × ℤ)) → c ≡ d → x ≡ y → xs ≡ ys

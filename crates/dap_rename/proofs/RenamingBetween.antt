@@ -7,11 +7,11 @@ use Rattle.std.specs.Ordering.{int_eq}
 use Rattle.std.specs.Bool.{Decides}
 use Rattle.std.proofs.lemmas.Bool.Decides.{Decides-int_eq}
 use Rattle.std.proofs.lemmas.List.Folds.{list_any-append}
-use Rattle.dap_names.specs.Numbering.{add, add_all, numbers, table, name, named}
+use Rattle.dap_rename.specs.Numbering.{add, add_all, numbers, table, name, named}
 use Rattle.dap_rename.specs.Renamings.{IsIn, AreApart, IsRenaming, AreRelated, pairs_of_class}
 use Rattle.dap_rename.specs.Renamings.{pairs}
-use Rattle.dap_names.proofs.Additions.{by_bool, any-table, any-add, add_all-append, numbers-append}
-use Rattle.dap_names.proofs.Additions.{place_missing, past_end, at_end}
+use Rattle.dap_rename.proofs.Additions.{by_bool, any-table, any-add, add_all-append, numbers-append}
+use Rattle.dap_rename.proofs.Additions.{place_missing, past_end, at_end}
 use Rattle.dap_rename.proofs.Lists.{head_of, tail_of, at_each, each-append, each-more}
 use Rattle.dap_rename.proofs.RelatedLists.{Distinct, in_zip, in_pairs}
 

@@ -11,7 +11,7 @@ use Rattle.dap_tree.specs.declared.sort.Sort.{Sort}
 use Rattle.dap_tree.specs.declared.sort.Sort.TheVariants.{Reference}
 use Rattle.dap_message.specs.Message.{Sent}
 use Rattle.dap_message.specs.Numbers.{is_proper_number}
-use Rattle.dap_names.specs.Numbering.{table, name, named, IsFresh}
+use Rattle.dap_rename.specs.Numbering.{table, name, named, IsFresh}
 use Rattle.dap_rename.specs.Renamings.{IsIn, IsRenaming, AreRelated, pairs}
 use Rattle.dap_rename.specs.Messages.{Class, IsProperId, occurrences}
 use Rattle.dap_rename.specs.Messages.{message_skeleton, same_class, AreSame, IsNormal}
@@ -19,8 +19,8 @@ use Rattle.dap_rename.specs.Messages.{Carries, stops_after, all_classes}
 use Rattle.dap_rename.specs.Laws.{SameAsItself, SameBothWays, SameAlong, SameIsProper, SameFronts}
 use Rattle.dap_rename.specs.Laws.{FreshIsUnique, NormalIsUnique, NormalIsComplete, NamedIsNormal}
 use Rattle.dap_rename.specs.Laws.{NormalIsItsOwn, EqualPlacesRename, EqualPlacesCarry}
-use Rattle.dap_names.proofs.Additions.{by_bool}
-use Rattle.dap_names.proofs.FreshLists.{IsCounted, named-fresh, fresh_named}
+use Rattle.dap_rename.proofs.Additions.{by_bool}
+use Rattle.dap_rename.proofs.FreshLists.{IsCounted, named-fresh, fresh_named}
 use Rattle.dap_rename.proofs.Classes.{classes_differ, all_reached}
 use Rattle.dap_rename.proofs.Lists.{front_told, each-more}
 use Rattle.dap_rename.proofs.RelatedLists.{Tied, named-related, Distinct}

@@ -16,19 +16,19 @@ use Rattle.dap_tree.proofs.IdNumbers.{skeleton-with}
 use Rattle.dap_message.specs.Message.{Sent}
 use Rattle.dap_message.specs.Numbers.{is_proper_number, are_proper, renumbered}
 use Rattle.dap_message.proofs.RenumberedMessages.{ids-with}
-use Rattle.dap_names.specs.Numbering.{add, add_all, numbers, table, name, named}
+use Rattle.dap_rename.specs.Numbering.{add, add_all, numbers, table, name, named}
 use Rattle.dap_rename.specs.Messages.{Class, same_class, class_after, occurrence}
 use Rattle.dap_rename.specs.Sorts.{same_sort}
 use Rattle.dap_rename.specs.Messages.{occurrences, numbers_of_class, stops_after}
 use Rattle.dap_rename.specs.Messages.{HasFewIds, HasTooManyIds, IsRenamed, with_numbers}
-use Rattle.dap_names.specs.Table.{place}
+use Rattle.dap_rename.specs.Table.{place}
 use Rattle.dap_rename.specs.Tables.{Lists, table_of, added, added_all, names_from, lists}
 use Rattle.dap_rename.specs.Tables.{limits, AllFit, SomeExceedsLimit}
 use Rattle.dap_rename.specs.Names.{past_lists, list_of_class, limit_in, RepresentsWith, AreNamed}
 use Rattle.dap_rename.specs.declared.names.Names.{Names}
 use Rattle.dap_rename.specs.declared.past.PastClasses.{PastClasses}
 use Rattle.dap_rename.specs.declared.tables.Tables.{Tables}
-use Rattle.dap_names.proofs.Additions.{by_bool, numbers-append, table-push}
+use Rattle.dap_rename.proofs.Additions.{by_bool, numbers-append, table-push}
 use Rattle.dap_tree.proofs.Sorts.{same_sort_told}
 use Rattle.dap_rename.proofs.ListGrowth.{added_at, list_at, limit_at}
 use Rattle.dap_rename.proofs.Occurrences.{class_decides, class_sort, class_apart, same_itself}

@@ -7,7 +7,7 @@ use Rattle.dap_tree.specs.Ids.{ids}
 use Rattle.dap_tree.specs.declared.sort.Sort.{Sort}
 use Rattle.dap_message.specs.Message.{Sent}
 use Rattle.dap_message.specs.Numbers.{is_proper, has_small_ids}
-use Rattle.dap_names.specs.Numbering.{named}
+use Rattle.dap_rename.specs.Numbering.{named}
 use Rattle.dap_rename.specs.Renamings.{IsIn, IsRenaming}
 use Rattle.dap_rename.specs.Messages.{Class, IsProperId, AreProper, same_class, message_skeleton}
 use Rattle.dap_rename.specs.Messages.{occurrences, numbers_of_class, HasFewIds, Carries, AreSame}

@@ -9,7 +9,7 @@ pub mod Renaming
 pub mod Carrying
 pub mod PairIndex
 pub mod Laws
-pub use Rattle.dap_names.specs.IndexNames
-pub use Rattle.dap_names.specs.Numbering
-pub use Rattle.dap_names.specs.PlainNames
-pub use Rattle.dap_names.specs.Table
+pub mod Numbering
+pub mod Table
+pub mod PlainNames
+pub mod IndexNames

@@ -8,7 +8,7 @@ use Rattle.dap_tree.specs.declared.sort.Sort.{Sort}
 use Rattle.dap_tree.specs.declared.sort.Sort.TheVariants.{Frame, Reference}
 use Rattle.dap_message.specs.Message.{Sent}
 use Rattle.dap_message.specs.Numbers.{is_proper_number, is_proper}
-use Rattle.dap_names.specs.Numbering.{table, named, IsFresh}
+use Rattle.dap_rename.specs.Numbering.{table, named, IsFresh}
 use Rattle.dap_rename.specs.Renamings.{IsRenaming, AreRelated, pairs}
 use Rattle.dap_rename.specs.Sorts.{all_sorts, same_sort}
 

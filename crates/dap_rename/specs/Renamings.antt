@@ -2,7 +2,7 @@
 -- that replaces it.
 use Rattle.std.specs.Prelude.{◌≡◌, ◌⊎◌, ℤ, Bool, List, [], ◌∷◌, ◌++◌}
 use Rattle.std.specs.List.{AllByRecursion}
-use Rattle.dap_names.specs.Numbering.{table}
+use Rattle.dap_rename.specs.Numbering.{table}
 
 -- The value is an element of the list (own).
 abbrev pub IsIn : {X : Type 0} → X → List X → Type 0

@@ -4,8 +4,8 @@ use Rattle.std.specs.Prelude.{◌≡◌, ◌≤◌, ◌<◌, ℕ, ℤ, cond, Lis
 use Rattle.dap_tree.specs.declared.sort.Sort.{Sort}
 use Rattle.dap_tree.specs.declared.sort.Sort.TheVariants.{ClientSeq, AdapterSeq, Frame, Reference}
 use Rattle.dap_tree.specs.declared.sort.Sort.TheVariants.{Thread, Breakpoint}
-use Rattle.dap_names.specs.Numbering.{add}
-use Rattle.dap_names.specs.Table.{place}
+use Rattle.dap_rename.specs.Numbering.{add}
+use Rattle.dap_rename.specs.Table.{place}
 use Rattle.dap_rename.specs.Sorts.{same_sort}
 use Rattle.dap_rename.specs.declared.tables.Tables.{Tables}
 

@@ -16,10 +16,15 @@ mod pair_index;
 mod past;
 mod renaming;
 mod tables;
+mod index_names;
+mod name_table;
+mod plain_names;
 
-pub use dap_names::{IndexNames, NameFault, NameTable, PlainNames};
 pub use mode::Mode;
 pub use names::Names;
 pub use pair::{Pair, PairFault};
 pub use renaming::Renaming;
 pub use tables::Tables;
+pub use index_names::IndexNames;
+pub use name_table::{NameFault, NameTable};
+pub use plain_names::PlainNames;

@@ -14,7 +14,7 @@ use crate::mode::{Mode, begin_again_behind};
 use crate::past::{PastClasses, numbers_of};
 use crate::tables::Tables;
 use dap_message::{AnyMessage, Message};
-use dap_names::{NameFault, NameTable};
+use crate::{NameFault, NameTable};
 use dap_tree::Sort;
 use std::alloc::{AllocError, Global};
 

@@ -1,7 +1,7 @@
 //! The classes that ended at a stop.
 ghost use Rattle.std.specs.Prelude.{◌≡◌, IfOk};
 
-use dap_names::NameTable;
+use crate::NameTable;
 use std::alloc::{AllocError, Global};
 
 /// The numbers of the classes between two stops, in the order of their canonical numbers.

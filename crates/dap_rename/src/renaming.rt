@@ -20,7 +20,7 @@ use crate::names::Names;
 use crate::pair::{Pair, PairFault};
 use crate::pair_index::{PairIndex, has_class, is_proper, seen_fault};
 use dap_message::Message;
-use dap_names::{NameFault, NameTable};
+use crate::{NameFault, NameTable};
 use dap_tree::{SORTS, Sort};
 use std::alloc::{AllocError, Global};
 

@@ -1,15 +1,15 @@
 //! One interning table for each kind of id.
 ghost use Rattle.std.specs.Prelude.{◌≡◌, ◌<◌, ◌≤◌, ◌^◌, false, Err, IfOk, OnOk, OnErr, length};
 ghost use Rattle.std.specs.Prelude.{take};
-ghost use Rattle.dap_names.specs.IndexNames.{index_limit, index_numbers};
-ghost use Rattle.dap_names.specs.PlainNames.{plain_limit, plain_numbers};
-ghost use Rattle.dap_names.specs.Table.{has, place};
+ghost use Rattle.dap_rename.specs.IndexNames.{index_limit, index_numbers};
+ghost use Rattle.dap_rename.specs.PlainNames.{plain_limit, plain_numbers};
+ghost use Rattle.dap_rename.specs.Table.{has, place};
 ghost use Rattle.dap_rename.specs.Names.{AreEmpty};
 ghost use Rattle.dap_rename.specs.Sorts.{EachSort};
 ghost use Rattle.dap_rename.specs.Tables.{table_of, lists, counts, added, added_all, names_from};
 ghost use Rattle.dap_rename.specs.Tables.{AllExtend, limits, AllFit, SomeExceedsLimit};
 
-use dap_names::{IndexNames, NameFault, NameTable, PlainNames};
+use crate::{IndexNames, NameFault, NameTable, PlainNames};
 use dap_tree::Sort;
 use std::alloc::Global;
 use std::hash::BuildHasher;

@@ -13,8 +13,8 @@ use Rattle.std.proofs.lemmas.List.Sorted.{list_any-IsPermutation}
 use Rattle.dap_tree.specs.Ids.{ids}
 use Rattle.dap_tree.specs.declared.sort.Sort.{Sort}
 use Rattle.dap_message.specs.Message.{Sent}
-use Rattle.dap_names.specs.Numbering.{add, add_all, numbers, table}
-use Rattle.dap_names.proofs.Additions.{add_all-append, any-add, by_bool, numbers-append}
+use Rattle.dap_rename.specs.Numbering.{add, add_all, numbers, table}
+use Rattle.dap_rename.proofs.Additions.{add_all-append, any-add, by_bool, numbers-append}
 use Rattle.dap_rename.specs.Messages.{Class, HasFewIds, no_stop, numbers_of_class, occurrence}
 use Rattle.dap_rename.specs.Messages.{occurrences, same_class}
 use Rattle.dap_order.specs.Swaps.{Reordered, unmoved, swapped}

@@ -3,7 +3,7 @@ use Rattle.std.proofs.lemmas.Result.{err_from_is_err_and}
 use Rattle.dap_tree.specs.Ids.{with_ids}
 use Rattle.dap_message.specs.Message.{Sent, sent, doc_of, side_of}
 use Rattle.dap_message.specs.Numbers.{are_proper, renumbered}
-use Rattle.dap_names.specs.declared.name_table.NameFault.TheVariants.{Full}
+use Rattle.dap_rename.specs.declared.name_table.NameFault.TheVariants.{Full}
 use Rattle.dap_rename.specs.Messages.{IsRenamed, with_numbers}
 use Rattle.dap_rename.specs.Modes.{stop_in}
 use Rattle.dap_rename.specs.Names.{mode_of}

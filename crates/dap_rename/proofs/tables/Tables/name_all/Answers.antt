@@ -1,6 +1,6 @@
 use Rattle.std.proofs.Common.{rules, ◌≡◌, ◌∙◌, ap, Err, take, ◌+◌, ◌++◌, ◌∷◌, []}
 use Rattle.dap_rename.specs.Tables.{lists, limits}
-use Rattle.dap_names.specs.declared.name_table.NameFault.TheVariants.{Full}
+use Rattle.dap_rename.specs.declared.name_table.NameFault.TheVariants.{Full}
 use Rattle.std.proofs.lemmas.Result.{err_from_is_err_and}
 use Rattle.dap_rename.proofs.ListGrowth.{all_begin, grown_step, named_step, over_step}
 use Rattle.dap_rename.proofs.tables.Tables.name_all.Goals as goal

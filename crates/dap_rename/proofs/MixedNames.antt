@@ -5,8 +5,8 @@ use Rattle.std.proofs.Common.{◌≡◌, ℤ, Bool, true, false, not, List, [], 
 use Rattle.std.proofs.Common.{sym, ◌∙◌, ap, subst, append-nil}
 use Rattle.std.specs.Bool.{Decides}
 use Rattle.std.specs.List.{filter}
-use Rattle.dap_names.specs.Numbering.{numbers, table, name, named}
-use Rattle.dap_names.proofs.Additions.{by_bool}
+use Rattle.dap_rename.specs.Numbering.{numbers, table, name, named}
+use Rattle.dap_rename.proofs.Additions.{by_bool}
 
 module _ {K : Type 0} where
   -- the occurrences of the classes that pass the test

@@ -5,7 +5,7 @@ use Rattle.std.specs.List.{IsDistinct}
 use Rattle.std.specs.Ordering.{int_eq}
 use Rattle.std.proofs.lemmas.Bool.Decides.{Decides-int_eq}
 use Rattle.std.proofs.lemmas.Map.Keys.{apart_from_distinct}
-use Rattle.dap_names.specs.Table.{AllDiffer}
+use Rattle.dap_rename.specs.Table.{AllDiffer}
 
 pub differ_from : (ks : List ℤ) → IsDistinct int_eq ks → AllDiffer ks
 differ_from ks distinct i j less within same =

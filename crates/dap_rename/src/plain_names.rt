@@ -3,7 +3,7 @@ ghost use Rattle.std.specs.Prelude.{◌≡◌, suc, ◌<◌, ◌≤◌, ◌^◌,
 ghost use Rattle.std.specs.Prelude.{MatchOption};
 ghost use Rattle.std.specs.List.{position};
 ghost use Rattle.std.specs.Ordering.{int_eq};
-ghost use Rattle.dap_names.specs.Table.{has, place, AllDiffer};
+ghost use Rattle.dap_rename.specs.Table.{has, place, AllDiffer};
 
 use crate::name_table::{NameFault, NameTable};
 use std::alloc::Global;
@@ -19,7 +19,7 @@ pub struct PlainNames {
 }
 
 impl PlainNames {
-    ghost use Rattle.dap_names.specs.PlainNames.{plain_numbers, plain_limit};
+    ghost use Rattle.dap_rename.specs.PlainNames.{plain_numbers, plain_limit};
 
     /// Returns an empty table for at most `limit` numbers. Does not allocate.
     pub fn new(alloc: Global, limit: usize) -> PlainNames
@@ -50,7 +50,7 @@ impl PlainNames {
 }
 
 impl NameTable for PlainNames {
-    ghost use Rattle.dap_names.specs.PlainNames.{plain_numbers, plain_limit};
+    ghost use Rattle.dap_rename.specs.PlainNames.{plain_numbers, plain_limit};
 
     ghost numbers = { plain_numbers };
 

@@ -1,6 +1,6 @@
 use Rattle.std.proofs.Common.{◌∙◌}
-use Rattle.dap_names.proofs.Distinct.{differ_from, fits_after}
-use Rattle.dap_names.proofs.index_names.IndexNamesNameTable.name.Goals as goal
+use Rattle.dap_rename.proofs.Distinct.{differ_from, fits_after}
+use Rattle.dap_rename.proofs.index_names.IndexNamesNameTable.name.Goals as goal
 
 pub invariant_of-self-clause-differ : goal.invariant_of-self-clause-differ
 invariant_of-self-clause-differ g c =

@@ -1,8 +1,8 @@
 use Rattle.std.specs.Ordering.{int_eq}
 use Rattle.std.proofs.lemmas.Int.{to_z-of_z}
 use mir.Syntax.{w64}
-use Rattle.dap_names.proofs.Places.{position_tells}
-use Rattle.dap_names.proofs.plain_names.PlainNames.place_of.Goals as goal
+use Rattle.dap_rename.proofs.Places.{position_tells}
+use Rattle.dap_rename.proofs.plain_names.PlainNames.place_of.Goals as goal
 
 pub returns : goal.returns
 returns c =

@@ -5,9 +5,9 @@ use Rattle.std.proofs.Common.{length-append}
 use Rattle.std.specs.List.{list_any, position_or_len}
 use Rattle.std.specs.Ordering.{int_eq}
 use Rattle.std.specs.Bool.{Decides}
-use Rattle.dap_names.specs.Numbering.{add, numbers, table, name, named, IsFresh}
-use Rattle.dap_names.proofs.Additions.{by_bool, table-push, any-table, up_to, length-up_to}
-use Rattle.dap_names.proofs.Additions.{place_up_to, up_to-has, place_below, place_missing}
+use Rattle.dap_rename.specs.Numbering.{add, numbers, table, name, named, IsFresh}
+use Rattle.dap_rename.proofs.Additions.{by_bool, table-push, any-table, up_to, length-up_to}
+use Rattle.dap_rename.proofs.Additions.{place_up_to, up_to-has, place_below, place_missing}
 
 pub length-push : {X : Type 0} (t : List X) (x : X) → length (t ++ x ∷ []) ≡ suc (length t)
 length-push t x = omega (arith, length-append t (x ∷ []))

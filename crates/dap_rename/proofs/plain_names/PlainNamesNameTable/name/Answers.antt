@@ -3,8 +3,8 @@ use Rattle.std.proofs.Common.{arith, ap, ◌∙◌, ◌≡◌, pos, suc, length,
 use Rattle.std.specs.Ordering.{int_eq}
 use Rattle.std.specs.List.{position_or_len}
 use Rattle.std.proofs.lemmas.Int.{ints, to_z-of_z}
-use Rattle.dap_names.proofs.Additions.{place_missing}
-use Rattle.dap_names.proofs.plain_names.PlainNamesNameTable.name.Goals as goal
+use Rattle.dap_rename.proofs.Additions.{place_missing}
+use Rattle.dap_rename.proofs.plain_names.PlainNamesNameTable.name.Goals as goal
 
 pub returns-in-Ok-clause-named : goal.returns-in-Ok-clause-named
 returns-in-Ok-clause-named c =

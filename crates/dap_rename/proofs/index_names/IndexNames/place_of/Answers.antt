@@ -2,8 +2,8 @@ use Rattle.std.proofs.Common.{◌≡◌, subst, w64}
 use Rattle.std.specs.List.{position}
 use Rattle.std.specs.Ordering.{int_eq}
 use Rattle.std.proofs.lemmas.Int.{to_z-of_z}
-use Rattle.dap_names.proofs.Places.{position_tells}
-use Rattle.dap_names.proofs.index_names.IndexNames.place_of.Goals as goal
+use Rattle.dap_rename.proofs.Places.{position_tells}
+use Rattle.dap_rename.proofs.index_names.IndexNames.place_of.Goals as goal
 
 pub returns : goal.returns
 returns g c =

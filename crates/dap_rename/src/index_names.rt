@@ -1,7 +1,7 @@
 //! An interning table with a hash index.
 ghost use Rattle.std.specs.Prelude.{◌≡◌, suc, ◌<◌, ◌≤◌, ◌^◌, pos, true, false, [], length};
 ghost use Rattle.std.specs.Prelude.{MatchOption};
-ghost use Rattle.dap_names.specs.Table.{has, place, AllDiffer};
+ghost use Rattle.dap_rename.specs.Table.{has, place, AllDiffer};
 
 use crate::name_table::{NameFault, NameTable};
 use indexmap::IndexSet;
@@ -24,7 +24,7 @@ pub struct IndexNames<S: BuildHasher> {
 }
 
 impl<S: BuildHasher + Drop> IndexNames<S> {
-    ghost use Rattle.dap_names.specs.IndexNames.{index_numbers, index_limit};
+    ghost use Rattle.dap_rename.specs.IndexNames.{index_numbers, index_limit};
 
     /// Returns an empty table for at most `limit` numbers, which uses `hasher`. Does not allocate.
     pub fn new(alloc: Global, limit: usize, hasher: S) -> IndexNames<S>
@@ -49,7 +49,7 @@ impl<S: BuildHasher + Drop> IndexNames<S> {
 }
 
 impl<S: BuildHasher + Drop> NameTable for IndexNames<S> {
-    ghost use Rattle.dap_names.specs.IndexNames.{index_numbers, index_limit};
+    ghost use Rattle.dap_rename.specs.IndexNames.{index_numbers, index_limit};
 
     ghost numbers = { index_numbers };
 

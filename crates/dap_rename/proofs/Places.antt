@@ -4,7 +4,7 @@ use Rattle.std.proofs.Common.{arith, MatchOption, Some, None, Option}
 use Rattle.std.proofs.lemmas.Bool.{le-ltb}
 use lib.Dec.{ltb}
 use Rattle.std.specs.List.{list_any, position_or_len, position}
-use Rattle.dap_names.proofs.Additions.{by_bool, place_below, place_missing}
+use Rattle.dap_rename.proofs.Additions.{by_bool, place_below, place_missing}
 
 pub position-there : {X : Type 0} (p : X → Bool) (xs : List X) → list_any p xs ≡ true
     → position p xs ≡ Some (position_or_len p xs)

@@ -2,8 +2,8 @@
 ghost use Rattle.std.specs.Prelude.{◌≡◌, ℕ, suc, ◌<◌, ◌≤◌, ◌^◌, ℤ, pos, ◌≤ℤ◌, ◌↔◌, true, false};
 ghost use Rattle.std.specs.Prelude.{List, length, take, slice_index_or, MatchOption, IfOk, OnErr};
 ghost use Rattle.std.specs.Prelude.{OnOk, IsOk};
-ghost use Rattle.dap_names.specs.Numbering.{add};
-ghost use Rattle.dap_names.specs.Table.{has, place, AllDiffer};
+ghost use Rattle.dap_rename.specs.Numbering.{add};
+ghost use Rattle.dap_rename.specs.Table.{has, place, AllDiffer};
 
 use std::alloc::AllocError;
 use thiserror::Error;
@@ -20,7 +20,7 @@ pub enum NameFault {
 }
 
 impl From<AllocError> for NameFault {
-    ghost use Rattle.dap_names.specs.declared.name_table.NameFault.TheVariants.{Memory};
+    ghost use Rattle.dap_rename.specs.declared.name_table.NameFault.TheVariants.{Memory};
 
     ghost from_gives = { λ _ f. f ≡ Memory };
 

@@ -2,7 +2,7 @@
 use Rattle.std.specs.Prelude.{ℕ, ℤ, List}
 use Rattle.std.specs.declared.hash.BuildHasher as builder
 use Rattle.std.specs.declared.hash.Hasher as hasher
-use Rattle.dap_names.specs.declared.index_names.IndexNames.{IndexNames}
+use Rattle.dap_rename.specs.declared.index_names.IndexNames.{IndexNames}
 
 module _ {S H : Type 0} {build : builder.Ghosts S H} {hash : hasher.Ghosts H} where
   -- The numbers of the table, in the order of their canonical numbers.

@@ -1,4 +1,0 @@
-pub mod Numbering
-pub mod Table
-pub mod PlainNames
-pub mod IndexNames
