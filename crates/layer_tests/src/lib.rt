@@ -29,3 +29,19 @@ mod texts;
 mod trees;
 #[cfg(test)]
 mod views;
+#[cfg(test)]
+mod allocating_differences;
+#[cfg(test)]
+mod examples;
+#[cfg(test)]
+mod allocating_frames_and_trees;
+#[cfg(test)]
+mod allocating_messages;
+#[cfg(test)]
+mod allocating_names;
+#[cfg(test)]
+mod allocating_sessions;
+#[cfg(test)]
+mod allocating_tables;
+#[cfg(test)]
+mod allocating_tree_buffers;
