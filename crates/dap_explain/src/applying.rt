@@ -4,7 +4,7 @@ ghost use Rattle.dap_input.specs.Limits.{AreSound};
 use crate::{explain, explain_masked};
 use dap_input::{Limits, Refused};
 use dap_mask::MaskRules;
-use dap_rules_input::{ApplyRefused, mask_bytes};
+use dap_rules::{ApplyRefused, mask_bytes};
 use std::alloc::{AllocError, Global};
 
 /// Explains why rules cannot be applied to a recording. Returns an empty string if a read or an

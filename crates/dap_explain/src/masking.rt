@@ -5,7 +5,7 @@ use dap_device::{MemorySource, StdSink};
 use crate::{explain_masked, explain_rules};
 use dap_input::Limits;
 use dap_mask::MaskRules;
-use dap_rules_input::mask;
+use dap_rules::mask;
 use std::alloc::{AllocError, Global};
 use std::io;
 

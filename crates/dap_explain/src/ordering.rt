@@ -5,7 +5,7 @@ use dap_device::{MemorySource, StdSink};
 use crate::{explain, explain_rules};
 use dap_input::{Limits, Refused};
 use dap_mask::MaskRules;
-use dap_rules_input::order;
+use dap_rules::order;
 use dap_rename::Mode;
 use std::alloc::{AllocError, Global};
 use std::io;

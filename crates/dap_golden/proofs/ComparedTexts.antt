@@ -16,8 +16,8 @@ use Rattle.dap_normal.specs.Accepting.{accepting, text}
 use Rattle.dap_normal.specs.Normalising.{Normalises}
 use Rattle.dap_normal.proofs.NormalFormLaws.{equal_texts_tell, has_one_normal_form}
 use Rattle.dap_normal.proofs.WholeInput.{memory}
-use Rattle.dap_rules_input.proofs.MemoryInputs.{came_of, reported}
-use Rattle.dap_rules_input.proofs.OrderedTexts.{one_accepted}
+use Rattle.dap_rules.proofs.MemoryInputs.{came_of, reported}
+use Rattle.dap_rules.proofs.OrderedTexts.{one_accepted}
 use Rattle.dap_compare.specs.Comparing.{are_same, differ}
 use Rattle.dap_compare.specs.Verdicts.{HasCompared, IsRecordingVerdict, TellsVerdict}
 use Rattle.dap_compare.specs.declared.verdict.CompareRefused.{CompareRefused}

@@ -9,13 +9,13 @@ use Rattle.dap_rename.specs.declared.mode.Mode.{Mode}
 use Rattle.dap_input.specs.declared.limits.Limits.{Limits}
 use Rattle.dap_input.specs.declared.refused.Refused.{Refused}
 use Rattle.dap_input.specs.declared.refused.Refused.TheVariants.{Memory}
-use Rattle.dap_rules_input.specs.MaskedRecordings.{IsMaskedTo}
+use Rattle.dap_rules.specs.MaskedRecordings.{IsMaskedTo}
 use Rattle.dap_normal.specs.declared.checked.Checked.{Checked}
 use Rattle.dap_normal.specs.Checking.{AreCounted}
-use Rattle.dap_rules_input.specs.Applying.{IsRefusedByRules, RefusesOrderBy, RefusesToMask}
-use Rattle.dap_rules_input.specs.Memory.{IsOutOfMemory}
-use Rattle.dap_rules_input.specs.declared.fault.ApplyRefused.{ApplyRefused}
-use Rattle.dap_rules_input.specs.declared.fault.ApplyRefused.TheVariants as step
+use Rattle.dap_rules.specs.Applying.{IsRefusedByRules, RefusesOrderBy, RefusesToMask}
+use Rattle.dap_rules.specs.Memory.{IsOutOfMemory}
+use Rattle.dap_rules.specs.declared.fault.ApplyRefused.{ApplyRefused}
+use Rattle.dap_rules.specs.declared.fault.ApplyRefused.TheVariants as step
 use Rattle.dap_golden.specs.Golden.{AreAnswered, HasNoSession, IsGoldenOf, IsRecordingOf}
 use Rattle.dap_golden.specs.Golden.{IsRefusedGolden, IsSessionOf}
 use Rattle.dap_golden.specs.GoldenSteps.{RefusesGolden, RefusesMask, RefusesOrder, RefusesRules}

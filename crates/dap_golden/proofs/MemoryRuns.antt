@@ -14,9 +14,9 @@ use Rattle.dap_trace.specs.Tracing.{IsOfEnd, IsRecordedAs, IsTraceRefused}
 use Rattle.dap_trace.specs.TracingRun.{JudgesTrace, RecordsTrace}
 use Rattle.dap_trace.proofs.TraceOutcomes.{refusal_stays}
 use Rattle.dap_normal.proofs.WholeInput.{memory}
-use Rattle.dap_rules_input.proofs.MemoryInputs.{all_came}
-use Rattle.dap_rules_input.specs.Memory.{IsOutOfMemory, WrittenBytes}
-use Rattle.dap_rules_input.proofs.MemoryRuns.{all_sent, text_sink}
+use Rattle.dap_rules.proofs.MemoryInputs.{all_came}
+use Rattle.dap_rules.specs.Memory.{IsOutOfMemory, WrittenBytes}
+use Rattle.dap_rules.proofs.MemoryRuns.{all_sent, text_sink}
 use Rattle.dap_golden.specs.Golden.{IsRecordingOf, of_trace}
 use Rattle.dap_golden.specs.TraceHead.{IsTraceHead}
 

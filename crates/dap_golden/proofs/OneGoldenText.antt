@@ -20,11 +20,11 @@ use Rattle.dap_normal.specs.Accepting.{IsAccepted, accepting}
 use Rattle.dap_normal.specs.Normalising.{Normalises}
 use Rattle.dap_normal.proofs.AcceptingFacts as normal
 use Rattle.dap_normal.proofs.NormalFormLaws.{one_normal_text}
-use Rattle.dap_rules_input.proofs.OrderedTexts.{one_accepted}
-use Rattle.dap_rules_input.specs.Applying.{IsRefusedByRules}
-use Rattle.dap_rules_input.specs.declared.fault.ApplyRefused.{ApplyRefused}
-use Rattle.dap_rules_input.specs.declared.fault.ApplyRefused.TheVariants as step
-use Rattle.dap_rules_input.proofs.OneOutcome.{applied_has_no_error, one_text_by_rules}
+use Rattle.dap_rules.proofs.OrderedTexts.{one_accepted}
+use Rattle.dap_rules.specs.Applying.{IsRefusedByRules}
+use Rattle.dap_rules.specs.declared.fault.ApplyRefused.{ApplyRefused}
+use Rattle.dap_rules.specs.declared.fault.ApplyRefused.TheVariants as step
+use Rattle.dap_rules.proofs.OneOutcome.{applied_has_no_error, one_text_by_rules}
 use Rattle.dap_golden.specs.Golden.{AppliesBy, HasNoSession, IsGoldenOf, IsRecordingOf}
 use Rattle.dap_golden.specs.Golden.{IsSessionOf, LeavesOpen, RefusesSession, of_trace}
 use Rattle.dap_golden.specs.Golden.{unchanged}

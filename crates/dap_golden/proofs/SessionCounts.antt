@@ -8,8 +8,8 @@ use Rattle.dap_normal.specs.Checking.{AreCounted, HasChecked}
 use Rattle.dap_normal.specs.Normalising.{IsCanonical}
 use Rattle.dap_normal.specs.declared.checked.Checked.{Checked}
 use Rattle.dap_normal.proofs.WholeInput.{memory}
-use Rattle.dap_rules_input.proofs.MemoryInputs.{all_came}
-use Rattle.dap_rules_input.proofs.OrderedTexts.{one_accepted}
+use Rattle.dap_rules.proofs.MemoryInputs.{all_came}
+use Rattle.dap_rules.proofs.OrderedTexts.{one_accepted}
 
 module _ (limits : Limits) (mode : Mode) where
   pub counted : (bytes written : List ℕ) (canonical : IsCanonical limits mode bytes written)

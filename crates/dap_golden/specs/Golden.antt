@@ -17,11 +17,11 @@ use Rattle.dap_input.specs.declared.refused.Refused.{Refused}
 use Rattle.dap_input.specs.declared.refused.Refused.TheVariants.{Incomplete}
 use Rattle.dap_input.specs.Refusals.{IsRefused}
 use Rattle.dap_trace.specs.Tracing.{IsRecordedAs, IsTraceRefused}
-use Rattle.dap_rules_input.specs.MaskedRecordings.{IsMaskedTo}
-use Rattle.dap_rules_input.specs.Applying.{AppliesRules, IsRefusedByRules}
-use Rattle.dap_rules_input.specs.Modes.{mode_by}
-use Rattle.dap_rules_input.specs.declared.fault.ApplyRefused.{ApplyRefused}
-use Rattle.dap_rules_input.specs.declared.fault.ApplyRefused.TheVariants as step
+use Rattle.dap_rules.specs.MaskedRecordings.{IsMaskedTo}
+use Rattle.dap_rules.specs.Applying.{AppliesRules, IsRefusedByRules}
+use Rattle.dap_rules.specs.Modes.{mode_by}
+use Rattle.dap_rules.specs.declared.fault.ApplyRefused.{ApplyRefused}
+use Rattle.dap_rules.specs.declared.fault.ApplyRefused.TheVariants as step
 use Rattle.dap_normal.specs.Accepting.{IsAccepted, accepting}
 use Rattle.dap_normal.specs.Normalising.{IsCanonical}
 use Rattle.dap_golden.specs.declared.fault.GoldenRefused.{GoldenRefused}

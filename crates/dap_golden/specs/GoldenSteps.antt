@@ -7,10 +7,10 @@ use Rattle.dap_message.specs.SwapRules.{SwapRule}
 use Rattle.dap_input.specs.declared.limits.Limits.{Limits}
 use Rattle.dap_input.specs.Refusals.{IsRefused}
 use Rattle.dap_trace.specs.Tracing.{IsTraceRefused}
-use Rattle.dap_rules_input.specs.Masking.{masking}
+use Rattle.dap_rules.specs.Masking.{masking}
 use Rattle.dap_normal.specs.Accepting.{IsAccepted}
-use Rattle.dap_rules_input.specs.Applying.{IsNotOrderedBy, IsRefusedByRules}
-use Rattle.dap_rules_input.specs.declared.fault.ApplyRefused.TheVariants as step
+use Rattle.dap_rules.specs.Applying.{IsNotOrderedBy, IsRefusedByRules}
+use Rattle.dap_rules.specs.declared.fault.ApplyRefused.TheVariants as step
 use Rattle.dap_golden.specs.declared.fault.GoldenRefused.{GoldenRefused}
 use Rattle.dap_golden.specs.declared.fault.GoldenRefused.TheVariants as because
 use Rattle.dap_golden.specs.Golden.{RefusesSession}

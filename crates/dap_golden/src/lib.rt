@@ -11,7 +11,7 @@ mod trace_head;
 mod updates;
 
 pub use comparing::{GoldenVerdict, compare_golden};
-pub use dap_rules_input::TextSink;
+pub use dap_rules::TextSink;
 pub use fault::{GoldenFault, GoldenRefused};
 pub use golden::{GoldenText, apply_rules, golden_text, recording_of};
 pub use updates::{GoldenDone, GoldenRequest, GoldenStop, golden_file};

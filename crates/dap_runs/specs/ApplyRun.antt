@@ -5,8 +5,8 @@ use Rattle.dap_compare.specs.declared.verdict.CompareRefused.TheVariants as comp
 use Rattle.dap_compare.specs.declared.verdict.Which.{Which}
 use Rattle.dap_input.specs.declared.refused.Refused.{Refused}
 use Rattle.dap_input.specs.declared.refused.Refused.TheVariants.{ReadFault}
-use Rattle.dap_rules_input.specs.declared.fault.ApplyRefused.{ApplyRefused}
-use Rattle.dap_rules_input.specs.declared.fault.ApplyRefused.TheVariants as applying
+use Rattle.dap_rules.specs.declared.fault.ApplyRefused.{ApplyRefused}
+use Rattle.dap_rules.specs.declared.fault.ApplyRefused.TheVariants as applying
 use Rattle.dap_runs.specs.FaultLine.{compare_refused_text, fault_line, refused_text}
 use Rattle.dap_runs.specs.Reporting.{refused_status}
 

@@ -15,8 +15,8 @@ use Rattle.dap_mask.specs.declared.fault.RulesCause.{RulesCause}
 use Rattle.dap_mask.specs.declared.fault.RulesCause.TheVariants as cause
 use Rattle.dap_mask.specs.declared.fault.RulesFault.{RulesFault}
 use Rattle.dap_mask.specs.declared.mask_rules.MaskRules.{MaskRules}
-use Rattle.dap_rules_input.specs.MaskedRecordings.{IsMaskedTo, Masks}
-use Rattle.dap_rules_input.specs.Masking.{masking}
+use Rattle.dap_rules.specs.MaskedRecordings.{IsMaskedTo, Masks}
+use Rattle.dap_rules.specs.Masking.{masking}
 use Rattle.dap_runs.specs.FaultLine.{fault_line, refused_text}
 use Rattle.dap_runs.specs.Reporting.{Answered, HasSent, IsReported}
 use Rattle.dap_runs.specs.declared.mask_run.RulesRefused.{RulesRefused}

@@ -7,7 +7,7 @@ use Rattle.dap_input.specs.Engine.{Answers}
 use Rattle.dap_input.specs.declared.limits.Limits.{Limits}
 use Rattle.dap_input.specs.declared.refused.Refused.TheVariants.{Memory}
 use Rattle.dap_rename.specs.declared.mode.Mode.TheVariants.{Whole}
-use Rattle.dap_rules_input.specs.Ordering.{IsNotOrdered, Orders}
+use Rattle.dap_rules.specs.Ordering.{IsNotOrdered, Orders}
 use Rattle.dap_runs.specs.FaultLine.{fault_line, refused_text}
 use Rattle.dap_runs.specs.MaskRun.{ReadsRules, RulesOutcome, ReportsOnly, no_memory, rules_line}
 use Rattle.dap_runs.specs.MaskRun.{rules_unread, said, unread}

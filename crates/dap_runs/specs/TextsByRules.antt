@@ -12,10 +12,10 @@ use Rattle.dap_mask.specs.declared.mask_rules.MaskRules.{MaskRules}
 use Rattle.dap_normal.specs.Checking.{Checks}
 use Rattle.dap_normal.specs.declared.checked.Checked.{Checked}
 use Rattle.dap_rename.specs.declared.mode.Mode.{Mode}
-use Rattle.dap_rules_input.specs.Inputs.{ReadsByRules}
-use Rattle.dap_rules_input.specs.Modes.{mode_by}
-use Rattle.dap_rules_input.specs.declared.fault.ApplyRefused.{ApplyRefused}
-use Rattle.dap_rules_input.specs.declared.fault.ApplyRefused.TheVariants as because
+use Rattle.dap_rules.specs.Inputs.{ReadsByRules}
+use Rattle.dap_rules.specs.Modes.{mode_by}
+use Rattle.dap_rules.specs.declared.fault.ApplyRefused.{ApplyRefused}
+use Rattle.dap_rules.specs.declared.fault.ApplyRefused.TheVariants as because
 use Rattle.dap_runs.specs.ApplyRun.{unapplied_line, unapplied_status}
 use Rattle.dap_runs.specs.MaskRun.{ReadsRules, RulesOutcome, outcome_of, rules_refused_line}
 use Rattle.dap_runs.specs.MaskRun.{rules_refused_status}

@@ -10,7 +10,7 @@ use crate::status::{FAULT, MEMORY, refused_status};
 use dap_compare::{CompareRefused, Which};
 use dap_device::Sink;
 use dap_input::Refused;
-use dap_rules_input::ApplyRefused;
+use dap_rules::ApplyRefused;
 
 /// Reports that one of two recordings is rejected after the rules.
 fn report_after_rules<E: Sink>(errors: &mut E, which: Which, refused: Refused)

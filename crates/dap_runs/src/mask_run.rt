@@ -11,7 +11,7 @@ use arrayvec::ArrayString;
 use dap_device::{Sink, Source, Stop, read_all};
 use dap_input::{Limits, Refused};
 use dap_mask::{MaskRules, RulesCause, RulesFault};
-use dap_rules_input::mask;
+use dap_rules::mask;
 use itoa::Buffer;
 use std::alloc::Global;
 

@@ -7,7 +7,7 @@ use crate::fault_line::tell_answer;
 use crate::mask_run::{read_rules, report_rules};
 use dap_device::{Sink, Source};
 use dap_input::Limits;
-use dap_rules_input::order;
+use dap_rules::order;
 use dap_rename::Mode;
 use std::alloc::Global;
 

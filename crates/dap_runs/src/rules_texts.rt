@@ -21,7 +21,7 @@ use dap_input::Refused;
 use dap_mask::MaskRules;
 use dap_normal::check_with;
 use dap_rename::{Mode, NameTable, Tables};
-use dap_rules_input::{ApplyRefused, mode_by, read_by_rules};
+use dap_rules::{ApplyRefused, mode_by, read_by_rules};
 use std::alloc::Global;
 
 /// What makes tables for the names of ids.

@@ -7,8 +7,8 @@ use Rattle.dap_mask.specs.declared.fault.RulesFault.{RulesFault}
 use Rattle.dap_rename.specs.declared.mode.Mode.TheVariants.{Whole}
 use Rattle.dap_input.specs.declared.limits.Limits.{Limits}
 use Rattle.dap_compare.specs.declared.verdict.Which.TheVariants.{A, B}
-use Rattle.dap_rules_input.specs.declared.fault.ApplyRefused.{ApplyRefused}
-use Rattle.dap_rules_input.specs.declared.fault.ApplyRefused.TheVariants.{Memory}
+use Rattle.dap_rules.specs.declared.fault.ApplyRefused.{ApplyRefused}
+use Rattle.dap_rules.specs.declared.fault.ApplyRefused.TheVariants.{Memory}
 use Rattle.dap_suggest.specs.NotSuggested.{IsNotSuggested, IsRulesRefusal, IsSearchRefusal}
 use Rattle.dap_suggest.specs.NotSuggested.{IsSessionRefusal, input_refusal}
 use Rattle.dap_suggest.specs.Suggested.{IsRejected, MakesNormal}

@@ -6,10 +6,10 @@ use Rattle.dap_input.specs.declared.limits.Limits.{Limits}
 use Rattle.dap_input.specs.declared.refused.Refused.{Refused}
 use Rattle.dap_input.specs.declared.refused.Refused.TheVariants.{Memory}
 use Rattle.dap_normal.specs.Normalising.{RefusesBytes}
-use Rattle.dap_rules_input.specs.Applying.{AppliesRules, IsRefusedByRules}
-use Rattle.dap_rules_input.specs.ApplyingSteps.{order_refusal}
-use Rattle.dap_rules_input.specs.declared.fault.ApplyRefused.{ApplyRefused}
-use Rattle.dap_rules_input.specs.declared.fault.ApplyRefused.TheVariants as step
+use Rattle.dap_rules.specs.Applying.{AppliesRules, IsRefusedByRules}
+use Rattle.dap_rules.specs.ApplyingSteps.{order_refusal}
+use Rattle.dap_rules.specs.declared.fault.ApplyRefused.{ApplyRefused}
+use Rattle.dap_rules.specs.declared.fault.ApplyRefused.TheVariants as step
 use Rattle.dap_suggest.specs.Suggested.{IsRejected}
 
 module _ (limits : Limits) (mode : Mode) (mask : Mask) (recording : List ℕ) where

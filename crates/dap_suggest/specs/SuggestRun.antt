@@ -4,8 +4,8 @@ use Rattle.dap_device.specs.Written.{AllSent, PrefixWritten}
 use Rattle.dap_device.specs.declared.device.Sink.{Ghosts as Sink}
 use Rattle.dap_input.specs.declared.limits.Limits.{Limits}
 use Rattle.dap_input.specs.declared.refused.Refused.TheVariants.{WriteFault}
-use Rattle.dap_rules_input.specs.declared.fault.ApplyRefused.{ApplyRefused}
-use Rattle.dap_rules_input.specs.declared.fault.ApplyRefused.TheVariants as step
+use Rattle.dap_rules.specs.declared.fault.ApplyRefused.{ApplyRefused}
+use Rattle.dap_rules.specs.declared.fault.ApplyRefused.TheVariants as step
 use Rattle.dap_runs.specs.ApplyRun.{unapplied_line, unapplied_status}
 use Rattle.dap_runs.specs.FaultLine.{fault_line, refused_text}
 use Rattle.dap_runs.specs.MaskRun.{rules_refused_line}

@@ -9,9 +9,9 @@ use Rattle.dap_input.specs.declared.refused.Refused.{Refused}
 use Rattle.dap_input.specs.Refusals.{IsRefused}
 use Rattle.dap_normal.specs.Accepting.{accepting}
 use Rattle.dap_normal.specs.Normalising.{Normalises}
-use Rattle.dap_rules_input.specs.Applying.{AppliesRules, IsRefusedByRules}
-use Rattle.dap_rules_input.specs.declared.fault.ApplyRefused.{ApplyRefused}
-use Rattle.dap_rules_input.specs.declared.fault.ApplyRefused.TheVariants as step
+use Rattle.dap_rules.specs.Applying.{AppliesRules, IsRefusedByRules}
+use Rattle.dap_rules.specs.declared.fault.ApplyRefused.{ApplyRefused}
+use Rattle.dap_rules.specs.declared.fault.ApplyRefused.TheVariants as step
 
 -- ---- rules that were found
 

@@ -14,7 +14,7 @@ use dap_input::Limits;
 use dap_mask::{MaskRules, RulesCause};
 use dap_normal::Normalised;
 use dap_rename::Mode;
-use dap_rules_input::ApplyRefused;
+use dap_rules::ApplyRefused;
 use std::alloc::Global;
 
 /// Returns the number of the record in which two different normal texts first differ.

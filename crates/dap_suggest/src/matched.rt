@@ -9,7 +9,7 @@ use dap_input::Limits;
 use dap_matching::{Entry, Recording, match_records, read_recording};
 use dap_normal::index_tables;
 use dap_rename::Mode;
-use dap_rules_input::ApplyRefused;
+use dap_rules::ApplyRefused;
 use std::alloc::{AllocError, Global};
 
 /// Two recordings whose records are matched, without the events that are dropped.

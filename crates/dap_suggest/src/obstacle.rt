@@ -3,7 +3,7 @@ ghost use Rattle.std.specs.Prelude.{◌≡◌};
 
 use dap_compare::Which;
 use dap_matching::Entry;
-use dap_rules_input::ApplyRefused;
+use dap_rules::ApplyRefused;
 use std::alloc::{AllocError, AllocFailed, Global};
 
 /// What is wrong with a record that no rule can make the same.

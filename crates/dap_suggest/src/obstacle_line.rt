@@ -3,7 +3,7 @@ use crate::obstacle::{Obstacle, Reason};
 use crate::words::push_count;
 use dap_compare::Which;
 use dap_input::Refused;
-use dap_rules_input::ApplyRefused;
+use dap_rules::ApplyRefused;
 use dap_runs::refused_text;
 use std::alloc::{AllocError, Global};
 

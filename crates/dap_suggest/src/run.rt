@@ -10,7 +10,7 @@ use crate::suggesting::suggest;
 use crate::suggestion::SuggestRefused;
 use dap_device::{Sink, write_and_flush};
 use dap_input::{Limits, Refused};
-use dap_rules_input::ApplyRefused;
+use dap_rules::ApplyRefused;
 use dap_runs::{
     DIFFERENT, DONE, FAULT, RulesRefused, report_parts, report_rules, report_unapplied, tell,
 };

@@ -18,7 +18,7 @@ use dap_compare::Which;
 use dap_input::{Limits, Refused};
 use dap_mask::{MaskRules, RulesCause, RulesFault};
 use dap_rename::Mode;
-use dap_rules_input::ApplyRefused;
+use dap_rules::ApplyRefused;
 use std::alloc::Global;
 
 /// Returns why the rules that were given are rejected.

@@ -3,7 +3,7 @@ use crate::obstacle::Obstacle;
 use dap_compare::Which;
 use dap_mask::RulesFault;
 use dap_rename::Mode;
-use dap_rules_input::ApplyRefused;
+use dap_rules::ApplyRefused;
 
 /// Rules that make two recordings the same.
 #[derive(Drop)]

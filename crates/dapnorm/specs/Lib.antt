@@ -31,8 +31,8 @@ pub use Rattle.dap_input.specs.Limits
 pub use Rattle.dap_input.specs.ReadTo
 pub use Rattle.dap_mask.specs.Mask
 pub use Rattle.dap_mask.specs.RulesFile
-pub use Rattle.dap_rules_input.specs.MaskedRecordings
-pub use Rattle.dap_rules_input.specs.Masking
+pub use Rattle.dap_rules.specs.MaskedRecordings
+pub use Rattle.dap_rules.specs.Masking
 pub use Rattle.dap_normal.specs.Accepting
 pub use Rattle.dap_normal.specs.Checking
 pub use Rattle.dap_normal.specs.HeldMessages

@@ -7,7 +7,7 @@ use Rattle.dap_file.specs.Replacing.{IsOldOrNew}
 use Rattle.dap_file.specs.declared.file.Replaceable.{Ghosts as Replaceable}
 use Rattle.dap_input.specs.declared.limits.Limits.{Limits}
 use Rattle.dap_input.specs.declared.refused.Refused.TheVariants.{Memory}
-use Rattle.dap_rules_input.specs.Memory.{WrittenBytes}
+use Rattle.dap_rules.specs.Memory.{WrittenBytes}
 use Rattle.dap_runs.specs.FaultLine.{fault_line, refused_text}
 use Rattle.dap_runs.specs.Reporting.{HasSent, refused_status}
 use Rattle.dap_runs.specs.Saving.{Saves, unsaved_line}

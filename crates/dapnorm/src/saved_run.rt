@@ -18,7 +18,7 @@ use dap_device::{Sink, Source, write_and_flush};
 use dap_file::Replaceable;
 use dap_input::Refused;
 use dap_rename::{NameTable, Tables};
-use dap_rules_input::TextSink;
+use dap_rules::TextSink;
 use dap_runs::{
     DONE, FAULT, Files, LIMITS, MEMORY, OpenFault, RulesFiles, RulesOpenFault, is_standard,
     report_parts, save, tell,

@@ -1,6 +1,6 @@
 use Rattle.std.proofs.Common.{◌∙◌, List, ℕ, subst, sym, true≢false}
 use Rattle.dap_mask.specs.KeptRules.{mask_of}
-use Rattle.dap_rules_input.specs.Applying.{RefusesToMask}
+use Rattle.dap_rules.specs.Applying.{RefusesToMask}
 use Rattle.dap_golden.proofs.GoldenTexts.{mask_refuses}
 use Rattle.std.specs.Cow.{cow_slice_items}
 use Rattle.dap_golden.proofs.golden.mask_recording.Goals as goal

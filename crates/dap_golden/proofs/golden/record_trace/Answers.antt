@@ -2,7 +2,7 @@ use Rattle.std.proofs.Common.{List, ℕ, ◌∙◌, ap, sym, subst, true≢false
 use Rattle.dap_device.specs.Memory.{GivenBytes}
 use Rattle.dap_tree.specs.declared.side.Side.{Side}
 use Rattle.dap_trace.specs.Tracing.{IsTraceRefused}
-use Rattle.dap_rules_input.specs.Memory.{WrittenBytes}
+use Rattle.dap_rules.specs.Memory.{WrittenBytes}
 use Rattle.dap_golden.specs.Golden.{IsRecordingOf}
 use Rattle.dap_golden.specs.TraceHead.{IsTraceHead}
 use Rattle.dap_golden.proofs.MemoryRuns.{recorded_whole, trace_refused}

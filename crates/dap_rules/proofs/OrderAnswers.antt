@@ -1,0 +1,159 @@
+-- The result of ordering bytes in memory and of ordering an input.
+use Rattle.std.proofs.Common.{◌≡◌, ◌⊎◌, inl, inr, ℕ, ◌+◌, List, length, Result, Ok, Err}
+use Rattle.std.proofs.Common.{refl, ap, subst, arith, length-append}
+use Rattle.std.specs.Prelude.{IfErr, IfOk, Vec}
+use Rattle.std.specs.declared.alloc.Global.{Global}
+use Rattle.dap_device.specs.declared.device.Sink.{Ghosts as Sink}
+use Rattle.dap_device.specs.declared.device.Source.{Ghosts as Source}
+use Rattle.dap_device.specs.Reading.{HasReadInput}
+use Rattle.dap_device.specs.declared.reading.Stop.{Stop}
+use Rattle.dap_device.specs.declared.reading.Stop.TheVariants.{End, Full, Failed}
+use Rattle.dap_message.specs.Message.{Sent}
+use Rattle.dap_recording.specs.declared.record_fault.RecordCause.TheVariants.{Cut}
+use Rattle.dap_rename.specs.declared.mode.Mode.{Mode}
+use Rattle.dap_message.specs.SwapRules.{SwapRule}
+use Rattle.dap_input.specs.Engine.{Accepts, Answers}
+use Rattle.dap_input.specs.Refusals.{IsRefused}
+use Rattle.dap_input.specs.declared.limits.Limits.{Limits}
+use Rattle.dap_input.specs.declared.refused.Refused.{Refused}
+use Rattle.dap_input.specs.declared.refused.Refused.TheVariants.{Grew, Memory, ReadFault, Record}
+use Rattle.dap_input.specs.declared.refused.Refused.TheVariants.{WriteFault}
+use Rattle.dap_normal.specs.Accepting.{Fits, IsAccepted, accepting, text}
+use Rattle.dap_normal.specs.Normalising.{RefusesBytes}
+use Rattle.dap_swaps.specs.Order.{ordered}
+use Rattle.dap_rules.specs.Ordering.{IsNotOrdered, IsTextError, Orders, RefusesToOrder}
+use Rattle.dap_rules.specs.OrderingSteps.{Writes, result_of_input}
+
+abbrev failure : Refused → Result (Vec ℕ Global) Refused
+failure because = Err because
+
+module _ (limits : Limits) (mode : Mode) (rules : List SwapRule) (bytes : List ℕ) where
+  -- ---- bytes in memory
+
+  pub recording_refused : (because : Refused) → RefusesBytes limits mode bytes because
+      → RefusesToOrder limits mode rules bytes because
+  recording_refused Memory is = tt
+  recording_refused because is = inl is
+
+  module _ (ms : List Sent) (accepted : IsAccepted limits mode bytes ms) where
+    pub not_written : (because : Refused) → Writes limits (ordered rules ms) (Err because)
+        → RefusesToOrder limits mode rules bytes because
+    not_written (Grew n) is = inr (ms, accepted, inl (n, refl, is))
+    not_written Memory is = tt
+    not_written because is = absurd is
+
+    pub text_refused : Fits limits (ordered rules ms) → (because : Refused)
+        → RefusesBytes limits mode (text (ordered rules ms)) because
+        → ((why : Refused) → IsRefused (accepting limits mode) (text (ordered rules ms)) why
+        → IsTextError mode why)
+        → RefusesToOrder limits mode rules bytes because
+    text_refused fits Memory is errors = tt
+    text_refused fits because is errors =
+        inr (ms, accepted, inr (fits, is, errors because is))
+
+  -- ---- errors that no input has
+
+  not_a_device : (because : Refused)
+      → (IsRefused (accepting limits mode) bytes because → ⊥)
+      → ((all : List ℕ) → IsRefused (accepting limits mode) all because → ⊥)
+      → ((n : ℕ) → because ≡ Grew n → ⊥) → IsNotOrdered limits mode rules bytes because → ⊥
+  not_a_device because first later other (inl is) = first is
+  not_a_device because first later other (inr (ms, accepted, inl (n, same, passes))) =
+      other n same
+  not_a_device because first later other (inr (ms, accepted, inr (fits, is, error))) =
+      later (text (ordered rules ms)) is
+
+  -- An input that exceeds its limit is not incomplete.
+  not_cut : (n : ℕ) → IsNotOrdered limits mode rules bytes (Record n Cut)
+      → length bytes ≡ limits.input + 1 → ⊥
+  not_cut n (inl first) long =
+      let within = first.refuses.in_time in
+      omega (arith, long, within, ap length first.split, length-append first.front first.rest)
+  not_cut n (inr (ms, accepted, is)) long =
+      let short = accepted.short in omega (arith, long, short)
+
+  -- ---- an input
+
+  module _ {R : Type 0} (source : Source R) (old new : R) where
+    pub accepts : (result : Result (Vec ℕ Global) Refused) (stop : Stop)
+        → HasReadInput source old new limits.input bytes stop
+        → IfOk result (λ written. Orders limits mode rules bytes written.items)
+        → (written : Vec ℕ Global) → result_of_input result stop ≡ Ok written
+        → Accepts source limits.input (Orders limits mode rules) old new written.items
+    accepts (Ok made) End came orders written is =
+        let same : made ≡ written = cc in
+        record {
+          whole = bytes;
+          came = came;
+          gives = subst (λ (v : Vec ℕ Global). Orders limits mode rules bytes v.items) same orders;
+        }
+    accepts (Ok made) Full came orders written is =
+        let short = orders.accepts.short in
+        let long = came.has_length in
+        absurd (omega (arith, short, long))
+    accepts (Ok made) Failed came orders written is = absurd (let e = is in cc)
+    accepts (Err (Record n Cut)) Failed came orders written is = absurd (let e = is in cc)
+    accepts (Err because) stop came orders written is = absurd (let e = is in cc)
+
+    module _ {W : Type 0} (sink : Sink W) (writer : W) where
+      abbrev Returns : Refused → Type 0
+      Returns because =
+          Answers source sink limits.input (Orders limits mode rules) (IsNotOrdered limits mode rules)
+          {U = Unit {0}} old new writer writer (Err because)
+
+      -- The reader failed, and there is no other error.
+      reader_failed : HasReadInput source old new limits.input bytes Failed
+          → ((written : List ℕ) × Orders limits mode rules bytes written)
+          ⊎ ((n : ℕ) × IsNotOrdered limits mode rules bytes (Record n Cut)) → Returns ReadFault
+      reader_failed came other = (
+        record { bytes = bytes; came = came; not_refused = other },
+        refl,
+      )
+
+      -- An error of the bytes. It is that they are incomplete only if the reader reached its end.
+      refuses : (because : Refused) (stop : Stop)
+          → HasReadInput source old new limits.input bytes stop
+          → RefusesToOrder limits mode rules bytes because
+          → ((n : ℕ) → because ≡ Record n Cut → stop ≡ End) → Returns because
+      refuses Memory stop came is cut = refl
+      refuses ReadFault stop came is cut =
+          absurd (not_a_device ReadFault (λ h. h) (λ all h. h)
+          (λ n e. absurd (let same = e in cc)) is)
+      refuses WriteFault stop came is cut =
+          absurd (not_a_device WriteFault (λ h. h) (λ all h. h)
+          (λ n e. absurd (let same = e in cc)) is)
+      refuses because stop came is cut = (
+        record { bytes = bytes; stop = stop; came = came; is_refused = is; cut = cut },
+        refl,
+      )
+
+      same_returns : (because other : Refused) → failure because ≡ failure other
+          → Returns because → Returns other
+      same_returns because other same is =
+          let one : because ≡ other = cc in subst Returns one is
+
+      refused : (because : Refused) (stop : Stop)
+          → HasReadInput source old new limits.input bytes stop
+          → RefusesToOrder limits mode rules bytes because → (other : Refused)
+          → result_of_input (failure because) stop ≡ failure other → Returns other
+      refused (Record n Cut) End came is other same =
+          same_returns (Record n Cut) other same
+          (refuses (Record n Cut) End came is (λ m e. refl))
+      refused (Record n Cut) Full came is other same = absurd (not_cut n is came.has_length)
+      refused (Record n Cut) Failed came is other same =
+          same_returns ReadFault other same (reader_failed came (inr (n, is)))
+      refused because stop came is other same =
+          same_returns because other same
+          (refuses because stop came is (λ n e. absurd (let no = e in cc)))
+
+      pub returns_error : (result : Result (Vec ℕ Global) Refused) (stop : Stop)
+          → HasReadInput source old new limits.input bytes stop
+          → IfOk result (λ written. Orders limits mode rules bytes written.items)
+          → IfErr result (RefusesToOrder limits mode rules bytes) → (because : Refused)
+          → result_of_input result stop ≡ Err because → Returns because
+      returns_error (Ok made) End came orders none because is = absurd (let e = is in cc)
+      returns_error (Ok made) Full came orders none because is = absurd (let e = is in cc)
+      returns_error (Ok made) Failed came orders none because is =
+          same_returns ReadFault because is (reader_failed came (inl (made.items, orders)))
+      returns_error (Err first) stop came none is because same =
+          refused first stop came is because same

@@ -1,0 +1,7 @@
+use Rattle.dap_rules.proofs.MaskingLoop.{given_up}
+use Rattle.dap_rules.proofs.mask_records.mask.Goals as goal
+
+pub returns-in-Err-clause-outcome : goal.returns-in-Err-clause-outcome
+returns-in-Err-clause-outcome g c =
+    given_up c.args.rules.now c.args.limits c.requires.limits g.R.Source g.W.Sink c.args.reader.now
+    c.args.writer.now

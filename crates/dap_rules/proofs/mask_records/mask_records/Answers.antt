@@ -1,0 +1,153 @@
+use Rattle.std.proofs.Common.{Err, Ok, sym, ◌∙◌, subst}
+use Rattle.dap_device.specs.Written.{AllWritten, PrefixWritten}
+use Rattle.dap_input.proofs.StreamEnds.{all_written, front_written}
+use Rattle.dap_normal.specs.Streaming.{Ends}
+use Rattle.dap_rules.proofs.MaskingLoop.{all_masked, failed_to_write, fewer, none_read}
+use Rattle.dap_rules.proofs.MaskingLoop.{not_masked, not_masked_gives_up, not_read}
+use Rattle.dap_rules.proofs.MaskingLoop.{not_read_gives_up, waited_on, written_on}
+use Rattle.dap_normal.proofs.StreamWriting.{not_given_up}
+use Rattle.dap_rules.proofs.mask_records.mask_records.Goals as goal
+
+pub records-init : goal.records-init
+records-init g c =
+    rw c.new-text.ensures.items
+    (none_read c.args.rules.now c.args.limits c.requires.limits g.R.Source g.W.Sink
+    c.args.reader.now c.args.writer.now c.args.records.now c.requires.start)
+
+pub returns-in-Ok-None-clause-outcome : goal.returns-in-Ok-None-clause-outcome
+returns-in-Ok-None-clause-outcome g c =
+    all_masked c.args.rules.now c.args.limits c.requires.limits g.R.Source g.W.Sink
+    c.args.reader.now c.args.writer.now c.records.reader c.records.writer c.records.records
+    c.records.written c.records.text.items c.records.invariant c.next.new.self c.next.new.reader
+    (rw c.in-Ok-None.field-0-is at c.in-Ok-None.ensures c.args.limits.frame
+    c.records.invariant.judged.behind.between)
+    c.ended.new.writer c.ended.result
+    (subst (λ t. Ends g.W.Sink t c.records.writer c.ended.new.writer (Ok tt) c.ended.result)
+    c.as_slice.ensures.value c.ended.ensures)
+
+pub returns-in-Err-clause-outcome : goal.returns-in-Err-clause-outcome
+returns-in-Err-clause-outcome g c =
+    not_read c.args.rules.now c.args.limits c.requires.limits g.R.Source g.W.Sink
+    c.args.reader.now c.args.writer.now c.records.reader c.records.writer c.records.records
+    c.records.written c.records.text.items c.records.invariant c.next.new.self c.next.new.reader
+    c.in-Err.because
+    (c.in-Err.ensures c.args.limits.frame c.records.invariant.judged.behind.between)
+    c.ended-in-Err.new.writer c.ended-in-Err.result
+    (subst (λ t. Ends g.W.Sink t c.records.writer c.ended-in-Err.new.writer
+    (Err c.in-Err.because) c.ended-in-Err.result)
+    c.as_slice-in-Err.ensures.value c.ended-in-Err.ensures)
+
+pub returns-in-Ok-None-clause-given_up : goal.returns-in-Ok-None-clause-given_up
+returns-in-Ok-None-clause-given_up g c = λ memory.
+    absurd (not_given_up g.W.Sink c.as_slice.result.now c.records.writer c.ended.new.writer
+    c.ended.result c.ended.ensures memory)
+
+pub returns-in-Err-clause-given_up : goal.returns-in-Err-clause-given_up
+returns-in-Err-clause-given_up g c = λ memory.
+    not_read_gives_up c.args.rules.now c.args.limits c.requires.limits g.R.Source g.W.Sink
+    c.args.reader.now c.args.writer.now c.records.reader c.records.writer c.records.records
+    c.records.written c.records.text.items c.records.invariant c.next.new.self c.next.new.reader
+    c.in-Err.because
+    (c.in-Err.ensures c.args.limits.frame c.records.invariant.judged.behind.between)
+    c.ended-in-Err.new.writer c.ended-in-Err.result
+    (subst (λ t. Ends g.W.Sink t c.records.writer c.ended-in-Err.new.writer
+    (Err c.in-Err.because) c.ended-in-Err.result)
+    c.as_slice-in-Err.ensures.value c.ended-in-Err.ensures) memory
+
+pub returns-in-Err-append_masked-clause-given_up : goal.returns-in-Err-append_masked-clause-given_up
+returns-in-Err-append_masked-clause-given_up g c = λ memory.
+    not_masked_gives_up c.args.rules.now c.args.limits c.requires.limits g.R.Source g.W.Sink
+    c.args.reader.now c.args.writer.now c.records.reader c.records.writer c.records.records
+    c.records.written c.records.text.items c.records.invariant c.next.new.self c.next.new.reader
+    c.in-Ok-Some.whole (rw c.in-Ok-Some.field-0-is at c.in-Ok-Some.ensures
+    c.args.limits.frame c.records.invariant.judged.behind.between)
+    c.in-Err-append_masked.because
+    c.ended-in-Err-append_masked.new.writer c.ended-in-Err-append_masked.result
+    (subst (λ t. Ends g.W.Sink t c.records.writer c.ended-in-Err-append_masked.new.writer
+    (Err c.in-Err-append_masked.because) c.ended-in-Err-append_masked.result)
+    (c.as_slice-in-Err-append_masked.ensures.value ∙ c.in-Err-append_masked.ensures.kept)
+    c.ended-in-Err-append_masked.ensures) memory
+
+pub returns-in-Err-append_masked-clause-outcome : goal.returns-in-Err-append_masked-clause-outcome
+returns-in-Err-append_masked-clause-outcome g c =
+    not_masked c.args.rules.now c.args.limits c.requires.limits g.R.Source g.W.Sink
+    c.args.reader.now c.args.writer.now c.records.reader c.records.writer c.records.records
+    c.records.written c.records.text.items c.records.invariant c.next.new.self c.next.new.reader
+    c.in-Ok-Some.whole (rw c.in-Ok-Some.field-0-is at c.in-Ok-Some.ensures
+    c.args.limits.frame c.records.invariant.judged.behind.between)
+    c.in-Err-append_masked.because c.append_masked.new.out.items
+    (rw c.number-number.ensures at c.in-Err-append_masked.ensures.masked
+    c.records.invariant.values c.records.invariant.fits c.records.invariant.count)
+    c.ended-in-Err-append_masked.new.writer c.ended-in-Err-append_masked.result
+    (subst (λ t. Ends g.W.Sink t c.records.writer c.ended-in-Err-append_masked.new.writer
+    (Err c.in-Err-append_masked.because) c.ended-in-Err-append_masked.result)
+    (c.as_slice-in-Err-append_masked.ensures.value ∙ c.in-Err-append_masked.ensures.kept)
+    c.ended-in-Err-append_masked.ensures)
+
+pub returns-then-is_err-clause-outcome : goal.returns-then-is_err-clause-outcome
+returns-then-is_err-clause-outcome g c =
+    failed_to_write c.args.rules.now c.args.limits c.requires.limits g.R.Source g.W.Sink
+    c.args.reader.now c.args.writer.now c.records.reader c.records.writer c.records.records
+    c.records.written c.records.text.items c.records.invariant c.next.new.self c.next.new.reader
+    c.in-Ok-Some.whole (rw c.in-Ok-Some.field-0-is at c.in-Ok-Some.ensures
+    c.args.limits.frame c.records.invariant.judged.behind.between)
+    c.in-Ok.after c.append_masked.new.out.items
+    (c.in-Ok.ensures.masked c.records.invariant.values c.records.invariant.fits
+    c.records.invariant.count)
+    c.write_all.new.writer
+    (subst (PrefixWritten g.W.Sink c.records.writer c.write_all.new.writer)
+    c.as_slice-then-len-ge-PIECE.ensures.value
+    (front_written g.W.Sink c.records.writer c.write_all.new.writer c.write_all.result
+    c.as_slice-then-len-ge-PIECE.result.now c.write_all.ensures
+    (sym c.is_err.ensures.value ∙ c.if-is_err.true)))
+
+pub records-smaller-in-records : goal.records-smaller-in-records
+records-smaller-in-records g c =
+    rw c.recycle.ensures
+    (fewer c.args.rules.now c.args.limits c.requires.limits g.R.Source g.W.Sink
+    c.args.reader.now c.args.writer.now c.records.reader c.records.writer c.records.records
+    c.records.written c.records.text.items c.records.invariant c.next.new.self c.next.new.reader
+    c.in-Ok-Some.whole (rw c.in-Ok-Some.field-0-is at c.in-Ok-Some.ensures
+    c.args.limits.frame c.records.invariant.judged.behind.between))
+
+pub records-preserved-in-records : goal.records-preserved-in-records
+records-preserved-in-records g c =
+    rw (c.recycle.ensures, c.clear.ensures.items)
+    (written_on c.args.rules.now c.args.limits c.requires.limits g.R.Source g.W.Sink
+    c.args.reader.now c.args.writer.now c.records.reader c.records.writer c.records.records
+    c.records.written c.records.text.items c.records.invariant c.next.new.self c.next.new.reader
+    c.in-Ok-Some.whole (rw c.in-Ok-Some.field-0-is at c.in-Ok-Some.ensures
+    c.args.limits.frame c.records.invariant.judged.behind.between)
+    c.in-Ok.after c.append_masked.new.out.items
+    (c.in-Ok.ensures.masked c.records.invariant.values c.records.invariant.fits
+    c.records.invariant.count)
+    c.write_all.new.writer
+    (subst (AllWritten g.W.Sink c.records.writer c.write_all.new.writer)
+    c.as_slice-then-len-ge-PIECE.ensures.value
+    (all_written g.W.Sink c.records.writer c.write_all.new.writer c.write_all.result
+    c.as_slice-then-len-ge-PIECE.result.now c.write_all.ensures
+    (sym c.is_err.ensures.value ∙ c.if-is_err.false))))
+
+pub records-smaller : goal.records-smaller
+records-smaller g c =
+    rw c.recycle.ensures
+    (fewer c.args.rules.now c.args.limits c.requires.limits g.R.Source g.W.Sink
+    c.args.reader.now c.args.writer.now c.records.reader c.records.writer c.records.records
+    c.records.written c.records.text.items c.records.invariant c.next.new.self c.next.new.reader
+    c.in-Ok-Some.whole (rw c.in-Ok-Some.field-0-is at c.in-Ok-Some.ensures
+    c.args.limits.frame c.records.invariant.judged.behind.between))
+
+pub records-preserved : goal.records-preserved
+records-preserved g c =
+    let read = rw c.in-Ok-Some.field-0-is at c.in-Ok-Some.ensures c.args.limits.frame
+    c.records.invariant.judged.behind.between in
+    rw c.recycle.ensures
+    (waited_on c.args.rules.now c.args.limits c.requires.limits g.R.Source g.W.Sink
+    c.args.reader.now c.args.writer.now c.records.reader c.records.writer c.records.records
+    c.records.written c.records.text.items c.records.invariant c.next.new.self c.next.new.reader
+    c.in-Ok-Some.whole read
+    c.in-Ok.after c.append_masked.new.out.items
+    (c.in-Ok.ensures.masked c.records.invariant.values c.records.invariant.fits
+    c.records.invariant.count)
+    (rw c.recycle.ensures at c.has_next.ensures c.args.limits.frame read.finds.1.between
+    c.if-not-has_next.false))

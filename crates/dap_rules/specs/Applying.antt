@@ -1,0 +1,60 @@
+-- The text into which the rules of a file turn a recording, and the errors for which they cannot.
+-- Source: own, over masks and the order of messages.
+use Rattle.std.specs.Prelude.{◌≡◌, ℕ, List, [], ◌∷◌}
+use Rattle.dap_mask.specs.Mask.{Mask}
+use Rattle.dap_message.specs.SwapRules.{SwapRule}
+use Rattle.dap_rename.specs.declared.mode.Mode.{Mode}
+use Rattle.dap_input.specs.declared.limits.Limits.{Limits}
+use Rattle.dap_input.specs.declared.refused.Refused.{Refused}
+use Rattle.dap_input.specs.declared.refused.Refused.TheVariants.{Memory}
+use Rattle.dap_input.specs.Refusals.{IsRefused}
+use Rattle.dap_rules.specs.MaskedRecordings.{IsMaskedTo}
+use Rattle.dap_rules.specs.Masking.{masking}
+use Rattle.dap_rules.specs.Ordering.{IsNotOrdered, Orders}
+use Rattle.dap_rules.specs.declared.fault.ApplyRefused.{ApplyRefused}
+use Rattle.dap_rules.specs.declared.fault.ApplyRefused.TheVariants as because
+
+-- ---- the text
+
+-- The rules for the order put the recording in order. Without such rules it is unchanged.
+abbrev pub OrdersBy : Limits → Mode → List SwapRule → List ℕ → List ℕ → Type 0
+OrdersBy limits mode [] recording written = written ≡ recording
+OrdersBy limits mode (rule ∷ rules) recording written =
+    Orders limits mode (rule ∷ rules) recording written
+
+-- The recording is masked, and the masked recording is put in order: `written` is its text.
+pub record AppliesRules (limits : Limits) (mode : Mode) (mask : Mask)
+    (recording written : List ℕ) : Type 0 where
+  pub masked : List ℕ
+  pub masks : IsMaskedTo limits mask recording masked
+  pub orders : OrdersBy limits mode mask.swaps masked written
+
+-- ---- errors
+
+-- There are rules for the order, and they cannot put the recording in order for this reason.
+abbrev pub IsNotOrderedBy : Limits → Mode → List SwapRule → List ℕ → Refused → Type 0
+IsNotOrderedBy limits mode [] recording refused = ⊥
+IsNotOrderedBy limits mode (rule ∷ rules) recording refused =
+    IsNotOrdered limits mode (rule ∷ rules) recording refused
+
+-- The rules cannot be applied to the recording, for this reason. Ordering was reached only if
+-- masking succeeded.
+abbrev pub IsRefusedByRules : Limits → Mode → Mask → List ℕ → ApplyRefused → Type 0
+IsRefusedByRules limits mode mask recording (because.Mask refused) =
+    IsRefused (masking limits mask) recording refused
+IsRefusedByRules limits mode mask recording (because.Order refused) =
+    (masked : List ℕ) × IsMaskedTo limits mask recording masked
+    × IsNotOrderedBy limits mode mask.swaps masked refused
+IsRefusedByRules limits mode mask recording because.ReadFault = ⊥
+IsRefusedByRules limits mode mask recording because.Memory = Unit {0}
+
+-- The recording cannot be masked for this reason, or an allocation failed.
+abbrev pub RefusesToMask : Limits → Mask → List ℕ → Refused → Type 0
+RefusesToMask limits mask recording Memory = Unit {0}
+RefusesToMask limits mask recording refused = IsRefused (masking limits mask) recording refused
+
+-- The recording cannot be put in order by the rules for this reason, or an allocation failed.
+abbrev pub RefusesOrderBy : Limits → Mode → List SwapRule → List ℕ → Refused → Type 0
+RefusesOrderBy limits mode rules recording Memory = Unit {0}
+RefusesOrderBy limits mode rules recording refused =
+    IsNotOrderedBy limits mode rules recording refused

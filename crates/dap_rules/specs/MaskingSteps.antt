@@ -1,0 +1,46 @@
+-- What the steps of masking a recording do.
+use Rattle.std.specs.Prelude.{◌≡◌, ◌⊎◌, ℕ, ◌+◌, ◌<◌, ◌≤◌, List, [], ◌∷◌, ◌++◌, length, Result}
+use Rattle.std.specs.Prelude.{Ok, Err}
+use Rattle.dap_tree.specs.Doc.{Doc}
+use Rattle.dap_tree.specs.Json.{text_of}
+use Rattle.dap_tree.specs.declared.side.Side.{Side}
+use Rattle.dap_message.specs.Message.{Sent}
+use Rattle.dap_recording.specs.Recording.{record_text}
+use Rattle.dap_mask.specs.Mask.{Mask}
+use Rattle.dap_input.specs.Refusals.{RejectsPayload}
+use Rattle.dap_input.specs.declared.limits.Limits.{Limits}
+use Rattle.dap_input.specs.declared.refused.Refused.{Refused}
+use Rattle.dap_input.specs.declared.refused.Refused.TheVariants.{Grew, Memory}
+use Rattle.dap_normal.specs.Accepting.{Payload}
+use Rattle.dap_rules.specs.Masking.{IsNext, Rejects, masked_text}
+
+-- After these messages, the record `held` is accepted, and its masked record is appended to the
+-- output buffer. The masked text of all messages then has `after` bytes.
+pub record IsTaken (limits : Limits) (mask : Mask) (messages : List Sent) (held : Payload)
+    (old new : List ℕ) (after : ℕ) : Type 0 where
+  pub message : Sent
+  pub is_next : IsNext limits mask messages held message
+  pub longer : List ℕ
+  pub appended : new ≡ old ++ longer
+  pub text_is : masked_text mask (messages ++ message ∷ []) ≡ masked_text mask messages ++ longer
+  pub count : after ≡ length (masked_text mask (messages ++ message ∷ []))
+
+-- Outcome for record n: it is accepted or rejected.
+abbrev pub Masked : Limits → Mask → List Sent → Payload → ℕ → List ℕ → List ℕ → Result ℕ Refused
+    → Type 0
+Masked limits mask messages held n old new (Ok after) =
+    IsTaken limits mask messages held old new after
+Masked limits mask messages held n old new (Err because) =
+    RejectsPayload (Rejects limits mask messages held) n because
+
+-- The record of a document is appended to an output that has `written` bytes so far, or exceeds a
+-- limit.
+abbrev pub Writes : Limits → Side → Doc → ℕ → ℕ → List ℕ → List ℕ → Result ℕ Refused → Type 0
+Writes limits side doc n written old new (Ok after) =
+    (length (text_of doc) ≤ limits.frame.content) × (new ≡ old ++ record_text side (text_of doc))
+    × (after ≡ written + length (record_text side (text_of doc))) × (after ≤ limits.input)
+Writes limits side doc n written old new (Err (Grew m)) =
+    (m ≡ n) × ((limits.frame.content < length (text_of doc))
+    ⊎ (limits.input < written + length (record_text side (text_of doc))))
+Writes limits side doc n written old new (Err Memory) = Unit {0}
+Writes limits side doc n written old new (Err _) = ⊥

@@ -1,0 +1,245 @@
+//! Masks recordings.
+ghost use Rattle.std.specs.Prelude.{◌≡◌, ◌+◌, ◌<◌, ◌≤◌, ◌^◌, IsErrOf, List, length, true, OnErr};
+ghost use Rattle.dap_tree.specs.Doc.{is_sound};
+ghost use Rattle.dap_tree.specs.View.{view};
+ghost use Rattle.dap_message.specs.Message.{Sent};
+ghost use Rattle.dap_mask.specs.KeptRules.{mask_of};
+ghost use Rattle.dap_input.specs.ItemReading.{RepresentsRecord};
+ghost use Rattle.dap_input.specs.Limits.{AreSound};
+ghost use Rattle.dap_input.specs.RecordSteps.{IsAtStart};
+ghost use Rattle.dap_input.specs.Streaming.{Flushes, HasGivenUpAt, Streams};
+ghost use Rattle.dap_normal.specs.Accepting.{Fits};
+ghost use Rattle.dap_normal.specs.JudgingSteps.{payload_of};
+ghost use Rattle.dap_normal.specs.Streaming.{Ends};
+ghost use Rattle.dap_rules.specs.Masking.{left_of, masked_text, masking};
+ghost use Rattle.dap_rules.specs.MaskedRecordings.{IsMaskedTo, Masks};
+ghost use Rattle.dap_rules.specs.MaskingSteps.{Masked, Writes};
+
+use dap_device::{Sink, Source, write_all};
+use dap_frame::FrameFault;
+use dap_input::{Limits, Records, Refused};
+use dap_mask::{MaskRules, read_masked};
+use dap_recording::{Record, RecordReader, Side, write_record};
+use dap_tree::{Scratch, Tree, TreeFault, write_tree_to};
+use std::alloc::Global;
+
+/// The number of buffered output bytes that are written even if the next record is buffered.
+const PIECE: usize = 65_536;
+
+/// Buffers that are reused for every record.
+#[derive(Drop)]
+struct Room {
+    scratch: Scratch,
+    /// The canonical content of one record.
+    content: Vec<u8>,
+}
+
+/// Appends the record of a tree to an output that has `written` bytes so far. Returns the new
+/// number of bytes.
+fn append_record(
+    alloc: Global,
+    number: u64,
+    side: Side,
+    tree: &Tree,
+    written: u64,
+    limits: Limits,
+    content: &mut Vec<u8>,
+    out: &mut Vec<u8>,
+) -> Result<u64, Refused>
+    requires sound { AreSound limits }
+    requires short { written ≤ limits.input }
+    requires tree { is_sound (view tree.now) ≡ true }
+    ensures writes { Writes limits side (view tree.now) number written out.old.items out.new.items
+        result }
+    ensures kept { OnErr result (out.new.items ≡ out.old.items) }
+{
+    content.clear();
+    let Ok(()) = write_tree_to(alloc, tree, content) else {
+        return Err(Refused::Memory);
+    };
+    let before = out.len();
+    match write_record(out, side, content.as_slice(), limits.frame) {
+        Ok(()) => {}
+        Err(FrameFault::ContentTooLong) => return Err(Refused::Grew(number)),
+        Err(_) => return Err(Refused::Memory),
+    }
+    let after = written + (out.len() - before) as u64;
+    if limits.input < after {
+        out.truncate(before);
+        return Err(Refused::Grew(number));
+    }
+    Ok(after)
+}
+
+/// Appends the record that the rules make of `whole` to an output that has `written` bytes so far.
+/// Returns the new number of bytes. Appends nothing for an event that the rules drop, or on an
+/// error.
+fn append_masked(
+    alloc: Global,
+    rules: &MaskRules,
+    number: u64,
+    whole: &Record,
+    written: u64,
+    limits: Limits,
+    room: &mut Room,
+    out: &mut Vec<u8>,
+) -> Result<u64, Refused>
+    requires sound { AreSound limits }
+    requires short { written ≤ limits.input }
+    ensures masked { (messages : List Sent) → Fits limits (left_of (mask_of rules.now) messages)
+        → written ≡ length (masked_text (mask_of rules.now) messages)
+        → Masked limits (mask_of rules.now) messages (payload_of whole.now) number out.old.items
+        out.new.items result }
+    ensures kept { OnErr result (out.new.items ≡ out.old.items) }
+{
+    match read_masked(alloc, whole.content.as_slice(), rules, &mut room.scratch) {
+        Ok(Some(tree)) => {
+            append_record(
+                alloc,
+                number,
+                whole.side,
+                &tree,
+                written,
+                limits,
+                &mut room.content,
+                out,
+            )
+        }
+        Ok(None) => Ok(written),
+        Err(TreeFault::Json) => Err(Refused::Json(number)),
+        Err(TreeFault::Fraction) => Err(Refused::Fraction(number)),
+        Err(TreeFault::Memory) => Err(Refused::Memory),
+    }
+}
+
+/// Flushes the writer and returns `answer`, or `WriteFault` if the flush fails.
+fn flushed<W: Sink>(writer: &mut W, outcome: Result<(), Refused>) -> Result<(), Refused>
+    requires { W.failures writer.old < 2 ^ 63 }
+    ensures { Flushes W.Sink writer.old writer.new outcome result }
+{
+    match writer.flush() {
+        Ok(()) => outcome,
+        Err(_) => Err(Refused::WriteFault),
+    }
+}
+
+/// Writes the buffered output and returns `answer`. Flushes first, unless `answer` is `Memory`.
+fn ended<W: Sink>(writer: &mut W, text: &[u8], outcome: Result<(), Refused>) -> Result<(), Refused>
+    requires { W.failures writer.old < 2 ^ 62 }
+    ensures { Ends W.Sink text.now writer.old writer.new outcome result }
+{
+    if write_all(writer, text).is_err() {
+        return Err(Refused::WriteFault);
+    }
+    match outcome {
+        Err(Refused::Memory) => Err(Refused::Memory),
+        _ => flushed(writer, outcome),
+    }
+}
+
+/// Masks and writes each record of an input that has not been read yet. Masked records that are
+/// buffered together are written together, before more is read.
+fn mask_records<R: Source, W: Sink>(
+    alloc: Global,
+    rules: &MaskRules,
+    records: &mut Records<RecordReader>,
+    reader: &mut R,
+    writer: &mut W,
+    limits: Limits,
+) -> Result<(), Refused>
+    requires limits { AreSound limits }
+    requires start { IsAtStart (RepresentsRecord limits.frame) limits.input records.old }
+    requires given { R.given reader.old < 2 ^ 62 }
+    requires read_failures { R.failures reader.old < 2 ^ 62 }
+    requires write_failures { W.failures writer.old < 2 ^ 62 }
+    ensures outcome { Streams (masking limits (mask_of rules.now)) (Masks limits (mask_of
+        rules.now))
+        (IsMaskedTo limits (mask_of rules.now)) R.Source W.Sink reader.old reader.new
+        writer.old writer.new result }
+
+    // After a failed allocation, each record that was read has been masked and written, except
+    // possibly the last one.
+    ensures given_up { IsErrOf result Refused.Memory
+        → HasGivenUpAt (masking limits (mask_of rules.now)) (Masks limits (mask_of rules.now))
+        (IsMaskedTo limits (mask_of rules.now)) R.Source W.Sink records.new.number
+        reader.old reader.new writer.old writer.new }
+    ensures taken { R.given reader.new ≤ R.given reader.old + limits.input + 1 }
+{
+    let mut room = Room {
+        scratch: Scratch::new(alloc),
+        content: Vec::new(alloc),
+    };
+    let mut text = Vec::new(alloc);
+    let mut written = 0;
+    'records: loop {
+        let number = records.number();
+        let whole = match records.next(reader) {
+            Ok(Some(whole)) => whole,
+            Ok(None) => return ended(writer, text.as_slice(), Ok(())),
+            Err(because) => return ended(writer, text.as_slice(), Err(because)),
+        };
+        written = match append_masked(
+            alloc, rules, number, &whole, written, limits, &mut room, &mut text,
+        ) {
+            Ok(after) => after,
+            Err(because) => return ended(writer, text.as_slice(), Err(because)),
+        };
+        records.recycle(whole);
+        if text.len() >= PIECE || !records.has_next() {
+            if write_all(writer, text.as_slice()).is_err() {
+                return Err(Refused::WriteFault);
+            }
+            text.clear();
+        }
+    }
+}
+
+/// Reads a recording and writes it masked, record by record.
+///
+/// Applies the rules to each message and writes its canonical content. Events that the rules drop
+/// are not written. A message is checked only for being JSON whose numbers, after masking, are
+/// integers of 64 bits.
+///
+/// Reads at most 65,536 bytes past a record before that record is written, and at most one byte
+/// past `limits.input`. Masked records that are buffered together are written together. If a record
+/// is rejected, the records before it have been written. The output is flushed at the end, even
+/// before a rejection is returned. Records are numbered from 1 in the order of the input, including
+/// the dropped ones.
+///
+/// # Errors
+///
+/// - The first error of the input, if it is rejected.
+/// - `ReadFault`: the reader failed, and the bytes read before are not rejected.
+/// - `WriteFault`: the writer failed. It replaces a rejection if the flush before it fails.
+/// - `Memory`: an allocation failed. The writer is not flushed.
+pub fn mask<R: Source, W: Sink>(
+    alloc: Global,
+    rules: &MaskRules,
+    reader: &mut R,
+    writer: &mut W,
+    limits: Limits,
+) -> Result<(), Refused>
+    requires limits { AreSound limits }
+    requires given { R.given reader.old < 2 ^ 62 }
+    requires read_failures { R.failures reader.old < 2 ^ 62 }
+    requires write_failures { W.failures writer.old < 2 ^ 62 }
+
+    // The masked output of the input is written and flushed. If a record is rejected, the output of
+    // the records before it is written and flushed. If an allocation fails, nothing is flushed
+    // after it. If the writer fails, a prefix of the output is written. `ReadFault` and
+    // `WriteFault` are returned if and only if the reader or the writer failed.
+    ensures outcome { Streams (masking limits (mask_of rules.now)) (Masks limits (mask_of
+        rules.now))
+        (IsMaskedTo limits (mask_of rules.now)) R.Source W.Sink reader.old reader.new
+        writer.old writer.new result }
+
+    // At most one byte past the limit is read.
+    ensures taken { R.given reader.new ≤ R.given reader.old + limits.input + 1 }
+{
+    let frames = RecordReader::new(alloc, limits.frame);
+    let mut records = match Records::new(alloc, frames, limits.input) {
+        Ok(records) => records,
+        Err(_) => return Err(Refused::Memory),
+    };
+    mask_records(alloc, rules, &mut records, reader, writer, limits)
+}

@@ -1,0 +1,38 @@
+//! Masks a recording in memory.
+ghost use Rattle.std.specs.Prelude.{IfErr, IfOk};
+ghost use Rattle.dap_input.specs.Limits.{AreSound};
+ghost use Rattle.dap_mask.specs.KeptRules.{mask_of};
+ghost use Rattle.dap_rules.specs.MaskedRecordings.{IsMaskedTo};
+ghost use Rattle.dap_rules.specs.Applying.{RefusesToMask};
+
+use crate::text_sink::{TextSink, is_out_of_memory};
+use dap_device::MemorySource;
+use dap_input::{Limits, Refused};
+use dap_mask::MaskRules;
+use crate::mask;
+use std::alloc::Global;
+
+/// Returns the text of a masked recording, as [`mask`] writes it.
+///
+/// # Errors
+///
+/// The first error of the recording, or `Memory`. Records are numbered from 1 in the recording.
+pub fn mask_bytes(
+    alloc: Global,
+    rules: &MaskRules,
+    recording: &[u8],
+    limits: Limits,
+) -> Result<Vec<u8>, Refused>
+    requires limits { AreSound limits }
+    ensures ok { IfOk result
+        (λ masked. IsMaskedTo limits (mask_of rules.now) recording.now masked.items) }
+    ensures err { IfErr result (RefusesToMask limits (mask_of rules.now) recording.now) }
+{
+    let mut reader = MemorySource::new(recording);
+    let mut writer = TextSink::new(alloc);
+    match mask(alloc, rules, &mut reader, &mut writer, limits) {
+        Ok(()) => Ok(writer.into_bytes()),
+        Err(refused) if is_out_of_memory(refused) => Err(Refused::Memory),
+        Err(refused) => Err(refused),
+    }
+}

@@ -1,0 +1,141 @@
+//! Puts the records of a recording in order.
+ghost use Rattle.std.specs.Prelude.{◌≡◌, ◌+◌, ◌<◌, ◌≤◌, ◌^◌, IfErr, IfOk, IsErrOf};
+ghost use Rattle.dap_message.specs.SwapRules.{swaps_of};
+ghost use Rattle.dap_input.specs.Engine.{Answers};
+ghost use Rattle.dap_input.specs.Limits.{AreSound};
+ghost use Rattle.dap_rules.specs.Ordering.{IsNotOrdered, Orders, ReadsSomeOrAll};
+ghost use Rattle.dap_rules.specs.Ordering.{RefusesToOrder};
+ghost use Rattle.dap_rules.specs.OrderingSteps.{IsSession, WritesInOrder, result_of_input};
+
+use crate::checking::check_bytes;
+use crate::order_reading::read_messages;
+use crate::writing::text_of_places;
+use dap_device::{Sink, Source, Stop, read_all, write_and_flush};
+use dap_input::{Limits, Refused};
+use dap_message::SwapRule;
+use dap_recording::RecordCause;
+use dap_rename::Mode;
+use dap_swaps::put_in_order;
+use std::alloc::Global;
+
+/// Returns the text of the records of a recording in order.
+///
+/// [`put_in_order`] defines the order. Each record is written with the canonical content of its
+/// message; ids are unchanged. The recording and the returned text are both checked in the same way
+/// as by [`check`](dap_normal::check) in this mode.
+///
+/// Buffers the messages of the recording, and the text. Reads the recording twice, once to check it
+/// and once for its messages, and the text once.
+///
+/// # Errors
+///
+/// - The first error of the recording, if it is rejected. Records are numbered from 1 in their
+///   order in the recording.
+/// - `Grew`: the recording is accepted, but its text in order or the normal form of that text
+///   exceeds `limits`. Records are numbered from 1 in the order of the text.
+/// - `TooManyIds`, only in `Mode::PerStop`: the recording is accepted, but its text in order has
+///   too many ids in a class. If a message moves past a `stopped` event, its ids belong to another
+///   class. Records are numbered from 1 in the order of the text.
+/// - `Memory`: an allocation failed.
+pub fn order_bytes(
+    alloc: Global,
+    rules: &[SwapRule],
+    recording: &[u8],
+    limits: Limits,
+    mode: Mode,
+) -> Result<Vec<u8>, Refused>
+    requires limits { AreSound limits }
+    ensures ok { IfOk result
+        (λ text. Orders limits mode (swaps_of rules.now) recording.now text.items) }
+    ensures err { IfErr result (RefusesToOrder limits mode (swaps_of rules.now) recording.now) }
+{
+    check_bytes(alloc, recording, limits, mode)?;
+    let text = text_in_order(alloc, rules, recording, limits, mode)?;
+    check_bytes(alloc, text.as_slice(), limits, mode)?;
+    Ok(text)
+}
+
+/// Returns the text of the records of a recording in order. The recording must be accepted within
+/// these limits.
+fn text_in_order(
+    alloc: Global,
+    rules: &[SwapRule],
+    recording: &[u8],
+    limits: Limits,
+    mode: Mode,
+) -> Result<Vec<u8>, Refused>
+    requires limits { AreSound limits }
+    requires session { IsSession limits mode recording.now }
+    ensures { WritesInOrder limits mode (swaps_of rules.now) recording.now result }
+{
+    let messages = read_messages(alloc, recording, limits, mode)?;
+    let Ok(places) = put_in_order(alloc, rules, messages.as_slice()) else {
+        return Err(Refused::Memory);
+    };
+    text_of_places(alloc, messages.as_slice(), places.as_slice(), limits)
+}
+
+/// Reads a recording and writes its records in order, as [`order_bytes`] returns them.
+///
+/// Reads the whole input, at most one byte past `limits.input`, before it writes. If the input or
+/// its text is rejected, nothing is written. The output is flushed.
+///
+/// # Errors
+///
+/// Those of [`order_bytes`], and:
+///
+/// - `ReadFault`: the reader failed, and the bytes read before contain no error other than being
+///   incomplete.
+/// - `WriteFault`: the writer failed. A prefix of the text was written.
+pub fn order<R: Source, W: Sink>(
+    alloc: Global,
+    rules: &[SwapRule],
+    reader: &mut R,
+    writer: &mut W,
+    limits: Limits,
+    mode: Mode,
+) -> Result<(), Refused>
+    requires limits { AreSound limits }
+    requires given { R.given reader.old < 2 ^ 62 }
+    requires read_failures { R.failures reader.old < 2 ^ 62 }
+    requires write_failures { W.failures writer.old < 2 ^ 62 }
+
+    // The text of the input in order is written and flushed. If the writer fails, a prefix of the
+    // text is written and `WriteFault` is returned. With any other error, nothing is written.
+    // `ReadFault` is returned only if the reader failed.
+    ensures outcome { Answers R.Source W.Sink limits.input (Orders limits mode (swaps_of rules.now))
+        (IsNotOrdered limits mode (swaps_of rules.now)) reader.old reader.new writer.old writer.new
+        result }
+
+    // If an allocation failed, a prefix of the input was read, or all of it.
+    ensures memory { IsErrOf result Refused.Memory
+        → ReadsSomeOrAll R.Source limits.input reader.old reader.new }
+
+    // At most one byte past the limit is read.
+    ensures taken { R.given reader.new ≤ R.given reader.old + limits.input + 1 }
+{
+    let input = match read_all(alloc, reader, limits.input) {
+        Ok(input) => input,
+        Err(_) => return Err(Refused::Memory),
+    };
+    let text = text_of_input(
+        order_bytes(alloc, rules, input.bytes.as_slice(), limits, mode),
+        input.stop,
+    )?;
+    match write_and_flush(writer, text.as_slice()) {
+        Ok(()) => Ok(()),
+        Err(_) => Err(Refused::WriteFault),
+    }
+}
+
+/// Returns the result of ordering the bytes of an input. If the reader failed after them and they
+/// contain no error other than being incomplete, returns `ReadFault`.
+fn text_of_input(ordered: Result<Vec<u8>, Refused>, stop: Stop) -> Result<Vec<u8>, Refused>
+    ensures { result ≡ result_of_input ordered stop }
+{
+    match (ordered, stop) {
+        (Ok(_), Stop::Failed) => Err(Refused::ReadFault),
+        (Err(Refused::Record(_, RecordCause::Cut)), Stop::Failed) => Err(Refused::ReadFault),
+        (ordered, _) => ordered,
+    }
+}
