@@ -16,11 +16,11 @@ use Rattle.dap_input.specs.Limits.{AreSound}
 use Rattle.dap_input.specs.ReadTo.{has_failed, so_far}
 use Rattle.dap_input.specs.Refusals.{IsRefused, RefusalMatches, reason_of}
 use Rattle.dap_input.proofs.Refusals.{cut_told, refused_as}
-use Rattle.dap_normal.specs.Accepting.{IsAccepted, RecordingRefusalStays, accepting}
-use Rattle.dap_normal.specs.Checking.{Checks, HasChecked}
-use Rattle.dap_normal.specs.Normalising.{RefusesBytes}
-use Rattle.dap_normal.specs.Streaming.{RefusesNext}
-use Rattle.dap_normal.specs.declared.checked.Checked.{Checked}
+use Rattle.dap_normalise.specs.Accepting.{IsAccepted, RecordingRefusalStays, accepting}
+use Rattle.dap_normalise.specs.Checking.{Checks, HasChecked}
+use Rattle.dap_normalise.specs.Normalising.{RefusesBytes}
+use Rattle.dap_normalise.specs.Streaming.{RefusesNext}
+use Rattle.dap_normalise.specs.declared.checked.Checked.{Checked}
 use Rattle.callers.specs.declared.judged_pieces.Arriving.{Arriving}
 use Rattle.callers.specs.Arriving.{bytes_left, given_so_far}
 use Rattle.callers.specs.Pieces.{IsJudged}

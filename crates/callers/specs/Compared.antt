@@ -7,8 +7,8 @@ use Rattle.dap_rename.specs.Modes.{stop_in}
 use Rattle.dap_rename.specs.declared.mode.Mode.{Mode}
 use Rattle.dap_input.specs.declared.limits.Limits.{Limits}
 use Rattle.dap_input.specs.declared.refused.Refused.{Refused}
-use Rattle.dap_normal.specs.Accepting.{IsAccepted}
-use Rattle.dap_normal.specs.Normalising.{RefusesBytes}
+use Rattle.dap_normalise.specs.Accepting.{IsAccepted}
+use Rattle.dap_normalise.specs.Normalising.{RefusesBytes}
 
 -- Both recordings are accepted, and the result is true if and only if a one-to-one renaming of ids
 -- maps the messages of `a`, in order, to those of `b`.

@@ -9,8 +9,8 @@ use Rattle.dap_rename.specs.declared.mode.Mode.{Mode}
 use Rattle.dap_input.specs.declared.limits.Limits.{Limits}
 use Rattle.dap_input.specs.declared.refused.Refused.{Refused}
 use Rattle.dap_input.specs.declared.refused.Refused.TheVariants.{WriteFault}
-use Rattle.dap_normal.specs.Accepting.{IsAccepted}
-use Rattle.dap_normal.specs.Normalising.{IsCanonical, Normalises, RefusesBytes}
+use Rattle.dap_normalise.specs.Accepting.{IsAccepted}
+use Rattle.dap_normalise.specs.Normalising.{IsCanonical, Normalises, RefusesBytes}
 
 module _ {W : Type 0} (sink : Sink W) (limits : Limits) (mode : Mode) (recording : List ℕ)
     (old new : W) where

@@ -5,9 +5,9 @@ use Rattle.std.specs.List.{flat_map}
 use Rattle.dap_message.specs.Message.{Sent}
 use Rattle.dap_rename.specs.declared.mode.Mode.{Mode}
 use Rattle.dap_input.specs.declared.limits.Limits.{Limits}
-use Rattle.dap_normal.specs.Accepting.{IsAccepted}
-use Rattle.dap_normal.specs.Checking.{AreCounted}
-use Rattle.dap_normal.specs.declared.checked.Checked.{Checked}
+use Rattle.dap_normalise.specs.Accepting.{IsAccepted}
+use Rattle.dap_normalise.specs.Checking.{AreCounted}
+use Rattle.dap_normalise.specs.declared.checked.Checked.{Checked}
 
 -- The bytes of the chunks, in order.
 abbrev pub joined : List (Bor (List ℕ)) → List ℕ

@@ -1,7 +1,7 @@
 //! Writes a golden file and compares later recordings with it.
 ghost use Rattle.std.specs.Prelude.{◌<◌, ◌^◌, IfErr, IfOk};
 ghost use Rattle.dap_input.specs.Limits.{AreSound};
-ghost use Rattle.dap_normal.specs.Normalising.{RefusesBytes};
+ghost use Rattle.dap_normalise.specs.Normalising.{RefusesBytes};
 ghost use Rattle.callers.specs.Golden.{IsHeldTo, Makes};
 
 use dap_device::write_and_flush;

@@ -1,7 +1,7 @@
 //! Validates a recording that arrives in chunks.
 ghost use Rattle.std.specs.Prelude.{◌≡◌, drop, IfErr, IfOk};
 ghost use Rattle.dap_input.specs.Limits.{AreSound};
-ghost use Rattle.dap_normal.specs.Normalising.{RefusesBytes};
+ghost use Rattle.dap_normalise.specs.Normalising.{RefusesBytes};
 ghost use Rattle.callers.specs.Pieces.{IsJudged, joined};
 
 use dapnorm::{Checked, DeviceFault, Limits, Mode, Refused, Source, check, laws};

@@ -10,19 +10,19 @@ use Rattle.dap_rename.specs.Modes.{stop_in}
 use Rattle.dap_rename.specs.declared.mode.Mode.{Mode}
 use Rattle.dap_rename.proofs.Sameness.{normal_is_unique}
 use Rattle.dap_input.specs.declared.limits.Limits.{Limits}
-use Rattle.dap_normal.specs.Accepting.{IsAccepted, accepting, text}
+use Rattle.dap_normalise.specs.Accepting.{IsAccepted, accepting, text}
 use Rattle.dap_input.specs.Inputs.{Input, IsTaken, IsNotRefusedAt, AcceptedBefore}
 use Rattle.dap_compare.specs.Comparing.{AreSameBefore, are_same, differ}
-use Rattle.dap_normal.specs.JudgingSteps.{record_of}
+use Rattle.dap_normalise.specs.JudgingSteps.{record_of}
 use Rattle.dap_input.specs.Limits.{AreSound}
 use Rattle.dap_input.specs.ReadTo.{IsOf}
 use Rattle.dap_compare.specs.Verdicts.{IsRecordingVerdict}
-use Rattle.dap_normal.proofs.AcceptingFacts.{accepted_facts, value_laws}
+use Rattle.dap_normalise.proofs.AcceptingFacts.{accepted_facts, value_laws}
 use Rattle.dap_input.proofs.InputRefusals.{next_not_refused, taken_not_refused}
-use Rattle.dap_normal.proofs.JudgedRecords.{text_push}
+use Rattle.dap_normalise.proofs.JudgedRecords.{text_push}
 use Rattle.dap_compare.proofs.OneVerdict.{before_same, before_some, whole_before}
 use Rattle.dap_recording.proofs.Records.{readable}
-use Rattle.dap_normal.proofs.NormalFormLaws.{equal_texts}
+use Rattle.dap_normalise.proofs.NormalFormLaws.{equal_texts}
 
 -- ---- an input of which some bytes were read
 

@@ -6,12 +6,12 @@ use Rattle.dap_device.specs.declared.reading.Stop.TheVariants.{End}
 use Rattle.dap_rename.specs.declared.mode.Mode.{Mode}
 use Rattle.dap_input.specs.declared.limits.Limits.{Limits}
 use Rattle.dap_input.proofs.Coming.{came_on}
-use Rattle.dap_normal.specs.declared.normal_records.NormalRecords.{NormalRecords}
-use Rattle.dap_normal.specs.Accepting.{accepting}
-use Rattle.dap_normal.specs.JudgingSteps.{record_of}
-use Rattle.dap_normal.specs.NormalSteps.{HasNext}
-use Rattle.dap_normal.proofs.AcceptingFacts.{accepted_facts, value_laws}
-use Rattle.dap_normal.proofs.StreamLoop.{Going, before_in, next_in, normal_before}
+use Rattle.dap_normalise.specs.declared.normal_records.NormalRecords.{NormalRecords}
+use Rattle.dap_normalise.specs.Accepting.{accepting}
+use Rattle.dap_normalise.specs.JudgingSteps.{record_of}
+use Rattle.dap_normalise.specs.NormalSteps.{HasNext}
+use Rattle.dap_normalise.proofs.AcceptingFacts.{accepted_facts, value_laws}
+use Rattle.dap_normalise.proofs.StreamLoop.{Going, before_in, next_in, normal_before}
 use Rattle.dap_recording.proofs.Records.{readable}
 use Rattle.dap_compare.specs.LeftTexts.{LeavesRecord}
 use Rattle.dap_compare.proofs.ComparingLoop.{taken_in}

@@ -21,27 +21,27 @@ use Rattle.dap_rename.proofs.NormalForms.{same_counts, same_stops}
 use Rattle.dap_rename.proofs.Stops.{mode_is_told}
 use Rattle.dap_rename.proofs.Sameness.{normal_is_complete}
 use Rattle.dap_input.specs.declared.limits.Limits.{Limits}
-use Rattle.dap_normal.specs.declared.judging.Judge.{Judge}
-use Rattle.dap_normal.specs.declared.normal_records.NormalRecords.{NormalRecords}
+use Rattle.dap_normalise.specs.declared.judging.Judge.{Judge}
+use Rattle.dap_normalise.specs.declared.normal_records.NormalRecords.{NormalRecords}
 use Rattle.dap_input.specs.declared.refused.Refused.{Refused}
 use Rattle.dap_input.specs.declared.refused.Refused.TheVariants as why
 use Rattle.dap_compare.specs.declared.verdict.CompareRefused.{CompareRefused}
 use Rattle.dap_compare.specs.declared.verdict.CompareRefused.TheVariants as because
 use Rattle.dap_compare.specs.declared.verdict.Verdict.TheVariants as code
 use Rattle.dap_compare.specs.declared.verdict.Which.TheVariants.{A, B}
-use Rattle.dap_normal.specs.Accepting.{accepting}
+use Rattle.dap_normalise.specs.Accepting.{accepting}
 use Rattle.dap_input.specs.Inputs.{AcceptedBefore, Input, IsNotRefusedAt}
 use Rattle.dap_compare.specs.Comparing.{AreSameBefore, are_same, differ}
-use Rattle.dap_normal.specs.JudgingSteps.{judge_mode, record_of}
+use Rattle.dap_normalise.specs.JudgingSteps.{judge_mode, record_of}
 use Rattle.dap_input.specs.Limits.{AreSound}
-use Rattle.dap_normal.specs.NormalSteps.{HasEnded, HasAdvanced, HasNext, HasStoppedAt}
+use Rattle.dap_normalise.specs.NormalSteps.{HasEnded, HasAdvanced, HasNext, HasStoppedAt}
 use Rattle.dap_input.specs.ReadTo.{IsOf, IsReadTo, so_far}
 use Rattle.dap_compare.specs.ComparingSteps.{AreNext, IsRefusalOf}
 use Rattle.dap_compare.specs.declared.comparing.NextRecords.TheVariants.{Apart}
 use Rattle.dap_compare.specs.Verdicts.{Compares, HasCompared, IsRecordingVerdict}
 use Rattle.dap_input.specs.Refusals.{RefusesAt}
 use Rattle.dap_input.proofs.Refusals.{refused_in}
-use Rattle.dap_normal.proofs.AcceptingFacts.{accepted_facts, value_laws}
+use Rattle.dap_normalise.proofs.AcceptingFacts.{accepted_facts, value_laws}
 use Rattle.dap_recording.proofs.Records.{readable}
 use Rattle.dap_compare.proofs.ComparingLoop.{are_apart, both_have_ended, front_of, goes_on}
 use Rattle.dap_compare.proofs.ComparingLoop.{has_ended, not_the_same, one_form, taken_in}
@@ -49,8 +49,8 @@ use Rattle.dap_compare.proofs.ComparingLoop.{x_has_ended, y_has_ended}
 use Rattle.dap_input.proofs.Coming.{came_on, nothing_came}
 use Rattle.dap_input.proofs.InputLoop.{read_later}
 use Rattle.dap_input.proofs.Runs.{run_none}
-use Rattle.dap_normal.proofs.NormalTexts.{normal}
-use Rattle.dap_normal.proofs.StreamLoop.{Going, before_in, next_in, normal_before}
+use Rattle.dap_normalise.proofs.NormalTexts.{normal}
+use Rattle.dap_normalise.proofs.StreamLoop.{Going, before_in, next_in, normal_before}
 use Rattle.dap_compare.proofs.Verdicts.{same_lengths}
 
 -- Nothing of both inputs has been read.

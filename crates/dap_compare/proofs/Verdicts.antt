@@ -13,18 +13,18 @@ use Rattle.dap_rename.proofs.Sameness.{same_as_itself, same_fronts, same_is_prop
 use Rattle.dap_rename.proofs.Sameness.{equal_places_rename, equal_places_carry}
 use Rattle.dap_input.specs.declared.limits.Limits.{Limits}
 use Rattle.dap_input.specs.Limits.{AreSound}
-use Rattle.dap_normal.specs.Accepting.{IsAccepted, accepting, text}
+use Rattle.dap_normalise.specs.Accepting.{IsAccepted, accepting, text}
 use Rattle.dap_input.specs.Inputs.{Input, IsTaken}
 use Rattle.dap_compare.specs.Comparing.{are_same}
 use Rattle.dap_compare.specs.Verdicts.{RecordingsHaveOneVerdict, SameHasRenaming, SameIffRenaming}
 use Rattle.dap_compare.specs.Verdicts.{IsCarried, SameIsCarried, IsRecordingVerdict}
-use Rattle.dap_normal.proofs.AcceptingFacts.{accepted_facts, messages_proper, value_facts}
-use Rattle.dap_normal.proofs.AcceptingFacts.{value_laws}
+use Rattle.dap_normalise.proofs.AcceptingFacts.{accepted_facts, messages_proper, value_facts}
+use Rattle.dap_normalise.proofs.AcceptingFacts.{value_laws}
 use Rattle.dap_recording.proofs.Records.{readable}
 use Rattle.dap_input.proofs.Outcomes.{one_list}
-use Rattle.dap_normal.specs.Normalising.{Normalises}
-use Rattle.dap_normal.proofs.NormalTexts.{normal}
-use Rattle.dap_normal.proofs.NormalFormLaws.{equal_texts, same_texts}
+use Rattle.dap_normalise.specs.Normalising.{Normalises}
+use Rattle.dap_normalise.proofs.NormalTexts.{normal}
+use Rattle.dap_normalise.proofs.NormalFormLaws.{equal_texts, same_texts}
 use Rattle.dap_input.proofs.InputRefusals.{SameFacts}
 use Rattle.dap_compare.proofs.SomeVerdict.{has_one_verdict}
 

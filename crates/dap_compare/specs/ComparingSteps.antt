@@ -6,8 +6,8 @@ use Rattle.dap_rename.specs.declared.mode.Mode.{Mode}
 use Rattle.dap_input.specs.declared.limits.Limits.{Limits}
 use Rattle.dap_input.specs.declared.refused.Refused.{Refused}
 use Rattle.dap_input.specs.declared.refused.Refused.TheVariants as why
-use Rattle.dap_normal.specs.declared.normal_records.NormalRecords.{NormalRecords}
-use Rattle.dap_normal.specs.NormalSteps.{HasNext, HasStoppedAt}
+use Rattle.dap_normalise.specs.declared.normal_records.NormalRecords.{NormalRecords}
+use Rattle.dap_normalise.specs.NormalSteps.{HasNext, HasStoppedAt}
 use Rattle.dap_compare.specs.declared.comparing.NextRecords.{NextRecords}
 use Rattle.dap_compare.specs.declared.comparing.NextRecords.TheVariants.{Alike, Apart, NoneLeft}
 use Rattle.dap_compare.specs.declared.verdict.CompareRefused.{CompareRefused}

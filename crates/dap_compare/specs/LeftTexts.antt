@@ -10,8 +10,8 @@ use Rattle.dap_rename.specs.declared.mode.Mode.{Mode}
 use Rattle.dap_input.specs.declared.limits.Limits.{Limits}
 use Rattle.dap_input.specs.Inputs.{Input, AcceptedBefore}
 use Rattle.dap_input.specs.ReadTo.{IsOf}
-use Rattle.dap_normal.specs.Accepting.{accepting}
-use Rattle.dap_normal.specs.JudgingSteps.{record_of}
+use Rattle.dap_normalise.specs.Accepting.{accepting}
+use Rattle.dap_normalise.specs.JudgingSteps.{record_of}
 use Rattle.dap_compare.specs.declared.verdict.CompareRefused.{CompareRefused}
 use Rattle.dap_compare.specs.declared.verdict.Verdict.{Verdict as CodeVerdict}
 use Rattle.dap_compare.specs.declared.verdict.Verdict.TheVariants as code

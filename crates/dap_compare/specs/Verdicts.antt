@@ -18,7 +18,7 @@ use Rattle.dap_compare.specs.declared.verdict.Verdict.{Verdict as CodeVerdict}
 use Rattle.dap_compare.specs.declared.verdict.Verdict.TheVariants as code
 use Rattle.dap_compare.specs.declared.verdict.Which.TheVariants.{A, B}
 use Rattle.dap_input.specs.Limits.{AreSound}
-use Rattle.dap_normal.specs.Accepting.{accepting}
+use Rattle.dap_normalise.specs.Accepting.{accepting}
 use Rattle.dap_input.specs.Refusals.{RefusalMatches}
 use Rattle.dap_device.specs.Pieces.{HasReadSoFar}
 use Rattle.dap_input.specs.ReadTo.{IsOf, IsReadTo}

@@ -1,17 +1,17 @@
 //! Compares recordings.
 ghost use Rattle.std.specs.Prelude.{◌+◌, ◌-◌, ◌<◌, ◌≤◌, ◌^◌, ℕ, List, []};
 ghost use Rattle.dap_message.specs.Message.{Sent};
-ghost use Rattle.dap_normal.specs.NormalSteps.{RepresentsBefore};
+ghost use Rattle.dap_normalise.specs.NormalSteps.{RepresentsBefore};
 ghost use Rattle.dap_compare.specs.ComparingSteps.{AreNext, IsRefusalOf, HasNextOutcome};
 ghost use Rattle.dap_input.specs.Limits.{AreSound};
-ghost use Rattle.dap_normal.specs.NameTables.{AreReady};
+ghost use Rattle.dap_normalise.specs.NameTables.{AreReady};
 ghost use Rattle.dap_compare.specs.LeftTexts.{LeavesDifference};
 ghost use Rattle.dap_compare.specs.Verdicts.{Compares};
 
 use crate::verdict::{CompareRefused, Verdict, Which};
 use dap_device::Source;
 use dap_input::{Limits, Refused};
-use dap_normal::{NormalRecords, index_tables};
+use dap_normalise::{NormalRecords, index_tables};
 use dap_rename::{Mode, NameTable, Tables};
 use std::alloc::Global;
 

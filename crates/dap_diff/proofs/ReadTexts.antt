@@ -23,9 +23,9 @@ use Rattle.dap_input.specs.Validation.{broken, too_many_ids, grew}
 use Rattle.dap_input.specs.Refusals.{IsObjected, RejectsPayload, reason_of}
 use Rattle.dap_input.specs.declared.refused.Refused.{Refused}
 use Rattle.dap_input.specs.declared.refused.Refused.TheVariants as why
-use Rattle.dap_normal.specs.Accepting.{Payload, HoldsNoMessage, IsMessage}
-use Rattle.dap_normal.specs.JudgingSteps.{payload_of}
-use Rattle.dap_normal.proofs.AcceptingFacts.{message_once}
+use Rattle.dap_normalise.specs.Accepting.{Payload, HoldsNoMessage, IsMessage}
+use Rattle.dap_normalise.specs.JudgingSteps.{payload_of}
+use Rattle.dap_normalise.proofs.AcceptingFacts.{message_once}
 use Rattle.dap_diff.specs.Texts.{IsRecordOf, IsLeftText}
 use Rattle.dap_diff.proofs.Texts.{record_here}
 

@@ -19,10 +19,10 @@ use Rattle.dap_input.specs.declared.limits.Limits.{Limits}
 use Rattle.dap_input.specs.Inputs.{Input}
 use Rattle.dap_input.specs.Limits.{AreSound}
 use Rattle.dap_input.specs.ReadTo.{IsOf, so_far}
-use Rattle.dap_normal.specs.Accepting.{Payload, AreMessages, IsAccepted, IsMessage, text}
-use Rattle.dap_normal.specs.JudgingSteps.{record_of}
-use Rattle.dap_normal.proofs.AcceptingFacts.{message_once}
-use Rattle.dap_normal.proofs.NormalFormLaws.{normal_accepted}
+use Rattle.dap_normalise.specs.Accepting.{Payload, AreMessages, IsAccepted, IsMessage, text}
+use Rattle.dap_normalise.specs.JudgingSteps.{record_of}
+use Rattle.dap_normalise.proofs.AcceptingFacts.{message_once}
+use Rattle.dap_normalise.proofs.NormalFormLaws.{normal_accepted}
 use Rattle.dap_compare.specs.LeftTexts.{IsRecordAt, LeavesRecord}
 use Rattle.dap_compare.specs.Verdicts.{Compares}
 use Rattle.dap_compare.specs.declared.verdict.CompareRefused.TheVariants.{Memory}

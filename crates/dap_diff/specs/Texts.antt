@@ -3,7 +3,7 @@ use Rattle.std.specs.Prelude.{◌≡◌, ◌≤◌, ℕ, List, [], length, Optio
 use Rattle.dap_tree.specs.Json.{text_of}
 use Rattle.dap_message.specs.Message.{Sent, IsTypedContent}
 use Rattle.dap_input.specs.declared.limits.Limits.{Limits}
-use Rattle.dap_normal.specs.JudgingSteps.{record_of}
+use Rattle.dap_normalise.specs.JudgingSteps.{record_of}
 use Rattle.dap_diff.specs.Diffs.{diff_lines}
 
 -- The text is the record of this message, whose content is within the limit and is that of the

@@ -1,7 +1,7 @@
 //! Finds the differences of two recordings.
 ghost use Rattle.std.specs.Prelude.{◌+◌, ◌<◌, ◌≤◌, ◌^◌, IfOk};
 ghost use Rattle.dap_input.specs.Limits.{AreSound};
-ghost use Rattle.dap_normal.specs.NameTables.{AreReady};
+ghost use Rattle.dap_normalise.specs.NameTables.{AreReady};
 ghost use Rattle.dap_diff.specs.Diffs.{DescribesDifference};
 ghost use Rattle.dap_diff.specs.Texts.{IsLeftText, DescribesTexts};
 
@@ -11,7 +11,7 @@ use crate::reading::message_in;
 use dap_compare::{CompareRefused, Verdict, compare_texts_with};
 use dap_device::Source;
 use dap_input::Limits;
-use dap_normal::index_tables;
+use dap_normalise::index_tables;
 use dap_rename::{Mode, NameTable, Tables};
 use std::alloc::{AllocError, Global};
 

@@ -2,8 +2,8 @@
 ghost use Rattle.std.specs.Prelude.{◌≡◌, IfOk, option_map, true};
 ghost use Rattle.dap_input.specs.Limits.{AreSound};
 ghost use Rattle.dap_message.specs.Message.{Sent, doc_of, sent};
-ghost use Rattle.dap_normal.specs.Accepting.{IsMessage};
-ghost use Rattle.dap_normal.specs.JudgingSteps.{payload_of};
+ghost use Rattle.dap_normalise.specs.Accepting.{IsMessage};
+ghost use Rattle.dap_normalise.specs.JudgingSteps.{payload_of};
 ghost use Rattle.dap_tree.specs.Doc.{is_sound};
 ghost use Rattle.dap_tree.specs.Ids.{without_ids};
 ghost use Rattle.dap_tree.specs.View.{view};
@@ -11,7 +11,7 @@ ghost use Rattle.dap_diff.specs.Texts.{Holds, IsLeftText, IsRecordOf, IsRecordTe
 
 use dap_input::{Limits, Refused};
 use dap_message::Message;
-use dap_normal::read_message;
+use dap_normalise::read_message;
 use dap_recording::{FedRecord, Record, RecordCause, RecordReader};
 use dap_tree::{Scratch, Tree, TreeFault, read_tree};
 use std::alloc::{AllocError, Global};

@@ -1,6 +1,6 @@
 //! Explains why a job with one input rejected it.
 ghost use Rattle.dap_input.specs.Limits.{AreSound};
-ghost use Rattle.dap_normal.specs.NameTables.{AreReady};
+ghost use Rattle.dap_normalise.specs.NameTables.{AreReady};
 ghost use Rattle.dap_rename.specs.IndexNames.{index_limit, index_numbers};
 
 use dap_commands::Job;
@@ -8,7 +8,7 @@ use dap_compact::compact;
 use dap_device::{MemorySource, StdSink};
 use crate::explain;
 use dap_input::{Limits, Refused};
-use dap_normal::{check_with, normalise_with};
+use dap_normalise::{check_with, normalise_with};
 use dap_rename::{IndexNames, Tables};
 use dap_show::show;
 use dap_trace::record;

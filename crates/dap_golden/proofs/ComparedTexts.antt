@@ -12,10 +12,10 @@ use Rattle.dap_input.specs.declared.refused.Refused.{Refused}
 use Rattle.dap_input.specs.Inputs.{Fault, IsRefusedAt, refused, read_fault}
 use Rattle.dap_input.specs.Limits.{AreSound}
 use Rattle.dap_input.specs.ReadTo.{IsOf}
-use Rattle.dap_normal.specs.Accepting.{accepting, text}
-use Rattle.dap_normal.specs.Normalising.{Normalises}
-use Rattle.dap_normal.proofs.NormalFormLaws.{equal_texts_tell, has_one_normal_form}
-use Rattle.dap_normal.proofs.WholeInput.{memory}
+use Rattle.dap_normalise.specs.Accepting.{accepting, text}
+use Rattle.dap_normalise.specs.Normalising.{Normalises}
+use Rattle.dap_normalise.proofs.NormalFormLaws.{equal_texts_tell, has_one_normal_form}
+use Rattle.dap_normalise.proofs.WholeInput.{memory}
 use Rattle.dap_rules.proofs.MemoryInputs.{came_of, reported}
 use Rattle.dap_rules.proofs.OrderedTexts.{one_accepted}
 use Rattle.dap_compare.specs.Comparing.{are_same, differ}

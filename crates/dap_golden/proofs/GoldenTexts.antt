@@ -10,8 +10,8 @@ use Rattle.dap_input.specs.declared.limits.Limits.{Limits}
 use Rattle.dap_input.specs.declared.refused.Refused.{Refused}
 use Rattle.dap_input.specs.declared.refused.Refused.TheVariants.{Memory}
 use Rattle.dap_rules.specs.MaskedRecordings.{IsMaskedTo}
-use Rattle.dap_normal.specs.declared.checked.Checked.{Checked}
-use Rattle.dap_normal.specs.Checking.{AreCounted}
+use Rattle.dap_normalise.specs.declared.checked.Checked.{Checked}
+use Rattle.dap_normalise.specs.Checking.{AreCounted}
 use Rattle.dap_rules.specs.Applying.{IsRefusedByRules, RefusesOrderBy, RefusesToMask}
 use Rattle.dap_rules.specs.Memory.{IsOutOfMemory}
 use Rattle.dap_rules.specs.declared.fault.ApplyRefused.{ApplyRefused}

@@ -16,10 +16,10 @@ use Rattle.dap_input.specs.declared.refused.Refused.TheVariants.{Incomplete}
 use Rattle.dap_input.proofs.ItemReaders.{shown_cause}
 use Rattle.dap_input.proofs.OneOutcome.{has_one_outcome}
 use Rattle.dap_trace.proofs.TraceOutcomes.{traces_have_one_outcome}
-use Rattle.dap_normal.specs.Accepting.{IsAccepted, accepting}
-use Rattle.dap_normal.specs.Normalising.{Normalises}
-use Rattle.dap_normal.proofs.AcceptingFacts as normal
-use Rattle.dap_normal.proofs.NormalFormLaws.{one_normal_text}
+use Rattle.dap_normalise.specs.Accepting.{IsAccepted, accepting}
+use Rattle.dap_normalise.specs.Normalising.{Normalises}
+use Rattle.dap_normalise.proofs.AcceptingFacts as normal
+use Rattle.dap_normalise.proofs.NormalFormLaws.{one_normal_text}
 use Rattle.dap_rules.proofs.OrderedTexts.{one_accepted}
 use Rattle.dap_rules.specs.Applying.{IsRefusedByRules}
 use Rattle.dap_rules.specs.declared.fault.ApplyRefused.{ApplyRefused}

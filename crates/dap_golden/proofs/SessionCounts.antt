@@ -3,11 +3,11 @@ use Rattle.std.proofs.Common.{◌≡◌, ℕ, false, List, ◌∙◌, subst}
 use Rattle.dap_device.specs.Memory.{GivenBytes}
 use Rattle.dap_rename.specs.declared.mode.Mode.{Mode}
 use Rattle.dap_input.specs.declared.limits.Limits.{Limits}
-use Rattle.dap_normal.specs.Accepting.{IsAccepted}
-use Rattle.dap_normal.specs.Checking.{AreCounted, HasChecked}
-use Rattle.dap_normal.specs.Normalising.{IsCanonical}
-use Rattle.dap_normal.specs.declared.checked.Checked.{Checked}
-use Rattle.dap_normal.proofs.WholeInput.{memory}
+use Rattle.dap_normalise.specs.Accepting.{IsAccepted}
+use Rattle.dap_normalise.specs.Checking.{AreCounted, HasChecked}
+use Rattle.dap_normalise.specs.Normalising.{IsCanonical}
+use Rattle.dap_normalise.specs.declared.checked.Checked.{Checked}
+use Rattle.dap_normalise.proofs.WholeInput.{memory}
 use Rattle.dap_rules.proofs.MemoryInputs.{all_came}
 use Rattle.dap_rules.proofs.OrderedTexts.{one_accepted}
 

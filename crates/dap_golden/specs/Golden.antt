@@ -22,8 +22,8 @@ use Rattle.dap_rules.specs.Applying.{AppliesRules, IsRefusedByRules}
 use Rattle.dap_rules.specs.Modes.{mode_by}
 use Rattle.dap_rules.specs.declared.fault.ApplyRefused.{ApplyRefused}
 use Rattle.dap_rules.specs.declared.fault.ApplyRefused.TheVariants as step
-use Rattle.dap_normal.specs.Accepting.{IsAccepted, accepting}
-use Rattle.dap_normal.specs.Normalising.{IsCanonical}
+use Rattle.dap_normalise.specs.Accepting.{IsAccepted, accepting}
+use Rattle.dap_normalise.specs.Normalising.{IsCanonical}
 use Rattle.dap_golden.specs.declared.fault.GoldenRefused.{GoldenRefused}
 use Rattle.dap_golden.specs.declared.fault.GoldenRefused.TheVariants as because
 use Rattle.dap_golden.specs.declared.golden.GoldenText.{GoldenText}

@@ -8,7 +8,7 @@ use Rattle.dap_input.specs.declared.limits.Limits.{Limits}
 use Rattle.dap_input.specs.Refusals.{IsRefused}
 use Rattle.dap_trace.specs.Tracing.{IsTraceRefused}
 use Rattle.dap_rules.specs.Masking.{masking}
-use Rattle.dap_normal.specs.Accepting.{IsAccepted}
+use Rattle.dap_normalise.specs.Accepting.{IsAccepted}
 use Rattle.dap_rules.specs.Applying.{IsNotOrderedBy, IsRefusedByRules}
 use Rattle.dap_rules.specs.declared.fault.ApplyRefused.TheVariants as step
 use Rattle.dap_golden.specs.declared.fault.GoldenRefused.{GoldenRefused}

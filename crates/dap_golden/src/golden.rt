@@ -19,7 +19,7 @@ use crate::trace_head::is_trace;
 use dap_device::MemorySource;
 use dap_input::{Limits, Refused};
 use dap_mask::MaskRules;
-use dap_normal::Checked;
+use dap_normalise::Checked;
 use dap_rename::Mode;
 use dap_rules::{TextSink, is_out_of_memory, mask_bytes, mode_by, order_masked};
 use dap_trace::record;
@@ -250,7 +250,7 @@ pub(crate) fn golden_text_in(
 /// An input that starts with a marker, decimal digits and LF is a trace, and is recorded. Any other
 /// input is a recording. If there are rules, the recording is masked, and then put in order if some
 /// of the rules are for the order. The resulting session is checked in the same way as by
-/// [`check`](dap_normal::check), and normalised. It must have at least one record. Each request
+/// [`check`](dap_normalise::check), and normalised. It must have at least one record. Each request
 /// must have a response, unless `allow_open` is set.
 ///
 /// If the rules have the line `per-stop`, the mode is `PerStop`.

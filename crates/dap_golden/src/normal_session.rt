@@ -1,15 +1,15 @@
 //! Normalises a recording in memory in one pass, and counts its records and unanswered requests.
 ghost use Rattle.std.specs.Prelude.{◌≡◌, [], IfErr, IfOk};
 ghost use Rattle.dap_input.specs.Limits.{AreSound};
-ghost use Rattle.dap_normal.specs.NameTables.{AreReady};
-ghost use Rattle.dap_normal.specs.NormalSteps.{RepresentsBefore};
-ghost use Rattle.dap_normal.specs.Normalising.{RefusesBytes};
+ghost use Rattle.dap_normalise.specs.NameTables.{AreReady};
+ghost use Rattle.dap_normalise.specs.NormalSteps.{RepresentsBefore};
+ghost use Rattle.dap_normalise.specs.Normalising.{RefusesBytes};
 ghost use Rattle.dap_golden.specs.NormalSession.{IsNormalSession};
 
 use dap_device::MemorySource;
 use dap_input::{Limits, Refused};
 use dap_message::Side;
-use dap_normal::{Checked, NormalRecords, index_tables};
+use dap_normalise::{Checked, NormalRecords, index_tables};
 use dap_rename::{Mode, NameTable, Tables};
 use std::alloc::Global;
 
@@ -20,8 +20,8 @@ pub struct NormalSession {
     pub counts: Checked,
 }
 
-/// Does the same as [`normalise_bytes`](dap_normal::normalise_bytes) and
-/// [`check`](dap_normal::check), in one pass.
+/// Does the same as [`normalise_bytes`](dap_normalise::normalise_bytes) and
+/// [`check`](dap_normalise::check), in one pass.
 ///
 /// # Errors
 ///

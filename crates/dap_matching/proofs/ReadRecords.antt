@@ -8,11 +8,11 @@ use Rattle.dap_input.specs.declared.refused.Refused.TheVariants as why
 use Rattle.dap_compare.specs.ComparingSteps.{IsRefusalOf}
 use Rattle.dap_compare.specs.declared.verdict.CompareRefused.{CompareRefused}
 use Rattle.dap_compare.specs.declared.verdict.Which.{Which}
-use Rattle.dap_normal.specs.Accepting.{text}
-use Rattle.dap_normal.specs.NormalSteps.{HasAdvanced, HasEnded, HasStoppedAt}
-use Rattle.dap_normal.specs.declared.normal_records.NormalRecords.{NormalRecords}
-use Rattle.dap_normal.proofs.StreamAnswers.{check_refuses}
-use Rattle.dap_normal.proofs.StreamLoop.{Going, all_came, come_to, normal_before}
+use Rattle.dap_normalise.specs.Accepting.{text}
+use Rattle.dap_normalise.specs.NormalSteps.{HasAdvanced, HasEnded, HasStoppedAt}
+use Rattle.dap_normalise.specs.declared.normal_records.NormalRecords.{NormalRecords}
+use Rattle.dap_normalise.proofs.StreamAnswers.{check_refuses}
+use Rattle.dap_normalise.proofs.StreamLoop.{Going, all_came, come_to, normal_before}
 use Rattle.dap_matching.specs.Matching.{HasNormalText, RanOutOfMemory, Reads}
 
 module _ {T R : Type 0} (numbers : T → List ℤ) (table_limit : T → ℕ) (source : Source R)

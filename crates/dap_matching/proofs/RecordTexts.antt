@@ -5,8 +5,8 @@ use Rattle.dap_input.specs.declared.limits.Limits.{Limits}
 use Rattle.dap_input.specs.declared.refused.Refused.{Refused}
 use Rattle.dap_input.specs.declared.refused.Refused.TheVariants as why
 use Rattle.dap_message.specs.Message.{Sent}
-use Rattle.dap_normal.specs.Accepting.{Payload, HoldsNoMessage, IsMessage}
-use Rattle.dap_normal.specs.JudgingSteps.{record_of}
+use Rattle.dap_normalise.specs.Accepting.{Payload, HoldsNoMessage, IsMessage}
+use Rattle.dap_normalise.specs.JudgingSteps.{record_of}
 use Rattle.dap_diff.specs.Texts.{IsLeftText, IsRecordOf, IsRecordText}
 use Rattle.dap_diff.proofs.ReadTexts.{refused_none}
 

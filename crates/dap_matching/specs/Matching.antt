@@ -6,8 +6,8 @@ use Rattle.dap_input.specs.declared.limits.Limits.{Limits}
 use Rattle.dap_input.specs.declared.refused.Refused.{Refused}
 use Rattle.dap_input.specs.declared.refused.Refused.TheVariants as why
 use Rattle.dap_input.specs.Engine.{Accepts}
-use Rattle.dap_normal.specs.Checking.{Checks}
-use Rattle.dap_normal.specs.Normalising.{Normalises}
+use Rattle.dap_normalise.specs.Checking.{Checks}
+use Rattle.dap_normalise.specs.Normalising.{Normalises}
 use Rattle.dap_compare.specs.declared.verdict.CompareRefused.{CompareRefused}
 use Rattle.dap_compare.specs.declared.verdict.CompareRefused.TheVariants.{Input, Memory}
 use Rattle.dap_compare.specs.declared.verdict.Which.{Which}

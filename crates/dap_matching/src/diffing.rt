@@ -1,7 +1,7 @@
 //! Compares all records of two recordings.
 ghost use Rattle.std.specs.Prelude.{◌+◌, ◌<◌, ◌≤◌, ◌^◌};
 ghost use Rattle.dap_input.specs.Limits.{AreSound};
-ghost use Rattle.dap_normal.specs.NameTables.{AreReady};
+ghost use Rattle.dap_normalise.specs.NameTables.{AreReady};
 ghost use Rattle.dap_matching.specs.Matching.{DiffersAll, FindsDifferences};
 
 use crate::entry::Recording;
@@ -11,7 +11,7 @@ use crate::report::report_lines;
 use dap_compare::{CompareRefused, Which};
 use dap_device::Source;
 use dap_input::Limits;
-use dap_normal::index_tables;
+use dap_normalise::index_tables;
 use dap_rename::{Mode, NameTable, Tables};
 use std::alloc::Global;
 

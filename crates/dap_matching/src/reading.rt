@@ -4,10 +4,10 @@ ghost use Rattle.dap_compare.specs.ComparingSteps.{IsRefusalOf};
 ghost use Rattle.dap_diff.specs.Texts.{IsRecordOf, IsRecordText};
 ghost use Rattle.dap_input.specs.Limits.{AreSound};
 ghost use Rattle.dap_message.specs.Message.{Sent, doc_of};
-ghost use Rattle.dap_normal.specs.Accepting.{IsMessage};
-ghost use Rattle.dap_normal.specs.JudgingSteps.{payload_of};
-ghost use Rattle.dap_normal.specs.NameTables.{AreReady};
-ghost use Rattle.dap_normal.specs.NormalSteps.{RepresentsBefore};
+ghost use Rattle.dap_normalise.specs.Accepting.{IsMessage};
+ghost use Rattle.dap_normalise.specs.JudgingSteps.{payload_of};
+ghost use Rattle.dap_normalise.specs.NameTables.{AreReady};
+ghost use Rattle.dap_normalise.specs.NormalSteps.{RepresentsBefore};
 ghost use Rattle.dap_tree.specs.Doc.{is_sound};
 ghost use Rattle.dap_tree.specs.Ids.{without_ids};
 ghost use Rattle.dap_tree.specs.View.{view};
@@ -19,7 +19,7 @@ use dap_compare::{CompareRefused, Which};
 use dap_device::Source;
 use dap_input::{Limits, Refused};
 use dap_message::{Kind, Message};
-use dap_normal::{NormalRecords, read_message};
+use dap_normalise::{NormalRecords, read_message};
 use dap_recording::{FedRecord, Record, RecordCause, RecordReader};
 use dap_rename::{Mode, NameTable, Tables};
 use dap_tree::{Scratch, Tree, TreeFault, read_tree};
@@ -163,7 +163,7 @@ fn read_records<R: Source, T: NameTable + Drop>(
     }
 }
 
-/// Reads a recording whole and checks it, as [`check`](dap_normal::check) does.
+/// Reads a recording whole and checks it, as [`check`](dap_normalise::check) does.
 ///
 /// # Errors
 ///

@@ -2,14 +2,14 @@
 ghost use Rattle.std.specs.Prelude.{◌≡◌, ◌+◌, ◌<◌, ◌≤◌, ◌^◌};
 ghost use Rattle.dap_device.specs.Written.{HasSentAll};
 ghost use Rattle.dap_input.specs.Limits.{AreSound};
-ghost use Rattle.dap_normal.specs.NameTables.{AreReady};
+ghost use Rattle.dap_normalise.specs.NameTables.{AreReady};
 ghost use Rattle.dap_matching.specs.Run.{AllIsReported, all_status, all_text};
 
 use crate::diffing::diff_all_with;
 use crate::outcome::AllDifferences;
 use dap_device::{DeviceFault, Sink, Source, write_and_flush};
 use dap_input::{Limits, Refused};
-use dap_normal::index_tables;
+use dap_normalise::index_tables;
 use dap_rename::{Mode, NameTable, Tables};
 use dap_runs::{DIFFERENT, DONE, FAULT, refusal_status, same_line, tell, tell_of_input};
 use std::alloc::Global;

@@ -1,7 +1,7 @@
 //! Prints all differences of two recordings that are given by the names of their files.
 ghost use Rattle.std.specs.Prelude.{◌+◌, ◌<◌, ◌≤◌, ◌^◌, IfOk};
 ghost use Rattle.dap_matching.specs.TwoFiles.{FilesAreDiffedWhole};
-ghost use Rattle.dap_normal.specs.NameTables.{AreReady};
+ghost use Rattle.dap_normalise.specs.NameTables.{AreReady};
 
 use crate::run::run_diff_all_with;
 use dap_device::{Sink, Source};

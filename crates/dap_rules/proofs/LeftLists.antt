@@ -7,8 +7,8 @@ use Rattle.std.proofs.lemmas.List.Elements.{filter-append}
 use Rattle.dap_tree.specs.Doc.{is_sound}
 use Rattle.dap_message.specs.Message.{Sent}
 use Rattle.dap_rename.proofs.Lists.{each-append, each_left, each_right}
-use Rattle.dap_normal.specs.Accepting.{text}
-use Rattle.dap_normal.proofs.NormalTexts.{text-append}
+use Rattle.dap_normalise.specs.Accepting.{text}
+use Rattle.dap_normalise.proofs.NormalTexts.{text-append}
 use Rattle.dap_mask.specs.Mask.{Mask, leaves_out}
 use Rattle.dap_rules.specs.Masking.{AreWhole, is_kept, kept, left_of, mask_message}
 use Rattle.dap_rules.specs.Masking.{masked_text}

@@ -5,7 +5,7 @@ use Rattle.dap_texts.specs.Machines.{words_of}
 use Rattle.dap_texts.specs.Words.{Pair, have_own_texts}
 use Rattle.dap_words.proofs.Alike.{worded_alike}
 use Rattle.dap_input.specs.declared.limits.Limits.{Limits}
-use Rattle.dap_normal.specs.Accepting.{Payload}
+use Rattle.dap_normalise.specs.Accepting.{Payload}
 use Rattle.dap_mask.specs.Mask.{Mask}
 use Rattle.dap_rules.specs.Masking.{AreMessages, masked_text}
 use Rattle.dap_rules.specs.MaskedRecordings.{Masks, with_words}

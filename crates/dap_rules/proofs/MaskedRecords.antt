@@ -12,7 +12,7 @@ use Rattle.dap_input.specs.declared.limits.Limits.{Limits}
 use Rattle.dap_input.specs.declared.refused.Refused.{Refused}
 use Rattle.dap_input.specs.declared.refused.Refused.TheVariants.{Fraction, Grew, Memory}
 use Rattle.dap_input.specs.Refusals.{RejectsPayload}
-use Rattle.dap_normal.specs.Accepting.{Payload, Fits, text}
+use Rattle.dap_normalise.specs.Accepting.{Payload, Fits, text}
 use Rattle.dap_rename.proofs.Lists.{each-append, each_right}
 use Rattle.dap_mask.specs.Loose.{IsLeftOf, LeavesFraction}
 use Rattle.dap_mask.specs.Mask.{Mask}

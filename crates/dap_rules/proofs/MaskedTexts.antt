@@ -14,10 +14,10 @@ use Rattle.dap_recording.proofs.RecordsWritten.{written_is_record}
 use Rattle.dap_input.specs.declared.limits.Limits.{Limits}
 use Rattle.dap_input.specs.Limits.{AreSound}
 use Rattle.dap_input.proofs.Outcomes.{one_list}
-use Rattle.dap_normal.specs.Accepting.{Payload, Fits, text, AreMessages as AreTypedMessages}
+use Rattle.dap_normalise.specs.Accepting.{Payload, Fits, text, AreMessages as AreTypedMessages}
 use Rattle.dap_rename.specs.declared.mode.Mode.{Mode}
-use Rattle.dap_normal.specs.Normalising.{Normalises}
-use Rattle.dap_normal.proofs.NormalFormLaws.{equal_texts_tell}
+use Rattle.dap_normalise.specs.Normalising.{Normalises}
+use Rattle.dap_normalise.proofs.NormalFormLaws.{equal_texts_tell}
 use Rattle.dap_mask.specs.Ids.{leave_ids}
 use Rattle.dap_mask.specs.Categories.{keep_categories}
 use Rattle.dap_mask.specs.Loose.{IsReadWith}

@@ -10,9 +10,9 @@ use Rattle.dap_input.specs.declared.limits.Limits.{Limits}
 use Rattle.dap_input.specs.Validation.{ContentError, no_message, broken, too_many_ids, grew}
 use Rattle.dap_input.proofs.InputLoop.{ReadsAs}
 use Rattle.dap_input.proofs.Runs.{Run, run_within, ValueLaws, ValueFacts, AcceptedFacts}
-use Rattle.dap_normal.specs.Accepting.{Payload, Fits}
-use Rattle.dap_normal.specs.JudgingSteps.{payload_of}
-use Rattle.dap_normal.proofs.NormalTexts.{fits_front, fits_or_not}
+use Rattle.dap_normalise.specs.Accepting.{Payload, Fits}
+use Rattle.dap_normalise.specs.JudgingSteps.{payload_of}
+use Rattle.dap_normalise.proofs.NormalTexts.{fits_front, fits_or_not}
 use Rattle.dap_mask.specs.Mask.{Mask}
 use Rattle.dap_words.specs.Worded.{worded_message}
 use Rattle.dap_mask.proofs.LooseReading.{one_reading, some_loose_reading}

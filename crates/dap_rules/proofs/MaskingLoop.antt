@@ -25,9 +25,9 @@ use Rattle.dap_input.proofs.Streams.{Streaming}
 use Rattle.dap_input.proofs.Streams as streams
 use Rattle.dap_input.proofs.WholeInputs.{Going as Judged}
 use Rattle.dap_input.proofs.WholeInputs as inputs
-use Rattle.dap_normal.specs.Accepting.{Fits}
-use Rattle.dap_normal.specs.JudgingSteps.{payload_of}
-use Rattle.dap_normal.specs.Streaming.{Answers, Ends}
+use Rattle.dap_normalise.specs.Accepting.{Fits}
+use Rattle.dap_normalise.specs.JudgingSteps.{payload_of}
+use Rattle.dap_normalise.specs.Streaming.{Answers, Ends}
 use Rattle.dap_mask.specs.KeptRules.{mask_of}
 use Rattle.dap_mask.specs.Mask.{Mask}
 use Rattle.dap_mask.specs.declared.mask_rules.MaskRules.{MaskRules}

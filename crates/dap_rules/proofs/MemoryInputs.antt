@@ -19,12 +19,12 @@ use Rattle.dap_input.specs.Refusals.{IsRefused, RefusalMatches}
 use Rattle.dap_input.specs.Streaming.{RefusesNext}
 use Rattle.dap_input.proofs.Refusals.{refused_as, refused_in}
 use Rattle.dap_input.proofs.Runs.{AcceptedFacts, ValueLaws}
-use Rattle.dap_normal.specs.Accepting.{IsAccepted, accepting}
-use Rattle.dap_normal.specs.Checking.{Checks}
-use Rattle.dap_normal.specs.Normalising.{Normalises, RefusesBytes}
-use Rattle.dap_normal.specs.declared.checked.Checked.{Checked}
-use Rattle.dap_normal.proofs.AcceptingFacts.{accepted_facts, value_laws}
-use Rattle.dap_normal.proofs.WholeInput.{memory}
+use Rattle.dap_normalise.specs.Accepting.{IsAccepted, accepting}
+use Rattle.dap_normalise.specs.Checking.{Checks}
+use Rattle.dap_normalise.specs.Normalising.{Normalises, RefusesBytes}
+use Rattle.dap_normalise.specs.declared.checked.Checked.{Checked}
+use Rattle.dap_normalise.proofs.AcceptingFacts.{accepted_facts, value_laws}
+use Rattle.dap_normalise.proofs.WholeInput.{memory}
 use Rattle.dap_rules.specs.OrderingSteps.{IsSession}
 
 -- All bytes of a reader that did not fail.

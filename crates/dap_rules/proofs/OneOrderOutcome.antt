@@ -12,9 +12,9 @@ use Rattle.dap_input.specs.declared.refused.Refused.{Refused}
 use Rattle.dap_input.specs.declared.refused.Refused.TheVariants.{Grew}
 use Rattle.dap_input.proofs.ItemReaders.{shown_cause}
 use Rattle.dap_input.proofs.OneOutcome.{has_one_outcome}
-use Rattle.dap_normal.specs.Accepting.{Fits, accepting, text}
-use Rattle.dap_normal.proofs.AcceptingFacts.{accepted_facts, value_facts}
-use Rattle.dap_normal.proofs.NormalTexts.{fits_front}
+use Rattle.dap_normalise.specs.Accepting.{Fits, accepting, text}
+use Rattle.dap_normalise.proofs.AcceptingFacts.{accepted_facts, value_facts}
+use Rattle.dap_normalise.proofs.NormalTexts.{fits_front}
 use Rattle.dap_swaps.specs.Order.{ordered}
 use Rattle.dap_rules.specs.OrderLaws.{OneOrderError, OrderedHasNoError}
 use Rattle.dap_rules.specs.Ordering.{IsTextRefused, PassesLimit}

@@ -18,8 +18,8 @@ use Rattle.dap_input.specs.declared.limits.Limits.{Limits}
 use Rattle.dap_input.specs.declared.refused.Refused.{Refused}
 use Rattle.dap_input.specs.declared.refused.Refused.TheVariants.{Grew, Memory, ReadFault, Record}
 use Rattle.dap_input.specs.declared.refused.Refused.TheVariants.{WriteFault}
-use Rattle.dap_normal.specs.Accepting.{Fits, IsAccepted, accepting, text}
-use Rattle.dap_normal.specs.Normalising.{RefusesBytes}
+use Rattle.dap_normalise.specs.Accepting.{Fits, IsAccepted, accepting, text}
+use Rattle.dap_normalise.specs.Normalising.{RefusesBytes}
 use Rattle.dap_swaps.specs.Order.{ordered}
 use Rattle.dap_rules.specs.Ordering.{IsNotOrdered, IsTextError, Orders, RefusesToOrder}
 use Rattle.dap_rules.specs.OrderingSteps.{Writes, result_of_input}

@@ -13,9 +13,9 @@ use Rattle.dap_session.specs.Rules.{open_requests}
 use Rattle.dap_session.proofs.SequenceNumbers.{typed_numbered}
 use Rattle.dap_input.specs.declared.limits.Limits.{Limits}
 use Rattle.dap_input.proofs.Outcomes.{one_list}
-use Rattle.dap_normal.specs.Accepting.{Payload, AreMessages, Fits, IsAccepted, accepting, text}
-use Rattle.dap_normal.proofs.AcceptingFacts.{accepted_facts, value_laws}
-use Rattle.dap_normal.proofs.NormalFormLaws.{equal_texts_tell}
+use Rattle.dap_normalise.specs.Accepting.{Payload, AreMessages, Fits, IsAccepted, accepting, text}
+use Rattle.dap_normalise.proofs.AcceptingFacts.{accepted_facts, value_laws}
+use Rattle.dap_normalise.proofs.NormalFormLaws.{equal_texts_tell}
 use Rattle.dap_swaps.specs.Order.{ordered}
 use Rattle.dap_swaps.proofs.MessageOrder.{to_ordered}
 use Rattle.dap_swaps.proofs.SameMessages.{same_orders, from_same_orders}

@@ -33,7 +33,7 @@ use Rattle.dap_input.proofs.Coming.{came_on}
 use Rattle.dap_input.proofs.InputLoop.{StandsBehind, read_later}
 use Rattle.dap_input.proofs.InputSteps as steps
 use Rattle.dap_input.proofs.WholeInputs.{Going as Judged}
-use Rattle.dap_normal.specs.JudgingSteps.{payload_of}
+use Rattle.dap_normalise.specs.JudgingSteps.{payload_of}
 use Rattle.dap_mask.specs.Mask.{Mask}
 use Rattle.dap_rules.specs.Masking.{IsAccepted, masked_text, masking}
 use Rattle.dap_rules.specs.MaskedRecordings.{IsMaskedTo, Masks}

@@ -29,10 +29,10 @@ use Rattle.dap_input.proofs.InputLoop.{ReadsAs}
 use Rattle.dap_input.proofs.Refusals.{refused_in}
 use Rattle.dap_input.proofs.Runs.{GoesOn, Run, run_goes_on, some_bytes}
 use Rattle.dap_input.proofs.WholeInputs as loop
-use Rattle.dap_normal.specs.Accepting.{Payload, IsAccepted, IsMessage, IsNext, Rejects, accepting}
-use Rattle.dap_normal.specs.JudgingSteps.{payload_of}
-use Rattle.dap_normal.proofs.AcceptingFacts.{accepted_facts, message_once, value_laws}
-use Rattle.dap_normal.proofs.WholeInput.{memory}
+use Rattle.dap_normalise.specs.Accepting.{Payload, IsAccepted, IsMessage, IsNext, Rejects, accepting}
+use Rattle.dap_normalise.specs.JudgingSteps.{payload_of}
+use Rattle.dap_normalise.proofs.AcceptingFacts.{accepted_facts, message_once, value_laws}
+use Rattle.dap_normalise.proofs.WholeInput.{memory}
 
 -- A reader of records returns the records that are checked.
 reads_records : (limits : Limits) (mode : Mode)

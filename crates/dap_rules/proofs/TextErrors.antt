@@ -32,11 +32,11 @@ use Rattle.dap_input.specs.declared.refused.Refused.TheVariants.{Fraction, Messa
 use Rattle.dap_input.specs.declared.refused.Refused.TheVariants.{TooManyIds, Grew}
 use Rattle.dap_input.proofs.NextRecord.{refuses_some}
 use Rattle.dap_input.proofs.Runs.{Run}
-use Rattle.dap_normal.specs.Accepting.{AreMessages, Payload, IsAccepted, IsMessage, Rejects}
-use Rattle.dap_normal.specs.Accepting.{accepting, id_limit, text}
-use Rattle.dap_normal.proofs.AcceptingFacts.{accepted_facts, message_once}
-use Rattle.dap_normal.proofs.NormalFormLaws.{contents_of, recording_of}
-use Rattle.dap_normal.proofs.NormalTexts.{few_not_many}
+use Rattle.dap_normalise.specs.Accepting.{AreMessages, Payload, IsAccepted, IsMessage, Rejects}
+use Rattle.dap_normalise.specs.Accepting.{accepting, id_limit, text}
+use Rattle.dap_normalise.proofs.AcceptingFacts.{accepted_facts, message_once}
+use Rattle.dap_normalise.proofs.NormalFormLaws.{contents_of, recording_of}
+use Rattle.dap_normalise.proofs.NormalTexts.{few_not_many}
 use Rattle.dap_swaps.specs.Free.{free}
 use Rattle.dap_swaps.specs.Order.{ordered}
 use Rattle.dap_swaps.proofs.MessageOrder.{to_ordered}

@@ -24,11 +24,11 @@ use Rattle.dap_input.specs.declared.limits.Limits.{Limits}
 use Rattle.dap_input.specs.Limits.{AreSound}
 use Rattle.dap_input.specs.declared.refused.Refused.{Refused}
 use Rattle.dap_input.specs.declared.refused.Refused.TheVariants.{Grew, Memory}
-use Rattle.dap_normal.specs.Accepting.{Payload, AreMessages, Fits, IsAccepted, IsMessage, text}
-use Rattle.dap_normal.specs.JudgingSteps.{record_of}
-use Rattle.dap_normal.proofs.AcceptingFacts.{message_once}
-use Rattle.dap_normal.proofs.JudgedRecords.{text_push}
-use Rattle.dap_normal.proofs.NormalFormLaws.{contents_of, recording_of}
+use Rattle.dap_normalise.specs.Accepting.{Payload, AreMessages, Fits, IsAccepted, IsMessage, text}
+use Rattle.dap_normalise.specs.JudgingSteps.{record_of}
+use Rattle.dap_normalise.proofs.AcceptingFacts.{message_once}
+use Rattle.dap_normalise.proofs.JudgedRecords.{text_push}
+use Rattle.dap_normalise.proofs.NormalFormLaws.{contents_of, recording_of}
 use Rattle.dap_order.proofs.Kept.{reordered_permutation}
 use Rattle.dap_swaps.specs.Free.{free}
 use Rattle.dap_swaps.specs.Order.{ordered}

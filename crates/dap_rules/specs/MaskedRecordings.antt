@@ -12,7 +12,7 @@ use Rattle.dap_mask.specs.Rules.{Rule}
 use Rattle.dap_texts.specs.Words.{Pair}
 use Rattle.dap_words.specs.Worded.{worded_message}
 use Rattle.dap_input.specs.declared.limits.Limits.{Limits}
-use Rattle.dap_normal.specs.Normalising.{Normalises}
+use Rattle.dap_normalise.specs.Normalising.{Normalises}
 use Rattle.dap_rules.specs.Masking.{IsAccepted, kept, left_of, masked_text}
 
 -- The recording is accepted, and `written` is the text of its masked messages.

@@ -11,7 +11,7 @@ use Rattle.dap_mask.specs.Mask.{Mask, leaves_out}
 use Rattle.dap_mask.specs.Masked.{masked}
 use Rattle.dap_input.specs.declared.limits.Limits.{Limits}
 use Rattle.dap_input.specs.Validation.{Validation, ContentError, no_message, grew}
-use Rattle.dap_normal.specs.Accepting.{Payload, Fits, text}
+use Rattle.dap_normalise.specs.Accepting.{Payload, Fits, text}
 
 -- The content of the record is JSON, and `message` is the message that its side sent, with the
 -- words of the mask in the place of texts. A number that is not an integer of 64 bits is read as

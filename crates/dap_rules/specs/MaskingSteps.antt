@@ -11,7 +11,7 @@ use Rattle.dap_input.specs.Refusals.{RejectsPayload}
 use Rattle.dap_input.specs.declared.limits.Limits.{Limits}
 use Rattle.dap_input.specs.declared.refused.Refused.{Refused}
 use Rattle.dap_input.specs.declared.refused.Refused.TheVariants.{Grew, Memory}
-use Rattle.dap_normal.specs.Accepting.{Payload}
+use Rattle.dap_normalise.specs.Accepting.{Payload}
 use Rattle.dap_rules.specs.Masking.{IsNext, Rejects, masked_text}
 
 -- After these messages, the record `held` is accepted, and its masked record is appended to the

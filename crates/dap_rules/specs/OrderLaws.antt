@@ -11,8 +11,8 @@ use Rattle.dap_session.specs.Rules.{open_requests}
 use Rattle.dap_input.specs.declared.limits.Limits.{Limits}
 use Rattle.dap_input.specs.Limits.{AreSound}
 use Rattle.dap_input.specs.declared.refused.Refused.{Refused}
-use Rattle.dap_normal.specs.Accepting.{IsAccepted}
-use Rattle.dap_normal.specs.Normalising.{Normalises}
+use Rattle.dap_normalise.specs.Accepting.{IsAccepted}
+use Rattle.dap_normalise.specs.Normalising.{Normalises}
 use Rattle.dap_order.specs.Swaps.{Reordered}
 use Rattle.dap_swaps.specs.Free.{free}
 use Rattle.dap_swaps.specs.Order.{ordered}

@@ -14,7 +14,7 @@ use Rattle.dap_input.specs.declared.limits.Limits.{Limits}
 use Rattle.dap_input.specs.declared.refused.Refused.{Refused}
 use Rattle.dap_input.specs.declared.refused.Refused.TheVariants.{Grew, Memory, TooManyIds}
 use Rattle.dap_input.specs.Refusals.{IsRefused}
-use Rattle.dap_normal.specs.Accepting.{Fits, IsAccepted, accepting, text}
+use Rattle.dap_normalise.specs.Accepting.{Fits, IsAccepted, accepting, text}
 use Rattle.dap_swaps.specs.Order.{ordered}
 
 -- A prefix of the input was read, and the reader did not fail. Or the input was read up to its end,

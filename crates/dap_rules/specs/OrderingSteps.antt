@@ -15,8 +15,8 @@ use Rattle.dap_input.specs.declared.limits.Limits.{Limits}
 use Rattle.dap_input.specs.declared.refused.Refused.{Refused}
 use Rattle.dap_input.specs.declared.refused.Refused.TheVariants.{Grew, Memory, ReadFault}
 use Rattle.dap_input.specs.declared.refused.Refused.TheVariants.{Record}
-use Rattle.dap_normal.specs.Accepting.{Fits, IsAccepted, text}
-use Rattle.dap_normal.specs.JudgingSteps.{record_of}
+use Rattle.dap_normalise.specs.Accepting.{Fits, IsAccepted, text}
+use Rattle.dap_normalise.specs.JudgingSteps.{record_of}
 use Rattle.dap_swaps.specs.Order.{ordered}
 use Rattle.dap_rules.specs.Ordering.{PassesLimit}
 

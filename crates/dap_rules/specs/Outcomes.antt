@@ -5,7 +5,7 @@ use Rattle.dap_texts.specs.Machines.{words_of}
 use Rattle.dap_texts.specs.Words.{Pair, have_own_texts}
 use Rattle.dap_words.specs.Worded.{AreAlike}
 use Rattle.dap_mask.specs.Loose.{IsReadLoosely}
-use Rattle.dap_normal.specs.Accepting.{Payload}
+use Rattle.dap_normalise.specs.Accepting.{Payload}
 use Rattle.dap_rules.specs.MaskedRecordings.{Masks, with_words}
 use Rattle.dap_mask.specs.Mask.{Mask}
 use Rattle.dap_input.specs.Refusals.{HasOneOutcome, RefusalStays}

@@ -64,7 +64,7 @@ fn order_refusal(refused: Refused) -> ApplyRefused
 ///
 /// If no rules are for the order, returns the masked text and does not check its session. Otherwise
 /// the masked recording and the returned text are both checked in the same way as by
-/// [`check`](dap_normal::check) in this mode.
+/// [`check`](dap_normalise::check) in this mode.
 ///
 /// # Errors
 ///

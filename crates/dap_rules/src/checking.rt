@@ -1,12 +1,12 @@
 //! Checks recordings in memory.
 ghost use Rattle.std.specs.Prelude.{IfErr, IfOk};
 ghost use Rattle.dap_input.specs.Limits.{AreSound};
-ghost use Rattle.dap_normal.specs.Normalising.{RefusesBytes};
+ghost use Rattle.dap_normalise.specs.Normalising.{RefusesBytes};
 ghost use Rattle.dap_rules.specs.OrderingSteps.{IsSession};
 
 use dap_device::MemorySource;
 use dap_input::{Limits, Refused};
-use dap_normal::check;
+use dap_normalise::check;
 use dap_rename::Mode;
 use std::alloc::Global;
 

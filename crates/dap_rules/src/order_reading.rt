@@ -4,13 +4,13 @@ ghost use Rattle.dap_message.specs.Message.{sent};
 ghost use Rattle.dap_input.specs.ItemReading.{RepresentsRecord};
 ghost use Rattle.dap_input.specs.Limits.{AreSound};
 ghost use Rattle.dap_input.specs.RecordSteps.{IsAtStart};
-ghost use Rattle.dap_normal.specs.Accepting.{IsAccepted};
+ghost use Rattle.dap_normalise.specs.Accepting.{IsAccepted};
 ghost use Rattle.dap_rules.specs.OrderingSteps.{IsSession};
 
 use dap_device::MemorySource;
 use dap_input::{Limits, Records, Refused};
 use dap_message::Message;
-use dap_normal::read_message;
+use dap_normalise::read_message;
 use dap_recording::RecordReader;
 use dap_rename::Mode;
 use dap_tree::Scratch;

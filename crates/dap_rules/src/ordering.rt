@@ -22,7 +22,7 @@ use std::alloc::Global;
 ///
 /// [`put_in_order`] defines the order. Each record is written with the canonical content of its
 /// message; ids are unchanged. The recording and the returned text are both checked in the same way
-/// as by [`check`](dap_normal::check) in this mode.
+/// as by [`check`](dap_normalise::check) in this mode.
 ///
 /// Buffers the messages of the recording, and the text. Reads the recording twice, once to check it
 /// and once for its messages, and the text once.

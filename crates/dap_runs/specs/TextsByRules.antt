@@ -9,8 +9,8 @@ use Rattle.dap_input.specs.declared.limits.Limits.{Limits}
 use Rattle.dap_mask.specs.KeptRules.{mask_of}
 use Rattle.dap_mask.specs.Mask.{Mask}
 use Rattle.dap_mask.specs.declared.mask_rules.MaskRules.{MaskRules}
-use Rattle.dap_normal.specs.Checking.{Checks}
-use Rattle.dap_normal.specs.declared.checked.Checked.{Checked}
+use Rattle.dap_normalise.specs.Checking.{Checks}
+use Rattle.dap_normalise.specs.declared.checked.Checked.{Checked}
 use Rattle.dap_rename.specs.declared.mode.Mode.{Mode}
 use Rattle.dap_rules.specs.Inputs.{ReadsByRules}
 use Rattle.dap_rules.specs.Modes.{mode_by}

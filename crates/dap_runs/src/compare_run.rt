@@ -7,7 +7,7 @@ ghost use Rattle.dap_runs.specs.ComparingRun.{pairs_in, refusal_status, same_lin
 ghost use Rattle.dap_runs.specs.ComparingRun.{verdict_status, verdict_text};
 ghost use Rattle.dap_device.specs.Written.{HasSentAll, HasWrittenAll};
 ghost use Rattle.dap_input.specs.Limits.{AreSound};
-ghost use Rattle.dap_normal.specs.NameTables.{AreReady};
+ghost use Rattle.dap_normalise.specs.NameTables.{AreReady};
 
 use crate::fault_line::{LINE, tell, tell_of_input};
 use crate::status::{DIFFERENT, DONE, FAULT, MEMORY, refused_status};
@@ -15,7 +15,7 @@ use arrayvec::ArrayString;
 use dap_compare::{CompareRefused, Verdict, compare_with};
 use dap_device::{DeviceFault, Sink, Source, write_all};
 use dap_input::{Limits, Refused};
-use dap_normal::index_tables;
+use dap_normalise::index_tables;
 use dap_rename::{Mode, NameTable, Pair, Tables};
 use dap_tree::Sort;
 use itoa::Buffer;

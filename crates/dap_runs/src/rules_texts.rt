@@ -2,7 +2,7 @@
 //! to them.
 ghost use Rattle.std.specs.Prelude.{◌≡◌, ◌↔◌, ◌+◌, ◌<◌, ◌≤◌, ◌^◌, [], IsTrue};
 ghost use Rattle.dap_mask.specs.KeptRules.{mask_of};
-ghost use Rattle.dap_normal.specs.NameTables.{AreReady};
+ghost use Rattle.dap_normalise.specs.NameTables.{AreReady};
 ghost use Rattle.dap_runs.specs.Reporting.{HasSent};
 ghost use Rattle.dap_runs.specs.TextsByRules.{ChecksText, HasRules, HasText, HasTexts};
 ghost use Rattle.dap_runs.specs.TextsByRules.{is_either_standard, no_rules_line, no_rules_status};
@@ -19,7 +19,7 @@ use dap_compare::Which;
 use dap_device::{MemorySource, Sink, Source};
 use dap_input::Refused;
 use dap_mask::MaskRules;
-use dap_normal::check_with;
+use dap_normalise::check_with;
 use dap_rename::{Mode, NameTable, Tables};
 use dap_rules::{ApplyRefused, mode_by, read_by_rules};
 use std::alloc::Global;

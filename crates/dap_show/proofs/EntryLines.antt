@@ -12,7 +12,7 @@ use Rattle.dap_input.specs.declared.limits.Limits.{Limits}
 use Rattle.dap_input.specs.declared.refused.Refused.{Refused}
 use Rattle.dap_input.specs.declared.refused.Refused.TheVariants as because
 use Rattle.dap_message.specs.Message.{HasRefusal, Sent}
-use Rattle.dap_normal.specs.Accepting.{Payload, HoldsNoMessage, IsMessage}
+use Rattle.dap_normalise.specs.Accepting.{Payload, HoldsNoMessage, IsMessage}
 use Rattle.dap_show.specs.Showing.{start_words}
 use Rattle.dap_session.specs.SessionState.{SessionState}
 use Rattle.dap_session.specs.declared.rule.Rule.{Rule}

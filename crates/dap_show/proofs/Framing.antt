@@ -21,7 +21,7 @@ use Rattle.dap_input.specs.RecordSteps.{IsAtStart, IsWithin, ReadsNext}
 use Rattle.dap_input.specs.declared.limits.Limits.{Limits}
 use Rattle.dap_input.specs.declared.records.Records.{Records}
 use Rattle.dap_input.specs.declared.refused.Refused.{Refused}
-use Rattle.dap_normal.specs.Accepting.{Payload}
+use Rattle.dap_normalise.specs.Accepting.{Payload}
 use Rattle.dap_show.specs.OneRecord.{HasNoRecord, HasRecord, IsSought, StopsBefore, framing}
 use Rattle.dap_show.specs.ShowingSteps.{payload_of}
 use Rattle.dap_show.proofs.Stopping.{stops_read}

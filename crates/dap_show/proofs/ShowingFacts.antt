@@ -7,9 +7,9 @@ use Rattle.dap_message.proofs.Contents.{one_refusal, typed_not_refused, some_mes
 use Rattle.dap_recording.specs.Recording.{IsRecording}
 use Rattle.dap_input.specs.declared.limits.Limits.{Limits}
 use Rattle.dap_input.specs.Validation.{ContentError, no_message}
-use Rattle.dap_normal.specs.Accepting.{Payload, HoldsNoMessage, IsMessage, AreMessages}
+use Rattle.dap_normalise.specs.Accepting.{Payload, HoldsNoMessage, IsMessage, AreMessages}
 use Rattle.dap_show.specs.Showing.{lines_from, message_lines, showing}
-use Rattle.dap_normal.proofs.AcceptingFacts.{message_once}
+use Rattle.dap_normalise.proofs.AcceptingFacts.{message_once}
 use Rattle.dap_input.proofs.Runs.{Run, run_within, ValueLaws, ValueFacts, AcceptedFacts}
 
 -- The lines of one more message follow the others.

@@ -16,7 +16,7 @@ use Rattle.dap_input.specs.ReadTo.{IsReadTo, so_far}
 use Rattle.dap_input.specs.declared.limits.Limits.{Limits}
 use Rattle.dap_input.specs.declared.refused.Refused.{Refused}
 use Rattle.dap_input.specs.declared.refused.Refused.TheVariants.{Fraction, Json, WriteFault}
-use Rattle.dap_normal.specs.Accepting.{Payload}
+use Rattle.dap_normalise.specs.Accepting.{Payload}
 use Rattle.dap_show.specs.Indented.{indented}
 use Rattle.dap_show.specs.Stopping.{StopsAt}
 use Rattle.dap_show.specs.declared.one_record.RecordShown.{RecordShown}

@@ -16,7 +16,7 @@ use Rattle.dap_message.specs.Message.{Sent}
 use Rattle.dap_message.specs.Views.{StackFrame, Scope, Variable, frames_of, scopes_of, variables_of}
 use Rattle.dap_recording.specs.Recording.{IsRecording, records}
 use Rattle.dap_input.specs.declared.limits.Limits.{Limits}
-use Rattle.dap_normal.specs.Accepting.{Payload, IsMessage, HoldsNoMessage, AreMessages}
+use Rattle.dap_normalise.specs.Accepting.{Payload, IsMessage, HoldsNoMessage, AreMessages}
 use Rattle.dap_input.specs.Limits.{AreSound}
 use Rattle.dap_input.specs.Validation.{Validation}
 use Rattle.dap_input.specs.Refusals.{HasOneOutcome, RefusalStays}

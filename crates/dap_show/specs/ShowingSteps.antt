@@ -13,7 +13,7 @@ use Rattle.dap_input.specs.ItemReading.{RepresentsRecord}
 use Rattle.dap_input.specs.Limits.{AreSound}
 use Rattle.dap_input.specs.RecordSteps.{IsAtStart}
 use Rattle.dap_input.specs.Refusals.{RejectsPayload}
-use Rattle.dap_normal.specs.Accepting.{Payload, HoldsNoMessage, IsMessage}
+use Rattle.dap_normalise.specs.Accepting.{Payload, HoldsNoMessage, IsMessage}
 use Rattle.dap_show.specs.Showing.{lines_from, message_lines, showing}
 
 -- The side and the content of a record.

@@ -24,7 +24,7 @@ use Rattle.dap_input.specs.Refusals.{HasOneOutcome, RefusalStays}
 use Rattle.dap_input.specs.declared.limits.Limits.{Limits}
 use Rattle.dap_input.specs.declared.refused.Refused.{Refused}
 use Rattle.dap_input.specs.declared.refused.Refused.TheVariants as because
-use Rattle.dap_normal.specs.Accepting.{Payload, IsMessage}
+use Rattle.dap_normalise.specs.Accepting.{Payload, IsMessage}
 use Rattle.dap_show.specs.Leaves.{leaf_lines}
 use Rattle.dap_show.specs.Showing.{listed_lines, message_line, start_words}
 use Rattle.dap_show.specs.Stopping.{StopsAt}

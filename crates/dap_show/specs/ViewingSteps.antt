@@ -8,7 +8,7 @@ use Rattle.dap_input.specs.declared.limits.Limits.{Limits}
 use Rattle.dap_input.specs.declared.refused.Refused.{Refused}
 use Rattle.dap_input.specs.declared.refused.Refused.TheVariants as because
 use Rattle.dap_message.specs.Message.{Sent}
-use Rattle.dap_normal.specs.Accepting.{Payload}
+use Rattle.dap_normalise.specs.Accepting.{Payload}
 use Rattle.dap_session.specs.SessionState.{SessionState}
 use Rattle.dap_session.specs.Representation.{Represents}
 use Rattle.dap_session.specs.declared.rule.Rule.{Rule}

@@ -3,7 +3,7 @@ ghost use Rattle.std.specs.Prelude.{◌≡◌, ◌≢◌, ◌+◌, ◌<◌, ◌+
 ghost use Rattle.std.specs.Prelude.{IfOk, IsErrOf, OnOk, length};
 ghost use Rattle.dap_input.specs.Refusals.{RejectsPayload};
 ghost use Rattle.dap_message.specs.Message.{Sent, doc_of, sent};
-ghost use Rattle.dap_normal.specs.Accepting.{HoldsNoMessage, IsMessage};
+ghost use Rattle.dap_normalise.specs.Accepting.{HoldsNoMessage, IsMessage};
 ghost use Rattle.dap_show.specs.ShowingSteps.{payload_of};
 ghost use Rattle.dap_show.specs.Viewing.{Entry, detail_lines, fits_in, head_lines, kept};
 ghost use Rattle.dap_show.specs.Viewing.{fault_words, lines_of, refused_words, rule_refusal};
@@ -20,7 +20,7 @@ use crate::leaves::{LeafFault, push_leaves};
 use crate::message_lines::{push_listed, push_message};
 use dap_input::{Limits, Refused};
 use dap_message::{Message, Side};
-use dap_normal::read_message;
+use dap_normalise::read_message;
 use dap_recording::Record;
 use dap_session::{Rule, Session, SessionFault};
 use dap_tree::{Scratch, TreeFault, read_tree_with};

@@ -12,7 +12,7 @@ ghost use Rattle.dap_show.specs.ShowingSteps.{Appended, AreReady, JudgesInput, p
 use crate::message_lines::push_lines;
 use dap_device::{Sink, Source, write_and_flush};
 use dap_input::{Limits, Records, Refused};
-use dap_normal::read_message;
+use dap_normalise::read_message;
 use dap_recording::{Record, RecordReader};
 use dap_tree::Scratch;
 use std::alloc::Global;

@@ -5,7 +5,7 @@ use Rattle.dap_rename.specs.declared.mode.Mode.{Mode}
 use Rattle.dap_input.specs.declared.limits.Limits.{Limits}
 use Rattle.dap_input.specs.declared.refused.Refused.{Refused}
 use Rattle.dap_input.specs.declared.refused.Refused.TheVariants.{Memory}
-use Rattle.dap_normal.specs.Normalising.{RefusesBytes}
+use Rattle.dap_normalise.specs.Normalising.{RefusesBytes}
 use Rattle.dap_rules.specs.Applying.{AppliesRules, IsRefusedByRules}
 use Rattle.dap_rules.specs.ApplyingSteps.{order_refusal}
 use Rattle.dap_rules.specs.declared.fault.ApplyRefused.{ApplyRefused}

@@ -7,8 +7,8 @@ use Rattle.dap_rename.specs.declared.mode.Mode.{Mode}
 use Rattle.dap_input.specs.declared.limits.Limits.{Limits}
 use Rattle.dap_input.specs.declared.refused.Refused.{Refused}
 use Rattle.dap_input.specs.Refusals.{IsRefused}
-use Rattle.dap_normal.specs.Accepting.{accepting}
-use Rattle.dap_normal.specs.Normalising.{Normalises}
+use Rattle.dap_normalise.specs.Accepting.{accepting}
+use Rattle.dap_normalise.specs.Normalising.{Normalises}
 use Rattle.dap_rules.specs.Applying.{AppliesRules, IsRefusedByRules}
 use Rattle.dap_rules.specs.declared.fault.ApplyRefused.{ApplyRefused}
 use Rattle.dap_rules.specs.declared.fault.ApplyRefused.TheVariants as step

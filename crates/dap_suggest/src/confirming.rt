@@ -12,7 +12,7 @@ use crate::suggestion::Suggestion;
 use dap_compare::Which;
 use dap_input::Limits;
 use dap_mask::{MaskRules, RulesCause};
-use dap_normal::Normalised;
+use dap_normalise::Normalised;
 use dap_rename::Mode;
 use dap_rules::ApplyRefused;
 use std::alloc::Global;

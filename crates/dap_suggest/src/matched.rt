@@ -7,7 +7,7 @@ use dap_compare::{CompareRefused, Which};
 use dap_device::MemorySource;
 use dap_input::Limits;
 use dap_matching::{Entry, Recording, match_records, read_recording};
-use dap_normal::index_tables;
+use dap_normalise::index_tables;
 use dap_rename::Mode;
 use dap_rules::ApplyRefused;
 use std::alloc::{AllocError, Global};

@@ -2,14 +2,14 @@
 ghost use Rattle.std.specs.Prelude.{◌≡◌, IfErr, IfOk};
 ghost use Rattle.dap_input.specs.Limits.{AreSound};
 ghost use Rattle.dap_mask.specs.KeptRules.{mask_of};
-ghost use Rattle.dap_normal.specs.Normalising.{Normalises};
+ghost use Rattle.dap_normalise.specs.Normalising.{Normalises};
 ghost use Rattle.dap_rules.specs.Applying.{AppliesRules};
 ghost use Rattle.dap_rules.specs.ApplyingSteps.{order_refusal};
 ghost use Rattle.dap_suggest.specs.Suggested.{IsRejected};
 
 use dap_input::{Limits, Refused};
 use dap_mask::MaskRules;
-use dap_normal::{Normalised, normalise_bytes};
+use dap_normalise::{Normalised, normalise_bytes};
 use dap_rename::Mode;
 use dap_rules::{ApplyRefused, apply_rules};
 use std::alloc::Global;

@@ -12,7 +12,7 @@ use Rattle.dap_input.specs.Refusals.{IsRefused}
 use Rattle.dap_input.specs.declared.limits.Limits.{Limits}
 use Rattle.dap_input.specs.declared.refused.Refused.{Refused}
 use Rattle.dap_input.specs.declared.refused.Refused.TheVariants.{Memory, ReadFault}
-use Rattle.dap_normal.specs.Streaming.{Streams}
+use Rattle.dap_normalise.specs.Streaming.{Streams}
 use Rattle.dap_profile.specs.RowLines.{lines_of}
 use Rattle.dap_runs.specs.FaultLine.{fault_line, refused_text}
 use Rattle.dap_runs.specs.Reporting.{Answered, HasSent, IsReported, refused_status}

@@ -5,14 +5,14 @@ use Rattle.dap_commands.specs.declared.jobs.UsageFault.{UsageFault}
 use Rattle.dap_commands.specs.declared.jobs.UsageFault.TheVariants as usage
 use Rattle.dap_device.specs.declared.device.Source.{Ghosts as Source}
 use Rattle.dap_device.specs.declared.device.Sink.{Ghosts as Sink}
-use Rattle.dap_normal.specs.declared.checked.Checked.{Checked}
+use Rattle.dap_normalise.specs.declared.checked.Checked.{Checked}
 use Rattle.dap_rename.specs.declared.mode.Mode.{Mode}
 use Rattle.dap_runs.specs.FaultLine.{fault_line, refused_text}
 use Rattle.dap_runs.specs.Reporting.{HasSent, IsSent, IsReported, status_of}
 use Rattle.dap_input.specs.declared.limits.Limits.{Limits}
 use Rattle.dap_input.specs.declared.refused.Refused.{Refused}
 use Rattle.dap_input.specs.declared.refused.Refused.TheVariants.{WriteFault, Memory}
-use Rattle.dap_normal.specs.Checking.{Checks}
+use Rattle.dap_normalise.specs.Checking.{Checks}
 use Rattle.dap_device.specs.Written.{AllSent, PrefixWritten}
 
 -- the line with the numbers of an accepted recording

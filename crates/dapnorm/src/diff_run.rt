@@ -4,13 +4,13 @@ ghost use Rattle.dapnorm.specs.DiffRun.{DiffIsReported, diff_status, diff_text, 
 ghost use Rattle.dapnorm.specs.DiffRun.{lines_in};
 ghost use Rattle.dap_device.specs.Written.{HasSentAll};
 ghost use Rattle.dap_input.specs.Limits.{AreSound};
-ghost use Rattle.dap_normal.specs.NameTables.{AreReady};
+ghost use Rattle.dap_normalise.specs.NameTables.{AreReady};
 
 use arrayvec::ArrayString;
 use dap_device::{DeviceFault, Sink, Source, write_all};
 use dap_diff::{Diff, diff_with};
 use dap_input::{Limits, Refused};
-use dap_normal::index_tables;
+use dap_normalise::index_tables;
 use dap_rename::{Mode, NameTable, Tables};
 use dap_runs::{
     DIFFERENT, DONE, FAULT, LINE, differ_line, refusal_status, same_line, tell, tell_of_input,

@@ -2,7 +2,7 @@
 //! clauses to a proof.
 pub use dap_compact::laws::compact_has_one_outcome;
 pub use dap_compare::laws::two_recordings_have_one_verdict;
-pub use dap_normal::laws::{
+pub use dap_normalise::laws::{
     equal_texts_tell, golden_files_of_the_whole, normal_form_stands, old_golden_files,
     reading_is_bounded, recording_has_one_outcome,
 };

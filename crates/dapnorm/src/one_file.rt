@@ -1,6 +1,6 @@
 //! Does a job over one file that is given by its name.
 ghost use Rattle.std.specs.Prelude.{◌≡◌, ◌+◌, ◌<◌, ◌≤◌, ◌^◌, IfOk};
-ghost use Rattle.dap_normal.specs.NameTables.{AreReady};
+ghost use Rattle.dap_normalise.specs.NameTables.{AreReady};
 ghost use Rattle.dap_runs.specs.FaultLine.{fault_line, refused_text};
 ghost use Rattle.dap_runs.specs.Reporting.{HasSent, refused_status};
 ghost use Rattle.dapnorm.specs.OneFile.{FileIsRun, FileIsViewed, input_name, unopened_as};

@@ -2,7 +2,7 @@
 ghost use Rattle.std.specs.Prelude.{◌≡◌, ◌+◌, ◌<◌, ◌≤◌, ◌^◌, None};
 ghost use Rattle.dap_file.specs.Crash.{LeavesOnly};
 ghost use Rattle.dap_file.specs.Replacing.{IsOldOrNew};
-ghost use Rattle.dap_normal.specs.NameTables.{AreReady};
+ghost use Rattle.dap_normalise.specs.NameTables.{AreReady};
 ghost use Rattle.dap_runs.specs.Reporting.{HasSent};
 ghost use Rattle.dap_runs.specs.Saving.{Saves, unsaved_line};
 ghost use Rattle.dapnorm.specs.OneFile.{input_name};

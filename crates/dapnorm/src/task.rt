@@ -1,6 +1,6 @@
 //! What is done over one input.
 ghost use Rattle.std.specs.Prelude.{◌≡◌, ◌+◌, ◌<◌, ◌≤◌, ◌^◌};
-ghost use Rattle.dap_normal.specs.NameTables.{AreReady};
+ghost use Rattle.dap_normalise.specs.NameTables.{AreReady};
 ghost use Rattle.dapnorm.specs.TaskRun.{TaskIsDone};
 
 use crate::ruled_file::{RuledRun, run_mask_by, run_order_by};

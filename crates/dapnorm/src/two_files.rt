@@ -1,6 +1,6 @@
 //! Compares two recordings that are given by the names of their files.
 ghost use Rattle.std.specs.Prelude.{◌+◌, ◌<◌, ◌≤◌, ◌^◌, IfOk};
-ghost use Rattle.dap_normal.specs.NameTables.{AreReady};
+ghost use Rattle.dap_normalise.specs.NameTables.{AreReady};
 ghost use Rattle.dapnorm.specs.TwoFiles.{FilesAreCompared, FilesAreDiffed};
 
 use crate::diff_run::run_diff_with;

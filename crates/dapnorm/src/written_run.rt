@@ -1,6 +1,6 @@
 //! Does a task over one file, and writes its output to a device.
 ghost use Rattle.std.specs.Prelude.{◌≡◌, ◌+◌, ◌<◌, ◌^◌};
-ghost use Rattle.dap_normal.specs.NameTables.{AreReady};
+ghost use Rattle.dap_normalise.specs.NameTables.{AreReady};
 ghost use Rattle.dapnorm.specs.OneFile.{input_name};
 ghost use Rattle.dapnorm.specs.SavedRun.{EndTakes};
 ghost use Rattle.dapnorm.specs.WrittenRun.{RunIsWritten};

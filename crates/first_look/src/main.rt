@@ -8,7 +8,7 @@
 use dap_device::{StdSink, StdSource};
 use dap_frame::FrameLimits;
 use dap_input::Limits;
-use dap_normal::normalise;
+use dap_normalise::normalise;
 use dap_rename::Mode;
 use std::process::ExitCode;
 

@@ -2,7 +2,7 @@ use Rattle.std.proofs.Common.{◌≡◌, ◌↔◌, ℕ, List, Bool, true, eqb, 
 use Rattle.std.proofs.lemmas.Slice.Eq.{slice_eq-Decides}
 use Rattle.std.specs.Cmp.{unsigned_Decides}
 use lib.Pointwise.{pointwise}
-use Rattle.dap_normal.specs.Normalising.{Normalises}
+use Rattle.dap_normalise.specs.Normalising.{Normalises}
 use Rattle.callers.proofs.golden_file.holds_to.Goals as goal
 
 -- What the comparison of the bytes states about the texts.

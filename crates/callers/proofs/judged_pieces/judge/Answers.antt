@@ -1,5 +1,5 @@
 use Rattle.std.proofs.Common.{IfErr, IfOk, subst}
-use Rattle.dap_normal.specs.Normalising.{RefusesBytes}
+use Rattle.dap_normalise.specs.Normalising.{RefusesBytes}
 use Rattle.callers.specs.Pieces.{IsJudged}
 use Rattle.callers.proofs.WholeInput.{answered, refused_whole}
 use Rattle.callers.proofs.judged_pieces.judge.Goals as goal

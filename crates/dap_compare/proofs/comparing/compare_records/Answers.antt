@@ -1,7 +1,7 @@
 use Rattle.std.proofs.Common.{[], refl, sym, ◌∙◌}
 use Rattle.std.proofs.lemmas.Result.{err_from_is_err_and}
-use Rattle.dap_normal.proofs.StreamAnswers.{ended, gone}
-use Rattle.dap_normal.proofs.StreamLoop.{at_start, few_taken, on, passed_taken}
+use Rattle.dap_normalise.proofs.StreamAnswers.{ended, gone}
+use Rattle.dap_normalise.proofs.StreamLoop.{at_start, few_taken, on, passed_taken}
 use Rattle.dap_compare.proofs.StreamComparing.{both_ended, equal_counts, gave_up_at_end, names_a}
 use Rattle.dap_compare.proofs.StreamComparing.{names_b}
 use Rattle.dap_compare.proofs.LeftTexts.{left_text}

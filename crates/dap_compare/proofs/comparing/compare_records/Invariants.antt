@@ -1,6 +1,6 @@
 use Rattle.std.proofs.Common.{◌≡◌}
-use Rattle.dap_normal.specs.NormalSteps.{remaining}
-use Rattle.dap_normal.proofs.StreamLoop.{Going}
+use Rattle.dap_normalise.specs.NormalSteps.{remaining}
+use Rattle.dap_normalise.proofs.StreamLoop.{Going}
 use Rattle.dap_compare.proofs.comparing.compare_records.Given as goal
 
 abbrev pub invariant-records : goal.invariant-records

@@ -1,8 +1,8 @@
 use Rattle.std.proofs.Common.{◌≡◌, [], rules}
 use Rattle.dap_message.specs.Message.{sent}
 use Rattle.dap_input.specs.Refusals.{RejectsPayload}
-use Rattle.dap_normal.specs.Accepting.{HoldsNoMessage, IsMessage}
-use Rattle.dap_normal.specs.JudgingSteps.{payload_of}
+use Rattle.dap_normalise.specs.Accepting.{HoldsNoMessage, IsMessage}
+use Rattle.dap_normalise.specs.JudgingSteps.{payload_of}
 use Rattle.dap_diff.proofs.ReadTexts.{is_told, refused_none}
 use Rattle.dap_diff.proofs.reading.message_in.Goals as goal
 

@@ -3,11 +3,11 @@ use Rattle.std.proofs.lemmas.Bool.{true≢false}
 use Rattle.std.proofs.lemmas.Result.{err_from_is_err_and}
 use Rattle.dap_device.specs.Pieces.{HasReadSoFar}
 use Rattle.dap_input.proofs.Coming.{nothing_came}
-use Rattle.dap_normal.specs.JudgingSteps.{record_of}
-use Rattle.dap_normal.proofs.JudgedRecords.{text_push}
-use Rattle.dap_normal.proofs.StreamAnswers.{check_accepts, ended, gone, some_records}
-use Rattle.dap_normal.proofs.StreamLoop.{on}
-use Rattle.dap_normal.proofs.WholeInput.{canonical_whole, memory, refuses_bytes, start}
+use Rattle.dap_normalise.specs.JudgingSteps.{record_of}
+use Rattle.dap_normalise.proofs.JudgedRecords.{text_push}
+use Rattle.dap_normalise.proofs.StreamAnswers.{check_accepts, ended, gone, some_records}
+use Rattle.dap_normalise.proofs.StreamLoop.{on}
+use Rattle.dap_normalise.proofs.WholeInput.{canonical_whole, memory, refuses_bytes, start}
 use Rattle.dap_golden.proofs.SessionCounts.{counted}
 use Rattle.dap_golden.proofs.normal_session.normalise_records.Goals as goal
 

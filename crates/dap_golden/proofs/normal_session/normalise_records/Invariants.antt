@@ -1,8 +1,8 @@
 use Rattle.std.proofs.Common.{◌≡◌}
-use Rattle.dap_normal.specs.Accepting.{text}
-use Rattle.dap_normal.specs.NormalSteps.{remaining}
-use Rattle.dap_normal.proofs.StreamLoop.{Going}
-use Rattle.dap_normal.proofs.WholeInput.{memory}
+use Rattle.dap_normalise.specs.Accepting.{text}
+use Rattle.dap_normalise.specs.NormalSteps.{remaining}
+use Rattle.dap_normalise.proofs.StreamLoop.{Going}
+use Rattle.dap_normalise.proofs.WholeInput.{memory}
 use Rattle.dap_golden.proofs.normal_session.normalise_records.Given as goal
 
 -- The text consists of the records of the normal form of the messages so far.

@@ -1,6 +1,6 @@
 use Rattle.dap_input.specs.Refusals.{RejectsPayload}
-use Rattle.dap_normal.specs.Accepting.{HoldsNoMessage}
-use Rattle.dap_normal.specs.JudgingSteps.{payload_of}
+use Rattle.dap_normalise.specs.Accepting.{HoldsNoMessage}
+use Rattle.dap_normalise.specs.JudgingSteps.{payload_of}
 use Rattle.dap_matching.proofs.RecordTexts.{is_not_refused}
 use Rattle.dap_matching.proofs.reading.message_in.Goals as goal
 

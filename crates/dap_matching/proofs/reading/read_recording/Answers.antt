@@ -1,5 +1,5 @@
 use Rattle.std.proofs.Common.{false}
-use Rattle.dap_normal.proofs.StreamAnswers.{check_gives_up}
+use Rattle.dap_normalise.proofs.StreamAnswers.{check_gives_up}
 use Rattle.dap_matching.proofs.reading.read_recording.Goals as goal
 
 pub returns-in_default-clause-outcome : goal.returns-in_default-clause-outcome

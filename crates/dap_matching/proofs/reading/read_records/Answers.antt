@@ -2,10 +2,10 @@ use Rattle.std.proofs.Common.{◌≡◌, ◌++◌, refl, sym, ◌∙◌, ap, sub
 use Rattle.dap_compare.proofs.LeftTexts.{left_text}
 use Rattle.dap_diff.proofs.Texts.{is_left}
 use Rattle.dap_diff.specs.Texts.{IsRecordText}
-use Rattle.dap_normal.specs.JudgingSteps.{record_of}
-use Rattle.dap_normal.proofs.JudgedRecords.{text_push}
-use Rattle.dap_normal.proofs.StreamAnswers.{ended, gone}
-use Rattle.dap_normal.proofs.StreamLoop.{all_taken, at_start, few_taken, gone_taken, on}
+use Rattle.dap_normalise.specs.JudgingSteps.{record_of}
+use Rattle.dap_normalise.proofs.JudgedRecords.{text_push}
+use Rattle.dap_normalise.proofs.StreamAnswers.{ended, gone}
+use Rattle.dap_normalise.proofs.StreamLoop.{all_taken, at_start, few_taken, gone_taken, on}
 use Rattle.dap_matching.proofs.ReadRecords.{accepted, gave_up, refused}
 use Rattle.dap_matching.proofs.RecordTexts.{is_record_text}
 use Rattle.dap_matching.proofs.reading.read_records.Goals as goal

@@ -1,4 +1,4 @@
-use Rattle.dap_normal.specs.NormalSteps.{remaining}
+use Rattle.dap_normalise.specs.NormalSteps.{remaining}
 use Rattle.dap_matching.proofs.ReadRecords.{Keeps}
 use Rattle.dap_matching.proofs.reading.read_records.Given as goal
 

@@ -1,6 +1,6 @@
 use Rattle.std.proofs.Common.{ap, subst}
 use Rattle.dap_device.specs.Memory.{GivenBytes}
-use Rattle.dap_normal.specs.Normalising.{RefusesBytes}
+use Rattle.dap_normalise.specs.Normalising.{RefusesBytes}
 use Rattle.dap_rules.specs.OrderingSteps.{IsSession}
 use Rattle.dap_rules.proofs.MemoryInputs.{check_refuses, session_checked}
 use Rattle.dap_rules.proofs.checking.check_bytes.Goals as goal

@@ -2,7 +2,7 @@ use Rattle.std.proofs.Common.{None, Some}
 use Rattle.dap_tree.specs.View.{view}
 use Rattle.dap_mask.specs.KeptRules.{mask_of}
 use Rattle.dap_mask.specs.Loose.{IsLeftOf, LeavesFraction}
-use Rattle.dap_normal.specs.JudgingSteps.{payload_of}
+use Rattle.dap_normalise.specs.JudgingSteps.{payload_of}
 use Rattle.dap_rules.proofs.MaskedRecords.{fraction_left, left_out, recorded}
 use Rattle.dap_rules.proofs.mask_records.append_masked.Goals as goal
 

@@ -4,9 +4,9 @@ use Rattle.std.proofs.lemmas.Result.{err_from_is_err_and}
 use Rattle.dap_message.specs.Message.{sent}
 use Rattle.dap_input.specs.ItemReading.{RepresentsRecord, record_items}
 use Rattle.dap_input.specs.RecordSteps.{ReadsNext}
-use Rattle.dap_normal.specs.Accepting.{IsMessage}
-use Rattle.dap_normal.specs.JudgingSteps.{payload_of}
-use Rattle.dap_normal.proofs.WholeInput.{memory}
+use Rattle.dap_normalise.specs.Accepting.{IsMessage}
+use Rattle.dap_normalise.specs.JudgingSteps.{payload_of}
+use Rattle.dap_normalise.proofs.WholeInput.{memory}
 use Rattle.dap_rules.proofs.ReadMessages.{Reading, fewer}
 use Rattle.dap_rules.proofs.ReadMessages.{no_message, none_read, not_read, one_more}
 use Rattle.dap_rules.proofs.order_reading.read_records.Goals as goal

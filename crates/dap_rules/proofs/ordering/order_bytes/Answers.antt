@@ -1,7 +1,7 @@
 use Rattle.std.proofs.Common.{subst}
 use Rattle.std.proofs.lemmas.Result.{err_from_is_err_and}
 use Rattle.dap_message.specs.SwapRules.{swaps_of}
-use Rattle.dap_normal.specs.Accepting.{IsAccepted}
+use Rattle.dap_normalise.specs.Accepting.{IsAccepted}
 use Rattle.dap_rules.proofs.OrderAnswers.{not_written, text_refused}
 use Rattle.dap_rules.proofs.TextErrors.{text_error}
 use Rattle.dap_rules.proofs.WrittenTexts.{ordered_only}

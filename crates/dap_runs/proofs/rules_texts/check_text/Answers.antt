@@ -1,6 +1,6 @@
 use Rattle.std.proofs.Common.{Err, false, subst}
 use Rattle.dap_device.specs.Memory.{GivenBytes}
-use Rattle.dap_normal.specs.Checking.{Checks}
+use Rattle.dap_normalise.specs.Checking.{Checks}
 use Rattle.dap_runs.specs.TextsByRules.{memory}
 use Rattle.dap_runs.specs.declared.program_limits.TheConstants.{LIMITS}
 use Rattle.dap_runs.proofs.rules_texts.check_text.Goals as goal

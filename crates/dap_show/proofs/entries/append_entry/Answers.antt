@@ -1,6 +1,6 @@
 use Rattle.std.proofs.Common.{◌≡◌, Bool, false, rules, sym, subst}
 use Rattle.dap_input.specs.Refusals.{RejectsPayload}
-use Rattle.dap_normal.specs.Accepting.{HoldsNoMessage}
+use Rattle.dap_normalise.specs.Accepting.{HoldsNoMessage}
 use Rattle.dap_show.specs.ShowingSteps.{payload_of}
 use Rattle.dap_show.specs.Viewing.{Rejects}
 use Rattle.dap_show.proofs.EntryLines.{refused_strictly}

@@ -1,5 +1,5 @@
 use Rattle.dap_message.specs.Message.{sent}
-use Rattle.dap_normal.specs.Accepting.{IsMessage}
+use Rattle.dap_normalise.specs.Accepting.{IsMessage}
 use Rattle.dap_show.specs.ShowingSteps.{payload_of}
 use Rattle.dap_show.proofs.showing.append_lines.Goals as goal
 

@@ -1,7 +1,7 @@
 use Rattle.std.proofs.Common.{sym, subst}
 use Rattle.std.proofs.lemmas.Result.{err_from_is_err_and}
 use Rattle.dap_mask.specs.KeptRules.{mask_of}
-use Rattle.dap_normal.specs.Normalising.{Normalises, RefusesBytes}
+use Rattle.dap_normalise.specs.Normalising.{Normalises, RefusesBytes}
 use Rattle.dap_suggest.specs.Suggested.{IsRejected}
 use Rattle.dap_suggest.proofs.Rejections.{unaccepted, unapplied}
 use Rattle.dap_suggest.proofs.sessions.session_of.Goals as goal

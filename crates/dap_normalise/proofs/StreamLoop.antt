@@ -1,0 +1,218 @@
+-- The loop invariant of a command function that checks a recording record by record.
+use Rattle.std.proofs.Common.{◌≡◌, ℕ, ℤ, ◌+◌, ◌≤◌, true, false, Ok, Bool, List, []}
+use Rattle.std.proofs.Common.{◌∷◌, ◌++◌, length, Option, Some, None, refl, ◌∙◌, ap, subst, arith}
+use Rattle.std.proofs.Common.{append_assoc, length-append}
+use Rattle.std.proofs.lemmas.List.{length_push}
+use Rattle.dap_device.specs.declared.device.Source.{Ghosts as Source}
+use Rattle.dap_device.specs.Pieces.{HasReadSoFar}
+use Rattle.dap_device.specs.Reading.{HasReadInput}
+use Rattle.dap_device.specs.declared.reading.Stop.{Stop}
+use Rattle.dap_device.specs.declared.reading.Stop.TheVariants.{End}
+use Rattle.dap_message.specs.Message.{Sent}
+use Rattle.dap_rename.specs.Messages.{IsNormal}
+use Rattle.dap_rename.specs.Modes.{stop_in}
+use Rattle.dap_rename.specs.declared.mode.Mode.{Mode}
+use Rattle.dap_input.specs.declared.limits.Limits.{Limits}
+use Rattle.dap_normalise.specs.declared.normal_records.NormalRecords.{NormalRecords}
+use Rattle.dap_input.specs.declared.refused.Refused.{Refused}
+use Rattle.dap_normalise.specs.Accepting.{accepting, text}
+use Rattle.dap_input.specs.Inputs.{AcceptedBefore, Input}
+use Rattle.dap_normalise.specs.NormalSteps.{HasEnded, HasAdvanced, HasNext, HasStoppedAt}
+use Rattle.dap_normalise.specs.NormalSteps.{RepresentsBefore}
+use Rattle.dap_input.specs.ReadTo.{IsReadTo, so_far}
+use Rattle.dap_normalise.specs.Streaming.{HasComeTo, RefusesNext}
+use Rattle.dap_input.specs.Refusals.{RefusesAt}
+use Rattle.dap_input.proofs.Coming.{came_on, nothing_came}
+
+module _ {R : Type 0} (source : Source R) where
+  -- A reader that reached its end delivered a complete input.
+  pub whole_came : (start end : R) (limit : ℕ) (bytes : List ℕ)
+      → HasReadSoFar source start end bytes (Some End) → length bytes ≤ limit
+      → HasReadInput source start end limit bytes End
+  whole_came start end limit bytes came short =
+      record {
+        came = came.came;
+        counted = came.counted;
+        has_length = short;
+        stopped = came.paused;
+      }
+
+-- The state represents the normal form in the mode of the input.
+pub normal_before : {T : Type 0} {numbers : T → List ℤ} {table_limit : T
+    → ℕ} (limits : Limits) (mode : Mode) (bytes : List ℕ) (records : NormalRecords T)
+    (messages normal : List Sent)
+    → RepresentsBefore numbers table_limit limits mode bytes records messages normal
+    → IsNormal (stop_in mode) messages normal
+normal_before limits mode bytes records messages normal represents =
+    subst (λ k. IsNormal (stop_in k) messages normal) represents.judge_mode_is
+    represents.represents.is_normal
+
+module _ {T R : Type 0} (numbers : T → List ℤ) (table_limit : T → ℕ) (source : Source R)
+    (limits : Limits) (mode : Mode) where
+  -- These bytes were read, and the records before the next one are accepted.
+  pub record Going (start reader : R) (records : NormalRecords T) : Type 0 where
+    pub bytes : List ℕ
+    pub came : HasReadSoFar source start reader bytes None
+    pub messages : List Sent
+    pub normal : List Sent
+    pub represents : RepresentsBefore numbers table_limit limits mode bytes records messages normal
+
+module _ {T R : Type 0} {numbers : T → List ℤ} {table_limit : T → ℕ} (source : Source R)
+    (limits : Limits) (mode : Mode) where
+  abbrev pub at_start : (reader : R) (records : NormalRecords T)
+      → RepresentsBefore numbers table_limit limits mode [] records [] []
+      → Going numbers table_limit source limits mode reader reader records
+  at_start reader records represents =
+      record {
+        bytes = [];
+        came = nothing_came source reader;
+        messages = [];
+        normal = [];
+        represents = represents;
+      }
+
+  module _ (start reader : R) (records : NormalRecords T)
+      (was : Going numbers table_limit source limits mode start reader records) where
+    -- ---- one more record
+
+    abbrev pub on : (new : NormalRecords T) (after : R) (before longer : List ℕ)
+        → HasAdvanced numbers table_limit source limits mode was.bytes was.messages was.normal
+        records new reader after before longer
+        → Going numbers table_limit source limits mode start after new
+    on new after before longer gone = record {
+      bytes = was.bytes ++ gone.more;
+      came = came_on source start reader after was.bytes gone.more None was.came
+          gone.came;
+      messages = was.messages ++ gone.message ∷ [];
+      normal = was.normal ++ gone.named ∷ [];
+      represents = gone.represents;
+    }
+
+    pub gone_taken : (new : NormalRecords T) (after : R) (before longer : List ℕ)
+        → HasAdvanced numbers table_limit source limits mode was.bytes was.messages was.normal
+        records new reader after before longer
+        → source.given after ≤ source.given start + limits.input + 1
+    gone_taken new after before longer gone =
+        let so_many = was.came.counted in
+        let behind = gone.came.counted in
+        let taken = gone.represents.taken in
+        let limit = gone.represents.limit_is in
+        let within = gone.represents.between.within in
+        omega (arith, so_many, behind, taken, limit, within, length-append was.bytes gone.more)
+
+    -- ---- an input of which this part was read
+
+    abbrev pub before_in : (input : Input) (tail : List ℕ) → input.bytes ≡ was.bytes ++ tail
+        → AcceptedBefore (accepting limits mode) input records.records.number
+    before_in input tail split = record {
+      values = was.messages;
+      front = was.represents.front;
+      rest = records.records.pieces.unread ++ tail;
+      split = split ∙ ap (λ t. t ++ tail) was.represents.came
+          ∙ append_assoc was.represents.front records.records.pieces.unread tail;
+      accepted = was.represents.accepted;
+      is_number = was.represents.number_is;
+    }
+
+    abbrev pub next_in : (new : NormalRecords T) (after : R) (before longer : List ℕ)
+        (gone : HasAdvanced numbers table_limit source limits mode was.bytes was.messages
+        was.normal records new reader after before longer)
+        → (input : Input) (tail : List ℕ) → input.bytes ≡ (was.bytes ++ gone.more) ++ tail
+        → AcceptedBefore (accepting limits mode) input (records.records.number + 1)
+    next_in new after before longer gone input tail split = record {
+      values = was.messages ++ gone.message ∷ [];
+      front = gone.represents.front;
+      rest = new.records.pieces.unread ++ tail;
+      split = split ∙ ap (λ t. t ++ tail) gone.represents.came
+          ∙ append_assoc gone.represents.front new.records.pieces.unread tail;
+      accepted = gone.represents.accepted;
+      is_number =
+          (let is = was.represents.number_is in omega
+          (arith, is, length_push was.messages gone.message));
+    }
+
+    -- ---- so far
+
+    module _ (after : R) (more : List ℕ) (stop : Option Stop)
+        (came : HasReadSoFar source reader after more stop) where
+      abbrev pub records_before : AcceptedBefore (accepting limits mode)
+          (so_far (was.bytes ++ more) stop) records.records.number
+      records_before = record {
+        values = was.messages;
+        front = was.represents.front;
+        rest = records.records.pieces.unread ++ more;
+        split = ap (λ t. t ++ more) was.represents.came
+            ∙ append_assoc was.represents.front records.records.pieces.unread more;
+        accepted = was.represents.accepted;
+        is_number = was.represents.number_is;
+      }
+
+      abbrev pub come_to : IsReadTo (accepting limits mode) (was.bytes ++ more)
+          records.records.number
+          → HasComeTo source limits mode start after stop records.records.number
+          (text was.normal)
+      come_to read_to = record {
+        bytes = was.bytes ++ more;
+        came = came_on source start reader after was.bytes more stop was.came came;
+        read_to = read_to;
+        before = records_before;
+        gives =
+            record {
+              messages = was.messages;
+              accepts = was.represents.accepted;
+              normal = was.normal;
+              is_normal = normal_before limits mode was.bytes records was.messages was.normal
+                  was.represents;
+              text_is = refl;
+            };
+      }
+
+    module _ (after : R) (new : NormalRecords T) (because : Refused)
+        (stopped : HasStoppedAt numbers table_limit source limits mode was.bytes
+        was.messages was.normal records new reader after because) where
+      abbrev pub refused_to : HasComeTo source limits mode start after stopped.stop
+          records.records.number (text was.normal)
+      refused_to = come_to after stopped.more stopped.stop stopped.came stopped.read_to
+
+      pub refuses_next : RefusesAt (accepting limits mode)
+          (so_far (was.bytes ++ stopped.more) stopped.stop) records.records.number because
+          → RefusesNext source limits mode start after because (text was.normal)
+      refuses_next says =
+          record {
+            number = records.records.number;
+            stop = stopped.stop;
+            to = refused_to;
+            refuses = says;
+            cut = stopped.cut;
+          }
+
+      pub few_taken : source.given after ≤ source.given start + limits.input + 1
+      few_taken =
+          let before = was.came.counted in
+          let behind = stopped.came.counted in
+          let within = stopped.within in
+          omega (arith, before, behind, within, length-append was.bytes stopped.more)
+
+    -- ---- at the end
+
+    module _ (after : R) (new : NormalRecords T) (before longer : List ℕ)
+        (ended : HasEnded numbers table_limit source limits mode was.bytes was.messages
+        was.normal records new reader after before longer) where
+      pub all_came : HasReadInput source start after limits.input (was.bytes ++ ended.more) End
+      all_came = whole_came source start after limits.input (was.bytes ++ ended.more)
+          (came_on source start reader after was.bytes ended.more (Some End) was.came
+          ended.came) ended.accepted.short
+
+      pub all_taken : source.given after ≤ source.given start + limits.input + 1
+      all_taken =
+          let so_many = was.came.counted in
+          let behind = ended.came.counted in
+          let within = ended.accepted.short in
+          omega (arith, so_many, behind, within, length-append was.bytes ended.more)
+
+    pub passed_taken : (new : NormalRecords T) (after : R) (before longer : List ℕ) (some : Bool)
+        → HasNext numbers table_limit source limits mode was.bytes was.messages was.normal
+        records new reader after before longer (Ok some)
+        → source.given after ≤ source.given start + limits.input + 1
+    passed_taken new after before longer true gone = gone_taken new after before longer gone
+    passed_taken new after before longer false ended = all_taken after new before longer ended

@@ -1,0 +1,240 @@
+use Rattle.std.proofs.Common.{ℕ, List, ◌++◌, ◌∷◌, [], Err, Ok, sym, ◌∙◌, subst}
+use Rattle.dap_device.specs.Written.{AllWritten, PrefixWritten}
+use Rattle.dap_device.proofs.Sending.{all_then_all}
+use Rattle.dap_input.proofs.Coming.{came_on}
+use Rattle.dap_input.proofs.StreamEnds.{all_written, front_written, nothing_written}
+use Rattle.dap_normalise.specs.Accepting.{text}
+use Rattle.dap_normalise.specs.Streaming.{Ends}
+use Rattle.dap_normalise.proofs.PendingTexts.{Waiting, failed_inside, longer_is, none_waiting}
+use Rattle.dap_normalise.proofs.PendingTexts.{stops_behind, waits_on}
+use Rattle.dap_normalise.proofs.StreamAnswers.{ended, gone}
+use Rattle.dap_normalise.proofs.StreamLoop.{all_taken, at_start, few_taken, gone_taken, on}
+use Rattle.dap_normalise.proofs.StreamWriting.{all_given_up, all_refused, all_streamed, memory_of}
+use Rattle.dap_normalise.proofs.StreamWriting.{not_given_up, unfailed}
+use Rattle.dap_normalise.proofs.normalising.write_records.Goals as goal
+
+pub records-init : goal.records-init
+records-init g c =
+    let start = at_start g.R.Source c.args.limits c.args.mode c.args.reader.now c.args.records.now
+    c.requires.represents in
+    record {
+      going = start;
+      sent = [];
+      written = nothing_written g.W.Sink c.args.writer.now;
+      waits = subst (Waiting c.args.limits c.args.mode c.args.records.now [] [] []) (sym
+          c.new-text.ensures.items)
+          (none_waiting g.R.Source c.args.limits c.args.mode c.args.reader.now c.args.reader.now
+          c.args.records.now start);
+    }
+
+pub returns-then-is_err-clause-outcome : goal.returns-then-is_err-clause-outcome
+returns-then-is_err-clause-outcome g c =
+    let was = c.records.invariant.going in
+    let here = gone g.R.Source c.args.limits c.args.mode c.args.reader.now c.records.reader
+    c.records.records
+    was c.next.new.self c.next.new.reader _ _ _
+    (c.in-Ok-true.ensures.next c.args.limits c.args.mode was.bytes was.messages was.normal
+    was.represents)
+    c.in-Ok-true.field-0-test in
+    let front = subst (PrefixWritten g.W.Sink c.records.writer c.write_all.new.writer)
+    c.as_slice.ensures.value
+    (front_written g.W.Sink c.records.writer c.write_all.new.writer c.write_all.result
+    c.as_slice.result.now c.write_all.ensures (sym c.is_err.ensures.value ∙ c.if-is_err.true)) in
+    failed_inside g.R.Source g.W.Sink c.args.limits c.args.mode c.args.reader.now c.next.new.reader
+    c.args.writer.now c.records.writer c.write_all.new.writer _ c.records.invariant.sent _ _
+    (came_on g.R.Source c.args.reader.now c.records.reader c.next.new.reader was.bytes here.more _
+    was.came here.came)
+    c.records.invariant.written front
+    (stops_behind g.R.Source c.args.limits c.args.mode c.args.reader.now c.records.reader
+    c.records.records was
+    c.records.invariant.sent c.records.text.items c.records.invariant.waits c.next.new.self
+    c.next.new.reader c.next.new.text.items here
+    (c.in-Ok-true.ensures.at_hand c.args.limits c.args.mode was.bytes was.messages was.normal
+    was.represents)
+    front.count front.within)
+
+pub returns-then-is_err-clause-taken : goal.returns-then-is_err-clause-taken
+returns-then-is_err-clause-taken g c =
+    let was = c.records.invariant.going in
+    gone_taken g.R.Source c.args.limits c.args.mode c.args.reader.now c.records.reader
+    c.records.records was
+    c.next.new.self c.next.new.reader _ _
+    (gone g.R.Source c.args.limits c.args.mode c.args.reader.now c.records.reader c.records.records
+    was
+    c.next.new.self c.next.new.reader _ _ _
+    (c.in-Ok-true.ensures.next c.args.limits c.args.mode was.bytes was.messages was.normal
+    was.represents)
+    c.in-Ok-true.field-0-test)
+
+pub records-smaller-in-Ok-true : goal.records-smaller-in-Ok-true
+records-smaller-in-Ok-true g c =
+    let was = c.records.invariant.going in
+    (gone g.R.Source c.args.limits c.args.mode c.args.reader.now c.records.reader c.records.records
+    was
+    c.next.new.self c.next.new.reader _ _ _
+    (c.in-Ok-true.ensures.next c.args.limits c.args.mode was.bytes was.messages was.normal
+    was.represents)
+    c.in-Ok-true.field-0-test).shorter
+
+pub records-preserved-in-Ok-true : goal.records-preserved-in-Ok-true
+records-preserved-in-Ok-true g c =
+    let was = c.records.invariant.going in
+    let here = gone g.R.Source c.args.limits c.args.mode c.args.reader.now c.records.reader
+    c.records.records
+    was c.next.new.self c.next.new.reader _ _ _
+    (c.in-Ok-true.ensures.next c.args.limits c.args.mode was.bytes was.messages was.normal
+    was.represents)
+    c.in-Ok-true.field-0-test in
+    let all = subst (AllWritten g.W.Sink c.records.writer c.write_all.new.writer)
+    c.as_slice.ensures.value
+    (all_written g.W.Sink c.records.writer c.write_all.new.writer c.write_all.result
+    c.as_slice.result.now c.write_all.ensures (sym c.is_err.ensures.value ∙ c.if-is_err.false)) in
+    let now = on g.R.Source c.args.limits c.args.mode c.args.reader.now c.records.reader
+    c.records.records was
+    c.next.new.self c.next.new.reader _ _ here in
+    record {
+      going = now;
+      sent = text now.normal;
+      written = subst (AllWritten g.W.Sink c.args.writer.now c.write_all.new.writer)
+          (sym (longer_is g.R.Source c.args.limits c.args.mode c.args.reader.now c.records.reader
+          c.records.records was c.records.invariant.sent c.records.text.items
+          c.records.invariant.waits c.next.new.self c.next.new.reader c.next.new.text.items here
+          (c.in-Ok-true.ensures.at_hand c.args.limits c.args.mode was.bytes was.messages was.normal
+          was.represents)))
+          (all_then_all g.W.Sink c.args.writer.now c.records.writer c.write_all.new.writer
+          c.records.invariant.sent c.next.new.text.items c.records.invariant.written all);
+      waits = subst (Waiting c.args.limits c.args.mode c.next.new.self now.bytes (text now.normal)
+          (text now.normal)) (sym {A = List ℕ} c.clear.ensures.items)
+          (none_waiting g.R.Source c.args.limits c.args.mode c.args.reader.now c.next.new.reader
+          c.next.new.self now);
+    }
+
+pub records-smaller : goal.records-smaller
+records-smaller g c =
+    let was = c.records.invariant.going in
+    (gone g.R.Source c.args.limits c.args.mode c.args.reader.now c.records.reader c.records.records
+    was
+    c.next.new.self c.next.new.reader _ _ _
+    (c.in-Ok-true.ensures.next c.args.limits c.args.mode was.bytes was.messages was.normal
+    was.represents)
+    c.in-Ok-true.field-0-test).shorter
+
+pub records-preserved : goal.records-preserved
+records-preserved g c =
+    let was = c.records.invariant.going in
+    let here = gone g.R.Source c.args.limits c.args.mode c.args.reader.now c.records.reader
+    c.records.records
+    was c.next.new.self c.next.new.reader _ _ _
+    (c.in-Ok-true.ensures.next c.args.limits c.args.mode was.bytes was.messages was.normal
+    was.represents)
+    c.in-Ok-true.field-0-test in
+    record {
+      going = on g.R.Source c.args.limits c.args.mode c.args.reader.now c.records.reader
+          c.records.records was
+          c.next.new.self c.next.new.reader _ _ here;
+      sent = c.records.invariant.sent;
+      written = c.records.invariant.written;
+      waits = waits_on g.R.Source c.args.limits c.args.mode c.args.reader.now c.records.reader
+          c.records.records was c.records.invariant.sent c.records.text.items
+          c.records.invariant.waits c.next.new.self c.next.new.reader c.next.new.text.items here
+          (c.in-Ok-true.ensures.at_hand c.args.limits c.args.mode was.bytes was.messages was.normal
+          was.represents)
+          (c.has_next.ensures c.args.limits c.args.mode (was.bytes ++ here.more)
+          (was.messages ++ here.message ∷ []) (was.normal ++ here.named ∷ []) here.represents
+          c.if-not-has_next.false);
+    }
+
+pub returns-in-Ok-false-clause-outcome : goal.returns-in-Ok-false-clause-outcome
+returns-in-Ok-false-clause-outcome g c =
+    let was = c.records.invariant.going in
+    let end = ended g.R.Source c.args.limits c.args.mode c.args.reader.now c.records.reader
+    c.records.records
+    was c.next.new.self c.next.new.reader _ _ _
+    (c.in-Ok-false.ensures.next c.args.limits c.args.mode was.bytes was.messages was.normal
+    was.represents)
+    c.in-Ok-false.field-0-test in
+    all_streamed g.R.Source g.W.Sink c.args.limits c.args.mode c.args.reader.now c.args.writer.now
+    c.records.reader c.records.records was c.records.writer c.records.invariant.sent
+    c.records.text.items c.records.invariant.written c.records.invariant.waits c.next.new.self
+    c.next.new.reader
+    (c.in-Ok-false.ensures.at_hand c.args.limits c.args.mode was.bytes was.messages was.normal
+    was.represents)
+    c.requires.limits _ _ end c.ended.new.writer c.ended.result
+    (subst (λ t. Ends g.W.Sink t c.records.writer c.ended.new.writer (Ok tt) c.ended.result)
+    (c.as_slice-in-Ok-false.ensures.value ∙ end.kept) c.ended.ensures)
+
+pub returns-in-Ok-false-clause-given_up : goal.returns-in-Ok-false-clause-given_up
+returns-in-Ok-false-clause-given_up g c = λ memory.
+    absurd (not_given_up g.W.Sink c.as_slice-in-Ok-false.result.now c.records.writer
+    c.ended.new.writer c.ended.result c.ended.ensures memory)
+
+pub returns-in-Ok-false-clause-taken : goal.returns-in-Ok-false-clause-taken
+returns-in-Ok-false-clause-taken g c =
+    let was = c.records.invariant.going in
+    all_taken g.R.Source c.args.limits c.args.mode c.args.reader.now c.records.reader
+    c.records.records was
+    c.next.new.reader c.next.new.self _ _
+    (ended g.R.Source c.args.limits c.args.mode c.args.reader.now c.records.reader c.records.records
+    was
+    c.next.new.self c.next.new.reader _ _ _
+    (c.in-Ok-false.ensures.next c.args.limits c.args.mode was.bytes was.messages was.normal
+    was.represents)
+    c.in-Ok-false.field-0-test)
+
+pub returns-in-Err-clause-outcome : goal.returns-in-Err-clause-outcome
+returns-in-Err-clause-outcome g c =
+    let was = c.records.invariant.going in
+    all_refused g.R.Source g.W.Sink c.args.limits c.args.mode c.args.reader.now c.args.writer.now
+    c.records.reader c.records.records was c.records.writer c.records.invariant.sent
+    c.records.text.items c.records.invariant.written c.records.invariant.waits c.next.new.self
+    c.next.new.reader
+    (c.in-Err.ensures.at_hand c.args.limits c.args.mode was.bytes was.messages was.normal
+    was.represents)
+    c.in-Err.refused
+    (c.in-Err.ensures.next c.args.limits c.args.mode was.bytes was.messages was.normal
+    was.represents)
+    c.ended-in-Err.new.writer c.ended-in-Err.result
+    (subst (λ t. Ends g.W.Sink t c.records.writer c.ended-in-Err.new.writer
+    (Err c.in-Err.refused) c.ended-in-Err.result)
+    (c.as_slice-in-Err.ensures.value ∙ c.in-Err.ensures.kept) c.ended-in-Err.ensures)
+
+pub returns-in-Err-clause-given_up : goal.returns-in-Err-clause-given_up
+returns-in-Err-clause-given_up g c = λ memory.
+    let was = c.records.invariant.going in
+    all_given_up g.R.Source g.W.Sink c.args.limits c.args.mode c.args.reader.now c.args.writer.now
+    c.records.reader c.records.records was c.records.writer c.records.invariant.sent
+    c.records.text.items c.records.invariant.written c.records.invariant.waits c.next.new.self
+    c.next.new.reader
+    (c.in-Err.ensures.at_hand c.args.limits c.args.mode was.bytes was.messages was.normal
+    was.represents)
+    c.in-Err.refused
+    (c.in-Err.ensures.next c.args.limits c.args.mode was.bytes was.messages was.normal
+    was.represents)
+    c.ended-in-Err.new.writer c.ended-in-Err.result
+    (subst (λ t. Ends g.W.Sink t c.records.writer c.ended-in-Err.new.writer
+    (Err c.in-Err.refused) c.ended-in-Err.result)
+    (c.as_slice-in-Err.ensures.value ∙ c.in-Err.ensures.kept) c.ended-in-Err.ensures) memory
+
+pub returns-in-Err-clause-taken : goal.returns-in-Err-clause-taken
+returns-in-Err-clause-taken g c =
+    let was = c.records.invariant.going in
+    few_taken g.R.Source c.args.limits c.args.mode c.args.reader.now c.records.reader
+    c.records.records was
+    c.next.new.reader c.next.new.self _
+    (c.in-Err.ensures.next c.args.limits c.args.mode was.bytes was.messages was.normal
+    was.represents)
+
+pub returns-in-Ok-false-clause-memory : goal.returns-in-Ok-false-clause-memory
+returns-in-Ok-false-clause-memory g c = λ memory.
+    absurd (not_given_up g.W.Sink c.as_slice-in-Ok-false.result.now c.records.writer
+    c.ended.new.writer c.ended.result c.ended.ensures memory)
+
+pub returns-in-Err-clause-memory : goal.returns-in-Err-clause-memory
+returns-in-Err-clause-memory g c = λ memory.
+    let was = c.records.invariant.going in
+    unfailed g.R.Source c.args.limits c.args.mode c.args.reader.now c.records.reader
+    c.records.records was c.next.new.self c.next.new.reader c.in-Err.refused
+    (c.in-Err.ensures.next c.args.limits c.args.mode was.bytes was.messages was.normal
+    was.represents)
+    (memory_of g.W.Sink c.as_slice-in-Err.result.now c.records.writer c.ended-in-Err.new.writer
+    c.in-Err.refused c.ended-in-Err.result c.ended-in-Err.ensures memory)

@@ -1,0 +1,153 @@
+//! Checks the records of a recording one after another, for both `check` and `normalise`.
+ghost use Rattle.std.specs.Prelude.{◌≡◌, ◌≤◌, List, [], OnErr};
+ghost use Rattle.dap_message.specs.Message.{Sent};
+ghost use Rattle.dap_session.specs.Rules.{open_requests};
+ghost use Rattle.dap_input.specs.Limits.{AreSound};
+ghost use Rattle.dap_normalise.specs.NameTables.{AreReady};
+
+use crate::messages::{append_record, read_flat, read_message};
+use dap_input::{Limits, Refused};
+use dap_message::{AnyMessage, Side};
+use dap_recording::Record;
+use dap_rename::{Mode, NameFault, NameTable, Names, Tables};
+use dap_session::{Session, SessionFault};
+use dap_tree::Scratch;
+use std::alloc::Global;
+
+/// The state after the records so far, which is needed to check the next record.
+#[derive(Drop)]
+pub struct Judge<T> {
+    session: Session,
+    names: Names<T>,
+    /// The length in bytes of the normal form so far.
+    written: u64,
+    limits: Limits,
+    /// A buffer for the content that is written.
+    content: Vec<u8>,
+    ghost sound: { AreSound limits },
+    ghost short: { written ≤ limits.input },
+}
+
+impl<T: NameTable + Drop> Judge<T> {
+    ghost use Rattle.dap_normalise.specs.Accepting.{Payload, IsMessage};
+    ghost use Rattle.dap_normalise.specs.JudgingSteps.{
+      JudgesRecord,
+      RepresentsMessages,
+      payload_of,
+      judge_limits,
+    };
+    ghost use Rattle.dap_normalise.specs.JudgingSteps.{judge_mode};
+
+    /// Returns the state before the first record.
+    pub fn new(alloc: Global, limits: Limits, tables: Tables<T>, mode: Mode) -> Judge<T>
+        requires limits { AreSound limits }
+        requires tables { AreReady T.numbers T.limit limits tables }
+        ensures represents { RepresentsMessages T.numbers T.limit result [] [] }
+        ensures limits { judge_limits result ≡ limits }
+        ensures mode { judge_mode result ≡ mode }
+    {
+        Judge {
+            session: Session::new(alloc),
+            names: Names::new(alloc, tables, mode),
+            written: 0,
+            limits,
+            content: Vec::new(alloc),
+        }
+    }
+
+    /// Checks the record with this number, and appends the record of its normal form to `out`.
+    ///
+    /// Reads its content as a flat document, or as a tree if that is not possible. Reuses the
+    /// buffer `scratch`.
+    ///
+    /// # Errors
+    ///
+    /// - The first error of the record.
+    /// - `Memory`: an allocation failed.
+    ///
+    /// The contents of `out` are unchanged.
+    pub fn judge(
+        &mut self,
+        alloc: Global,
+        number: u64,
+        whole: &Record,
+        scratch: &mut Scratch,
+        out: &mut Vec<u8>,
+    ) -> Result<(), Refused>
+        ensures judges { (messages normal : List Sent)
+            → RepresentsMessages T.numbers T.limit self.old messages normal
+            → JudgesRecord T.numbers T.limit messages normal (payload_of whole.now) number self.old
+            self.new out.old.items out.new.items result }
+        ensures limits { judge_limits self.new ≡ judge_limits self.old }
+        ensures mode { judge_mode self.new ≡ judge_mode self.old }
+        ensures kept { OnErr result (out.new.items ≡ out.old.items) }
+    {
+        let content = whole.content.as_slice();
+        if let Some(message) = read_flat(alloc, number, whole.side, content, scratch)? {
+            return self.judge_message(alloc, number, message, out);
+        }
+        let message = read_message(alloc, number, whole.side, content, scratch)?;
+        self.judge_message(alloc, number, message, out)
+    }
+
+    /// Checks the message of the record with this number, and appends the record of its normal form
+    /// to `out`. The message may represent its document in any way.
+    ///
+    /// # Errors
+    ///
+    /// - The first error of the message: a session rule, `TooManyIds` or `Grew`.
+    /// - `Memory`: an allocation failed.
+    ///
+    /// The contents of `out` are unchanged.
+    pub fn judge_message<M: AnyMessage + Drop>(
+        &mut self,
+        alloc: Global,
+        number: u64,
+        message: M,
+        out: &mut Vec<u8>,
+    ) -> Result<(), Refused>
+        ensures judges { (messages normal : List Sent) (held : Payload)
+            → RepresentsMessages T.numbers T.limit self.old messages normal
+            → IsMessage held (M.sent message)
+            → JudgesRecord T.numbers T.limit messages normal held number self.old self.new
+            out.old.items out.new.items result }
+        ensures limits { judge_limits self.new ≡ judge_limits self.old }
+        ensures mode { judge_mode self.new ≡ judge_mode self.old }
+        ensures kept { OnErr result (out.new.items ≡ out.old.items) }
+    {
+        match self.session.accept_any(&message) {
+            Ok(()) => {}
+            Err(SessionFault::Broken(rule)) => return Err(Refused::Rule(number, rule)),
+            Err(SessionFault::Memory) => return Err(Refused::Memory),
+        }
+        let names = match self.names.name_message(&message) {
+            Ok(names) => names,
+            Err(NameFault::Full) => return Err(Refused::TooManyIds(number)),
+            Err(NameFault::Memory) => return Err(Refused::Memory),
+        };
+        let side = message.side();
+        self.content.clear();
+        let Ok(()) = message.write_with_ids(alloc, names.as_slice(), &mut self.content) else {
+            return Err(Refused::Memory);
+        };
+        let content = self.content.as_slice();
+        self.written = append_record(number, side, content, self.written, self.limits, out)?;
+        Ok(())
+    }
+
+    /// Returns the canonical numbers of the messages so far.
+    pub fn names(&self) -> &Names<T>
+        ensures { result.now ≡ self.now.names }
+    {
+        &self.names
+    }
+
+    /// Returns the number of requests of that side that have no response.
+    pub fn open(&self, side: Side) -> usize
+        ensures { (messages normal : List Sent)
+            → RepresentsMessages T.numbers T.limit self.now messages normal
+            → result ≡ open_requests side messages }
+    {
+        self.session.open(side)
+    }
+}

@@ -1,0 +1,123 @@
+//! Reads the message of a record, and writes the record of a content.
+ghost use Rattle.std.specs.Prelude.{◌≡◌, ◌≤◌, List, IfOk, IfErr, IfSome, OnErr};
+ghost use Rattle.dap_tree.specs.Json.{text_of};
+ghost use Rattle.dap_flat.specs.FlatMessages.{flat_sent};
+ghost use Rattle.dap_message.specs.Message.{Sent, sent};
+ghost use Rattle.dap_normalise.specs.Accepting.{HoldsNoMessage, IsMessage, Rejects};
+ghost use Rattle.dap_normalise.specs.JudgingSteps.{Writes};
+ghost use Rattle.dap_input.specs.Limits.{AreSound};
+ghost use Rattle.dap_input.specs.Refusals.{RejectsPayload};
+
+use dap_flat::{FlatFault, FlatMessage, read_flat_message};
+use dap_frame::FrameFault;
+use dap_input::{Limits, Refused};
+use dap_message::{Message, MessageFault, Side, typed};
+use dap_recording::write_record;
+use dap_rename::Mode;
+use dap_tree::{Scratch, TreeFault, read_tree_with};
+use std::alloc::Global;
+
+/// The number of bytes per node of a document that most contents have at least. It is an estimate,
+/// which only affects how often the vector of nodes is reallocated.
+const BYTES_A_NODE: usize = 8;
+
+/// Returns the message of the record with this number. Reuses the buffer `scratch`.
+///
+/// # Errors
+///
+/// - `Json`, `Fraction`: the content is not JSON, or a number is not an integer of 64 bits.
+/// - `Message`: the content violates the profile.
+/// - `Memory`: an allocation failed.
+pub fn read_message(
+    alloc: Global,
+    number: u64,
+    side: Side,
+    content: &[u8],
+    scratch: &mut Scratch,
+) -> Result<Message, Refused>
+    ensures ok { IfOk result (λ message. IsMessage (side, content.now) (sent message)) }
+    ensures err { IfErr result (λ because. (limits : Limits) (mode : Mode) (messages : List Sent)
+        → RejectsPayload (Rejects limits mode messages (side, content.now)) number because) }
+    ensures only { IfErr result
+        (λ because. RejectsPayload (HoldsNoMessage (side, content.now)) number because) }
+{
+    let tree = match read_tree_with(alloc, content, scratch) {
+        Ok(tree) => tree,
+        Err(TreeFault::Json) => return Err(Refused::Json(number)),
+        Err(TreeFault::Fraction) => return Err(Refused::Fraction(number)),
+        Err(TreeFault::Memory) => return Err(Refused::Memory),
+    };
+    match typed(alloc, side, tree) {
+        Ok(message) => Ok(message),
+        Err(MessageFault::Memory) => Err(Refused::Memory),
+        Err(fault) => Err(Refused::Message(number, fault)),
+    }
+}
+
+/// Reads the message of the record with this number as a flat document. Returns `None` if its
+/// content must be read as a tree.
+///
+/// # Errors
+///
+/// - `Message`: the content violates the profile.
+/// - `Memory`: an allocation failed.
+pub fn read_flat<'a>(
+    alloc: Global,
+    number: u64,
+    side: Side,
+    content: &'a [u8],
+    scratch: &'a mut Scratch,
+) -> Result<Option<FlatMessage<'a>>, Refused>
+    ensures ok { IfOk result
+        (λ found. IfSome found (λ message. IsMessage (side, content.now) (flat_sent message))) }
+    ensures err { IfErr result (λ because. (limits : Limits) (mode : Mode) (messages : List Sent)
+        → RejectsPayload (Rejects limits mode messages (side, content.now)) number because) }
+{
+    let Ok(nodes) = Vec::with_capacity(alloc, content.len() / BYTES_A_NODE + 8) else {
+        return Err(Refused::Memory);
+    };
+    match read_flat_message(side, content, scratch, nodes) {
+        Ok(message) => Ok(Some(message)),
+        Err(FlatFault::Unclear) => Ok(None),
+        Err(FlatFault::Memory) => Err(Refused::Memory),
+        Err(FlatFault::Message(fault)) => Err(Refused::Message(number, fault)),
+    }
+}
+
+/// Appends the record of a side and a content to an output of `written` bytes, and returns the new
+/// length of the output.
+///
+/// # Errors
+///
+/// - `Grew`: the content or the output would exceed its limit.
+/// - `Memory`: an allocation failed.
+///
+/// The contents of `out` are unchanged.
+pub fn append_record(
+    number: u64,
+    side: Side,
+    content: &[u8],
+    written: u64,
+    limits: Limits,
+    out: &mut Vec<u8>,
+) -> Result<u64, Refused>
+    requires sound { AreSound limits }
+    requires short { written ≤ limits.input }
+    ensures writes { (message : Sent) → message.side ≡ side → text_of message.doc ≡ content.now
+        → Writes limits message number written out.old.items out.new.items result }
+    ensures within { IfOk result (λ after. after ≤ limits.input) }
+    ensures kept { OnErr result (out.new.items ≡ out.old.items) }
+{
+    let before = out.len();
+    match write_record(out, side, content, limits.frame) {
+        Ok(()) => {}
+        Err(FrameFault::ContentTooLong) => return Err(Refused::Grew(number)),
+        Err(_) => return Err(Refused::Memory),
+    }
+    let after = written + (out.len() - before) as u64;
+    if limits.input < after {
+        out.truncate(before);
+        return Err(Refused::Grew(number));
+    }
+    Ok(after)
+}
