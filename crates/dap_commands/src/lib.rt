@@ -4,12 +4,12 @@
 
 mod commands;
 mod definition;
-mod words;
 mod job_definition;
-mod jobs;
 mod job_words;
+mod jobs;
+mod words;
 
 pub use commands::{Action, Command, Comparison, Golden, Order, Printed, Show, Suggest};
-pub use words::command;
-pub use jobs::{Job, UsageFault};
 pub use job_words::job;
+pub use jobs::{Job, UsageFault};
+pub use words::command;

@@ -21,10 +21,9 @@ ghost use Rattle.dap_commands.specs.Commands.{with_files, with_output, without_o
 ghost use Rattle.dap_commands.specs.Commands.{writes_output};
 
 use crate::commands::{Action, Command, Comparison, Golden, Order, Printed, Show, Suggest};
-use crate::definition;
+use crate::{Job, UsageFault, definition};
 use clap::error::ErrorKind;
 use clap::{ArgMatches, Error};
-use crate::{Job, UsageFault};
 use std::alloc::Global;
 
 /// Returns the value of an argument, if it has one.

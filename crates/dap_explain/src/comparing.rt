@@ -1,9 +1,9 @@
 //! Explains why one of two inputs is rejected.
 ghost use Rattle.dap_input.specs.Limits.{AreSound};
 
+use crate::explain;
 use dap_compare::{CompareRefused, Which, compare_with};
 use dap_device::MemorySource;
-use crate::explain;
 use dap_input::Limits;
 use dap_rename::{Mode, Tables};
 use std::alloc::{AllocError, Global};

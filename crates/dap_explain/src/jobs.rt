@@ -3,15 +3,15 @@ ghost use Rattle.dap_input.specs.Limits.{AreSound};
 ghost use Rattle.dap_normalise.specs.NameTables.{AreReady};
 ghost use Rattle.dap_rename.specs.IndexNames.{index_limit, index_numbers};
 
+use crate::explain;
 use dap_commands::Job;
 use dap_compact::compact;
 use dap_device::{MemorySource, StdSink};
-use crate::explain;
 use dap_input::{Limits, Refused};
 use dap_normalise::{check_with, normalise_with};
+use dap_record::record;
 use dap_rename::{IndexNames, Tables};
 use dap_show::show;
-use dap_trace::record;
 use std::alloc::{AllocError, Global};
 use std::hash::RandomState;
 use std::io;

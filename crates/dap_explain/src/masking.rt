@@ -1,8 +1,8 @@
 //! Explains why rules are rejected, or why they cannot mask an input.
 ghost use Rattle.dap_input.specs.Limits.{AreSound};
 
-use dap_device::{MemorySource, StdSink};
 use crate::{explain_masked, explain_rules};
+use dap_device::{MemorySource, StdSink};
 use dap_input::Limits;
 use dap_mask::MaskRules;
 use dap_rules::mask;

@@ -1,12 +1,12 @@
 //! Explains why an input cannot be put in order.
 ghost use Rattle.dap_input.specs.Limits.{AreSound};
 
-use dap_device::{MemorySource, StdSink};
 use crate::{explain, explain_rules};
+use dap_device::{MemorySource, StdSink};
 use dap_input::{Limits, Refused};
 use dap_mask::MaskRules;
-use dap_rules::order;
 use dap_rename::Mode;
+use dap_rules::order;
 use std::alloc::{AllocError, Global};
 use std::io;
 

@@ -1,8 +1,8 @@
 //! Explains why a recording was not shown, or why a record was marked.
 ghost use Rattle.dap_input.specs.Limits.{AreSound};
 
-use dap_device::{MemorySource, StdSink};
 use crate::explain;
+use dap_device::{MemorySource, StdSink};
 use dap_input::{Limits, Refused};
 use dap_show::{ShowRequest, show_faulty, show_record, show_with};
 use std::alloc::{AllocError, Global};

@@ -5,29 +5,29 @@
 #![tactic(auto)]
 
 mod canonical;
+mod faults;
 mod find;
 mod ids;
-mod node;
-mod parse;
-mod place;
-mod unread;
-mod write;
-mod faults;
 mod marks;
 mod members;
 mod message;
+mod node;
+mod parse;
+mod place;
 mod reading;
 mod row_marks;
 mod rows;
 mod typing;
+mod unread;
+mod write;
 
 pub use canonical::append_canonical;
 pub use find::{child, same_text};
 pub use ids::{add_ids, replace_ids};
+pub use message::FlatMessage;
 pub use node::Node;
 pub use parse::read_flat;
 pub use place::value_end;
+pub use reading::{FlatFault, read_flat_message};
 pub use unread::Unread;
 pub use write::write_flat;
-pub use message::FlatMessage;
-pub use reading::{FlatFault, read_flat_message};

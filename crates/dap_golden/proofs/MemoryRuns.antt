@@ -10,9 +10,9 @@ use Rattle.dap_tree.specs.declared.side.Side.{Side}
 use Rattle.dap_input.specs.declared.limits.Limits.{Limits}
 use Rattle.dap_input.specs.declared.refused.Refused.{Refused}
 use Rattle.dap_input.specs.declared.refused.Refused.TheVariants.{Memory, ReadFault, WriteFault}
-use Rattle.dap_trace.specs.Tracing.{IsOfEnd, IsRecordedAs, IsTraceRefused}
-use Rattle.dap_trace.specs.TracingRun.{JudgesTrace, RecordsTrace}
-use Rattle.dap_trace.proofs.TraceOutcomes.{refusal_stays}
+use Rattle.dap_record.specs.Tracing.{IsOfEnd, IsRecordedAs, IsTraceRefused}
+use Rattle.dap_record.specs.TracingRun.{JudgesTrace, RecordsTrace}
+use Rattle.dap_record.proofs.TraceOutcomes.{refusal_stays}
 use Rattle.dap_normalise.proofs.WholeInput.{memory}
 use Rattle.dap_rules.proofs.MemoryInputs.{all_came}
 use Rattle.dap_rules.specs.Memory.{IsOutOfMemory, WrittenBytes}

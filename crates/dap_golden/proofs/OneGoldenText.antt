@@ -15,7 +15,7 @@ use Rattle.dap_input.specs.declared.refused.Refused.{Refused}
 use Rattle.dap_input.specs.declared.refused.Refused.TheVariants.{Incomplete}
 use Rattle.dap_input.proofs.ItemReaders.{shown_cause}
 use Rattle.dap_input.proofs.OneOutcome.{has_one_outcome}
-use Rattle.dap_trace.proofs.TraceOutcomes.{traces_have_one_outcome}
+use Rattle.dap_record.proofs.TraceOutcomes.{traces_have_one_outcome}
 use Rattle.dap_normalise.specs.Accepting.{IsAccepted, accepting}
 use Rattle.dap_normalise.specs.Normalising.{Normalises}
 use Rattle.dap_normalise.proofs.AcceptingFacts as normal

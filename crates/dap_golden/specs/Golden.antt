@@ -16,7 +16,7 @@ use Rattle.dap_input.specs.declared.limits.Limits.{Limits}
 use Rattle.dap_input.specs.declared.refused.Refused.{Refused}
 use Rattle.dap_input.specs.declared.refused.Refused.TheVariants.{Incomplete}
 use Rattle.dap_input.specs.Refusals.{IsRefused}
-use Rattle.dap_trace.specs.Tracing.{IsRecordedAs, IsTraceRefused}
+use Rattle.dap_record.specs.Tracing.{IsRecordedAs, IsTraceRefused}
 use Rattle.dap_rules.specs.MaskedRecordings.{IsMaskedTo}
 use Rattle.dap_rules.specs.Applying.{AppliesRules, IsRefusedByRules}
 use Rattle.dap_rules.specs.Modes.{mode_by}

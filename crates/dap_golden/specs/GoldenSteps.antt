@@ -6,7 +6,7 @@ use Rattle.dap_mask.specs.Mask.{Mask}
 use Rattle.dap_message.specs.SwapRules.{SwapRule}
 use Rattle.dap_input.specs.declared.limits.Limits.{Limits}
 use Rattle.dap_input.specs.Refusals.{IsRefused}
-use Rattle.dap_trace.specs.Tracing.{IsTraceRefused}
+use Rattle.dap_record.specs.Tracing.{IsTraceRefused}
 use Rattle.dap_rules.specs.Masking.{masking}
 use Rattle.dap_normalise.specs.Accepting.{IsAccepted}
 use Rattle.dap_rules.specs.Applying.{IsNotOrderedBy, IsRefusedByRules}

@@ -20,9 +20,9 @@ use dap_device::MemorySource;
 use dap_input::{Limits, Refused};
 use dap_mask::MaskRules;
 use dap_normalise::Checked;
+use dap_record::record;
 use dap_rename::Mode;
 use dap_rules::{TextSink, is_out_of_memory, mask_bytes, mode_by, order_masked};
-use dap_trace::record;
 use std::alloc::Global;
 use std::borrow::CowSlice;
 

@@ -8,23 +8,23 @@
 #![tactic(auto)]
 
 mod carries;
+mod index_names;
 pub mod laws;
 mod mode;
+mod name_table;
 mod names;
 mod pair;
 mod pair_index;
 mod past;
+mod plain_names;
 mod renaming;
 mod tables;
-mod index_names;
-mod name_table;
-mod plain_names;
 
+pub use index_names::IndexNames;
 pub use mode::Mode;
+pub use name_table::{NameFault, NameTable};
 pub use names::Names;
 pub use pair::{Pair, PairFault};
+pub use plain_names::PlainNames;
 pub use renaming::Renaming;
 pub use tables::Tables;
-pub use index_names::IndexNames;
-pub use name_table::{NameFault, NameTable};
-pub use plain_names::PlainNames;

@@ -13,8 +13,8 @@ ghost use Rattle.dap_rename.specs.Tables.{SomeExceedsLimit};
 use crate::mode::{Mode, begin_again_behind};
 use crate::past::{PastClasses, numbers_of};
 use crate::tables::Tables;
-use dap_message::{AnyMessage, Message};
 use crate::{NameFault, NameTable};
+use dap_message::{AnyMessage, Message};
 use dap_tree::Sort;
 use std::alloc::{AllocError, Global};
 

@@ -19,8 +19,8 @@ use crate::mode::Mode;
 use crate::names::Names;
 use crate::pair::{Pair, PairFault};
 use crate::pair_index::{PairIndex, has_class, is_proper, seen_fault};
-use dap_message::Message;
 use crate::{NameFault, NameTable};
+use dap_message::Message;
 use dap_tree::{SORTS, Sort};
 use std::alloc::{AllocError, Global};
 

@@ -8,9 +8,9 @@ ghost use Rattle.dap_rules.specs.ApplyingSteps.{mask_refusal, order_refusal};
 
 use crate::fault::ApplyRefused;
 use crate::masking::mask_bytes;
+use crate::order_bytes;
 use dap_input::{Limits, Refused};
 use dap_mask::MaskRules;
-use crate::order_bytes;
 use dap_rename::Mode;
 use std::alloc::Global;
 

@@ -6,25 +6,25 @@
 #![tactic(auto)]
 
 mod applying;
+mod checking;
 mod fault;
 pub mod laws;
-mod masking;
-mod modes;
-mod reading;
-mod text_sink;
 pub mod mask_laws;
 mod mask_records;
-mod checking;
+mod masking;
+mod modes;
 pub mod order_laws;
-mod ordering;
 mod order_reading;
+mod ordering;
+mod reading;
+mod text_sink;
 mod writing;
 
 pub use applying::{apply_rules, order_masked};
 pub use fault::ApplyRefused;
+pub use mask_records::mask;
 pub use masking::mask_bytes;
 pub use modes::mode_by;
+pub use ordering::{order, order_bytes};
 pub use reading::read_by_rules;
 pub use text_sink::{TextSink, is_out_of_memory};
-pub use mask_records::mask;
-pub use ordering::{order, order_bytes};

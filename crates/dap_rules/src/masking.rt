@@ -5,11 +5,11 @@ ghost use Rattle.dap_mask.specs.KeptRules.{mask_of};
 ghost use Rattle.dap_rules.specs.MaskedRecordings.{IsMaskedTo};
 ghost use Rattle.dap_rules.specs.Applying.{RefusesToMask};
 
+use crate::mask;
 use crate::text_sink::{TextSink, is_out_of_memory};
 use dap_device::MemorySource;
 use dap_input::{Limits, Refused};
 use dap_mask::MaskRules;
-use crate::mask;
 use std::alloc::Global;
 
 /// Returns the text of a masked recording, as [`mask`] writes it.

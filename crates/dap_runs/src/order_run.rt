@@ -7,8 +7,8 @@ use crate::fault_line::tell_answer;
 use crate::mask_run::{read_rules, report_rules};
 use dap_device::{Sink, Source};
 use dap_input::Limits;
-use dap_rules::order;
 use dap_rename::Mode;
+use dap_rules::order;
 use std::alloc::Global;
 
 /// Puts the recording of `reader` in order by the rules of a file, writes it to `writer`, and

@@ -60,5 +60,5 @@ pub use Rattle.dap_show.specs.OneRecord
 pub use Rattle.dap_show.specs.Showing
 pub use Rattle.dap_show.specs.Stopping
 pub use Rattle.dap_show.specs.Viewing
-pub use Rattle.dap_trace.specs.Tracing
-pub use Rattle.dap_trace.specs.TracingRun
+pub use Rattle.dap_record.specs.Tracing
+pub use Rattle.dap_record.specs.TracingRun

@@ -21,7 +21,7 @@ use Rattle.dap_show.specs.Showing.{IsShownBy, showing}
 use Rattle.dap_show.specs.Viewing.{ShowsInput}
 use Rattle.dap_show.specs.declared.detail.ShowRequest.{ShowRequest}
 use Rattle.dap_show.specs.declared.detail.ShowRequest.TheVariants as request
-use Rattle.dap_trace.specs.TracingRun.{RecordsTrace}
+use Rattle.dap_record.specs.TracingRun.{RecordsTrace}
 use Rattle.dapnorm.specs.Run.{CheckIsReported}
 use Rattle.dapnorm.specs.ViewRun.{FaultyIsReported, RecordIsReported}
 use Rattle.dap_runs.specs.declared.files.OpenFault.{OpenFault}

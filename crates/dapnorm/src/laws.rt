@@ -6,5 +6,5 @@ pub use dap_normalise::laws::{
     equal_texts_tell, golden_files_of_the_whole, normal_form_stands, old_golden_files,
     reading_is_bounded, recording_has_one_outcome,
 };
+pub use dap_record::laws::trace_has_one_outcome;
 pub use dap_show::laws::show_has_one_outcome;
-pub use dap_trace::laws::trace_has_one_outcome;

@@ -15,7 +15,7 @@ ghost use Rattle.dapnorm.specs.Run.{CheckIsPrinted, CheckIsReported};
 ghost use Rattle.dap_runs.specs.Reporting.{status_of};
 ghost use Rattle.dapnorm.specs.Run.{ReportsUsage, accepted_line};
 ghost use Rattle.dap_show.specs.Showing.{IsShownBy, showing};
-ghost use Rattle.dap_trace.specs.TracingRun.{RecordsTrace};
+ghost use Rattle.dap_record.specs.TracingRun.{RecordsTrace};
 
 use arrayvec::ArrayString;
 use dap_commands::{Job, UsageFault};
@@ -23,10 +23,10 @@ use dap_compact::compact;
 use dap_device::{Sink, Source, write_and_flush};
 use dap_input::{Limits, Refused};
 use dap_normalise::{Checked, check_with, index_tables, normalise_with};
+use dap_record::record;
 use dap_rename::{NameTable, Tables};
 use dap_runs::{DONE, FAULT, LINE, MEMORY, USAGE, send, tell, tell_answer, tell_rows};
 use dap_show::show;
-use dap_trace::record;
 use itoa::Buffer;
 use std::alloc::Global;
 

@@ -1,7 +1,6 @@
 //! Prints explanations on standard error, after the line of a refusal.
 use crate::reports::report_reason;
-use dap_explain::{explain, explain_rules};
-use dap_explain::{explain_mask, explain_order};
+use dap_explain::{explain, explain_mask, explain_order, explain_rules};
 use dap_file::find_file;
 use dap_runs::send;
 use dapnorm::{

@@ -2,9 +2,25 @@
 #![tactic(auto)]
 
 #[cfg(test)]
+mod allocating_differences;
+#[cfg(test)]
+mod allocating_frames_and_trees;
+#[cfg(test)]
+mod allocating_messages;
+#[cfg(test)]
+mod allocating_names;
+#[cfg(test)]
+mod allocating_sessions;
+#[cfg(test)]
+mod allocating_tables;
+#[cfg(test)]
+mod allocating_tree_buffers;
+#[cfg(test)]
 mod devices;
 #[cfg(test)]
 mod differences;
+#[cfg(test)]
+mod examples;
 #[cfg(test)]
 mod files;
 #[cfg(test)]
@@ -29,19 +45,3 @@ mod texts;
 mod trees;
 #[cfg(test)]
 mod views;
-#[cfg(test)]
-mod allocating_differences;
-#[cfg(test)]
-mod examples;
-#[cfg(test)]
-mod allocating_frames_and_trees;
-#[cfg(test)]
-mod allocating_messages;
-#[cfg(test)]
-mod allocating_names;
-#[cfg(test)]
-mod allocating_sessions;
-#[cfg(test)]
-mod allocating_tables;
-#[cfg(test)]
-mod allocating_tree_buffers;

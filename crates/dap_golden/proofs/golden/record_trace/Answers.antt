@@ -1,7 +1,7 @@
 use Rattle.std.proofs.Common.{List, ℕ, ◌∙◌, ap, sym, subst, true≢false}
 use Rattle.dap_device.specs.Memory.{GivenBytes}
 use Rattle.dap_tree.specs.declared.side.Side.{Side}
-use Rattle.dap_trace.specs.Tracing.{IsTraceRefused}
+use Rattle.dap_record.specs.Tracing.{IsTraceRefused}
 use Rattle.dap_rules.specs.Memory.{WrittenBytes}
 use Rattle.dap_golden.specs.Golden.{IsRecordingOf}
 use Rattle.dap_golden.specs.TraceHead.{IsTraceHead}
