@@ -1,6 +1,3 @@
 pub mod Lines
 pub mod Matching
 pub mod Numbers
-pub mod RuledPair
-pub mod Run
-pub mod TwoFiles

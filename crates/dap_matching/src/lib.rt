@@ -11,15 +11,9 @@ mod outcome;
 mod reading;
 mod report;
 mod rows;
-mod ruled_pair;
-mod run;
-mod two_files;
 
 pub use diffing::{diff_all, diff_all_with};
 pub use entry::{Entry, Recording};
 pub use matching::match_records;
 pub use outcome::AllDifferences;
 pub use reading::read_recording;
-pub use ruled_pair::diff_all_by_rules;
-pub use run::{run_diff_all, run_diff_all_with};
-pub use two_files::diff_all_files;

@@ -62,3 +62,6 @@ pub use Rattle.dap_show.specs.Stopping
 pub use Rattle.dap_show.specs.Viewing
 pub use Rattle.dap_record.specs.Tracing
 pub use Rattle.dap_record.specs.TracingRun
+pub mod DiffAllByRules
+pub mod DiffAllRun
+pub mod DiffAllFiles

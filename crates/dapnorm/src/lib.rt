@@ -17,6 +17,9 @@ mod task;
 mod two_files;
 mod view_run;
 mod written_run;
+mod diff_all_by_rules;
+mod diff_all_run;
+mod diff_all_files;
 
 pub use dap_commands::Action;
 pub use dap_commands::Command;
@@ -166,3 +169,6 @@ pub use two_files::compare_files;
 pub use two_files::diff_files;
 pub use view_run::run_view;
 pub use written_run::write_run;
+pub use diff_all_by_rules::diff_all_by_rules;
+pub use diff_all_run::{run_diff_all, run_diff_all_with};
+pub use diff_all_files::diff_all_files;

@@ -1,9 +1,9 @@
 //! Prints all differences of two recordings that are given by the names of their files.
 ghost use Rattle.std.specs.Prelude.{◌+◌, ◌<◌, ◌≤◌, ◌^◌, IfOk};
-ghost use Rattle.dap_matching.specs.TwoFiles.{FilesAreDiffedWhole};
+ghost use Rattle.dapnorm.specs.DiffAllFiles.{FilesAreDiffedWhole};
 ghost use Rattle.dap_normalise.specs.NameTables.{AreReady};
 
-use crate::run::run_diff_all_with;
+use crate::diff_all_run::run_diff_all_with;
 use dap_device::{Sink, Source};
 use dap_rename::{Mode, NameTable, Tables};
 use dap_runs::{Files, LIMITS, TwoFilesRun, open_both, report_open_stop};

@@ -8,7 +8,7 @@ use Rattle.dap_rename.specs.declared.mode.Mode.{Mode}
 use Rattle.dap_runs.specs.TwoInputs.{RunsFiles}
 use Rattle.dap_runs.specs.declared.files.OpenFault.{OpenFault}
 use Rattle.dap_runs.specs.declared.two_inputs.TwoFilesRun.{TwoFilesRun}
-use Rattle.dap_matching.specs.Run.{AllIsReported}
+use Rattle.dapnorm.specs.DiffAllRun.{AllIsReported}
 
 -- All differences of the recordings of the two files are printed. `opened` says to which input a
 -- name leads, and `unopened` why it leads to none.

@@ -3,10 +3,9 @@ ghost use Rattle.std.specs.Prelude.{◌≡◌, ◌+◌, ◌<◌, ◌≤◌, ◌^
 ghost use Rattle.dap_device.specs.Written.{HasSentAll};
 ghost use Rattle.dap_input.specs.Limits.{AreSound};
 ghost use Rattle.dap_normalise.specs.NameTables.{AreReady};
-ghost use Rattle.dap_matching.specs.Run.{AllIsReported, all_status, all_text};
+ghost use Rattle.dapnorm.specs.DiffAllRun.{AllIsReported, all_status, all_text};
 
-use crate::diffing::diff_all_with;
-use crate::outcome::AllDifferences;
+use dap_matching::{AllDifferences, diff_all_with};
 use dap_device::{DeviceFault, Sink, Source, write_and_flush};
 use dap_input::{Limits, Refused};
 use dap_normalise::index_tables;
@@ -39,7 +38,7 @@ fn status(found: &AllDifferences) -> u8
 /// program. A refusal is reported on `errors`, in one line.
 ///
 /// The output is `same` if the recordings are the same, and the lines of
-/// [`diff_all`](crate::diff_all) otherwise.
+/// [`diff_all`](dap_matching::diff_all) otherwise.
 ///
 /// The status is 0 if they are the same, 1 if they differ, 2 if an input is refused, 4 if a device
 /// failed and 5 if an allocation failed.

@@ -1,9 +1,9 @@
 use Rattle.std.proofs.Common.{◌≡◌, ◌∙◌, ap, subst}
 use Rattle.dap_device.specs.Memory.{GivenBytes}
-use Rattle.dap_matching.specs.Run.{AllIsReported}
+use Rattle.dapnorm.specs.DiffAllRun.{AllIsReported}
 use Rattle.dap_runs.specs.TextsByRules.{bytes_of, memory}
 use Rattle.dap_runs.specs.declared.program_limits.TheConstants.{LIMITS}
-use Rattle.dap_matching.proofs.ruled_pair.diff_all_by_rules.Goals as goal
+use Rattle.dapnorm.proofs.diff_all_by_rules.diff_all_by_rules.Goals as goal
 
 pub returns : goal.returns
 returns g c =

@@ -10,7 +10,7 @@ use Rattle.dap_runs.specs.TextsByRules.{memory}
 use Rattle.dap_runs.specs.declared.files.OpenFault.{OpenFault}
 use Rattle.dap_runs.specs.declared.rules_files.RulesOpenFault.{RulesOpenFault}
 use Rattle.dap_runs.specs.declared.rules_texts.RuledPairRun.{RuledPairRun}
-use Rattle.dap_matching.specs.Run.{AllIsReported}
+use Rattle.dapnorm.specs.DiffAllRun.{AllIsReported}
 
 -- `opened` and `opened_rules` say to which input and to which file of rules a name leads, and
 -- `unopened` and `unopened_rules` why it leads to none.

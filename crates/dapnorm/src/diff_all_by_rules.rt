@@ -1,9 +1,9 @@
 //! Prints all differences of what the rules of a file make of two recordings, all given by the names
 //! of their files.
 ghost use Rattle.std.specs.Prelude.{◌<◌, ◌^◌};
-ghost use Rattle.dap_matching.specs.RuledPair.{AreDiffedWholeByRules};
+ghost use Rattle.dapnorm.specs.DiffAllByRules.{AreDiffedWholeByRules};
 
-use crate::run::run_diff_all_with;
+use crate::diff_all_run::run_diff_all_with;
 use dap_device::{MemorySource, Sink, Source};
 use dap_rename::{Mode, NameTable};
 use dap_runs::{
