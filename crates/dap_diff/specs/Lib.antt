@@ -1,2 +1,5 @@
 pub mod Diffs
 pub mod Texts
+pub mod RecordLines
+pub mod Matching
+pub mod Numbers

@@ -1,10 +1,25 @@
 //! Compares two recordings and prints their differences as lines.
 #![tactic(auto)]
 
+mod all_differences;
 mod diffing;
+mod diffing_all;
+mod entry;
+mod ids;
 mod lines;
+mod matching;
+mod numbering;
 mod outcome;
 mod reading;
+mod record_lines;
+mod recordings;
+mod report;
+mod rows;
 
+pub use all_differences::AllDifferences;
 pub use diffing::{diff, diff_with};
+pub use diffing_all::{diff_all, diff_all_with};
+pub use entry::{Entry, Recording};
+pub use matching::match_records;
 pub use outcome::Diff;
+pub use recordings::read_recording;

@@ -1,6 +1,6 @@
 //! Counts the events of two recordings, and drops those of which they have different numbers.
 use crate::words::{push_count, push_name};
-use dap_matching::Entry;
+use dap_diff::Entry;
 use dap_message::Kind;
 use std::alloc::{AllocError, Global};
 use std::collections::BTreeMap;

@@ -6,7 +6,7 @@ use crate::obstacle::{Obstacle, Reason, Unsolved, unsolved_entry};
 use dap_compare::{CompareRefused, Which};
 use dap_device::MemorySource;
 use dap_input::Limits;
-use dap_matching::{Entry, Recording, match_records, read_recording};
+use dap_diff::{Entry, Recording, match_records, read_recording};
 use dap_normalise::index_tables;
 use dap_rename::Mode;
 use dap_rules::ApplyRefused;

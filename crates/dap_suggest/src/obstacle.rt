@@ -2,7 +2,7 @@
 ghost use Rattle.std.specs.Prelude.{◌≡◌};
 
 use dap_compare::Which;
-use dap_matching::Entry;
+use dap_diff::Entry;
 use dap_rules::ApplyRefused;
 use std::alloc::{AllocError, AllocFailed, Global};
 

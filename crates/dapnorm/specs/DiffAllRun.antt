@@ -6,9 +6,9 @@ use Rattle.dap_device.specs.declared.device.Sink.{Ghosts as Sink}
 use Rattle.dap_rename.specs.declared.mode.Mode.{Mode}
 use Rattle.dap_input.specs.declared.limits.Limits.{Limits}
 use Rattle.dap_runs.specs.ComparingRun.{ComparisonIsReported, same_line}
-use Rattle.dap_matching.specs.Matching.{DiffersAll}
-use Rattle.dap_matching.specs.declared.outcome.AllDifferences.{AllDifferences}
-use Rattle.dap_matching.specs.declared.outcome.AllDifferences.TheVariants.{Same, Differ}
+use Rattle.dap_diff.specs.Matching.{DiffersAll}
+use Rattle.dap_diff.specs.declared.all_differences.AllDifferences.{AllDifferences}
+use Rattle.dap_diff.specs.declared.all_differences.AllDifferences.TheVariants.{Same, Differ}
 
 -- The output of the program: the line `same`, or the lines of the differences.
 abbrev pub all_text : AllDifferences → List ℕ

@@ -5,8 +5,8 @@ ghost use Rattle.dap_input.specs.Limits.{AreSound};
 ghost use Rattle.dap_normalise.specs.NameTables.{AreReady};
 ghost use Rattle.dapnorm.specs.DiffAllRun.{AllIsReported, all_status, all_text};
 
-use dap_matching::{AllDifferences, diff_all_with};
 use dap_device::{DeviceFault, Sink, Source, write_and_flush};
+use dap_diff::{AllDifferences, diff_all_with};
 use dap_input::{Limits, Refused};
 use dap_normalise::index_tables;
 use dap_rename::{Mode, NameTable, Tables};
@@ -38,7 +38,7 @@ fn status(found: &AllDifferences) -> u8
 /// program. A refusal is reported on `errors`, in one line.
 ///
 /// The output is `same` if the recordings are the same, and the lines of
-/// [`diff_all`](dap_matching::diff_all) otherwise.
+/// [`diff_all`](dap_diff::diff_all) otherwise.
 ///
 /// The status is 0 if they are the same, 1 if they differ, 2 if an input is refused, 4 if a device
 /// failed and 5 if an allocation failed.

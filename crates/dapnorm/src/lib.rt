@@ -2,6 +2,9 @@
 #![tactic(auto)]
 
 mod devices;
+mod diff_all_by_rules;
+mod diff_all_files;
+mod diff_all_run;
 mod diff_run;
 mod golden_by_names;
 mod golden_run;
@@ -17,9 +20,6 @@ mod task;
 mod two_files;
 mod view_run;
 mod written_run;
-mod diff_all_by_rules;
-mod diff_all_run;
-mod diff_all_files;
 
 pub use dap_commands::Action;
 pub use dap_commands::Command;
@@ -137,6 +137,10 @@ pub use dap_show::show_faulty;
 pub use dap_show::show_record;
 pub use dap_show::show_with;
 pub use devices::Devices;
+pub use diff_all_by_rules::diff_all_by_rules;
+pub use diff_all_files::diff_all_files;
+pub use diff_all_run::run_diff_all;
+pub use diff_all_run::run_diff_all_with;
 pub use diff_run::run_diff;
 pub use diff_run::run_diff_with;
 pub use golden_by_names::GoldenEnd;
@@ -169,6 +173,3 @@ pub use two_files::compare_files;
 pub use two_files::diff_files;
 pub use view_run::run_view;
 pub use written_run::write_run;
-pub use diff_all_by_rules::diff_all_by_rules;
-pub use diff_all_run::{run_diff_all, run_diff_all_with};
-pub use diff_all_files::diff_all_files;

@@ -5,7 +5,11 @@ use crate::reports::{report_failure, report_reason};
 use crate::{REFUSED, Setting, tables};
 use dap_explain::{explain_applying, explain_comparison};
 use dap_file::KeptInput;
-use dapnorm::{Comparison, IndexNames, LIMITS, Mode, OpenFault, OpenStop, Printed, RuledPairRun, RulesStop, StdSink, TableMaker, Tables, TwoFilesRun, Which, compare_by_rules, compare_files, diff_all_by_rules, diff_all_files, diff_by_rules, diff_files};
+use dapnorm::{
+    Comparison, IndexNames, LIMITS, Mode, OpenFault, OpenStop, Printed, RuledPairRun, RulesStop,
+    StdSink, TableMaker, Tables, TwoFilesRun, Which, compare_by_rules, compare_files,
+    diff_all_by_rules, diff_all_files, diff_by_rules, diff_files,
+};
 use std::alloc::Global;
 use std::hash::RandomState;
 

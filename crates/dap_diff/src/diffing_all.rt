@@ -1,0 +1,120 @@
+//! Compares all records of two recordings.
+ghost use Rattle.std.specs.Prelude.{◌+◌, ◌<◌, ◌≤◌, ◌^◌};
+ghost use Rattle.dap_input.specs.Limits.{AreSound};
+ghost use Rattle.dap_normalise.specs.NameTables.{AreReady};
+ghost use Rattle.dap_diff.specs.Matching.{DiffersAll, FindsDifferences};
+
+use crate::all_differences::AllDifferences;
+use crate::entry::Recording;
+use crate::recordings::read_recording;
+use crate::report::report_lines;
+use dap_compare::{CompareRefused, Which};
+use dap_device::Source;
+use dap_input::Limits;
+use dap_normalise::index_tables;
+use dap_rename::{Mode, NameTable, Tables};
+use std::alloc::Global;
+
+/// Returns the differences of two recordings in memory, which have two normal forms.
+fn differences_of(
+    alloc: Global,
+    a: &mut Recording,
+    b: &mut Recording,
+) -> Result<AllDifferences, CompareRefused>
+    ensures { FindsDifferences result }
+{
+    match report_lines(alloc, a, b) {
+        Ok(lines) => Ok(AllDifferences::Differ { lines }),
+        Err(_) => Err(CompareRefused::Memory),
+    }
+}
+
+/// Compares two recordings record by record, and reports each pair of records that differs and each
+/// record without a counterpart.
+///
+/// Both inputs are read whole and held in memory. The counterpart of the K-th request or event with
+/// some side and name is the K-th one with that side and name; the counterpart of a response is the
+/// response to the counterpart of its request. Ids are compared by joint numbers: two ids of one
+/// sort at one path of a pair get one number, if neither has a number yet. With [`Mode::PerStop`]
+/// ids of frames and references that come after different stops are different ids.
+///
+/// The first line is `differ: N paired, N only in A, N only in B`. The records follow in the order
+/// of A, each as a line such as `12/13 < event "stopped"`, with the numbers in A and in B and `-`
+/// for a missing counterpart. After the line of a pair come the lines of its differences, with
+/// joint numbers. If only the order differs, the line `out of order: 12/10 < event "output"` names
+/// the first pair out of order.
+///
+/// # Errors
+///
+/// - `Input`: the first refusal of A, or of B if A is accepted.
+/// - `Memory`: an allocation failed.
+pub fn diff_all<A: Source, B: Source>(
+    alloc: Global,
+    reader_a: &mut A,
+    reader_b: &mut B,
+    limits: Limits,
+    mode: Mode,
+) -> Result<AllDifferences, CompareRefused>
+    requires limits { AreSound limits }
+    requires given_a { A.given reader_a.old < 2 ^ 62 }
+    requires given_b { B.given reader_b.old < 2 ^ 62 }
+    requires failures_a { A.failures reader_a.old < 2 ^ 62 }
+    requires failures_b { B.failures reader_b.old < 2 ^ 62 }
+
+    // `Same` is returned exactly for two accepted recordings with one normal form.
+    ensures outcome { DiffersAll A.Source B.Source limits mode reader_a.old reader_a.new
+        reader_b.old reader_b.new result }
+
+    // At most one byte past the limit is taken of each input.
+    ensures taken_a { A.given reader_a.new ≤ A.given reader_a.old + limits.input + 1 }
+    ensures taken_b { B.given reader_b.new ≤ B.given reader_b.old + limits.input + 1 }
+{
+    diff_all_with(
+        alloc,
+        reader_a,
+        reader_b,
+        limits,
+        index_tables(alloc, limits),
+        index_tables(alloc, limits),
+        mode,
+    )
+}
+
+/// Does what [`diff_all`] does, with these tables for the ids of A and of B. The tables must be
+/// empty, each with the limit `limits.ids`.
+///
+/// # Errors
+///
+/// Those of [`diff_all`].
+pub fn diff_all_with<A: Source, B: Source, T: NameTable + Drop>(
+    alloc: Global,
+    reader_a: &mut A,
+    reader_b: &mut B,
+    limits: Limits,
+    tables_a: Tables<T>,
+    tables_b: Tables<T>,
+    mode: Mode,
+) -> Result<AllDifferences, CompareRefused>
+    requires limits { AreSound limits }
+    requires tables_a { AreReady T.numbers T.limit limits tables_a }
+    requires tables_b { AreReady T.numbers T.limit limits tables_b }
+    requires given_a { A.given reader_a.old < 2 ^ 62 }
+    requires given_b { B.given reader_b.old < 2 ^ 62 }
+    requires failures_a { A.failures reader_a.old < 2 ^ 62 }
+    requires failures_b { B.failures reader_b.old < 2 ^ 62 }
+
+    // The clauses of `diff_all`, whatever the tables are.
+    ensures outcome { DiffersAll A.Source B.Source limits mode reader_a.old reader_a.new
+        reader_b.old reader_b.new result }
+    ensures taken_a { A.given reader_a.new ≤ A.given reader_a.old + limits.input + 1 }
+    ensures taken_b { B.given reader_b.new ≤ B.given reader_b.old + limits.input + 1 }
+{
+    let mut a = Recording::new(alloc);
+    read_recording(alloc, Which::A, reader_a, limits, tables_a, mode, &mut a)?;
+    let mut b = Recording::new(alloc);
+    read_recording(alloc, Which::B, reader_b, limits, tables_b, mode, &mut b)?;
+    if a.text.as_slice() == b.text.as_slice() {
+        return Ok(AllDifferences::Same);
+    }
+    differences_of(alloc, &mut a, &mut b)
+}

@@ -1,4 +1,0 @@
-pub mod Differing
-pub mod ProperNumbers
-pub mod ReadRecords
-pub mod RecordTexts
