@@ -75,7 +75,7 @@ def links(report):
 def crates(report):
     """docs/GUARANTEES.md has a line for each crate that is not a crate of tests."""
     with open(os.path.join(TOP, "crates.txt"), encoding="utf-8") as file:
-        names = set(re.findall(r"^(\w+):", file.read(), re.MULTILINE)) - {"layer_tests", "allocation_tests", "conformance", "driver", "fault_injection"}
+        names = set(re.findall(r"^(\w+):", file.read(), re.MULTILINE)) - {"layer_tests", "conformance", "driver", "fault_injection"}
     with open(os.path.join(TOP, "docs", "GUARANTEES.md"), encoding="utf-8") as file:
         listed = re.findall(r"^\| `(\w+)` \|", file.read().split("## Crate by crate\n")[1].split("\n## ")[0], re.MULTILINE)
     report.check("docs/GUARANTEES.md has each crate once", sorted(listed) == sorted(names), repr(sorted(listed)))
@@ -93,7 +93,7 @@ def files(report):
     """Files of the crates that are named in full, as `dap_frame/specs/Frame.antt`."""
     for path in documents():
         with open(path, encoding="utf-8") as file:
-            for name in re.findall(r"`(?:crates/)?((?:dap\w+|callers|layer_tests|allocation_tests|conformance|driver)/[\w/]+\.(?:antt|rt))`", file.read()):
+            for name in re.findall(r"`(?:crates/)?((?:dap\w+|callers|layer_tests|conformance|driver)/[\w/]+\.(?:antt|rt))`", file.read()):
                 report.check(f"{os.path.relpath(path, TOP)} names the file {name}", os.path.exists(os.path.join(TOP, "crates", name)))
 
 

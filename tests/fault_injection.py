@@ -23,7 +23,7 @@ MEMORY = b"dapnorm: out of memory\n"
 def run_tests(report, shim):
     """Each test that asks for refusals, by itself."""
     found = 0
-    for crate, part in (("allocation_tests", ""), ("conformance", "masks")):
+    for crate, part in (("layer_tests", "allocating_"), ("conformance", "masks")):
         tests = os.path.join(TOP, "crates", crate, "out", f"{crate}_tests")
         if not report.check(f"the gate has built the tests of {crate}", os.access(tests, os.X_OK)):
             continue

@@ -251,12 +251,12 @@ def refused(report, copy, folder):
     good = answer.returncode == 0 and len(os.listdir(target)) == 4
     report.check("make dist makes four files", good, answer.stdout + answer.stderr)
     shutil.rmtree(target, ignore_errors=True)
-    other = pack_of(copy, os.path.join(folder, "other.proofs"), sources={"crates/dap_items/src/lib.rt": "other"})
+    other = pack_of(copy, os.path.join(folder, "other.proofs"), sources={"crates/dap_device/src/lib.rt": "other"})
     for program, given, why in ((SCRIPT, pack, "is no program"), (PROGRAM, other, "other sources"), (PROGRAM, SCRIPT, "it is damaged")):
         answer = ran(*words, f"PROGRAM={program}", f"PACK={given}")
         good = answer.returncode != 0 and why in answer.stderr and "Traceback" not in answer.stderr
         report.check(f"make dist refuses what {why}", good, answer.stderr)
-    for name in ("README.md", os.path.join("crates", "dap_items", "new.rt")):
+    for name in ("README.md", os.path.join("crates", "dap_device", "new.rt")):
         with open(os.path.join(copy, name), "a", encoding="utf-8") as file:
             file.write("\n")
         answer = ran(*words, f"PROGRAM={PROGRAM}", f"PACK={pack}")

@@ -117,7 +117,7 @@ def build(report, scratch):
     ran = scratch.make("all")
     report.check("make keeps the built program", (ran.returncode, scratch.calls_of_rt()) == (0, []), output_of(ran))
     kept = scratch.make("--dry-run", "bin/dapnorm").stdout
-    source = scratch.path("crates", "dap_items", "src", "lib.rt")
+    source = scratch.path("crates", "dap_device", "src", "lib.rt")
     os.utime(source, (time.time() + 60,) * 2)
     again = scratch.make("--dry-run", "bin/dapnorm").stdout
     report.check("make builds it again if a source is newer", len(again) > len(kept), again)
@@ -185,7 +185,7 @@ def first_look(report, scratch):
 def clean(report, scratch):
     """`make clean` removes what is built and no source."""
     sources = {path for path in files_of(scratch.tree) if not path.startswith("bin/") and "/out/" not in path}
-    for folder in (("bin",), ("dist",), ("crates", "dap_items", "out", "incremental")):
+    for folder in (("bin",), ("dist",), ("crates", "dap_device", "out", "incremental")):
         os.makedirs(scratch.path(*folder), exist_ok=True)
         write(scratch.path(*folder, "built"))
     ran = scratch.make("clean")

@@ -1,5 +1,7 @@
-//! Defines the command line, and reads the command that its arguments select: an action, and the
-//! files that it reads and writes.
+//! Defines the command lines, and reads what their arguments select.
+//!
+//! [`job`] reads the arguments of a command line without files, and [`command`] those of the program:
+//! an action, and the files that it reads and writes.
 #![tactic(auto)]
 
 mod commands;

@@ -1,4 +1,7 @@
 //! Compares two recordings and prints their differences as lines.
+//!
+//! [`diff`] prints the differences of the first records that differ. [`diff_all`] matches the records
+//! of both recordings, and prints all differences.
 #![tactic(auto)]
 
 mod all_differences;

@@ -4,7 +4,8 @@
 //! the rejected input again and returns the lines that may follow: which message the record
 //! contains, which value is at the position of the error, what is expected there, and what to do.
 //! [`explain_rules`] does the same for a file of rules, and [`explain_unreadable`] for a file that
-//! cannot be read.
+//! cannot be read. Each function that is named after a command does the work again on the bytes that
+//! the command read, finds the error and explains it. Its result is empty if nothing is rejected.
 //!
 //! # What is proved
 //!

@@ -1,7 +1,8 @@
-//! JSON documents as flat lists of nodes, in the order of their text.
+//! JSON documents and messages as flat lists of nodes, in the order of their text.
 //!
 //! A flat document borrows the content that it is read from. Reading it allocates one vector for
-//! all nodes, where a `Tree` allocates each text, list and object.
+//! all nodes, where a `Tree` allocates each text, list and object. [`FlatMessage`] is what
+//! `dap_message::Message` is, over such nodes: a message that fits the profile, with its ids marked.
 #![tactic(auto)]
 
 mod canonical;

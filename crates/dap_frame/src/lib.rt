@@ -4,6 +4,8 @@
 //! A [`Framer`] reads frames from the chunks of a stream, and [`write_frame`] writes one.
 //! `specs/Frame.antt` defines frames and their errors. [`laws`] has the theorems on these
 //! definitions.
+//! `specs/Grammar.antt` defines grammars whose items are read from the start of a byte string, and
+//! streams of items. Records and traces have such grammars too.
 #![tactic(auto)]
 
 mod byte_class;

@@ -18,4 +18,4 @@ pub use default_tables::index_tables;
 pub use messages::read_message;
 pub use normal_records::NormalRecords;
 pub use normalised::Normalised;
-pub use normalising::{normalise, normalise_bytes, normalise_with};
+pub use normalising::{PIECE, finish_output, normalise, normalise_bytes, normalise_with};

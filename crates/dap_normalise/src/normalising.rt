@@ -15,7 +15,7 @@ use dap_rename::{Mode, NameTable, Tables};
 use std::alloc::Global;
 
 /// The length of buffered output at which it is written, even if the next record is buffered.
-const PIECE: usize = 65_536;
+pub const PIECE: usize = 65_536;
 
 /// Returns the normal form of a recording: its messages in order, each as its canonical content, in
 /// which ids are numbered from 1.
@@ -101,7 +101,11 @@ fn flushed<W: Sink>(writer: &mut W, outcome: Result<(), Refused>) -> Result<(), 
 
 /// Writes the remaining output and flushes the writer, then returns the given result. Returns
 /// `WriteFault` if the writer failed. If the given result is `Memory`, does not flush.
-fn ended<W: Sink>(writer: &mut W, text: &[u8], outcome: Result<(), Refused>) -> Result<(), Refused>
+pub fn finish_output<W: Sink>(
+    writer: &mut W,
+    text: &[u8],
+    outcome: Result<(), Refused>,
+) -> Result<(), Refused>
     requires { W.failures writer.old < 2 ^ 62 }
     ensures { Ends W.Sink text.now writer.old writer.new outcome result }
 {
@@ -230,8 +234,8 @@ fn write_records<R: Source, W: Sink, T: NameTable + Drop>(
                     text.clear();
                 }
             }
-            Ok(false) => return ended(writer, text.as_slice(), Ok(())),
-            Err(refused) => return ended(writer, text.as_slice(), Err(refused)),
+            Ok(false) => return finish_output(writer, text.as_slice(), Ok(())),
+            Err(refused) => return finish_output(writer, text.as_slice(), Err(refused)),
         }
     }
 }

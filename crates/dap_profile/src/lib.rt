@@ -3,6 +3,7 @@
 //! [`PROFILE`] is the table, with one [`Row`] per path. `specs/` has the same table for the proofs,
 //! and the contract of [`profile_rows`] says that the two are equal. [`rows_of`] returns the rows
 //! that apply to a message, by its kind and its name.
+//! [`row_lines`] prints rows for people.
 #![tactic(auto)]
 
 mod asked_rows;

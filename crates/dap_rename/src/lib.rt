@@ -5,6 +5,8 @@
 //! the [`Mode`] is `PerStop`, frame ids and variables references have a new class after each stop.
 //! `specs/` defines when one list of messages is a renaming of another, and what the normal form of
 //! a list is. [`laws`] contains the theorems.
+//! An interning table assigns each number its canonical number. [`NameTable`] is the contract of every
+//! table. [`PlainNames`] searches linearly, and [`IndexNames`] by hash.
 #![tactic(auto)]
 
 mod carries;

@@ -7,10 +7,9 @@ ghost use Rattle.dap_mask.specs.KeptRules.{mask_of};
 ghost use Rattle.dap_input.specs.ItemReading.{RepresentsRecord};
 ghost use Rattle.dap_input.specs.Limits.{AreSound};
 ghost use Rattle.dap_input.specs.RecordSteps.{IsAtStart};
-ghost use Rattle.dap_input.specs.Streaming.{Flushes, HasGivenUpAt, Streams};
+ghost use Rattle.dap_input.specs.Streaming.{HasGivenUpAt, Streams};
 ghost use Rattle.dap_normalise.specs.Accepting.{Fits};
 ghost use Rattle.dap_normalise.specs.JudgingSteps.{payload_of};
-ghost use Rattle.dap_normalise.specs.Streaming.{Ends};
 ghost use Rattle.dap_rules.specs.Masking.{left_of, masked_text, masking};
 ghost use Rattle.dap_rules.specs.MaskedRecordings.{IsMaskedTo, Masks};
 ghost use Rattle.dap_rules.specs.MaskingSteps.{Masked, Writes};
@@ -19,12 +18,10 @@ use dap_device::{Sink, Source, write_all};
 use dap_frame::FrameFault;
 use dap_input::{Limits, Records, Refused};
 use dap_mask::{MaskRules, read_masked};
+use dap_normalise::{PIECE, finish_output};
 use dap_recording::{Record, RecordReader, Side, write_record};
 use dap_tree::{Scratch, Tree, TreeFault, write_tree_to};
 use std::alloc::Global;
-
-/// The number of buffered output bytes that are written even if the next record is buffered.
-const PIECE: usize = 65_536;
 
 /// Buffers that are reused for every record.
 #[derive(Drop)]
@@ -112,31 +109,6 @@ fn append_masked(
     }
 }
 
-/// Flushes the writer and returns `answer`, or `WriteFault` if the flush fails.
-fn flushed<W: Sink>(writer: &mut W, outcome: Result<(), Refused>) -> Result<(), Refused>
-    requires { W.failures writer.old < 2 ^ 63 }
-    ensures { Flushes W.Sink writer.old writer.new outcome result }
-{
-    match writer.flush() {
-        Ok(()) => outcome,
-        Err(_) => Err(Refused::WriteFault),
-    }
-}
-
-/// Writes the buffered output and returns `answer`. Flushes first, unless `answer` is `Memory`.
-fn ended<W: Sink>(writer: &mut W, text: &[u8], outcome: Result<(), Refused>) -> Result<(), Refused>
-    requires { W.failures writer.old < 2 ^ 62 }
-    ensures { Ends W.Sink text.now writer.old writer.new outcome result }
-{
-    if write_all(writer, text).is_err() {
-        return Err(Refused::WriteFault);
-    }
-    match outcome {
-        Err(Refused::Memory) => Err(Refused::Memory),
-        _ => flushed(writer, outcome),
-    }
-}
-
 /// Masks and writes each record of an input that has not been read yet. Masked records that are
 /// buffered together are written together, before more is read.
 fn mask_records<R: Source, W: Sink>(
@@ -175,14 +147,14 @@ fn mask_records<R: Source, W: Sink>(
         let number = records.number();
         let whole = match records.next(reader) {
             Ok(Some(whole)) => whole,
-            Ok(None) => return ended(writer, text.as_slice(), Ok(())),
-            Err(because) => return ended(writer, text.as_slice(), Err(because)),
+            Ok(None) => return finish_output(writer, text.as_slice(), Ok(())),
+            Err(because) => return finish_output(writer, text.as_slice(), Err(because)),
         };
         written = match append_masked(
             alloc, rules, number, &whole, written, limits, &mut room, &mut text,
         ) {
             Ok(after) => after,
-            Err(because) => return ended(writer, text.as_slice(), Err(because)),
+            Err(because) => return finish_output(writer, text.as_slice(), Err(because)),
         };
         records.recycle(whole);
         if text.len() >= PIECE || !records.has_next() {

@@ -159,14 +159,14 @@ returns-in-Ok-false-clause-outcome g c =
     c.next.new.reader
     (c.in-Ok-false.ensures.at_hand c.args.limits c.args.mode was.bytes was.messages was.normal
     was.represents)
-    c.requires.limits _ _ end c.ended.new.writer c.ended.result
-    (subst (λ t. Ends g.W.Sink t c.records.writer c.ended.new.writer (Ok tt) c.ended.result)
-    (c.as_slice-in-Ok-false.ensures.value ∙ end.kept) c.ended.ensures)
+    c.requires.limits _ _ end c.finish_output.new.writer c.finish_output.result
+    (subst (λ t. Ends g.W.Sink t c.records.writer c.finish_output.new.writer (Ok tt) c.finish_output.result)
+    (c.as_slice-in-Ok-false.ensures.value ∙ end.kept) c.finish_output.ensures)
 
 pub returns-in-Ok-false-clause-given_up : goal.returns-in-Ok-false-clause-given_up
 returns-in-Ok-false-clause-given_up g c = λ memory.
     absurd (not_given_up g.W.Sink c.as_slice-in-Ok-false.result.now c.records.writer
-    c.ended.new.writer c.ended.result c.ended.ensures memory)
+    c.finish_output.new.writer c.finish_output.result c.finish_output.ensures memory)
 
 pub returns-in-Ok-false-clause-taken : goal.returns-in-Ok-false-clause-taken
 returns-in-Ok-false-clause-taken g c =
@@ -193,10 +193,10 @@ returns-in-Err-clause-outcome g c =
     c.in-Err.refused
     (c.in-Err.ensures.next c.args.limits c.args.mode was.bytes was.messages was.normal
     was.represents)
-    c.ended-in-Err.new.writer c.ended-in-Err.result
-    (subst (λ t. Ends g.W.Sink t c.records.writer c.ended-in-Err.new.writer
-    (Err c.in-Err.refused) c.ended-in-Err.result)
-    (c.as_slice-in-Err.ensures.value ∙ c.in-Err.ensures.kept) c.ended-in-Err.ensures)
+    c.finish_output-in-Err.new.writer c.finish_output-in-Err.result
+    (subst (λ t. Ends g.W.Sink t c.records.writer c.finish_output-in-Err.new.writer
+    (Err c.in-Err.refused) c.finish_output-in-Err.result)
+    (c.as_slice-in-Err.ensures.value ∙ c.in-Err.ensures.kept) c.finish_output-in-Err.ensures)
 
 pub returns-in-Err-clause-given_up : goal.returns-in-Err-clause-given_up
 returns-in-Err-clause-given_up g c = λ memory.
@@ -210,10 +210,10 @@ returns-in-Err-clause-given_up g c = λ memory.
     c.in-Err.refused
     (c.in-Err.ensures.next c.args.limits c.args.mode was.bytes was.messages was.normal
     was.represents)
-    c.ended-in-Err.new.writer c.ended-in-Err.result
-    (subst (λ t. Ends g.W.Sink t c.records.writer c.ended-in-Err.new.writer
-    (Err c.in-Err.refused) c.ended-in-Err.result)
-    (c.as_slice-in-Err.ensures.value ∙ c.in-Err.ensures.kept) c.ended-in-Err.ensures) memory
+    c.finish_output-in-Err.new.writer c.finish_output-in-Err.result
+    (subst (λ t. Ends g.W.Sink t c.records.writer c.finish_output-in-Err.new.writer
+    (Err c.in-Err.refused) c.finish_output-in-Err.result)
+    (c.as_slice-in-Err.ensures.value ∙ c.in-Err.ensures.kept) c.finish_output-in-Err.ensures) memory
 
 pub returns-in-Err-clause-taken : goal.returns-in-Err-clause-taken
 returns-in-Err-clause-taken g c =
@@ -227,7 +227,7 @@ returns-in-Err-clause-taken g c =
 pub returns-in-Ok-false-clause-memory : goal.returns-in-Ok-false-clause-memory
 returns-in-Ok-false-clause-memory g c = λ memory.
     absurd (not_given_up g.W.Sink c.as_slice-in-Ok-false.result.now c.records.writer
-    c.ended.new.writer c.ended.result c.ended.ensures memory)
+    c.finish_output.new.writer c.finish_output.result c.finish_output.ensures memory)
 
 pub returns-in-Err-clause-memory : goal.returns-in-Err-clause-memory
 returns-in-Err-clause-memory g c = λ memory.
@@ -236,5 +236,5 @@ returns-in-Err-clause-memory g c = λ memory.
     c.records.records was c.next.new.self c.next.new.reader c.in-Err.refused
     (c.in-Err.ensures.next c.args.limits c.args.mode was.bytes was.messages was.normal
     was.represents)
-    (memory_of g.W.Sink c.as_slice-in-Err.result.now c.records.writer c.ended-in-Err.new.writer
-    c.in-Err.refused c.ended-in-Err.result c.ended-in-Err.ensures memory)
+    (memory_of g.W.Sink c.as_slice-in-Err.result.now c.records.writer c.finish_output-in-Err.new.writer
+    c.in-Err.refused c.finish_output-in-Err.result c.finish_output-in-Err.ensures memory)

@@ -21,9 +21,9 @@ returns-in-Ok-None-clause-outcome g c =
     c.records.written c.records.text.items c.records.invariant c.next.new.self c.next.new.reader
     (rw c.in-Ok-None.field-0-is at c.in-Ok-None.ensures c.args.limits.frame
     c.records.invariant.judged.behind.between)
-    c.ended.new.writer c.ended.result
-    (subst (λ t. Ends g.W.Sink t c.records.writer c.ended.new.writer (Ok tt) c.ended.result)
-    c.as_slice.ensures.value c.ended.ensures)
+    c.finish_output.new.writer c.finish_output.result
+    (subst (λ t. Ends g.W.Sink t c.records.writer c.finish_output.new.writer (Ok tt) c.finish_output.result)
+    c.as_slice.ensures.value c.finish_output.ensures)
 
 pub returns-in-Err-clause-outcome : goal.returns-in-Err-clause-outcome
 returns-in-Err-clause-outcome g c =
@@ -32,15 +32,15 @@ returns-in-Err-clause-outcome g c =
     c.records.written c.records.text.items c.records.invariant c.next.new.self c.next.new.reader
     c.in-Err.because
     (c.in-Err.ensures c.args.limits.frame c.records.invariant.judged.behind.between)
-    c.ended-in-Err.new.writer c.ended-in-Err.result
-    (subst (λ t. Ends g.W.Sink t c.records.writer c.ended-in-Err.new.writer
-    (Err c.in-Err.because) c.ended-in-Err.result)
-    c.as_slice-in-Err.ensures.value c.ended-in-Err.ensures)
+    c.finish_output-in-Err.new.writer c.finish_output-in-Err.result
+    (subst (λ t. Ends g.W.Sink t c.records.writer c.finish_output-in-Err.new.writer
+    (Err c.in-Err.because) c.finish_output-in-Err.result)
+    c.as_slice-in-Err.ensures.value c.finish_output-in-Err.ensures)
 
 pub returns-in-Ok-None-clause-given_up : goal.returns-in-Ok-None-clause-given_up
 returns-in-Ok-None-clause-given_up g c = λ memory.
-    absurd (not_given_up g.W.Sink c.as_slice.result.now c.records.writer c.ended.new.writer
-    c.ended.result c.ended.ensures memory)
+    absurd (not_given_up g.W.Sink c.as_slice.result.now c.records.writer c.finish_output.new.writer
+    c.finish_output.result c.finish_output.ensures memory)
 
 pub returns-in-Err-clause-given_up : goal.returns-in-Err-clause-given_up
 returns-in-Err-clause-given_up g c = λ memory.
@@ -49,10 +49,10 @@ returns-in-Err-clause-given_up g c = λ memory.
     c.records.written c.records.text.items c.records.invariant c.next.new.self c.next.new.reader
     c.in-Err.because
     (c.in-Err.ensures c.args.limits.frame c.records.invariant.judged.behind.between)
-    c.ended-in-Err.new.writer c.ended-in-Err.result
-    (subst (λ t. Ends g.W.Sink t c.records.writer c.ended-in-Err.new.writer
-    (Err c.in-Err.because) c.ended-in-Err.result)
-    c.as_slice-in-Err.ensures.value c.ended-in-Err.ensures) memory
+    c.finish_output-in-Err.new.writer c.finish_output-in-Err.result
+    (subst (λ t. Ends g.W.Sink t c.records.writer c.finish_output-in-Err.new.writer
+    (Err c.in-Err.because) c.finish_output-in-Err.result)
+    c.as_slice-in-Err.ensures.value c.finish_output-in-Err.ensures) memory
 
 pub returns-in-Err-append_masked-clause-given_up : goal.returns-in-Err-append_masked-clause-given_up
 returns-in-Err-append_masked-clause-given_up g c = λ memory.
@@ -62,11 +62,11 @@ returns-in-Err-append_masked-clause-given_up g c = λ memory.
     c.in-Ok-Some.whole (rw c.in-Ok-Some.field-0-is at c.in-Ok-Some.ensures
     c.args.limits.frame c.records.invariant.judged.behind.between)
     c.in-Err-append_masked.because
-    c.ended-in-Err-append_masked.new.writer c.ended-in-Err-append_masked.result
-    (subst (λ t. Ends g.W.Sink t c.records.writer c.ended-in-Err-append_masked.new.writer
-    (Err c.in-Err-append_masked.because) c.ended-in-Err-append_masked.result)
+    c.finish_output-in-Err-append_masked.new.writer c.finish_output-in-Err-append_masked.result
+    (subst (λ t. Ends g.W.Sink t c.records.writer c.finish_output-in-Err-append_masked.new.writer
+    (Err c.in-Err-append_masked.because) c.finish_output-in-Err-append_masked.result)
     (c.as_slice-in-Err-append_masked.ensures.value ∙ c.in-Err-append_masked.ensures.kept)
-    c.ended-in-Err-append_masked.ensures) memory
+    c.finish_output-in-Err-append_masked.ensures) memory
 
 pub returns-in-Err-append_masked-clause-outcome : goal.returns-in-Err-append_masked-clause-outcome
 returns-in-Err-append_masked-clause-outcome g c =
@@ -78,11 +78,11 @@ returns-in-Err-append_masked-clause-outcome g c =
     c.in-Err-append_masked.because c.append_masked.new.out.items
     (rw c.number-number.ensures at c.in-Err-append_masked.ensures.masked
     c.records.invariant.values c.records.invariant.fits c.records.invariant.count)
-    c.ended-in-Err-append_masked.new.writer c.ended-in-Err-append_masked.result
-    (subst (λ t. Ends g.W.Sink t c.records.writer c.ended-in-Err-append_masked.new.writer
-    (Err c.in-Err-append_masked.because) c.ended-in-Err-append_masked.result)
+    c.finish_output-in-Err-append_masked.new.writer c.finish_output-in-Err-append_masked.result
+    (subst (λ t. Ends g.W.Sink t c.records.writer c.finish_output-in-Err-append_masked.new.writer
+    (Err c.in-Err-append_masked.because) c.finish_output-in-Err-append_masked.result)
     (c.as_slice-in-Err-append_masked.ensures.value ∙ c.in-Err-append_masked.ensures.kept)
-    c.ended-in-Err-append_masked.ensures)
+    c.finish_output-in-Err-append_masked.ensures)
 
 pub returns-then-is_err-clause-outcome : goal.returns-then-is_err-clause-outcome
 returns-then-is_err-clause-outcome g c =
