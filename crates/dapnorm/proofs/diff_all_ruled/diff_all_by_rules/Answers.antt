@@ -3,7 +3,7 @@ use Rattle.dap_device.specs.Memory.{GivenBytes}
 use Rattle.dapnorm.specs.DiffAllRun.{AllIsReported}
 use Rattle.dap_runs.specs.TextsByRules.{bytes_of, memory}
 use Rattle.dap_runs.specs.declared.program_limits.TheConstants.{LIMITS}
-use Rattle.dapnorm.proofs.diff_all_by_rules.diff_all_by_rules.Goals as goal
+use Rattle.dapnorm.proofs.diff_all_ruled.diff_all_by_rules.Goals as goal
 
 pub returns : goal.returns
 returns g c =
