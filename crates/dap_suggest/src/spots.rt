@@ -252,7 +252,7 @@ impl Spots {
         false
     }
 
-    /// Gives up all rules for elements by their name. Returns whether there could be any.
+    /// Drops all rules for elements by their name. Returns whether there could be any.
     pub fn join_elements(&mut self) -> bool {
         let mut was_split = false;
         for (_, spot) in self.by_target.iter_mut() {

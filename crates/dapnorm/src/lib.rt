@@ -2,8 +2,8 @@
 #![tactic(auto)]
 
 mod devices;
-mod diff_all_ruled;
 mod diff_all_pair;
+mod diff_all_ruled;
 mod diff_all_run;
 mod diff_run;
 mod golden_by_names;
@@ -137,8 +137,8 @@ pub use dap_show::show_faulty;
 pub use dap_show::show_record;
 pub use dap_show::show_with;
 pub use devices::Devices;
-pub use diff_all_ruled::diff_all_by_rules;
 pub use diff_all_pair::diff_all_files;
+pub use diff_all_ruled::diff_all_by_rules;
 pub use diff_all_run::run_diff_all;
 pub use diff_all_run::run_diff_all_with;
 pub use diff_run::run_diff;
