@@ -14,7 +14,7 @@ FIGURES = os.path.join(TOP, "docs", "benchmarks.json")
 # The columns of the costs that the document shows.
 OF_COSTS = (0, 1, 5, 6, 7, 8)
 # Figures that only the file has.
-UNSHOWN = {"renamings"}
+UNSHOWN = {"renamings", "gate"}
 # Processor minutes of a crate that has a line of its own.
 LITTLE = 5.0
 
