@@ -1,15 +1,17 @@
 //! Replaces a file of the operating system.
-ghost use Rattle.std.specs.Prelude.{◌≡◌, ◌↔◌, ◌+◌, ◌<◌, ◌^◌, None, Ok, Some};
-ghost use Rattle.std.specs.Prelude.{IfOk, IsErr, IsSome, MatchResult};
+ghost use Rattle.std.specs.Prelude.{◌≡◌, ◌↔◌, ◌<◌, None, IfOk, IsSome};
 
+use crate::failures::Failures;
 use crate::file::{FileFault, ReadFault, Replaceable, Step};
 use crate::place::Place;
-use crate::system::{Unread, open_new, read_at, remove_at, sync_file, sync_folder_at, write_some};
+use crate::system::{
+    create_temporary, read_at, remove_temporary, rename_temporary, sync_folder, sync_temporary,
+    write_temporary,
+};
 use std::alloc::Global;
-use std::io::{Error, ErrorKind};
+use std::io::{self, Error};
 use std::marker::Model;
 use std::rt::Files;
-use std::{fs, io};
 
 /// A file of the operating system, found by its path. No clause describes its content.
 ///
@@ -21,9 +23,7 @@ pub struct FileAt<'a, R: Files> {
     place: Place,
     /// The temporary file, if there is one.
     temporary: Option<R::File>,
-    reason: Option<Error>,
-    failures: u64,
-    failed_at: Option<Step>,
+    failures: Failures,
 }
 
 impl<'a, R: Files> Drop for FileAt<'a, R> {
@@ -32,22 +32,17 @@ impl<'a, R: Files> Drop for FileAt<'a, R> {
             rt: _,
             place: _,
             temporary: _,
-            reason: _,
             failures: _,
-            failed_at: _,
         } = self;
     }
 }
 
 impl<'a, R: Files> Model for FileAt<'a, R> {
-    ghost use Rattle.std.specs.Prelude.{◌↔◌, ◌<◌, IsSome};
     ghost use Rattle.dap_file.specs.Calls.{FileCounts};
 
     ghost Value = { FileCounts };
 
-    ghost view = { λ f. record { failures = f.failures; failed_at = f.failed_at } };
-
-    ghost invariant = { λ f. IsSome f.reason ↔ (0 < f.failures) };
+    ghost view = { λ f. f.failures };
 }
 
 impl<'a, R: Files> FileAt<'a, R> {
@@ -74,9 +69,7 @@ impl<'a, R: Files> FileAt<'a, R> {
             rt,
             place: Place::find(alloc, rt, path, tag)?,
             temporary: None,
-            reason: None,
-            failures: 0,
-            failed_at: None,
+            failures: Failures::none(),
         })
     }
 
@@ -85,25 +78,7 @@ impl<'a, R: Files> FileAt<'a, R> {
     pub fn reason(&self) -> Option<&Error>
         ensures { IsSome result ↔ (0 < self.now.failures) }
     {
-        self.reason.as_ref()
-    }
-
-    /// Counts a failure of a step and stores its reason.
-    fn note<T>(&mut self, step: Step, outcome: io::Result<T>) -> Result<T, FileFault>
-        requires { self.old.failures < 2 ^ 63 }
-        ensures { MatchResult outcome (λ value. (result ≡ Ok value) × (self.new ≡ self.old))
-            (λ error. IsErr result × (self.new
-            ≡ record { failures = self.old.failures + 1; failed_at = Some step })) }
-    {
-        match outcome {
-            Ok(value) => Ok(value),
-            Err(reason) => {
-                self.failures += 1;
-                self.failed_at = Some(step);
-                self.reason = Some(reason);
-                Err(FileFault {})
-            }
-        }
+        self.failures.reason()
     }
 }
 
@@ -133,71 +108,41 @@ impl<'a, R: Files> Replaceable for FileAt<'a, R> {
     ghost stays = { λ f known. known };
 
     fn read(&mut self, alloc: Global, limit: u64) -> Result<Option<Vec<u8>>, ReadFault> {
-        match read_at(alloc, self.rt, self.place.target.as_str(), limit) {
-            Ok(found) => Ok(found),
-            Err(Unread::TooLong) => Err(ReadFault::TooLong),
-            Err(Unread::Memory) => Err(ReadFault::Memory),
-            Err(Unread::System(reason)) => {
-                self.failures += 1;
-                self.reason = Some(reason);
-                Err(ReadFault::Failed)
-            }
-        }
+        let found = read_at(alloc, self.rt, self.place.target.as_str(), limit);
+        self.failures.note_read(found)
     }
 
     fn create(&mut self) -> Result<(), FileFault> {
-        let created = open_new(self.rt, &self.place);
-        let file = self.note(Step::Create, created)?;
-        self.temporary = Some(file);
-        Ok(())
+        let created = create_temporary(self.rt, &self.place, &mut self.temporary);
+        self.failures.note(Step::Create, created)
     }
 
     fn write(&mut self, bytes: &[u8]) -> Result<usize, FileFault> {
-        let written = match &mut self.temporary {
-            Some(file) => write_some(file, bytes),
-            None => Err(ErrorKind::NotFound.into()),
-        };
-        self.note(Step::Write, written)
+        let written = write_temporary(&mut self.temporary, bytes);
+        self.failures.note(Step::Write, written)
     }
 
     fn sync(&mut self) -> Result<(), FileFault> {
-        let synced = match &self.temporary {
-            Some(file) => sync_file(file, self.place.mode),
-            None => Err(ErrorKind::NotFound.into()),
-        };
-        self.note(Step::Sync, synced)
+        let synced = sync_temporary(&self.temporary, self.place.mode);
+        self.failures.note(Step::Sync, synced)
     }
 
     fn rename(&mut self) -> Result<(), FileFault> {
-        let place = &self.place;
-        let renamed = match &self.temporary {
-            Some(_) => fs::rename(self.rt, place.temporary.as_str(), place.target.as_str()),
-            None => Err(ErrorKind::NotFound.into()),
-        };
-        self.note(Step::Rename, renamed)?;
-        self.temporary = None;
-        Ok(())
+        let renamed = rename_temporary(self.rt, &self.place, &mut self.temporary);
+        self.failures.note(Step::Rename, renamed)
     }
 
     fn sync_folder(&mut self) -> Result<(), FileFault> {
-        let synced = sync_folder_at(self.rt, self.place.folder.as_str());
-        self.note(Step::SyncFolder, synced)
+        let synced = sync_folder(self.rt, self.place.folder());
+        self.failures.note(Step::SyncFolder, synced)
     }
 
     fn remove(&mut self) -> Result<(), FileFault> {
-        if self.temporary.is_none() {
-            return Ok(());
-        }
-        if let Err(reason) = remove_at(self.rt, self.place.temporary.as_str()) {
-            self.failures += 1;
-            self.reason = self.reason.or(Some(reason));
-            return Err(FileFault {});
-        }
-        self.temporary = None;
-        Ok(())
+        let removed = remove_temporary(self.rt, &self.place, &mut self.temporary);
+        self.failures.note_removal(removed)
     }
 
     fn failures(&self) -> u64 {
-        self.failures
+        self.failures.count()
     }
 }

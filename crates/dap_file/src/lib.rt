@@ -10,6 +10,7 @@
 //! its user gave. They are tested, not proved.
 #![tactic(auto)]
 
+mod failures;
 mod file;
 mod file_at;
 mod inputs;

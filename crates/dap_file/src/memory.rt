@@ -1,6 +1,7 @@
 //! Implements a file in memory whose calls can be made to fail.
-ghost use Rattle.std.specs.Prelude.{◌≡◌, ◌+◌, ◌<◌, ◌^◌, [], None, Some, IsErr, length, ⊤};
-ghost use Rattle.std.specs.Option.{option_copied};
+ghost use Rattle.std.specs.Prelude.{◌≡◌, ◌+◌, ◌<◌, ◌≤◌, ◌++◌, ◌^◌, [], None, Some, IfSome, IsErr};
+ghost use Rattle.std.specs.Prelude.{length, take, ⊤};
+ghost use Rattle.std.specs.Option.{option_copied, option_map};
 ghost use Rattle.std.proofs.Common.{inl, refl};
 ghost use Rattle.dap_file.specs.Calls.{content_of};
 ghost use Rattle.dap_file.specs.Memory.{MemoryState, MightHaveLeft, only_target};
@@ -24,6 +25,24 @@ impl Failing {
         let number = self.next;
         self.next = number.saturating_add(1);
         self.start <= number && number < self.end
+    }
+}
+
+/// Appends at most `most` of the bytes to a file, and returns how many. Returns `None` if that is
+/// no byte of several, if there is no file, or if an allocation fails.
+fn append(file: &mut Option<Vec<u8>>, bytes: &[u8], most: usize) -> Option<usize>
+    ensures within { IfSome result (λ count. count ≤ length bytes.now) }
+    ensures some { IfSome result (λ count. 0 < length bytes.now → 0 < count) }
+    ensures appended { IfSome result (λ count. content_of file.new
+        ≡ option_map (λ written. written ++ take count bytes.now) (content_of file.old)) }
+{
+    let count = bytes.len().min(most);
+    if count == 0 && !bytes.is_empty() {
+        return None;
+    }
+    match file.as_mut()?.extend_from_slice(&bytes[..count]) {
+        Ok(()) => Some(count),
+        Err(_) => None,
     }
 }
 
@@ -177,18 +196,13 @@ impl Replaceable for MemoryFile {
     }
 
     fn write(&mut self, bytes: &[u8]) -> Result<usize, FileFault> {
-        let count = bytes.len().min(self.longest_write);
-        let is_stuck = count == 0 && !bytes.is_empty();
-        if self.failing.next_fails() || is_stuck {
+        if self.failing.next_fails() {
             return self.fail(Step::Write);
         }
-        let Some(temporary) = &mut self.temporary else {
-            return self.fail(Step::Write);
-        };
-        if temporary.extend_from_slice(&bytes[..count]).is_err() {
-            return self.fail(Step::Write);
+        match append(&mut self.temporary, bytes, self.longest_write) {
+            Some(count) => Ok(count),
+            None => self.fail(Step::Write),
         }
-        Ok(count)
     }
 
     fn sync(&mut self) -> Result<(), FileFault> {

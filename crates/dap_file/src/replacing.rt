@@ -1,6 +1,6 @@
 //! Replaces a file as a whole.
-ghost use Rattle.std.specs.Prelude.{◌≡◌, ◌↔◌, ◌+◌, ◌<◌, ◌^◌, [], Some, None, IfErr, OnErr, OnOk};
-ghost use Rattle.std.specs.Prelude.{false, take};
+ghost use Rattle.std.specs.Prelude.{◌≡◌, ◌↔◌, ◌+◌, ◌<◌, ◌^◌, [], Err, None, Some, IfErr, IsOk};
+ghost use Rattle.std.specs.Prelude.{MatchResult, OnErr, OnOk, false, take};
 ghost use Rattle.dap_file.specs.Calls.{call_failures, step_after};
 ghost use Rattle.dap_file.specs.Crash.{LeavesOnly};
 ghost use Rattle.dap_file.specs.Replacing.{HasFailedAt, HasReplaced, IsInstalled, IsOldOrNew, IsUntouched};
@@ -14,6 +14,16 @@ pub struct ReplaceFault {
     pub step: Step,
     /// Whether the temporary file could not be removed.
     pub is_left: bool,
+}
+
+/// Returns this step if its call failed.
+fn in_step(step: Step, outcome: Result<(), FileFault>) -> Result<(), Step>
+    ensures { MatchResult outcome (λ done. IsOk result) (λ fault. result ≡ Err step) }
+{
+    match outcome {
+        Ok(()) => Ok(()),
+        Err(_) => Err(step),
+    }
 }
 
 /// Writes all of the bytes to the temporary file, which is empty.
@@ -49,9 +59,9 @@ fn install<F: Replaceable>(file: &mut F, bytes: &[u8]) -> Result<(), Step>
         → LeavesOnly F.moment F.left_since (IsOldOrNew F.Replaceable file.old bytes.now)
         file.old file.new }
 {
-    write_all(file, bytes).map_err(|_| Step::Write)?;
-    file.sync().map_err(|_| Step::Sync)?;
-    file.rename().map_err(|_| Step::Rename)
+    in_step(Step::Write, write_all(file, bytes))?;
+    in_step(Step::Sync, file.sync())?;
+    in_step(Step::Rename, file.rename())
 }
 
 /// Replaces the content of the file by these bytes, through a temporary file. Does not allocate.
@@ -80,16 +90,21 @@ pub fn replace<F: Replaceable>(file: &mut F, bytes: &[u8]) -> Result<(), Replace
     ensures removed { F.is_known file.old
         → IfErr result (λ fault. fault.is_left ≡ false → F.temporary file.new ≡ None) }
 {
-    file.create().map_err(|_| ReplaceFault {
-        step: Step::Create,
-        is_left: false,
-    })?;
+    if let Err(_) = file.create() {
+        return Err(ReplaceFault {
+            step: Step::Create,
+            is_left: false,
+        });
+    }
     if let Err(step) = install(file, bytes) {
         let is_left = file.remove().is_err();
         return Err(ReplaceFault { step, is_left });
     }
-    file.sync_folder().map_err(|_| ReplaceFault {
-        step: Step::SyncFolder,
-        is_left: false,
-    })
+    match file.sync_folder() {
+        Ok(()) => Ok(()),
+        Err(_) => Err(ReplaceFault {
+            step: Step::SyncFolder,
+            is_left: false,
+        }),
+    }
 }

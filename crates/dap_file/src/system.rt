@@ -14,17 +14,22 @@ const OWN_MODE: u32 = 0o600;
 
 /// Creates the temporary file. If it is to get the permissions of an existing file, only the user
 /// has access until then.
-pub(crate) fn open_new<R: Files>(rt: &R, place: &Place) -> io::Result<R::File> {
+pub(crate) fn create_temporary<R: Files>(
+    rt: &R,
+    place: &Place,
+    temporary: &mut Option<R::File>,
+) -> io::Result<()> {
     let mut options = OpenOptions::new();
     options.write(true).create_new(true);
     if place.mode.is_some() {
         options.mode(OWN_MODE);
     }
-    options.open(rt, place.temporary.as_str())
+    *temporary = Some(options.open(rt, place.temporary.as_str())?);
+    Ok(())
 }
 
 /// Writes a prefix of the bytes. Repeats a write that a signal interrupted.
-pub(crate) fn write_some<W: Write>(writer: &mut W, bytes: &[u8]) -> io::Result<usize>
+fn write_some<W: Write>(writer: &mut W, bytes: &[u8]) -> io::Result<usize>
     ensures within { IfOk result (λ count. count ≤ length bytes.now) }
     ensures some { IfOk result (λ count. 0 < length bytes.now → 0 < count) }
 {
@@ -38,12 +43,46 @@ pub(crate) fn write_some<W: Write>(writer: &mut W, bytes: &[u8]) -> io::Result<u
     Err(ErrorKind::Interrupted.into())
 }
 
+/// Writes a prefix of the bytes to the temporary file.
+pub(crate) fn write_temporary<W: Write>(
+    temporary: &mut Option<W>,
+    bytes: &[u8],
+) -> io::Result<usize>
+    ensures within { IfOk result (λ count. count ≤ length bytes.now) }
+    ensures some { IfOk result (λ count. 0 < length bytes.now → 0 < count) }
+{
+    match temporary {
+        Some(file) => write_some(file, bytes),
+        None => Err(ErrorKind::NotFound.into()),
+    }
+}
+
 /// Gives the temporary file the permissions of the file and syncs it.
-pub(crate) fn sync_file<F: OpenFile>(file: &F, mode: Option<u32>) -> io::Result<()> {
+pub(crate) fn sync_temporary<F: OpenFile>(
+    temporary: &Option<F>,
+    mode: Option<u32>,
+) -> io::Result<()> {
+    let Some(file) = temporary else {
+        return Err(ErrorKind::NotFound.into());
+    };
     if let Some(mode) = mode {
         file.set_permissions(Permissions::from_mode(mode))?;
     }
     file.sync_all()
+}
+
+/// Renames the temporary file to the name of the file.
+pub(crate) fn rename_temporary<R: Files>(
+    rt: &R,
+    place: &Place,
+    temporary: &mut Option<R::File>,
+) -> io::Result<()> {
+    if temporary.is_none() {
+        return Err(ErrorKind::NotFound.into());
+    }
+    fs::rename(rt, place.temporary.as_str(), place.target.as_str())?;
+    *temporary = None;
+    Ok(())
 }
 
 /// Returns whether a file system does not support syncing folders.
@@ -55,7 +94,7 @@ fn is_unsupported(error: &Error) -> bool {
 }
 
 /// Syncs a folder, if the file system supports it.
-pub(crate) fn sync_folder_at<R: Files>(rt: &R, folder: &str) -> io::Result<()> {
+pub(crate) fn sync_folder<R: Files>(rt: &R, folder: &str) -> io::Result<()> {
     let opened = match fs::open(rt, folder) {
         Ok(opened) => opened.sync_all(),
         Err(error) => Err(error),
@@ -67,15 +106,28 @@ pub(crate) fn sync_folder_at<R: Files>(rt: &R, folder: &str) -> io::Result<()> {
 }
 
 /// Removes a file. Returns `Ok` if it does not exist.
-pub(crate) fn remove_at<R: Files>(rt: &R, path: &str) -> io::Result<()> {
+fn remove_at<R: Files>(rt: &R, path: &str) -> io::Result<()> {
     match fs::remove_file(rt, path) {
         Err(error) if error.kind() == ErrorKind::NotFound => Ok(()),
         outcome => outcome,
     }
 }
 
+/// Removes the temporary file, if there is one.
+pub(crate) fn remove_temporary<R: Files>(
+    rt: &R,
+    place: &Place,
+    temporary: &mut Option<R::File>,
+) -> io::Result<()> {
+    if temporary.is_some() {
+        remove_at(rt, place.temporary.as_str())?;
+        *temporary = None;
+    }
+    Ok(())
+}
+
 /// Why a file of the operating system was not read.
-#[derive(Clone, Copy, Debug)]
+#[derive(Clone, Copy)]
 pub(crate) enum Unread {
     System(Error),
     TooLong,
@@ -93,7 +145,19 @@ impl From<Error> for Unread {
     }
 }
 
-/// Reads a file, at most one byte past the limit.
+/// Reads to the end, at most one byte past the limit.
+fn read_bytes<F: Read + Drop>(alloc: Global, file: F, limit: u64) -> Result<Vec<u8>, Unread>
+    ensures { IfOk result (λ bytes. length bytes.items ≤ limit) }
+{
+    let mut bytes = Vec::new(alloc);
+    file.take(limit.saturating_add(1)).read_to_end(&mut bytes)?;
+    if bytes.len() as u64 > limit {
+        return Err(Unread::TooLong);
+    }
+    Ok(bytes)
+}
+
+/// Reads a file, at most one byte past the limit. Returns `None` if it does not exist.
 pub(crate) fn read_at<R: Files>(
     alloc: Global,
     rt: &R,
@@ -102,14 +166,9 @@ pub(crate) fn read_at<R: Files>(
 ) -> Result<Option<Vec<u8>>, Unread>
     ensures { IfOk result (λ found. IfSome found (λ bytes. length bytes.items ≤ limit)) }
 {
-    let file = match fs::open(rt, path) {
-        Err(error) if error.kind() == ErrorKind::NotFound => return Ok(None),
-        opened => opened?,
-    };
-    let mut bytes = Vec::new(alloc);
-    file.take(limit.saturating_add(1)).read_to_end(&mut bytes)?;
-    if bytes.len() as u64 > limit {
-        return Err(Unread::TooLong);
+    match fs::open(rt, path) {
+        Ok(file) => Ok(Some(read_bytes(alloc, file, limit)?)),
+        Err(error) if error.kind() == ErrorKind::NotFound => Ok(None),
+        Err(error) => Err(Unread::from(error)),
     }
-    Ok(Some(bytes))
 }
