@@ -121,14 +121,12 @@ named-part k n c x rest y h is later = record {
 }
 
 -- the rows of a kind, in parts of the table
-pub asked-of-kind : (j k : Kind) → j ≡ k → (n : Option (List ℕ)) (parts x : List ProfileRow)
+pub asked-of-kind : (k : Kind) (n : Option (List ℕ)) (parts x : List ProfileRow)
     → filter (may_apply (Some k)) profile ≡ parts → AskedOf k n parts x
-    → x ≡ rows_asked (Some j) n
+    → x ≡ rows_asked (Some k) n
 unfolding rows_asked
-asked-of-kind j k same n parts x h asked =
-    sym
-    (ap (λ i. filter (asks (Some i) n) profile) same ∙ narrower (Some k) n profile
-    ∙ ap (filter (asks (Some k) n)) h ∙ asked.kept)
+asked-of-kind k n parts x h asked =
+    sym (narrower (Some k) n profile ∙ ap (filter (asks (Some k) n)) h ∙ asked.kept)
 
 -- ---- the rows with a name
 

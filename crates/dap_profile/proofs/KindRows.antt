@@ -11,7 +11,6 @@ use Rattle.dap_profile.specs.declared.asked_rows.TheConstants.{FIRST_REQUESTS, S
 use Rattle.dap_profile.specs.declared.asked_rows.TheConstants.{THIRD_REQUESTS, FIRST_EVENTS}
 use Rattle.dap_profile.specs.declared.asked_rows.TheConstants.{SECOND_EVENTS, THIRD_EVENTS}
 use Rattle.dap_profile.specs.declared.asked_rows.TheConstants.{FIRST_RESPONSES, LAST_RESPONSES}
-use Rattle.dap_profile.specs.declared.profile.Kind.{Kind}
 use Rattle.dap_profile.specs.declared.profile.Kind.TheVariants.{Request, Response, Event}
 use Rattle.dap_profile.specs.declared.profile.Row.{Row}
 
@@ -122,16 +121,16 @@ of-part : (n : Option (List ℕ)) (rows : List Row) (first count : ℕ) (x : Lis
     → x ≡ rows_named n (take count (drop first profile))
 of-part n rows first count x h is = is ∙ ap (rows_named n) (behind first count rows h)
 
-pub of-requests : (k : Kind) → k ≡ Request → (n : Option (List ℕ)) (rows : List Row)
-    → (x y z : List ProfileRow) → map row_of rows ≡ profile
+pub of-requests : (n : Option (List ℕ)) (rows : List Row) (x y z : List ProfileRow)
+    → map row_of rows ≡ profile
     → Named n rows 7 42 x → Named n rows 140 11 y → Named n rows 155 11 z
     → map row_of (take 1 rows)
     ++ (map row_of (take 1 (drop 1 rows)) ++ (x ++ (y ++ (z ++ []))))
-    ≡ rows_asked (Some k) n
+    ≡ rows_asked (Some Request) n
 unfolding profile first_rows later_rows
-of-requests k is n rows x y z h hx hy hz =
+of-requests n rows x y z h hx hy hz =
     ap₂ (λ a b. a ++ (b ++ (x ++ (y ++ (z ++ []))))) (every rows h) (behind 1 1 rows h)
-    ∙ asked-of-kind k Request is n _ _ requests
+    ∙ asked-of-kind Request n _ _ requests
     (whole-part Request n (take 1 profile) _ _ refl
     (whole-part Request n (take 1 (drop 1 profile)) _ _ refl
     (named-part Request n (take 42 (drop 7 profile)) x _ _ refl (of-part n rows 7 42 x h hx)
@@ -139,16 +138,16 @@ of-requests k is n rows x y z h hx hy hz =
     (named-part Request n (take 11 (drop 155 profile)) z _ _ refl (of-part n rows 155 11 z h hz)
     (no-parts Request n))))))
 
-pub of-events : (k : Kind) → k ≡ Event → (n : Option (List ℕ)) (rows : List Row)
-    → (x y z : List ProfileRow) → map row_of rows ≡ profile
+pub of-events : (n : Option (List ℕ)) (rows : List Row) (x y z : List ProfileRow)
+    → map row_of rows ≡ profile
     → Named n rows 87 17 x → Named n rows 151 4 y → Named n rows 167 5 z
     → map row_of (take 1 rows)
     ++ (map row_of (take 1 (drop 2 rows)) ++ (x ++ (y ++ (z ++ []))))
-    ≡ rows_asked (Some k) n
+    ≡ rows_asked (Some Event) n
 unfolding profile first_rows later_rows
-of-events k is n rows x y z h hx hy hz =
+of-events n rows x y z h hx hy hz =
     ap₂ (λ a b. a ++ (b ++ (x ++ (y ++ (z ++ []))))) (every rows h) (behind 2 1 rows h)
-    ∙ asked-of-kind k Event is n _ _ events
+    ∙ asked-of-kind Event n _ _ events
     (whole-part Event n (take 1 profile) _ _ refl
     (whole-part Event n (take 1 (drop 2 profile)) _ _ refl
     (named-part Event n (take 17 (drop 87 profile)) x _ _ refl (of-part n rows 87 17 x h hx)
@@ -156,18 +155,18 @@ of-events k is n rows x y z h hx hy hz =
     (named-part Event n (take 5 (drop 167 profile)) z _ _ refl (of-part n rows 167 5 z h hz)
     (no-parts Event n))))))
 
-pub of-responses : (k : Kind) → k ≡ Response → (n : Option (List ℕ)) (rows : List Row)
-    → (x y z u v : List ProfileRow) → map row_of rows ≡ profile
+pub of-responses : (n : Option (List ℕ)) (rows : List Row) (x y z u v : List ProfileRow)
+    → map row_of rows ≡ profile
     → Named n rows 49 38 x → Named n rows 104 35 y → Named n rows 139 1 z → Named n rows 166 1 u
     → Named n rows 172 16 v
     → map row_of (take 1 rows)
     ++ (map row_of (take 4 (drop 3 rows)) ++ (x ++ (y ++ (z ++ (u ++ (v ++ []))))))
-    ≡ rows_asked (Some k) n
+    ≡ rows_asked (Some Response) n
 unfolding profile first_rows later_rows
-of-responses k is n rows x y z u v h hx hy hz hu hv =
+of-responses n rows x y z u v h hx hy hz hu hv =
     ap₂ (λ a b. a ++ (b ++ (x ++ (y ++ (z ++ (u ++ (v ++ []))))))) (every rows h)
     (behind 3 4 rows h)
-    ∙ asked-of-kind k Response is n _ _ responses
+    ∙ asked-of-kind Response n _ _ responses
     (whole-part Response n (take 1 profile) _ _ refl
     (whole-part Response n (take 4 (drop 3 profile)) _ _ refl
     (named-part Response n (take 38 (drop 49 profile)) x _ _ refl (of-part n rows 49 38 x h hx)

@@ -2,6 +2,7 @@
 ghost use Rattle.std.specs.Prelude.{◌≡◌, true, Some, map, option_map};
 ghost use Rattle.dap_profile.specs.RowRanges.{rows_in, rows_asked, rows_named, has_name, one_name};
 ghost use Rattle.dap_profile.specs.RowRanges.{are_runs};
+ghost use Rattle.dap_profile.specs.Profile.{profile};
 ghost use Rattle.dap_profile.specs.ProfileRows.{row_of};
 
 use crate::profile::{Kind, Row, profile_rows};
@@ -36,52 +37,71 @@ static LAST_RESPONSES: [usize; 4] = [4, 4, 4, 4];
 /// Returns the rows that apply to a message of this kind and name.
 ///
 /// Row 1 applies to every message, row 2 to every request, row 3 to every event, rows 4 to 7 to
-/// every response. The other rows apply by name. They form several parts of the table per kind:
-///
-/// - requests: rows 8 to 49, 141 to 151 and 156 to 166;
-/// - events: rows 88 to 104, 152 to 155 and 168 to 172;
-/// - responses: rows 50 to 87, 105 to 139 (`initialize` only), 140 (`threads` only), 167
-///   (`setBreakpoints` only) and 173 to 188.
+/// every response. The other rows apply by name. They form several parts of the table per kind.
 pub fn rows_of(kind: Kind, name: Option<&str>) -> AskedRows
     ensures { rows_in result ≡ rows_asked (Some kind) (option_map (λ s. s.now) name.entry) }
 {
     let rows = profile_rows();
-    let every = &rows[..1];
     match kind {
-        Kind::Request => {
-            [
-                every,
-                &rows[1..2],
-                rows_named(&rows[7..49], &FIRST_REQUESTS, name),
-                rows_named(&rows[140..151], &SECOND_REQUESTS, name),
-                rows_named(&rows[155..166], &THIRD_REQUESTS, name),
-                &[],
-                &[],
-            ]
-        }
-        Kind::Event => {
-            [
-                every,
-                &rows[2..3],
-                rows_named(&rows[87..104], &FIRST_EVENTS, name),
-                rows_named(&rows[151..155], &SECOND_EVENTS, name),
-                rows_named(&rows[167..172], &THIRD_EVENTS, name),
-                &[],
-                &[],
-            ]
-        }
-        Kind::Response => {
-            [
-                every,
-                &rows[3..7],
-                rows_named(&rows[49..87], &FIRST_RESPONSES, name),
-                all_if_named(&rows[104..139], name),
-                all_if_named(&rows[139..140], name),
-                all_if_named(&rows[166..167], name),
-                rows_named(&rows[172..], &LAST_RESPONSES, name),
-            ]
-        }
+        Kind::Request => requests_of(rows, name),
+        Kind::Event => events_of(rows, name),
+        Kind::Response => responses_of(rows, name),
     }
+}
+
+/// Returns the rows that apply to a request with this command. By name these are some of the rows
+/// 8 to 49, 141 to 151 and 156 to 166.
+fn requests_of(rows: &'static [Row; 188], name: Option<&str>) -> AskedRows
+    requires { map row_of rows.now ≡ profile }
+    ensures { rows_in result
+        ≡ rows_asked (Some Kind.Request) (option_map (λ s. s.now) name.entry) }
+{
+    [
+        &rows[..1],
+        &rows[1..2],
+        rows_named(&rows[7..49], &FIRST_REQUESTS, name),
+        rows_named(&rows[140..151], &SECOND_REQUESTS, name),
+        rows_named(&rows[155..166], &THIRD_REQUESTS, name),
+        &[],
+        &[],
+    ]
+}
+
+/// Returns the rows that apply to an event with this name. By name these are some of the rows 88 to
+/// 104, 152 to 155 and 168 to 172.
+fn events_of(rows: &'static [Row; 188], name: Option<&str>) -> AskedRows
+    requires { map row_of rows.now ≡ profile }
+    ensures { rows_in result
+        ≡ rows_asked (Some Kind.Event) (option_map (λ s. s.now) name.entry) }
+{
+    [
+        &rows[..1],
+        &rows[2..3],
+        rows_named(&rows[87..104], &FIRST_EVENTS, name),
+        rows_named(&rows[151..155], &SECOND_EVENTS, name),
+        rows_named(&rows[167..172], &THIRD_EVENTS, name),
+        &[],
+        &[],
+    ]
+}
+
+/// Returns the rows that apply to a response to this command. By name these are some of the rows 50
+/// to 87, 105 to 139 (`initialize` only), 140 (`threads` only), 167 (`setBreakpoints` only) and 173
+/// to 188.
+fn responses_of(rows: &'static [Row; 188], name: Option<&str>) -> AskedRows
+    requires { map row_of rows.now ≡ profile }
+    ensures { rows_in result
+        ≡ rows_asked (Some Kind.Response) (option_map (λ s. s.now) name.entry) }
+{
+    [
+        &rows[..1],
+        &rows[3..7],
+        rows_named(&rows[49..87], &FIRST_RESPONSES, name),
+        all_if_named(&rows[104..139], name),
+        all_if_named(&rows[139..140], name),
+        all_if_named(&rows[166..167], name),
+        rows_named(&rows[172..], &LAST_RESPONSES, name),
+    ]
 }
 
 /// Returns the rows, which all have one name, if it is this name, and otherwise no row.

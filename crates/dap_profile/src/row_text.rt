@@ -31,14 +31,22 @@ fn need_word(needed: bool) -> &'static str
     if needed { " needed " } else { " optional " }
 }
 
+/// Appends two texts.
+fn push_both(out: &mut String, first: &str, second: &str) -> Result<(), AllocError>
+    ensures { OnOk result
+        (string_bytes out.new ≡ string_bytes out.old ++ first.now ++ second.now) }
+{
+    out.push_str(first)?;
+    out.push_str(second)
+}
+
 /// Appends the names of a member and of a member inside it, separated by a dot.
 fn push_inner(out: &mut String, outer: &str, member: &str) -> Result<(), AllocError>
     ensures { OnOk result (string_bytes out.new
         ≡ string_bytes out.old ++ outer.now ++ codes "." ++ member.now) }
 {
     out.push_str(outer)?;
-    out.push_str(".")?;
-    out.push_str(member)
+    push_both(out, ".", member)
 }
 
 /// Appends a path, such as `body.stackFrames[].id`.
@@ -55,13 +63,11 @@ fn push_place(out: &mut String, place: Place) -> Result<(), AllocError>
         }
         Place::Part(outer, list, member) => {
             push_inner(out, outer, list)?;
-            out.push_str("[].")?;
-            out.push_str(member)
+            push_both(out, "[].", member)
         }
         Place::Deep(outer, inner, member) => {
             push_inner(out, outer, inner)?;
-            out.push_str(".")?;
-            out.push_str(member)
+            push_both(out, ".", member)
         }
     }
 }
@@ -72,8 +78,7 @@ fn push_messages(out: &mut String, row: &Row) -> Result<(), AllocError>
         ≡ string_bytes out.old ++ messages_words (row_of row.now)) }
 {
     out.push_str(kind_word(row.kind))?;
-    out.push_str(" ")?;
-    out.push_str(row.name.unwrap_or("*"))
+    push_both(out, " ", row.name.unwrap_or("*"))
 }
 
 /// Appends the number of a row, and the messages to which it applies.
@@ -93,8 +98,7 @@ fn push_tail(out: &mut String, row: &Row) -> Result<(), AllocError>
         ++ need_word (row_of row.now).needed ++ want_word (row_of row.now).want ++ codes "\n") }
 {
     out.push_str(need_word(row.needed))?;
-    out.push_str(row.want.word())?;
-    out.push_str("\n")
+    push_both(out, row.want.word(), "\n")
 }
 
 /// Appends the line of a row.
