@@ -17,3 +17,5 @@ pub mod Replacing
 pub mod Shown
 pub mod Untold
 pub mod Told
+pub mod NodeLengths
+pub mod DigitCounts

@@ -10,7 +10,3 @@ by_bool false h = refl
 pub other_length : (xs ys : List ℕ) → (length xs ≡ length ys → ⊥) → false ≡ bytes_eq xs ys
 other_length xs ys apart =
     by_bool (bytes_eq xs ys) (λ same. apart (ap length ((bytes_eq-Decides xs ys).0 same)))
-
-pub none_same : (ys : List ℕ) → (length ys == 0) ≡ bytes_eq [] ys
-none_same [] = refl
-none_same (y ∷ ys) = grind arith

@@ -16,14 +16,14 @@ use Rattle.dap_flat.specs.Pieces.{Piece, end_list, end_object}
 use Rattle.dap_flat.specs.Pieces.{piece_of, pieces, items_pieces, members_pieces, Represents}
 use Rattle.dap_flat.specs.Writing.{piece_tokens, node_tokens, tokens_of}
 
-abbrev spell : List Piece → List Token
+abbrev pub spell : List Piece → List Token
 spell ps = flat_map piece_tokens ps
 
 spell-append : (ps qs : List Piece) → spell (ps ++ qs) ≡ spell ps ++ spell qs
 spell-append ps qs = flat_map-append piece_tokens ps qs
 
 mutual
-  pieces_spell : (d : Doc) → spell (pieces d) ≡ json_tokens (json_of d)
+  pub pieces_spell : (d : Doc) → spell (pieces d) ≡ json_tokens (json_of d)
   pieces_spell null = refl
   pieces_spell (boolean b) = refl
   pieces_spell (whole z) = refl

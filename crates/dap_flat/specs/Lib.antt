@@ -15,3 +15,4 @@ pub mod Marked
 pub mod Typed
 pub mod Made
 pub mod FlatMessages
+pub mod Lengths

@@ -41,29 +41,12 @@ fn member(nodes: &[Node<'_>], from: usize, name: &str) -> Result<Option<usize>, 
     Err(Unread::Unclear)
 }
 
-/// Returns whether two texts are equal. Most names that are compared differ in their lengths or in
-/// their first bytes, so it looks at those first.
+/// Returns whether two texts are equal. Most names that are compared differ in their lengths, so it
+/// looks at those first.
 #[inline(always)]
 #[tactic(auto, using(crate::proofs::SameTexts::other_length))]
 pub fn same_text(text: &str, other: &str) -> bool
     ensures { result ≡ bytes_eq text.now other.now }
 {
-    if text.len() != other.len() {
-        return false;
-    }
-    same_bytes(text.as_bytes(), other.as_bytes())
-}
-
-#[inline]
-#[tactic(auto, using(crate::proofs::SameTexts::none_same))]
-fn same_bytes(bytes: &[u8], others: &[u8]) -> bool
-    ensures { result ≡ bytes_eq bytes.now others.now }
-{
-    match bytes {
-        [] => others.is_empty(),
-        [byte, rest @ ..] => match others {
-            [] => false,
-            [other, others @ ..] => *byte == *other && same_bytes(rest, others),
-        },
-    }
+    text.len() == other.len() && text == other
 }

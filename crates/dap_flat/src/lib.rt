@@ -6,15 +6,19 @@
 #![tactic(auto)]
 
 mod canonical;
+mod digits;
 mod faults;
 mod find;
 mod ids;
+mod lengths;
 mod marks;
 mod members;
 mod message;
 mod node;
+mod order;
 mod parse;
 mod place;
+mod plain;
 mod reading;
 mod row_marks;
 mod rows;
@@ -23,8 +27,10 @@ mod unread;
 mod write;
 
 pub use canonical::append_canonical;
+pub use digits::digit_count;
 pub use find::{child, same_text};
 pub use ids::{add_ids, replace_ids};
+pub use lengths::length_within;
 pub use message::FlatMessage;
 pub use node::Node;
 pub use parse::read_flat;

@@ -13,9 +13,10 @@ ghost use Rattle.dap_flat.specs.Document.{document_of};
 ghost use Rattle.dap_flat.specs.Pieces.{Represents};
 ghost use Rattle.dap_flat.specs.Made.{IsMadeOf, Answers};
 ghost use Rattle.dap_flat.specs.Heads.{Tells, text_in};
+ghost use Rattle.dap_flat.specs.Lengths.{IsLengthWithin};
 
 use crate::members::{Envelope, boolean_at, kind_of_tree, number_at, text_at};
-use crate::{Node, Unread, add_ids, replace_ids, write_flat};
+use crate::{Node, Unread, add_ids, length_within, replace_ids, write_flat};
 use dap_message::AnyMessage;
 use dap_profile::Kind;
 use dap_tree::{Side, Sort};
@@ -78,6 +79,15 @@ impl<'a> FlatMessage<'a> {
             success,
             nodes,
         })
+    }
+
+    /// Returns the length of the canonical content in which the i-th id has the i-th number, or
+    /// `None` if it is above the limit. It is the length of what
+    /// [`write_with_ids`](AnyMessage::write_with_ids) appends. Does not allocate.
+    pub fn length_with_ids(&self, numbers: &[i64], limit: usize) -> Option<usize>
+        ensures { IsLengthWithin limit (text_of (with_ids (flat_doc self.now) numbers.now)) result }
+    {
+        length_within(&self.nodes, numbers, limit)
     }
 }
 

@@ -8,6 +8,7 @@ ghost use Rattle.dap_flat.specs.Pieces.{piece_of};
 ghost use Rattle.dap_flat.specs.Placing.{InsertsAt, Places, PlacesMember, size};
 
 use crate::node::Node;
+use crate::order::name_order;
 use crate::unread::Unread;
 use std::cmp::Ordering;
 
@@ -170,7 +171,7 @@ fn position(held: &[Node<'_>], name: &str) -> Option<usize>
         let Node::Name(other) = held[p] else {
             return None;
         };
-        match name.cmp(other) {
+        match name_order(name, other) {
             Ordering::Less => return Some(p),
             Ordering::Equal => return None,
             Ordering::Greater => {}
@@ -215,6 +216,6 @@ fn is_greatest(last: Option<&str>, name: &str) -> bool
 {
     match last {
         None => true,
-        Some(last) => last < name,
+        Some(last) => matches!(name_order(last, name), Ordering::Less),
     }
 }

@@ -15,7 +15,7 @@ loop-p-preserved c =
     let k = c.args.name.now in
     let s = c.in-Name.other.now in
     let there = c.in-Name.is in
-    let cmp : slice_cmp nat_cmp k s ≡ Greater = sym c.cmp.ensures ∙ c.in-Greater.is in
+    let cmp : slice_cmp nat_cmp k s ≡ Greater = sym c.name_order.ensures ∙ c.in-Greater.is in
     let end = c.in_ok-p.ensures in
     let within : c.loop-p.p < length held = omega (arith, end.within) in
     let more : c.loop-p.p + 1 < length held = omega (arith, end.within) in (
@@ -29,7 +29,7 @@ returns-in-Less-clause-goes c =
     let held = c.args.held.now in
     let k = c.args.name.now in
     let s = c.in-Name.other.now in
-    let less : is_lt (slice_cmp nat_cmp k s) ≡ true = ap is_lt (sym c.cmp.ensures ∙ c.in-Less.is) in
+    let less : is_lt (slice_cmp nat_cmp k s) ≡ true = ap is_lt (sym c.name_order.ensures ∙ c.in-Less.is) in
     (λ ms d e. goes_before held k s c.loop-p.p ms d (node.Name c.in-Name.other) node.Null
     (c.loop-p.invariant.1 ms e) c.in-Name.is refl less)
 
