@@ -117,9 +117,11 @@ def golden(report, folder, title, rules, a, b, normal):
 def stops(report, folder):
     """Two runs in which a variables reference is used again after a stop, or not: they are the same per stop."""
     a, b = written(folder, "a", read("captures/debugpy-l-stopentry.1.rec")), written(folder, "b", read("pairs/debugpy-l-stopentry.3.rec"))
-    for words, status in (([], 1), (["--per-stop"], 0)):
-        answer = run(["compare", "--rules", path("debugpy"), *words, a, b])
-        report.check(f"two runs of debugpy by rules, with {words}", answer[0] == status, repr(answer))
+    with open(path("debugpy"), "rb") as file:
+        whole = written(folder, "whole.rules", file.read().replace(b"\nper-stop\n", b"\n"))
+    for rules, words, status in ((path("debugpy"), [], 0), (whole, [], 1), (whole, ["--per-stop"], 0)):
+        answer = run(["compare", "--rules", rules, *words, a, b])
+        report.check(f"two runs of debugpy by {os.path.basename(rules)}, with {words}", answer[0] == status, repr(answer))
 
 
 def place_of(found, wanted, last=False):

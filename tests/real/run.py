@@ -29,14 +29,10 @@ BUILT = os.path.join(TOP, "bin", "real")
 
 
 class Session:
-    """A session: the files of its rules, what it lacks here, its version, and one run of it, which returns the path of the trace.
-
-    debugpy uses references again after a stop if their objects are gone, so its sessions are numbered per stop.
-    """
+    """A session: the files of its rules, what it lacks here, its version, and one run of it, which returns the path of the trace."""
 
     def __init__(self, name, rules, missing, version, run):
         self.name, self.rules, self.missing, self.version, self.run = name, rules, missing, version, run
-        self.per_stop = shipped("debugpy") in rules
 
     def golden(self):
         return os.path.join(GOLDEN, f"{self.name}-{self.version()}.golden")
@@ -175,7 +171,7 @@ def tried(report, session, times, update):
     for number in range(times):
         try:
             trace = session.run()
-            line = dapnorm.golden(trace, golden, rules=rules, words=words, per_stop=session.per_stop, update=update and number == 0)
+            line = dapnorm.golden(trace, golden, rules=rules, words=words, update=update and number == 0)
             os.remove(trace)
             same += line == "same" or (update and number == 0)
         except (dapnorm.SessionError, dapnorm.GoldenFailed) as error:
