@@ -3,4 +3,4 @@ pub mod Texts
 pub mod Differing
 pub mod ProperNumbers
 pub mod ReadRecords
-pub mod RecordTexts
+pub mod Entries

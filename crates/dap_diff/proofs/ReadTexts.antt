@@ -26,7 +26,7 @@ use Rattle.dap_input.specs.declared.refused.Refused.TheVariants as why
 use Rattle.dap_normalise.specs.Accepting.{Payload, HoldsNoMessage, IsMessage}
 use Rattle.dap_normalise.specs.JudgingSteps.{payload_of}
 use Rattle.dap_normalise.proofs.AcceptingFacts.{message_once}
-use Rattle.dap_diff.specs.Texts.{IsRecordOf, IsLeftText}
+use Rattle.dap_diff.specs.Texts.{IsRecordOf, IsRecordText}
 use Rattle.dap_diff.proofs.Texts.{record_here}
 
 module _ (limits : Limits) (sound : AreSound limits) (text : List ℕ) (m : Sent)
@@ -79,11 +79,10 @@ module _ (limits : Limits) (sound : AreSound limits) (text : List ℕ) (m : Sent
       (subst (λ t. ShowsFault l t fault.cause shown.0) (sym (append-nil text)) shown.1)
 
 -- The message that is read is that of the text.
-pub is_told : (limits : Limits) (text : List ℕ) (held : Payload) (n : Sent) → (text ≡ [] → ⊥)
-    → IsLeftText limits text → ((m : Sent) → IsRecordOf limits text m → IsMessage held m)
+pub is_told : (limits : Limits) (text : List ℕ) (held : Payload) (n : Sent)
+    → IsRecordText limits text → ((m : Sent) → IsRecordOf limits text m → IsMessage held m)
     → IsMessage held n → IsRecordOf limits text n
-is_told limits text held n some (None, none) each is = absurd (some none)
-is_told limits text held n some (Some m, holds) each is =
+is_told limits text held n (m, holds) each is =
     subst (IsRecordOf limits text) (message_once held m n (each m holds) is) holds
 
 -- A payload with a message is not rejected as having no message.
@@ -122,11 +121,9 @@ module _ (held : Payload) (m : Sent) (is : IsMessage held m) where
   not_refused why.WriteFault other reported = no_reason (reason_of why.WriteFault) reported
   not_refused why.Memory other reported = other refl
 
--- A nonempty text with a message is not rejected as having none.
+-- The text of a record is not rejected as having no message.
 pub refused_none : (limits : Limits) (text : List ℕ) (held : Payload) (because : Refused)
-    → (text ≡ [] → ⊥) → IsLeftText limits text
-    → ((m : Sent) → IsRecordOf limits text m → IsMessage held m)
+    → IsRecordText limits text → ((m : Sent) → IsRecordOf limits text m → IsMessage held m)
     → (because ≡ why.Memory → ⊥) → RejectsPayload (HoldsNoMessage held) 1 because → ⊥
-refused_none limits text held because some (None, none) each other reported = some none
-refused_none limits text held because some (Some m, holds) each other reported =
+refused_none limits text held because (m, holds) each other reported =
     not_refused held m (each m holds) because other reported

@@ -28,7 +28,7 @@ use Rattle.dap_compare.specs.Verdicts.{Compares}
 use Rattle.dap_compare.specs.declared.verdict.CompareRefused.TheVariants.{Memory}
 use Rattle.dap_compare.specs.declared.verdict.Verdict.TheVariants.{Differ}
 use Rattle.dap_diff.specs.Diffs.{HasAt, HasRead, DescribesRecord}
-use Rattle.dap_diff.specs.Texts.{IsRecordOf, Holds, IsLeftText, DescribesTexts}
+use Rattle.dap_diff.specs.Texts.{IsRecordOf, IsRecordText, Holds, IsLeftText, DescribesTexts}
 
 -- ---- a message of a normal form is that of its own text
 
@@ -74,7 +74,7 @@ module _ (limits : Limits) (mode : Mode) (sound : AreSound limits) where
       again.records (contents all) again.recording written)
       again.typed
 
-  record_is : (text bytes : List ℕ) (values normal : List Sent) (named : Sent)
+  pub record_is : (text bytes : List ℕ) (values normal : List Sent) (named : Sent)
       → IsAccepted limits mode bytes values → IsNormal (stop_in mode) values (normal ++ named ∷ [])
       → text ≡ record_of named → IsRecordOf limits text named
   record_is text bytes values normal named accepted is_normal is = record {
@@ -96,6 +96,15 @@ module _ (limits : Limits) (mode : Mode) (sound : AreSound limits) where
     (next, normal, is_normal),
   )
 
+-- The text of a record is not empty.
+not_empty_record : (m : Sent) (text : List ℕ) → text ≡ record_of m → text ≡ [] → ⊥
+not_empty_record m text is none = let never : [] ≡ record_of m = sym none ∙ is in cc
+
+pub left_record : (limits : Limits) (text : List ℕ) → (text ≡ [] → ⊥) → IsLeftText limits text
+    → IsRecordText limits text
+left_record limits text some (None, none) = absurd (some none)
+left_record limits text some (Some m, holds) = (m, holds)
+
 module _ (limits : Limits) (sound : AreSound limits) where
   pub record_here : (text : List ℕ) (m : Sent) → IsRecordOf limits text m
       → IsRecord limits.frame text m.side (text_of m.doc)
@@ -103,20 +112,20 @@ module _ (limits : Limits) (sound : AreSound limits) where
       subst (λ t. IsRecord limits.frame t m.side (text_of m.doc)) (sym is.is_record)
       (written_is_record limits.frame m.side (text_of m.doc) sound.frame is.short)
 
-  not_nothing : (text : List ℕ) (m : Sent) → IsRecordOf limits text m → text ≡ [] → ⊥
-  not_nothing text m is none = let never : [] ≡ record_of m = sym none ∙ is.is_record in cc
+  pub one_message : (text : List ℕ) (m n : Sent) → IsRecordOf limits text m
+      → IsRecordOf limits text n → m ≡ n
+  one_message text m n is other =
+      let one = one_item (record_grammar limits.frame) text text [] [] (m.side, text_of m.doc)
+      (n.side, text_of n.doc) refl (record_here text m is) (record_here text n other) in
+      message_once (m.side, text_of m.doc) m n (refl, is.typed)
+      (subst (λ h. IsMessage h n) (sym one.1) (refl, other.typed))
 
   one_holds : (text : List ℕ) (a b : Option Sent) → Holds limits text a → Holds limits text b
       → a ≡ b
   one_holds text None None is other = refl
-  one_holds text None (Some m) is other = absurd (not_nothing text m other is)
-  one_holds text (Some m) None is other = absurd (not_nothing text m is other)
-  one_holds text (Some m) (Some n) is other =
-      let one = one_item (record_grammar limits.frame) text text [] [] (m.side, text_of m.doc)
-      (n.side, text_of n.doc) refl (record_here text m is) (record_here text n other) in
-      ap Some
-      (message_once (m.side, text_of m.doc) m n (refl, is.typed)
-      (subst (λ h. IsMessage h n) (sym one.1) (refl, other.typed)))
+  one_holds text None (Some m) is other = absurd (not_empty_record m text other.is_record is)
+  one_holds text (Some m) None is other = absurd (not_empty_record m text is.is_record other)
+  one_holds text (Some m) (Some n) is other = ap Some (one_message text m n is other)
 
   -- ---- the stored record of one reader
 

@@ -45,12 +45,15 @@ kind_word Request = codes "request "
 kind_word Response = codes "response "
 kind_word Event = codes "event "
 
--- The head line of a message, such as `< event "stopped"`: its side, its kind, and its name as JSON
+-- The head of a message, such as `< event "stopped"`: its side, its kind, and its name as JSON
 -- text. Every message has a name.
-abbrev pub head_line : Sent → List ℕ
-head_line m =
+abbrev pub head_text : Sent → List ℕ
+head_text m =
     side_word m.side ++ kind_word (kind_of m.doc) ++ text_of (text (unwrap_or (name_of m.doc) []))
-    ++ codes "\n"
+
+-- The line of the head.
+abbrev pub head_line : Sent → List ℕ
+head_line m = head_text m ++ codes "\n"
 
 -- The line for one input, A or B: the head line of its message, or that it has ended.
 abbrev pub input_line : List ℕ → Option Sent → List ℕ

@@ -3,3 +3,4 @@ pub mod Texts
 pub mod RecordLines
 pub mod Matching
 pub mod Numbers
+pub mod Entries

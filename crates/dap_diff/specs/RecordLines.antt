@@ -1,15 +1,5 @@
 -- The parts of the lines that report all differences. Source: own.
-use Rattle.std.specs.Prelude.{ℕ, List, [], ◌++◌, Option, Some, None, codes, decimal, unwrap_or}
-use Rattle.dap_tree.specs.Doc.{text}
-use Rattle.dap_tree.specs.Json.{text_of}
-use Rattle.dap_message.specs.Envelope.{kind_of, name_of}
-use Rattle.dap_message.specs.Message.{Sent}
-use Rattle.dap_diff.specs.Diffs.{kind_word, side_word}
-
--- The side, the kind and the name of a message, such as `< event "stopped"`.
-abbrev pub head_text : Sent → List ℕ
-head_text m =
-    side_word m.side ++ kind_word (kind_of m.doc) ++ text_of (text (unwrap_or (name_of m.doc) []))
+use Rattle.std.specs.Prelude.{ℕ, List, ◌++◌, Option, Some, None, codes, decimal}
 
 -- The number of a record, or `-` if the recording has no such record.
 abbrev pub record_text : Option ℕ → List ℕ

@@ -7,7 +7,7 @@ use std::alloc::Global;
 /// A record of the normal form of a recording.
 #[derive(Drop)]
 pub struct Entry {
-    /// The number of the record, counted from 1.
+    /// The place of the record in its recording, counted from 1.
     pub number: u64,
     /// The number of the last `stopped` event before the record, if frame ids and variables
     /// references restart after each stop; otherwise 0.
@@ -33,7 +33,9 @@ pub struct Recording {
 impl Recording {
     /// Creates a recording without records. Does not allocate.
     pub fn new(alloc: Global) -> Recording
-        ensures { result.text.items ≡ [] }
+        ensures text { result.text.items ≡ [] }
+        ensures entries { result.entries.items ≡ [] }
+        ensures stop { result.stop ≡ 0 }
     {
         Recording {
             text: Vec::new(alloc),

@@ -59,6 +59,23 @@ fn record_in(alloc: Global, text: &[u8], limits: Limits) -> Result<Record, Alloc
     }
 }
 
+/// Returns the message of the record whose text this is.
+pub fn message_of(alloc: Global, text: &[u8], limits: Limits) -> Result<Message, AllocError>
+    requires sound { AreSound limits }
+    requires is_record { IsRecordText limits text.now }
+    ensures { IfOk result (λ message. IsRecordOf limits text.now (sent message)) }
+{
+    let whole = record_in(alloc, text, limits)?;
+    let mut scratch = Scratch::new(alloc);
+    match read_message(alloc, 1, whole.side, whole.content.as_slice(), &mut scratch) {
+        Ok(message) => Ok(message),
+        Err(refused) => match refused {
+            Refused::Memory => Err(AllocError),
+            _ => unreachable!(),
+        },
+    }
+}
+
 /// Returns the message in the text of a record, or `None` if the text is empty.
 pub fn message_in(alloc: Global, text: &[u8], limits: Limits) -> Result<Option<Message>, AllocError>
     requires sound { AreSound limits }
@@ -68,13 +85,6 @@ pub fn message_in(alloc: Global, text: &[u8], limits: Limits) -> Result<Option<M
     if text.is_empty() {
         return Ok(None);
     }
-    let whole = record_in(alloc, text, limits)?;
-    let mut scratch = Scratch::new(alloc);
-    match read_message(alloc, 1, whole.side, whole.content.as_slice(), &mut scratch) {
-        Ok(message) => Ok(Some(message)),
-        Err(refused) => match refused {
-            Refused::Memory => Err(AllocError),
-            _ => unreachable!(),
-        },
-    }
+    let message = message_of(alloc, text, limits)?;
+    Ok(Some(message))
 }

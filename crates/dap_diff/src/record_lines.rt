@@ -1,10 +1,10 @@
 //! The parts of the lines that report differences.
 ghost use Rattle.std.specs.Prelude.{◌≡◌, ◌++◌, IfOk, OnOk, decimal, string_bytes};
-ghost use Rattle.dap_diff.specs.Diffs.{kind_word, leaf_lines, side_word};
+ghost use Rattle.dap_diff.specs.Diffs.{head_text, kind_word, leaf_lines, side_word};
 ghost use Rattle.dap_message.specs.Message.{doc_of, sent};
-ghost use Rattle.dap_diff.specs.RecordLines.{head_text, place_line, record_text};
+ghost use Rattle.dap_diff.specs.RecordLines.{place_line, record_text};
 
-use crate::recordings::plain_tree;
+use crate::reading::plain_tree;
 use dap_difference::difference_text;
 use dap_message::{Kind, Message, Side};
 use dap_tree::{Tree, write_tree};

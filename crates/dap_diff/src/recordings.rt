@@ -1,92 +1,55 @@
 //! Reads a recording into memory: its normal form, as a text and as messages.
-ghost use Rattle.std.specs.Prelude.{◌≡◌, ◌+◌, ◌<◌, ◌≤◌, ◌^◌, ◌++◌, [], IfOk, OnOk, true};
+ghost use Rattle.std.specs.Prelude.{◌≡◌, ◌+◌, ◌<◌, ◌≤◌, ◌^◌, [], OnOk};
 ghost use Rattle.dap_compare.specs.ComparingSteps.{IsRefusalOf};
-ghost use Rattle.dap_diff.specs.Texts.{IsRecordOf, IsRecordText};
+ghost use Rattle.dap_diff.specs.Entries.{AddsEntry, AddsRecording, restarts_after, stop_after};
+ghost use Rattle.dap_diff.specs.Texts.{IsRecordText};
 ghost use Rattle.dap_input.specs.Limits.{AreSound};
-ghost use Rattle.dap_message.specs.Message.{Sent, doc_of};
-ghost use Rattle.dap_normalise.specs.Accepting.{IsMessage};
-ghost use Rattle.dap_normalise.specs.JudgingSteps.{payload_of};
+ghost use Rattle.dap_message.specs.Message.{sent};
 ghost use Rattle.dap_normalise.specs.NameTables.{AreReady};
 ghost use Rattle.dap_normalise.specs.NormalSteps.{RepresentsBefore};
-ghost use Rattle.dap_tree.specs.Doc.{is_sound};
-ghost use Rattle.dap_tree.specs.Ids.{without_ids};
-ghost use Rattle.dap_tree.specs.View.{view};
+ghost use Rattle.dap_rename.specs.Modes.{is_stopped};
 ghost use Rattle.dap_diff.specs.Matching.{Reads};
 
 use crate::entry::{Entry, Recording};
+use crate::reading::message_of;
 use crate::record_lines::head_of;
 use dap_compare::{CompareRefused, Which};
 use dap_device::Source;
 use dap_input::{Limits, Refused};
 use dap_message::{Kind, Message};
-use dap_normalise::{NormalRecords, read_message};
-use dap_recording::{FedRecord, Record, RecordCause, RecordReader};
+use dap_normalise::NormalRecords;
 use dap_rename::{Mode, NameTable, Tables};
-use dap_tree::{Scratch, Tree, TreeFault, read_tree};
 use std::alloc::{AllocError, Global};
 
-/// Returns the tree of a message as plain JSON, each id as its number.
-pub fn plain_tree(alloc: Global, message: &Message) -> Result<Tree, AllocError>
-    ensures plain { IfOk result (λ tree. view tree ≡ without_ids (doc_of message.now)) }
-    ensures sound { IfOk result (λ tree. is_sound (view tree) ≡ true) }
+/// Returns whether a message is a `stopped` event.
+fn is_stopped(message: &Message) -> bool
+    ensures { result ≡ is_stopped (sent message.now) }
 {
-    let Ok(text) = message.content(alloc) else {
-        return Err(AllocError);
-    };
-    match read_tree(alloc, text.as_bytes()) {
-        Ok(tree) => Ok(tree),
-        Err(TreeFault::Memory) => Err(AllocError),
-        Err(TreeFault::Json) => unreachable!(),
-        Err(TreeFault::Fraction) => unreachable!(),
+    match message.kind() {
+        Kind::Event => message.name() == "stopped",
+        Kind::Request | Kind::Response => false,
     }
 }
 
-/// Returns the record that ended in a call.
-fn whole_of(fed: FedRecord) -> Option<Record>
-    ensures { result ≡ fed.whole }
+/// Returns whether the numbering of frame ids and variables references restarts after a message.
+fn restarts_after(mode: Mode, message: &Message) -> bool
+    ensures { result ≡ restarts_after mode (sent message.now) }
 {
-    fed.whole
-}
-
-/// Returns the record that has this text.
-fn record_in(alloc: Global, text: &[u8], limits: Limits) -> Result<Record, AllocError>
-    requires sound { AreSound limits }
-    requires is_record { IsRecordText limits text.now }
-    ensures { IfOk result (λ whole. (message : Sent) → IsRecordOf limits text.now message
-        → IsMessage (payload_of whole) message) }
-{
-    let mut reader = RecordReader::new(alloc, limits.frame);
-    match reader.feed(text) {
-        Ok(fed) => match whole_of(fed) {
-            Some(whole) => Ok(whole),
-            None => unreachable!(),
-        },
-        Err(fault) => match fault.cause {
-            RecordCause::Memory => Err(AllocError),
-            _ => unreachable!(),
-        },
+    match mode {
+        Mode::Whole => false,
+        Mode::PerStop => is_stopped(message),
     }
 }
 
-/// Returns the message of the record that has this text.
-fn message_in(alloc: Global, text: &[u8], limits: Limits) -> Result<Message, AllocError>
-    requires sound { AreSound limits }
-    requires is_record { IsRecordText limits text.now }
+/// Returns the number of the last stop after a record of this number, given that before it.
+fn stop_after(mode: Mode, number: u64, message: &Message, stop: u64) -> u64
+    ensures { result ≡ stop_after mode number (sent message.now) stop }
 {
-    let whole = record_in(alloc, text, limits)?;
-    let mut scratch = Scratch::new(alloc);
-    match read_message(alloc, 1, whole.side, whole.content.as_slice(), &mut scratch) {
-        Ok(message) => Ok(message),
-        Err(refused) => match refused {
-            Refused::Memory => Err(AllocError),
-            _ => unreachable!(),
-        },
+    if restarts_after(mode, message) {
+        number
+    } else {
+        stop
     }
-}
-
-/// Returns whether frame ids and variables references restart after a message.
-fn begin_again_after(mode: Mode, message: &Message) -> bool {
-    mode == Mode::PerStop && message.kind() == Kind::Event && message.name() == "stopped"
 }
 
 /// Adds the record of this number and this text.
@@ -101,14 +64,12 @@ fn add_record(
     requires sound { AreSound limits }
     requires is_record { IsRecordText limits text.now }
     ensures { OnOk result
-        (recording.new.text.items ≡ recording.old.text.items ++ text.now) }
+        (AddsEntry limits mode number text.now recording.old recording.new) }
 {
-    let message = message_in(alloc, text, limits)?;
+    let message = message_of(alloc, text, limits)?;
     let head = head_of(alloc, &message)?;
     let stop = recording.stop;
-    if begin_again_after(mode, &message) {
-        recording.stop = number;
-    }
+    recording.stop = stop_after(mode, number, &message, stop);
     recording.entries.push(Entry {
         number,
         stop,
@@ -116,7 +77,8 @@ fn add_record(
         message,
         counterpart: None,
     })?;
-    recording.text.extend_from_slice(text)
+    recording.text.extend_from_slice(text)?;
+    Ok(())
 }
 
 /// Returns whose refusal it is. A refused allocation belongs to neither input.
@@ -146,6 +108,8 @@ fn read_records<R: Source, T: NameTable + Drop>(
     requires failures { R.failures reader.old < 2 ^ 62 }
     ensures outcome { Reads R.Source limits mode reader.old reader.new which
         recording.new.text.items result }
+    ensures entries { OnOk result
+        (AddsRecording R.Source limits mode reader.old reader.new recording.old recording.new) }
     ensures taken { R.given reader.new ≤ R.given reader.old + limits.input + 1 }
 {
     let mut text = Vec::new(alloc);
@@ -182,8 +146,17 @@ pub fn read_recording<R: Source, T: NameTable + Drop>(
     requires empty { recording.old.text.items ≡ [] }
     requires given { R.given reader.old < 2 ^ 62 }
     requires failures { R.failures reader.old < 2 ^ 62 }
+
+    // The text is that of the normal form, or the refusal is that of the input.
     ensures outcome { Reads R.Source limits mode reader.old reader.new which
         recording.new.text.items result }
+
+    // The records of the normal form are added in their order. The number of each is its place in
+    // the recording, from 1.
+    ensures entries { OnOk result
+        (AddsRecording R.Source limits mode reader.old reader.new recording.old recording.new) }
+
+    // At most one byte past the limit is taken.
     ensures taken { R.given reader.new ≤ R.given reader.old + limits.input + 1 }
 {
     let Ok(mut records) = NormalRecords::new(alloc, limits, tables, mode) else {

@@ -1,26 +1,8 @@
 use Rattle.std.proofs.Common.{◌≡◌, [], rules}
-use Rattle.dap_message.specs.Message.{sent}
-use Rattle.dap_input.specs.Refusals.{RejectsPayload}
-use Rattle.dap_normalise.specs.Accepting.{HoldsNoMessage, IsMessage}
-use Rattle.dap_normalise.specs.JudgingSteps.{payload_of}
-use Rattle.dap_diff.proofs.ReadTexts.{is_told, refused_none}
+use Rattle.dap_diff.proofs.Texts.{left_record}
 use Rattle.dap_diff.proofs.reading.message_in.Goals as goal
 
-pub returns-in-Ok : goal.returns-in-Ok
-returns-in-Ok c =
-    let is : IsMessage (payload_of c.in_ok-whole.whole) (sent c.in-Ok.message) =
-    rw c.as_slice.ensures at c.in-Ok.ensures.ok in
+pub message_of-requires-clause-is_record : goal.message_of-requires-clause-is_record
+message_of-requires-clause-is_record c =
     let some : c.args.text.now ≡ [] → ⊥ = search rules in
-    is_told c.args.limits c.args.text.now (payload_of c.in_ok-whole.whole) (sent c.in-Ok.message)
-    some
-    c.requires.is_left c.in_ok-whole.ensures is
-
-pub unreachable-requires : goal.unreachable-requires
-unreachable-requires c =
-    let some : c.args.text.now ≡ [] → ⊥ = search rules in
-    let reported : RejectsPayload (HoldsNoMessage (payload_of c.in_ok-whole.whole)) 1
-    c.in-Err.refused =
-    rw c.as_slice.ensures at c.in-Err.ensures.only in
-    refused_none c.args.limits c.args.text.now (payload_of c.in_ok-whole.whole) c.in-Err.refused
-    some
-    c.requires.is_left c.in_ok-whole.ensures c.in_default.not-Memory reported
+    left_record c.args.limits c.args.text.now some c.requires.is_left

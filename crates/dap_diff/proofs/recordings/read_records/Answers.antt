@@ -1,27 +1,41 @@
-use Rattle.std.proofs.Common.{◌≡◌, ◌++◌, refl, sym, ◌∙◌, ap, subst, rules}
-use Rattle.dap_compare.proofs.LeftTexts.{left_text}
-use Rattle.dap_diff.proofs.Texts.{is_left}
-use Rattle.dap_diff.specs.Texts.{IsRecordText}
+use Rattle.std.proofs.Common.{◌≡◌, [], ◌++◌, refl, sym, ◌∙◌, ap, append-nil, rules}
+use Rattle.dap_diff.specs.Entries.{AddsEntry}
 use Rattle.dap_normalise.specs.JudgingSteps.{record_of}
-use Rattle.dap_normalise.proofs.JudgedRecords.{text_push}
 use Rattle.dap_normalise.proofs.StreamAnswers.{ended, gone}
-use Rattle.dap_normalise.proofs.StreamLoop.{all_taken, at_start, few_taken, gone_taken, on}
-use Rattle.dap_diff.proofs.ReadRecords.{accepted, gave_up, refused}
-use Rattle.dap_diff.proofs.RecordTexts.{is_record_text}
+use Rattle.dap_normalise.proofs.StreamLoop.{all_taken, at_start, few_taken, gone_taken}
+use Rattle.dap_diff.proofs.ReadRecords.{accepted, all_added, gave_up, is_record, kept, refused}
 use Rattle.dap_diff.proofs.recordings.read_records.Goals as goal
 
 pub records-init : goal.records-init
-records-init g c = record {
-  going = at_start g.R.Source c.args.limits c.args.mode c.args.reader.now c.args.records.now
-      c.requires.represents;
-  text_is = c.requires.empty;
-}
+records-init g c =
+    let first = c.requires.represents.number_is in
+    record {
+      going = at_start g.R.Source c.args.limits c.args.mode c.args.reader.now c.args.records.now
+          c.requires.represents;
+      text_is = c.requires.empty;
+      number_is = first;
+      added = [];
+      entries_are = sym (append-nil c.args.recording.now.entries.items);
+      are_entries = tt;
+      stop_is = refl;
+    }
 
 pub returns-in-Ok-false-clause-outcome : goal.returns-in-Ok-false-clause-outcome
 returns-in-Ok-false-clause-outcome g c =
     let was = c.records.invariant in
     accepted g.R.Source c.args.limits c.args.mode c.args.reader.now c.records.reader
-    c.records.records _ was c.next.new.self c.next.new.reader _ _
+    c.records.records _ _ was c.next.new.self c.next.new.reader _ _
+    (ended g.R.Source c.args.limits c.args.mode c.args.reader.now c.records.reader
+    c.records.records was.going c.next.new.self c.next.new.reader _ _ _
+    (c.in-Ok-false.ensures.next c.args.limits c.args.mode was.going.bytes was.going.messages
+    was.going.normal was.going.represents)
+    c.in-Ok-false.field-0-test)
+
+pub returns-in-Ok-false-clause-entries : goal.returns-in-Ok-false-clause-entries
+returns-in-Ok-false-clause-entries g c =
+    let was = c.records.invariant in
+    all_added g.R.Source c.args.limits c.args.mode c.args.reader.now c.records.reader
+    c.records.records _ _ was c.next.new.self c.next.new.reader _ _
     (ended g.R.Source c.args.limits c.args.mode c.args.reader.now c.records.reader
     c.records.records was.going c.next.new.self c.next.new.reader _ _ _
     (c.in-Ok-false.ensures.next c.args.limits c.args.mode was.going.bytes was.going.messages
@@ -43,7 +57,7 @@ pub returns-in-Err-clause-outcome : goal.returns-in-Err-clause-outcome
 returns-in-Err-clause-outcome g c =
     let was = c.records.invariant in
     refused g.R.Source c.args.limits c.args.mode c.args.reader.now c.records.reader
-    c.records.records _ was c.next.new.self c.next.new.reader c.args.which c.in-Err.refused
+    c.records.records _ _ was c.next.new.self c.next.new.reader c.args.which c.in-Err.refused
     c.refusal_of.result
     (c.in-Err.ensures.next c.args.limits c.args.mode was.going.bytes was.going.messages
     was.going.normal was.going.represents)
@@ -60,25 +74,24 @@ returns-in-Err-clause-taken g c =
 pub add_record-requires-clause-is_record : goal.add_record-requires-clause-is_record
 add_record-requires-clause-is_record g c =
     let was = c.records.invariant in
-    let next = c.in-Ok-true.ensures.next c.args.limits c.args.mode was.going.bytes
-    was.going.messages was.going.normal was.going.represents in
     let more = gone g.R.Source c.args.limits c.args.mode c.args.reader.now c.records.reader
-    c.records.records was.going c.next.new.self c.next.new.reader _ _ _ next
-    c.in-Ok-true.field-0-test in
-    subst (IsRecordText c.args.limits) (sym c.as_slice.ensures.value)
-    (is_record_text c.args.limits c.next.new.text.items more.named
-    (is_left c.args.limits c.args.mode c.requires.limits g.R.Source c.args.reader.now
-    c.next.new.reader _ c.next.new.text.items
-    (left_text g.R.Source c.args.limits c.args.mode c.args.reader.now c.records.reader
-    c.records.records was.going c.next.new.self c.next.new.reader _ _ c.in-Ok-true.field-0 next
-    c.clear.ensures.items _ refl))
-    (more.appended ∙ ap (λ t. t ++ record_of more.named) c.clear.ensures.items))
+    c.records.records was.going c.next.new.self c.next.new.reader _ _ _
+    (c.in-Ok-true.ensures.next c.args.limits c.args.mode was.going.bytes was.going.messages
+    was.going.normal was.going.represents)
+    c.in-Ok-true.field-0-test in (
+      more.named,
+      is_record g.R.Source c.args.limits c.args.mode c.args.reader.now c.records.reader
+          c.records.records _ _ was c.next.new.self c.next.new.reader c.requires.limits _ _ more
+          c.as_slice.result.now
+          (c.as_slice.ensures.value ∙ more.appended
+          ∙ ap (λ t. t ++ record_of more.named) c.clear.ensures.items),
+    )
 
 pub returns-then-is_err-clause-outcome : goal.returns-then-is_err-clause-outcome
 returns-then-is_err-clause-outcome g c =
     let was = c.records.invariant in
     gave_up g.R.Source c.args.limits c.args.mode c.args.reader.now c.records.reader
-    c.records.records _ was c.next.new.self c.next.new.reader _ _
+    c.records.records _ _ was c.next.new.self c.next.new.reader _ _
     (gone g.R.Source c.args.limits c.args.mode c.args.reader.now c.records.reader
     c.records.records was.going c.next.new.self c.next.new.reader _ _ _
     (c.in-Ok-true.ensures.next c.args.limits c.args.mode was.going.bytes was.going.messages
@@ -113,15 +126,10 @@ records-preserved g c =
     (c.in-Ok-true.ensures.next c.args.limits c.args.mode was.going.bytes was.going.messages
     was.going.normal was.going.represents)
     c.in-Ok-true.field-0-test in
-    let kept : c.add_record.new.recording.text.items
-    ≡ c.records.recording.text.items ++ c.as_slice.result.now = search rules in
-    record {
-      going = on g.R.Source c.args.limits c.args.mode c.args.reader.now c.records.reader
-          c.records.records was.going c.next.new.self c.next.new.reader _ _ more;
-      text_is = kept
-          ∙ ap (λ t. c.records.recording.text.items ++ t)
-          (c.as_slice.ensures.value ∙ more.appended
-          ∙ ap (λ t. t ++ record_of more.named) c.clear.ensures.items)
-          ∙ ap (λ t. t ++ record_of more.named) was.text_is
-          ∙ sym (text_push was.going.normal more.named);
-    }
+    let adds : AddsEntry c.args.limits c.args.mode c.records.records.records.number
+    c.as_slice.result.now c.records.recording c.add_record.new.recording = search rules in
+    kept g.R.Source c.args.limits c.args.mode c.args.reader.now c.records.reader
+    c.records.records _ _ was c.next.new.self c.next.new.reader c.requires.limits _ _ more
+    c.as_slice.result.now
+    (c.as_slice.ensures.value ∙ more.appended
+    ∙ ap (λ t. t ++ record_of more.named) c.clear.ensures.items) _ adds
