@@ -1,8 +1,11 @@
+pub mod DiffAllRun
 pub mod DiffRun
+pub mod Findings
 pub mod GoldenByNames
 pub mod GoldenRun
 pub mod MemoryFiles
 pub mod OneFile
+pub mod Printing
 pub mod RuledFile
 pub mod RuledPair
 pub mod Run
@@ -62,6 +65,3 @@ pub use Rattle.dap_show.specs.Stopping
 pub use Rattle.dap_show.specs.Viewing
 pub use Rattle.dap_record.specs.Tracing
 pub use Rattle.dap_record.specs.TracingRun
-pub mod DiffAllByRules
-pub mod DiffAllRun
-pub mod DiffAllFiles

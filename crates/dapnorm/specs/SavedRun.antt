@@ -98,6 +98,23 @@ module _ {J R O E : Type 0} (opened : List ℕ → J → Type 0)
         Finishes file errors name text reported before after silent spoken held.status run.status
     pub rules : run.unopened ≡ held.unopened
 
+-- `opened` says to which input a name leads. `unopened` and `unfound` say why a name leads to no
+-- input, and to no output.
+module _ {I O E : Type 0} (opened : List ℕ → I → Type 0) (unopened : List ℕ → OpenFault → Type 0)
+    (unfound : List ℕ → OpenFault → Type 0) (errors : Sink E) (name output_name : List ℕ)
+    (silent spoken : E) (Ran : I → O → RuledRun → Type 0) where
+  -- The input did not open; or the output was not found; or both were, and `Ran` holds of them and
+  -- of the run.
+  abbrev pub EndsBy : ℕ → SaveEnd I O → Type 0
+  EndsBy status (end.Unopened why) = unopened name why
+      × HasSent errors silent spoken (fault_line (refused_text (unopened_as why)))
+      × (status ≡ refused_status (unopened_as why))
+  EndsBy status (end.Unfound input why) = opened name input × unfound output_name why
+      × HasSent errors silent spoken (unfound_line output_name why)
+      × (status ≡ unfound_status why)
+  EndsBy status (end.Ran input output no_rules) =
+      Ran input output (record { status = status; unopened = no_rules })
+
 module _ {I J O E : Type 0} (opened : List ℕ → I → Type 0)
     (unopened : List ℕ → OpenFault → Type 0) (opened_rules : List ℕ → J → Type 0)
     (unopened_rules : List ℕ → Bool → RulesOpenFault → Type 0) (found : List ℕ → O → Type 0)
@@ -113,20 +130,10 @@ module _ {I J O E : Type 0} (opened : List ℕ → I → Type 0)
     pub held : IsHeld opened_rules unopened_rules rules_source source file errors limits
         (is_standard name) output_name task old input before output silent spoken run
 
-  -- The input did not open; or no file of the output was found; or the task was done and finished.
-  abbrev pub EndsSo : ℕ → SaveEnd I O → Type 0
-  EndsSo status (end.Unopened why) = unopened name why
-      × HasSent errors silent spoken (fault_line (refused_text (unopened_as why)))
-      × (status ≡ refused_status (unopened_as why))
-  EndsSo status (end.Unfound input why) = opened name input × unfound output_name why
-      × HasSent errors silent spoken (unfound_line output_name why)
-      × (status ≡ unfound_status why)
-  EndsSo status (end.Ran input output no_rules) =
-      RanAndSaved input output (record { status = status; unopened = no_rules })
-
   -- The output of the task over the input of the one name is saved in the file of the other.
   abbrev pub RunIsSaved : SavedRun I O → Type 0
-  RunIsSaved run = EndsSo run.status run.end
+  RunIsSaved run = EndsBy opened unopened unfound errors name output_name silent spoken RanAndSaved
+      run.status run.end
 
 -- At most so many bytes were taken of the input.
 abbrev pub EndTakes : {I O : Type 0} → (I → ℕ) → ℕ → SaveEnd I O → Type 0

@@ -1,19 +1,14 @@
 -- What the program does over one file if its output goes to a device. Source: own.
-use Rattle.std.specs.Prelude.{◌≡◌, ℕ, Bool, List}
+use Rattle.std.specs.Prelude.{ℕ, Bool, List}
 use Rattle.dap_device.specs.declared.device.Sink.{Ghosts as Sink}
 use Rattle.dap_device.specs.declared.device.Source.{Ghosts as Source}
 use Rattle.dap_input.specs.declared.limits.Limits.{Limits}
-use Rattle.dap_runs.specs.FaultLine.{fault_line, refused_text}
-use Rattle.dap_runs.specs.Reporting.{HasSent, refused_status}
 use Rattle.dap_runs.specs.TwoInputs.{is_standard}
 use Rattle.dap_runs.specs.declared.files.OpenFault.{OpenFault}
 use Rattle.dap_runs.specs.declared.rules_files.RulesOpenFault.{RulesOpenFault}
-use Rattle.dapnorm.specs.OneFile.{unopened_as}
-use Rattle.dapnorm.specs.SavedRun.{unfound_line, unfound_status}
+use Rattle.dapnorm.specs.SavedRun.{EndsBy}
 use Rattle.dapnorm.specs.TaskRun.{TaskIsDone}
 use Rattle.dapnorm.specs.declared.ruled_file.RuledRun.{RuledRun}
-use Rattle.dapnorm.specs.declared.saved_run.SaveEnd.{SaveEnd}
-use Rattle.dapnorm.specs.declared.saved_run.SaveEnd.TheVariants as end
 use Rattle.dapnorm.specs.declared.saved_run.SavedRun.{SavedRun}
 use Rattle.dapnorm.specs.declared.task.Task.{Task}
 
@@ -34,17 +29,7 @@ module _ {I J W E : Type 0} (opened : List ℕ → I → Type 0)
     pub done : TaskIsDone opened_rules unopened_rules rules_source source sink errors limits
         (is_standard name) old input before output silent spoken task run
 
-  -- The input did not open; or the device did not open; or the task was done.
-  abbrev pub WritesSo : ℕ → SaveEnd I W → Type 0
-  WritesSo status (end.Unopened why) = unopened name why
-      × HasSent errors silent spoken (fault_line (refused_text (unopened_as why)))
-      × (status ≡ refused_status (unopened_as why))
-  WritesSo status (end.Unfound input why) = opened name input × no_device output_name why
-      × HasSent errors silent spoken (unfound_line output_name why)
-      × (status ≡ unfound_status why)
-  WritesSo status (end.Ran input output no_rules) =
-      RanAndWrote input output (record { status = status; unopened = no_rules })
-
   -- The output of the task over the input of the one name is written to the device of the other.
   abbrev pub RunIsWritten : SavedRun I W → Type 0
-  RunIsWritten run = WritesSo run.status run.end
+  RunIsWritten run = EndsBy opened unopened no_device errors name output_name silent spoken
+      RanAndWrote run.status run.end

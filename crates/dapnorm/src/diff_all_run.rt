@@ -1,38 +1,17 @@
 //! Compares all records of two inputs, and prints all differences: lines and a status.
-ghost use Rattle.std.specs.Prelude.{◌≡◌, ◌+◌, ◌<◌, ◌≤◌, ◌^◌};
-ghost use Rattle.dap_device.specs.Written.{HasSentAll};
+ghost use Rattle.std.specs.Prelude.{◌+◌, ◌<◌, ◌≤◌, ◌^◌};
 ghost use Rattle.dap_input.specs.Limits.{AreSound};
 ghost use Rattle.dap_normalise.specs.NameTables.{AreReady};
-ghost use Rattle.dapnorm.specs.DiffAllRun.{AllIsReported, all_status, all_text};
+ghost use Rattle.dapnorm.specs.DiffAllRun.{AllIsReported};
 
-use dap_device::{DeviceFault, Sink, Source, write_and_flush};
+use crate::printing::{print_found, report_refused};
+use dap_device::{Sink, Source};
 use dap_diff::{AllDifferences, diff_all_with};
-use dap_input::{Limits, Refused};
+use dap_input::Limits;
 use dap_normalise::index_tables;
 use dap_rename::{Mode, NameTable, Tables};
-use dap_runs::{DIFFERENT, DONE, FAULT, refusal_status, same_line, tell, tell_of_input};
+use dap_runs::{DIFFERENT, DONE, same_line};
 use std::alloc::Global;
-
-/// Writes all lines and flushes.
-fn print<W: Sink>(writer: &mut W, found: &AllDifferences) -> Result<(), DeviceFault>
-    requires { W.failures writer.old < 2 ^ 62 }
-    ensures { HasSentAll W.Sink writer.old writer.new result (all_text found.now) }
-{
-    match found {
-        AllDifferences::Same => write_and_flush(writer, same_line().as_bytes()),
-        AllDifferences::Differ { lines } => write_and_flush(writer, lines.as_slice()),
-    }
-}
-
-/// Returns the status of the program if both inputs are accepted.
-fn status(found: &AllDifferences) -> u8
-    ensures { result ≡ all_status found.now }
-{
-    match found {
-        AllDifferences::Same => DONE,
-        AllDifferences::Differ { .. } => DIFFERENT,
-    }
-}
 
 /// Compares all records of two recordings, prints all differences, and returns the status of the
 /// program. A refusal is reported on `errors`, in one line.
@@ -112,18 +91,11 @@ pub fn run_diff_all_with<A: Source, B: Source, W: Sink, E: Sink, T: NameTable + 
     ensures taken_a { A.given reader_a.new ≤ A.given reader_a.old + limits.input + 1 }
     ensures taken_b { B.given reader_b.new ≤ B.given reader_b.old + limits.input + 1 }
 {
-    let found = match diff_all_with(alloc, reader_a, reader_b, limits, tables_a, tables_b, mode) {
-        Ok(found) => found,
-        Err(refused) => {
-            tell_of_input(errors, refused);
-            return refusal_status(refused);
+    match diff_all_with(alloc, reader_a, reader_b, limits, tables_a, tables_b, mode) {
+        Ok(AllDifferences::Same) => print_found(writer, errors, &[], same_line().as_bytes(), DONE),
+        Ok(AllDifferences::Differ { lines }) => {
+            print_found(writer, errors, &[], lines.as_slice(), DIFFERENT)
         }
-    };
-    match print(writer, &found) {
-        Ok(()) => status(&found),
-        Err(_) => {
-            tell(errors, Refused::WriteFault);
-            FAULT
-        }
+        Err(refused) => report_refused(errors, refused),
     }
 }

@@ -1,61 +1,17 @@
 //! Compares two inputs, prints their differences, and returns a status.
-ghost use Rattle.std.specs.Prelude.{◌≡◌, ◌+◌, ◌<◌, ◌≤◌, ◌^◌};
-ghost use Rattle.dapnorm.specs.DiffRun.{DiffIsReported, diff_status, diff_text, first_line};
-ghost use Rattle.dapnorm.specs.DiffRun.{lines_in};
-ghost use Rattle.dap_device.specs.Written.{HasSentAll};
+ghost use Rattle.std.specs.Prelude.{◌+◌, ◌<◌, ◌≤◌, ◌^◌};
+ghost use Rattle.dapnorm.specs.DiffRun.{DiffIsReported};
 ghost use Rattle.dap_input.specs.Limits.{AreSound};
 ghost use Rattle.dap_normalise.specs.NameTables.{AreReady};
 
-use arrayvec::ArrayString;
-use dap_device::{DeviceFault, Sink, Source, write_all};
+use crate::printing::{print_found, report_refused};
+use dap_device::{Sink, Source};
 use dap_diff::{Diff, diff_with};
-use dap_input::{Limits, Refused};
+use dap_input::Limits;
 use dap_normalise::index_tables;
 use dap_rename::{Mode, NameTable, Tables};
-use dap_runs::{
-    DIFFERENT, DONE, FAULT, LINE, differ_line, refusal_status, same_line, tell, tell_of_input,
-};
+use dap_runs::{DIFFERENT, DONE, differ_line, same_line};
 use std::alloc::Global;
-
-/// The first line, with its LF.
-fn first_line_of(diff: &Diff) -> ArrayString<LINE>
-    ensures { result.bytes ≡ first_line diff.now }
-{
-    match diff {
-        Diff::Same => same_line(),
-        Diff::Differ { record, .. } => differ_line(*record),
-    }
-}
-
-/// Returns the lines that show how two recordings differ, if they do.
-fn lines(diff: &Diff) -> &[u8]
-    ensures { result.now ≡ lines_in diff.now }
-{
-    match diff {
-        Diff::Same => &[],
-        Diff::Differ { lines, .. } => lines.as_slice(),
-    }
-}
-
-/// Sends all lines out and flushes.
-fn print<W: Sink>(writer: &mut W, diff: &Diff) -> Result<(), DeviceFault>
-    requires { W.failures writer.old < 2 ^ 62 }
-    ensures { HasSentAll W.Sink writer.old writer.new result (diff_text diff.now) }
-{
-    write_all(writer, first_line_of(diff).as_bytes())?;
-    write_all(writer, lines(diff))?;
-    writer.flush()
-}
-
-/// The status of the program where both inputs were read.
-fn status(diff: &Diff) -> u8
-    ensures { result ≡ diff_status diff.now }
-{
-    match diff {
-        Diff::Same => DONE,
-        Diff::Differ { .. } => DIFFERENT,
-    }
-}
 
 /// Compares two recordings, prints what differs at the first record that differs, and returns the
 /// program's status. An error is reported on `errors`, in one line.
@@ -135,18 +91,15 @@ pub fn run_diff_with<A: Source, B: Source, W: Sink, E: Sink, T: NameTable + Drop
     ensures taken_a { A.given reader_a.new ≤ A.given reader_a.old + limits.input + 1 }
     ensures taken_b { B.given reader_b.new ≤ B.given reader_b.old + limits.input + 1 }
 {
-    let outcome = match diff_with(alloc, reader_a, reader_b, limits, tables_a, tables_b, mode) {
-        Ok(outcome) => outcome,
-        Err(refused) => {
-            tell_of_input(errors, refused);
-            return refusal_status(refused);
-        }
-    };
-    match print(writer, &outcome) {
-        Ok(()) => status(&outcome),
-        Err(_) => {
-            tell(errors, Refused::WriteFault);
-            FAULT
-        }
+    match diff_with(alloc, reader_a, reader_b, limits, tables_a, tables_b, mode) {
+        Ok(Diff::Same) => print_found(writer, errors, same_line().as_bytes(), &[], DONE),
+        Ok(Diff::Differ { record, lines }) => print_found(
+            writer,
+            errors,
+            differ_line(record).as_bytes(),
+            lines.as_slice(),
+            DIFFERENT,
+        ),
+        Err(refused) => report_refused(errors, refused),
     }
 }

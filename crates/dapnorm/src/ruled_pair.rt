@@ -1,15 +1,79 @@
 //! Compares what the rules of a file make of two recordings, all given by the names of their files.
 ghost use Rattle.std.specs.Prelude.{◌<◌, ◌^◌};
 ghost use Rattle.dapnorm.specs.RuledPair.{AreComparedByRules, AreDiffedByRules};
+ghost use Rattle.dapnorm.specs.RuledPair.{AreDiffedWholeByRules, AreReportedByRules};
 
-use crate::diff_run::run_diff_with;
+use crate::findings::{Findings, run_findings};
 use dap_device::{MemorySource, Sink, Source};
 use dap_rename::{Mode, NameTable};
 use dap_runs::{
-    Files, LIMITS, RuledPairRun, RulesFiles, TableMaker, report_rules_stop, run_compare_with,
-    texts_by_rules,
+    Files, LIMITS, RuledPairRun, RulesFiles, TableMaker, report_rules_stop, texts_by_rules,
 };
 use std::alloc::Global;
+
+/// Prints findings about what the rules of a file make of the recordings that two names lead to,
+/// under the limits of the program.
+fn run_by_rules<
+    I: Source + Drop,
+    F: Files<I>,
+    J: Source + Drop,
+    G: RulesFiles<J>,
+    W: Sink,
+    E: Sink,
+    T: NameTable + Drop,
+    M: TableMaker<T>,
+>(
+    findings: Findings,
+    alloc: Global,
+    files: &F,
+    rules_files: &G,
+    rules: &str,
+    a: &str,
+    b: &str,
+    writer: &mut W,
+    errors: &mut E,
+    maker: &M,
+    mode: Mode,
+) -> RuledPairRun<I>
+    requires write_failures { W.failures writer.old < 2 ^ 62 }
+    requires error_failures { E.failures errors.old < 2 ^ 62 }
+    ensures { AreReportedByRules (F.opened files.now) (F.unopened files.now)
+        (G.opened rules_files.now) (G.unopened rules_files.now) I.Source J.Source W.Sink E.Sink
+        LIMITS mode rules.now a.now b.now writer.old writer.new errors.old errors.new result findings }
+{
+    let texts = match texts_by_rules::<I, F, J, G, T, M>(
+        alloc,
+        files,
+        rules_files,
+        rules,
+        a,
+        b,
+        maker,
+        mode,
+    ) {
+        Ok(texts) => texts,
+        Err(stop) => {
+            let status = report_rules_stop(errors, &stop);
+            return RuledPairRun {
+                status,
+                stop: Some(stop),
+            };
+        }
+    };
+    let status = run_findings(
+        findings,
+        alloc,
+        &mut MemorySource::new(texts.a.as_slice()),
+        &mut MemorySource::new(texts.b.as_slice()),
+        writer,
+        errors,
+        LIMITS,
+        maker.tables(alloc),
+        maker.tables(alloc),
+        texts.mode,
+    );
+    RuledPairRun { status, stop: None }
+}
 
 /// Compares what the rules of a file make of the recordings that two names lead to, under the limits
 /// of the program.
@@ -47,37 +111,19 @@ pub fn compare_by_rules<
         (G.opened rules_files.now) (G.unopened rules_files.now) I.Source J.Source W.Sink E.Sink
         LIMITS mode rules.now a.now b.now writer.old writer.new errors.old errors.new result }
 {
-    let texts = match texts_by_rules::<I, F, J, G, T, M>(
+    run_by_rules::<I, F, J, G, W, E, T, M>(
+        Findings::Verdict,
         alloc,
         files,
         rules_files,
         rules,
         a,
         b,
-        maker,
-        mode,
-    ) {
-        Ok(texts) => texts,
-        Err(stop) => {
-            let status = report_rules_stop(errors, &stop);
-            return RuledPairRun {
-                status,
-                stop: Some(stop),
-            };
-        }
-    };
-    let status = run_compare_with(
-        alloc,
-        &mut MemorySource::new(texts.a.as_slice()),
-        &mut MemorySource::new(texts.b.as_slice()),
         writer,
         errors,
-        LIMITS,
-        maker.tables(alloc),
-        maker.tables(alloc),
-        texts.mode,
-    );
-    RuledPairRun { status, stop: None }
+        maker,
+        mode,
+    )
 }
 
 /// Does what [`compare_by_rules`] does, and prints how the recordings differ, as
@@ -112,35 +158,64 @@ pub fn diff_by_rules<
         (G.opened rules_files.now) (G.unopened rules_files.now) I.Source J.Source W.Sink E.Sink
         LIMITS mode rules.now a.now b.now writer.old writer.new errors.old errors.new result }
 {
-    let masked = match texts_by_rules::<I, F, J, G, T, M>(
+    run_by_rules::<I, F, J, G, W, E, T, M>(
+        Findings::FirstDifference,
         alloc,
         files,
         rules_files,
         rules,
         a,
         b,
-        maker,
-        mode,
-    ) {
-        Ok(masked) => masked,
-        Err(stop) => {
-            let status = report_rules_stop(errors, &stop);
-            return RuledPairRun {
-                status,
-                stop: Some(stop),
-            };
-        }
-    };
-    let status = run_diff_with(
-        alloc,
-        &mut MemorySource::new(masked.a.as_slice()),
-        &mut MemorySource::new(masked.b.as_slice()),
         writer,
         errors,
-        LIMITS,
-        maker.tables(alloc),
-        maker.tables(alloc),
-        masked.mode,
-    );
-    RuledPairRun { status, stop: None }
+        maker,
+        mode,
+    )
+}
+
+/// Does what [`compare_by_rules`] does, and prints all differences of the recordings, as
+/// [`run_diff_all`](crate::run_diff_all) does.
+pub fn diff_all_by_rules<
+    I: Source + Drop,
+    F: Files<I>,
+    J: Source + Drop,
+    G: RulesFiles<J>,
+    W: Sink,
+    E: Sink,
+    T: NameTable + Drop,
+    M: TableMaker<T>,
+>(
+    alloc: Global,
+    files: &F,
+    rules_files: &G,
+    rules: &str,
+    a: &str,
+    b: &str,
+    writer: &mut W,
+    errors: &mut E,
+    maker: &M,
+    mode: Mode,
+) -> RuledPairRun<I>
+    requires write_failures { W.failures writer.old < 2 ^ 62 }
+    requires error_failures { E.failures errors.old < 2 ^ 62 }
+
+    // The rules are those of the file of `rules`, the input of A is that of `a`, and the input of B
+    // that of `b`. Their differences go to `writer`, and what is wrong to `errors`.
+    ensures { AreDiffedWholeByRules (F.opened files.now) (F.unopened files.now)
+        (G.opened rules_files.now) (G.unopened rules_files.now) I.Source J.Source W.Sink E.Sink
+        LIMITS mode rules.now a.now b.now writer.old writer.new errors.old errors.new result }
+{
+    run_by_rules::<I, F, J, G, W, E, T, M>(
+        Findings::AllDifferences,
+        alloc,
+        files,
+        rules_files,
+        rules,
+        a,
+        b,
+        writer,
+        errors,
+        maker,
+        mode,
+    )
 }

@@ -1,13 +1,65 @@
 //! Compares two recordings that are given by the names of their files.
 ghost use Rattle.std.specs.Prelude.{◌+◌, ◌<◌, ◌≤◌, ◌^◌, IfOk};
 ghost use Rattle.dap_normalise.specs.NameTables.{AreReady};
-ghost use Rattle.dapnorm.specs.TwoFiles.{FilesAreCompared, FilesAreDiffed};
+ghost use Rattle.dapnorm.specs.TwoFiles.{FilesAreCompared, FilesAreDiffed, FilesAreDiffedWhole};
+ghost use Rattle.dapnorm.specs.TwoFiles.{FilesAreReported};
 
-use crate::diff_run::run_diff_with;
+use crate::findings::{Findings, run_findings};
 use dap_device::{Sink, Source};
 use dap_rename::{Mode, NameTable, Tables};
-use dap_runs::{Files, LIMITS, TwoFilesRun, open_both, report_open_stop, run_compare_with};
+use dap_runs::{Files, LIMITS, TwoFilesRun, open_both, report_open_stop};
 use std::alloc::Global;
+
+/// Prints findings about the recordings of the files that two names lead to, under the limits of
+/// the program.
+fn run_files<I: Source + Drop, F: Files<I>, W: Sink, E: Sink, T: NameTable + Drop>(
+    findings: Findings,
+    alloc: Global,
+    files: &F,
+    a: &str,
+    b: &str,
+    writer: &mut W,
+    errors: &mut E,
+    tables_a: Tables<T>,
+    tables_b: Tables<T>,
+    mode: Mode,
+) -> TwoFilesRun<I>
+    requires tables_a { AreReady T.numbers T.limit LIMITS tables_a }
+    requires tables_b { AreReady T.numbers T.limit LIMITS tables_b }
+    requires write_failures { W.failures writer.old < 2 ^ 62 }
+    requires error_failures { E.failures errors.old < 2 ^ 62 }
+    ensures reported { FilesAreReported (F.opened files.now) (F.unopened files.now) I.Source W.Sink
+        E.Sink LIMITS mode a.now b.now writer.old writer.new errors.old errors.new result findings }
+    ensures taken_a { IfOk result.inputs (λ inputs. I.given inputs.0 ≤ LIMITS.input + 1) }
+    ensures taken_b { IfOk result.inputs (λ inputs. I.given inputs.1 ≤ LIMITS.input + 1) }
+{
+    let (mut input_a, mut input_b) = match open_both(files, a, b) {
+        Ok(inputs) => inputs,
+        Err(stop) => {
+            let status = report_open_stop(errors, stop);
+            return TwoFilesRun {
+                status,
+                inputs: Err(stop),
+            };
+        }
+    };
+    let status = run_findings(
+        findings,
+        alloc,
+        &mut input_a,
+        &mut input_b,
+        writer,
+        errors,
+        LIMITS,
+        tables_a,
+        tables_b,
+        mode,
+    );
+    TwoFilesRun {
+        status,
+        inputs: Ok((input_a, input_b)),
+    }
+}
 
 /// Compares the recordings of the files that two names lead to, under the limits of the program.
 ///
@@ -40,31 +92,18 @@ pub fn compare_files<I: Source + Drop, F: Files<I>, W: Sink, E: Sink, T: NameTab
     ensures taken_a { IfOk result.inputs (λ inputs. I.given inputs.0 ≤ LIMITS.input + 1) }
     ensures taken_b { IfOk result.inputs (λ inputs. I.given inputs.1 ≤ LIMITS.input + 1) }
 {
-    let (mut input_a, mut input_b) = match open_both(files, a, b) {
-        Ok(inputs) => inputs,
-        Err(stop) => {
-            let status = report_open_stop(errors, stop);
-            return TwoFilesRun {
-                status,
-                inputs: Err(stop),
-            };
-        }
-    };
-    let status = run_compare_with(
+    run_files(
+        Findings::Verdict,
         alloc,
-        &mut input_a,
-        &mut input_b,
+        files,
+        a,
+        b,
         writer,
         errors,
-        LIMITS,
         tables_a,
         tables_b,
         mode,
-    );
-    TwoFilesRun {
-        status,
-        inputs: Ok((input_a, input_b)),
-    }
+    )
 }
 
 /// Does what [`compare_files`] does, and prints how the recordings differ, as
@@ -94,29 +133,57 @@ pub fn diff_files<I: Source + Drop, F: Files<I>, W: Sink, E: Sink, T: NameTable 
     ensures taken_a { IfOk result.inputs (λ inputs. I.given inputs.0 ≤ LIMITS.input + 1) }
     ensures taken_b { IfOk result.inputs (λ inputs. I.given inputs.1 ≤ LIMITS.input + 1) }
 {
-    let (mut first, mut second) = match open_both(files, a, b) {
-        Ok(inputs) => inputs,
-        Err(stop) => {
-            let status = report_open_stop(errors, stop);
-            return TwoFilesRun {
-                status,
-                inputs: Err(stop),
-            };
-        }
-    };
-    let status = run_diff_with(
+    run_files(
+        Findings::FirstDifference,
         alloc,
-        &mut first,
-        &mut second,
+        files,
+        a,
+        b,
         writer,
         errors,
-        LIMITS,
         tables_a,
         tables_b,
         mode,
-    );
-    TwoFilesRun {
-        status,
-        inputs: Ok((first, second)),
-    }
+    )
+}
+
+/// Does what [`compare_files`] does, and prints all differences of the recordings, as
+/// [`run_diff_all`](crate::run_diff_all) does.
+pub fn diff_all_files<I: Source + Drop, F: Files<I>, W: Sink, E: Sink, T: NameTable + Drop>(
+    alloc: Global,
+    files: &F,
+    a: &str,
+    b: &str,
+    writer: &mut W,
+    errors: &mut E,
+    tables_a: Tables<T>,
+    tables_b: Tables<T>,
+    mode: Mode,
+) -> TwoFilesRun<I>
+    requires tables_a { AreReady T.numbers T.limit LIMITS tables_a }
+    requires tables_b { AreReady T.numbers T.limit LIMITS tables_b }
+    requires write_failures { W.failures writer.old < 2 ^ 62 }
+    requires error_failures { E.failures errors.old < 2 ^ 62 }
+
+    // The input of A is that of the first name, and the input of B that of the second. Their
+    // differences go to `writer`, and what is wrong to `errors`.
+    ensures compared { FilesAreDiffedWhole (F.opened files.now) (F.unopened files.now) I.Source
+        W.Sink E.Sink LIMITS mode a.now b.now writer.old writer.new errors.old errors.new result }
+
+    // It takes at most one byte past the limit of each.
+    ensures taken_a { IfOk result.inputs (λ inputs. I.given inputs.0 ≤ LIMITS.input + 1) }
+    ensures taken_b { IfOk result.inputs (λ inputs. I.given inputs.1 ≤ LIMITS.input + 1) }
+{
+    run_files(
+        Findings::AllDifferences,
+        alloc,
+        files,
+        a,
+        b,
+        writer,
+        errors,
+        tables_a,
+        tables_b,
+        mode,
+    )
 }
