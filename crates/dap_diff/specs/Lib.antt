@@ -4,3 +4,4 @@ pub mod RecordLines
 pub mod Matching
 pub mod Numbers
 pub mod Entries
+pub mod JointNumbers

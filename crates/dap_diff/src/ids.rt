@@ -1,5 +1,7 @@
 //! The numbers that the ids of two recordings share.
-ghost use Rattle.std.specs.Prelude.{pos, ◌<ℤ◌, IfOk};
+ghost use Rattle.std.specs.Prelude.{◌≡◌, ℕ, suc, pos, ◌<ℤ◌, None, Some, IfOk, OnOk, unwrap_or};
+ghost use Rattle.std.specs.BTreeMap.{Updates, get};
+ghost use Rattle.dap_diff.specs.JointNumbers.{IsNumberOf, ids_of};
 
 use dap_compare::Which;
 use dap_tree::Sort;
@@ -45,8 +47,40 @@ impl JointNumbers {
         }
     }
 
+    /// Returns the number of an id, counted from 0, if it has a number.
+    fn found(&self, which: Which, id: Id) -> Option<u32>
+        ensures { result ≡ get ⟦<Id as Ord>⟧.cmp (ids_of which self.now) id }
+    {
+        match which {
+            Which::A => self.a.get(&id).copied(),
+            Which::B => self.b.get(&id).copied(),
+        }
+    }
+
+    /// Gives a number, counted from 0, to an id.
+    fn give(&mut self, which: Which, id: Id, number: u32) -> Result<(), AllocError>
+        ensures given { OnOk result (Updates ⟦<Id as Ord>⟧.cmp (ids_of which self.old)
+            (ids_of which self.new) id (Some number)) }
+        ensures counts { self.new.given ≡ self.old.given }
+    {
+        match which {
+            Which::A => {
+                let _ = self.a.insert(id, number)?;
+            }
+            Which::B => {
+                let _ = self.b.insert(id, number)?;
+            }
+        }
+        Ok(())
+    }
+
     /// Returns the next number of a sort, counted from 0.
-    fn next(&mut self, sort: Sort) -> Result<u32, AllocError> {
+    fn next(&mut self, sort: Sort) -> Result<u32, AllocError>
+        ensures next { IfOk result (λ next. next
+            ≡ unwrap_or (get ⟦<Sort as Ord>⟧.cmp self.old.given sort) 0) }
+        ensures a { self.new.a ≡ self.old.a }
+        ensures b { self.new.b ≡ self.old.b }
+    {
         let given = self.given.entry(sort)?.or_insert(0);
         let next = *given;
         *given = next.saturating_add(1);
@@ -59,28 +93,32 @@ impl JointNumbers {
             return Ok(());
         }
         let next = self.next(a.sort)?;
-        let _ = self.a.insert(a, next)?;
-        let _ = self.b.insert(b, next)?;
-        Ok(())
+        self.give(Which::A, a, next)?;
+        self.give(Which::B, b, next)
     }
 
-    /// Returns the number of an id, counted from 1. An id without a number gets a number of its
-    /// own.
+    /// Returns the number of an id, counted from 1. An id without a number gets the next number of
+    /// its sort.
     pub fn number(&mut self, which: Which, id: Id) -> Result<i64, AllocError>
-        ensures { IfOk result (λ number. pos 0 <ℤ number) }
+        ensures positive { IfOk result (λ number. pos 0 <ℤ number) }
+
+        // It is the number that the id has from now on, and the one that it had, if it had one.
+        ensures number { IfOk result
+            (λ number. IsNumberOf ⟦<Id as Ord>⟧.cmp (ids_of which self.new) id number) }
+        ensures kept { IfOk result (λ number. (n : ℕ)
+            → get ⟦<Id as Ord>⟧.cmp (ids_of which self.old) id ≡ Some n
+            → number ≡ pos (suc n)) }
+
+        // Otherwise it is the next number of its sort.
+        ensures fresh { IfOk result (λ number.
+            get ⟦<Id as Ord>⟧.cmp (ids_of which self.old) id ≡ None
+            → number ≡ pos (suc (unwrap_or (get ⟦<Sort as Ord>⟧.cmp self.old.given id.sort) 0))) }
     {
-        let found = match which {
-            Which::A => self.a.get(&id).copied(),
-            Which::B => self.b.get(&id).copied(),
-        };
-        if let Some(number) = found {
+        if let Some(number) = self.found(which, id) {
             return Ok(number as i64 + 1);
         }
         let next = self.next(id.sort)?;
-        let _ = match which {
-            Which::A => self.a.insert(id, next)?,
-            Which::B => self.b.insert(id, next)?,
-        };
+        self.give(which, id, next)?;
         Ok(next as i64 + 1)
     }
 }
