@@ -1,5 +1,5 @@
 -- Why no rules are suggested, from the steps that fail.
-use Rattle.std.proofs.Common.{◌≡◌, ◌≢◌, ℕ, List, Ok, Err, sym, subst}
+use Rattle.std.proofs.Common.{◌≡◌, ◌≢◌, ℕ, List, Ok, Err, inl, inr, sym, subst}
 use Rattle.dap_mask.specs.Mask.{Mask}
 use Rattle.dap_mask.specs.RulesFile.{rules_said}
 use Rattle.dap_mask.specs.declared.fault.RulesCause.TheVariants as cause
@@ -9,8 +9,8 @@ use Rattle.dap_input.specs.declared.limits.Limits.{Limits}
 use Rattle.dap_compare.specs.declared.verdict.Which.TheVariants.{A, B}
 use Rattle.dap_rules.specs.declared.fault.ApplyRefused.{ApplyRefused}
 use Rattle.dap_rules.specs.declared.fault.ApplyRefused.TheVariants.{Memory}
-use Rattle.dap_suggest.specs.NotSuggested.{IsNotSuggested, IsRulesRefusal, IsSearchRefusal}
-use Rattle.dap_suggest.specs.NotSuggested.{IsSessionRefusal, input_refusal}
+use Rattle.dap_suggest.specs.NotSuggested.{AreRejected, IsNotSuggested, IsRulesRefusal}
+use Rattle.dap_suggest.specs.NotSuggested.{IsSearchRefusal, IsSessionRefusal, input_refusal}
 use Rattle.dap_suggest.specs.Suggested.{IsRejected, MakesNormal}
 use Rattle.dap_suggest.specs.declared.suggestion.SuggestRefused.{SuggestRefused}
 use Rattle.dap_suggest.specs.declared.suggestion.SuggestRefused.TheVariants as because
@@ -38,7 +38,7 @@ module _ (limits : Limits) (given a b : List ℕ) where
     a_rejected Memory is = tt
     a_rejected refused is = (mask, said, is)
 
-    pub no_session_of_a : (result : SuggestRefused) → IsSessionRefusal limits mask A a result
+    no_session_of_a : (result : SuggestRefused) → IsSessionRefusal limits mask A a result
         → IsNotSuggested limits given a b result
     no_session_of_a result (refused, is, same) = subst
         (IsNotSuggested limits given a b) (sym same) (a_rejected refused is)
@@ -49,7 +49,12 @@ module _ (limits : Limits) (given a b : List ℕ) where
       b_rejected Memory is = tt
       b_rejected refused is = (mask, said, (text, of_a), is)
 
-      pub no_session_of_b : (result : SuggestRefused) → IsSessionRefusal limits mask B b result
+      no_session_of_b : (result : SuggestRefused) → IsSessionRefusal limits mask B b result
           → IsNotSuggested limits given a b result
       no_session_of_b result (refused, is, same) = subst
           (IsNotSuggested limits given a b) (sym same) (b_rejected refused is)
+
+    pub no_sessions : (result : SuggestRefused) → AreRejected limits mask a b result
+        → IsNotSuggested limits given a b result
+    no_sessions result (inl is) = no_session_of_a result is
+    no_sessions result (inr (of_a, is)) = no_session_of_b of_a.0 of_a.1 result is

@@ -1,5 +1,5 @@
 -- Why no rules are suggested for two recordings. Source: own.
-use Rattle.std.specs.Prelude.{◌≡◌, ◌≢◌, ℕ, List, Ok, Err}
+use Rattle.std.specs.Prelude.{◌≡◌, ◌≢◌, ◌⊎◌, ℕ, List, Ok, Err}
 use Rattle.dap_mask.specs.Mask.{Mask}
 use Rattle.dap_mask.specs.RulesFile.{rules_said}
 use Rattle.dap_mask.specs.declared.fault.RulesCause.TheVariants as cause
@@ -11,6 +11,7 @@ use Rattle.dap_compare.specs.declared.verdict.Which.TheVariants.{A, B}
 use Rattle.dap_rules.specs.declared.fault.ApplyRefused.{ApplyRefused}
 use Rattle.dap_rules.specs.declared.fault.ApplyRefused.TheVariants.{Memory}
 use Rattle.dap_suggest.specs.Suggested.{IsRejected, MakesNormal}
+use Rattle.dap_suggest.specs.declared.inputs.Inputs.{Inputs}
 use Rattle.dap_suggest.specs.declared.suggestion.SuggestRefused.{SuggestRefused}
 use Rattle.dap_suggest.specs.declared.suggestion.SuggestRefused.TheVariants as because
 
@@ -31,6 +32,11 @@ IsNotSuggested limits given a b (because.Input which refused) =
 IsNotSuggested limits given a b (because.NoRules obstacle) = Unit {0}
 IsNotSuggested limits given a b because.Memory = Unit {0}
 
+-- The same, of the inputs of a suggestion.
+abbrev pub HasNoSuggestion : Inputs → SuggestRefused → Type 0
+HasNoSuggestion inputs =
+    IsNotSuggested inputs.limits inputs.given.now inputs.a.now inputs.b.now
+
 -- ---- the steps
 
 -- the error for an input that is rejected
@@ -43,6 +49,13 @@ abbrev pub IsSessionRefusal : Limits → Mask → Which → List ℕ → Suggest
 IsSessionRefusal limits mask which recording result =
     (refused : ApplyRefused) × IsRejected limits Whole mask recording refused
     × (result ≡ input_refusal which refused)
+
+-- The error for two recordings: A is rejected, or B is, and A is not.
+abbrev pub AreRejected : Limits → Mask → List ℕ → List ℕ → SuggestRefused → Type 0
+AreRejected limits mask a b result =
+    IsSessionRefusal limits mask A a result
+    ⊎ (((text : List ℕ) × MakesNormal limits Whole mask a text)
+    × IsSessionRefusal limits mask B b result)
 
 -- The error for rules that are rejected. A failed allocation says nothing about them.
 abbrev pub IsRulesRefusal : RulesFault → SuggestRefused → Type 0

@@ -1,6 +1,6 @@
 -- Rules that make two recordings the same, and why there are none. Source: own, over masks, the
 -- order of messages and normal forms.
-use Rattle.std.specs.Prelude.{◌≡◌, ◌⊎◌, ℕ, List, Ok}
+use Rattle.std.specs.Prelude.{◌≡◌, ◌⊎◌, ◌++◌, ℕ, List, Ok}
 use Rattle.dap_mask.specs.Mask.{Mask}
 use Rattle.dap_mask.specs.RulesFile.{rules_said}
 use Rattle.dap_rename.specs.declared.mode.Mode.{Mode}
@@ -12,6 +12,8 @@ use Rattle.dap_normalise.specs.Normalising.{Normalises}
 use Rattle.dap_rules.specs.Applying.{AppliesRules, IsRefusedByRules}
 use Rattle.dap_rules.specs.declared.fault.ApplyRefused.{ApplyRefused}
 use Rattle.dap_rules.specs.declared.fault.ApplyRefused.TheVariants as step
+use Rattle.dap_suggest.specs.declared.inputs.Inputs.{Inputs}
+use Rattle.dap_suggest.specs.declared.suggestion.Suggestion.{Suggestion}
 
 -- ---- rules that were found
 
@@ -34,6 +36,11 @@ pub record AreSameBy (limits : Limits) (mode : Mode) (rules a b : List ℕ) : Ty
   pub mask : Mask
   pub said : rules_said rules ≡ Ok mask
   pub one : HaveOneNormal limits mode mask a b
+
+-- The rules that were given, and after them those of the suggestion, make both recordings the same.
+abbrev pub IsSuggestion : Inputs → Suggestion → Type 0
+IsSuggestion inputs s =
+    AreSameBy inputs.limits s.mode (inputs.given.now ++ s.rules.items) inputs.a.now inputs.b.now
 
 -- ---- errors
 

@@ -1,28 +1,47 @@
 //! The actions that are tried at a place.
-use dap_mask::{MaskRules, mask};
-use dap_tree::Tree;
+use crate::words::push_quoted;
+use dap_mask::{MaskRules, read_masked};
+use dap_tree::{Scratch, Tree};
 use std::alloc::{AllocError, Global};
-use std::collections::BTreeMap;
 
-/// The verbs that are tried at a text, in this order. The first that make all texts at a place
-/// equal are suggested; several verbs are one rule each, in an order that a file of rules may have.
-/// If none do, the value is blanked.
-const TRIED: [&[&str]; 9] = [
-    &["uuid"],
-    &["hex"],
-    &["digits"],
-    &["long"],
-    &["uuid", "hex"],
-    &["digits", "hex"],
-    &["uuid", "long"],
-    &["long", "hex"],
-    &["long", "digits"],
-];
+/// How many candidates there are.
+const CANDIDATES: usize = 9;
 
-/// The verb that makes any two values of one sort equal.
-const BLANK: &str = "blank";
+/// The verbs of a candidate, each for one rule.
+#[derive(Clone, Copy)]
+struct Verbs {
+    first: &'static str,
+    /// The verb after it; empty if there is none.
+    second: &'static str,
+}
 
-/// The messages and the place of a pair of texts that are compared alone.
+fn one(first: &'static str) -> Verbs {
+    Verbs { first, second: "" }
+}
+
+fn two(first: &'static str, second: &'static str) -> Verbs {
+    Verbs { first, second }
+}
+
+/// Returns the verbs that are tried at a text, by their place in the order in which they are tried.
+/// Two verbs are in an order that a file of rules may have. After the last ones the verb makes any
+/// two values of one sort equal.
+fn verbs_of(candidate: usize) -> Verbs {
+    match candidate {
+        0 => one("uuid"),
+        1 => one("hex"),
+        2 => one("digits"),
+        3 => one("long"),
+        4 => two("uuid", "hex"),
+        5 => two("digits", "hex"),
+        6 => two("uuid", "long"),
+        7 => two("long", "hex"),
+        8 => two("long", "digits"),
+        _ => one("blank"),
+    }
+}
+
+/// The messages and the places of a pair of texts that are compared alone.
 const FIRST: &str = "event    x a";
 
 const SECOND: &str = "event    x b";
@@ -38,31 +57,27 @@ fn push_rule(verb: &str, target: &[u8], out: &mut Vec<u8>) -> Result<(), AllocEr
     Ok(())
 }
 
-fn push_verbs(verbs: &[&str], target: &[u8], out: &mut Vec<u8>) -> Result<(), AllocError> {
-    for verb in verbs {
-        push_rule(*verb, target, out)?;
+/// Appends the rules of a candidate.
+fn push_verbs(candidate: usize, target: &[u8], out: &mut Vec<u8>) -> Result<(), AllocError> {
+    let verbs = verbs_of(candidate);
+    push_rule(verbs.first, target, out)?;
+    if verbs.second.is_empty() {
+        return Ok(());
     }
-    Ok(())
+    push_rule(verbs.second, target, out)
 }
 
-/// Appends the rules of a candidate, or the rule that blanks the value.
-pub fn push_rules(
+/// Appends the rules of a candidate, or the rule that blanks the value, after a comment.
+pub fn push_commented(
+    comment: &[u8],
     candidate: Option<usize>,
     target: &[u8],
     out: &mut Vec<u8>,
 ) -> Result<(), AllocError> {
-    match candidate {
-        Some(candidate) => match TRIED.get(candidate) {
-            Some(verbs) => push_verbs(*verbs, target, out),
-            None => push_rule(BLANK, target, out),
-        },
-        None => push_rule(BLANK, target, out),
-    }
-}
-
-/// Appends the rule that blanks a value.
-pub fn push_blank(target: &[u8], out: &mut Vec<u8>) -> Result<(), AllocError> {
-    push_rule(BLANK, target, out)
+    out.extend_from_slice(comment)?;
+    push_verbs(candidate.unwrap_or(CANDIDATES), target, out)?;
+    out.push(b'\n')?;
+    Ok(())
 }
 
 /// Returns the messages and the place of a rule that this module wrote.
@@ -73,11 +88,11 @@ pub fn target_of(line: &[u8]) -> &[u8] {
     }
 }
 
-/// Reads the rules by which a pair of texts is compared for these verbs.
-fn test_of(alloc: Global, verbs: &[&str]) -> Result<MaskRules, AllocError> {
+/// Reads the rules by which a pair of texts is compared for a candidate.
+fn test_of(alloc: Global, candidate: usize) -> Result<MaskRules, AllocError> {
     let mut text = Vec::new(alloc);
-    push_verbs(verbs, FIRST.as_bytes(), &mut text)?;
-    push_verbs(verbs, SECOND.as_bytes(), &mut text)?;
+    push_verbs(candidate, FIRST.as_bytes(), &mut text)?;
+    push_verbs(candidate, SECOND.as_bytes(), &mut text)?;
     match MaskRules::read(alloc, text.as_slice()) {
         Ok(rules) => Ok(rules),
         Err(_) => Err(AllocError),
@@ -87,46 +102,35 @@ fn test_of(alloc: Global, verbs: &[&str]) -> Result<MaskRules, AllocError> {
 /// Returns for each candidate, in their order, the rules by which a pair of texts is compared.
 pub fn tests(alloc: Global) -> Result<Vec<MaskRules>, AllocError> {
     let mut tests = Vec::new(alloc);
-    for verbs in TRIED.iter() {
-        let test = test_of(alloc, *verbs)?;
-        tests.push(test)?;
+    for candidate in 0..CANDIDATES {
+        tests.push(test_of(alloc, candidate)?)?;
     }
     Ok(tests)
 }
 
-fn add_text(
-    alloc: Global,
-    name: &str,
-    text: &str,
-    members: &mut BTreeMap<String, Tree>,
-) -> Result<(), AllocError> {
-    let name = String::from_str(alloc, name)?;
-    let text = Tree::Text(String::from_str(alloc, text)?);
-    drop(members.insert(name, text)?);
-    Ok(())
+/// Returns the content of an event that has a pair of texts.
+pub fn event_of(alloc: Global, a: &Tree, b: &Tree) -> Result<Vec<u8>, AllocError> {
+    let mut out = Vec::from_slice(alloc, b"{\"type\":\"event\",\"event\":\"x\",\"a\":")?;
+    push_quoted(alloc, a, &mut out)?;
+    out.extend_from_slice(b",\"b\":")?;
+    push_quoted(alloc, b, &mut out)?;
+    out.push(b'}')?;
+    Ok(out)
 }
 
-/// Returns an event that has a pair of texts.
-fn event_of(alloc: Global, a: &str, b: &str) -> Result<Tree, AllocError> {
-    let mut members = BTreeMap::new(alloc);
-    add_text(alloc, "type", "event", &mut members)?;
-    add_text(alloc, "event", "x", &mut members)?;
-    add_text(alloc, "a", a, &mut members)?;
-    add_text(alloc, "b", b, &mut members)?;
-    Ok(Tree::Object(members))
-}
-
-/// Returns whether two members of an object are equal texts.
-fn have_equal_texts(tree: &Tree, name: &str, other: &str) -> bool {
-    match (tree.child(name), tree.child(other)) {
+/// Returns whether an event has a pair of equal texts.
+fn has_equal_texts(event: &Tree) -> bool {
+    match (event.child("a"), event.child("b")) {
         (Some(Tree::Text(a)), Some(Tree::Text(b))) => a.as_str() == b.as_str(),
         _ => false,
     }
 }
 
-/// Returns whether the rules of a candidate make two texts equal.
-pub fn are_equal_by(alloc: Global, test: &MaskRules, a: &str, b: &str) -> Result<bool, AllocError> {
-    let mut event = event_of(alloc, a, b)?;
-    mask(&mut event, test);
-    Ok(have_equal_texts(&event, "a", "b"))
+/// Returns whether the rules of a candidate make the texts of such an event equal.
+pub fn are_equal_by(alloc: Global, test: &MaskRules, event: &[u8]) -> Result<bool, AllocError> {
+    let mut scratch = Scratch::new(alloc);
+    match read_masked(alloc, event, test, &mut scratch) {
+        Ok(Some(event)) => Ok(has_equal_texts(&event)),
+        _ => Err(AllocError),
+    }
 }

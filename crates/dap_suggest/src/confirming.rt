@@ -1,10 +1,12 @@
 //! Confirms that rules make two recordings the same.
-ghost use Rattle.std.specs.Prelude.{◌≡◌, ◌++◌, IfOk, Ok, OnOk};
+ghost use Rattle.std.specs.Prelude.{◌≡◌, IfOk, Ok, OnOk};
 ghost use Rattle.dap_input.specs.Limits.{AreSound};
 ghost use Rattle.dap_mask.specs.KeptRules.{mask_of};
 ghost use Rattle.dap_mask.specs.RulesFile.{rules_said};
-ghost use Rattle.dap_suggest.specs.Suggested.{AreSameBy, HaveOneNormal, MakesNormal};
+ghost use Rattle.dap_suggest.specs.Suggested.{AreSameBy, HaveOneNormal};
+ghost use Rattle.dap_suggest.specs.Suggested.{IsSuggestion, MakesNormal};
 
+use crate::inputs::Inputs;
 use crate::joined_rules::joined;
 use crate::obstacle::{Obstacle, Unsolved};
 use crate::sessions::{Session, session_of};
@@ -62,8 +64,7 @@ fn normal_by(
         (λ text. MakesNormal limits mode (mask_of rules.now) recording.now text.bytes) }
 {
     match session_of(alloc, rules, recording, limits, mode) {
-        Ok(session) => {
-            let Session { bytes, normal } = session;
+        Ok(Session { bytes, normal }) => {
             drop(bytes);
             Ok(normal)
         }
@@ -80,16 +81,15 @@ fn normal_by(
 fn compare_by(
     alloc: Global,
     rules: &MaskRules,
-    a: &[u8],
-    b: &[u8],
-    limits: Limits,
+    inputs: &Inputs<'_>,
     mode: Mode,
 ) -> Result<(), Unsolved>
-    requires { AreSound limits }
-    ensures { OnOk result (HaveOneNormal limits mode (mask_of rules.now) a.now b.now) }
+    requires { AreSound inputs.now.limits }
+    ensures { OnOk result (HaveOneNormal inputs.now.limits mode (mask_of rules.now) inputs.now.a.now
+        inputs.now.b.now) }
 {
-    let one = normal_by(alloc, rules, Which::A, a, limits, mode)?;
-    let other = normal_by(alloc, rules, Which::B, b, limits, mode)?;
+    let one = normal_by(alloc, rules, Which::A, inputs.a, inputs.limits, mode)?;
+    let other = normal_by(alloc, rules, Which::B, inputs.b, inputs.limits, mode)?;
     if one.bytes() == other.bytes() {
         return Ok(());
     }
@@ -102,19 +102,13 @@ fn compare_by(
 /// # Errors
 ///
 /// The text is not a rules file, and those of [`compare_by`].
-fn are_same_by(
-    alloc: Global,
-    text: &[u8],
-    a: &[u8],
-    b: &[u8],
-    limits: Limits,
-    mode: Mode,
-) -> Result<(), Unsolved>
-    requires { AreSound limits }
-    ensures { OnOk result (AreSameBy limits mode text.now a.now b.now) }
+fn are_same_by(alloc: Global, text: &[u8], inputs: &Inputs<'_>, mode: Mode) -> Result<(), Unsolved>
+    requires { AreSound inputs.now.limits }
+    ensures { OnOk result
+        (AreSameBy inputs.now.limits mode text.now inputs.now.a.now inputs.now.b.now) }
 {
     let rules = read_rules(alloc, text)?;
-    compare_by(alloc, &rules, a, b, limits, mode)
+    compare_by(alloc, &rules, inputs, mode)
 }
 
 /// Returns the last line of a suggestion.
@@ -128,40 +122,27 @@ fn last_line(mode: Mode) -> &'static str {
 /// Suggests these rules, if two recordings are the same by them in this mode.
 fn suggested(
     alloc: Global,
-    given: &[u8],
+    inputs: &Inputs<'_>,
     found: &[u8],
-    a: &[u8],
-    b: &[u8],
-    limits: Limits,
     mode: Mode,
 ) -> Result<Suggestion, Unsolved>
-    requires { AreSound limits }
-    ensures { IfOk result
-        (λ s. AreSameBy limits s.mode (given.now ++ s.rules.items) a.now b.now) }
+    requires { AreSound inputs.now.limits }
+    ensures { IfOk result (IsSuggestion inputs.now) }
 {
     let rules = joined(alloc, found, last_line(mode).as_bytes())?;
-    let whole = joined(alloc, given, rules.as_slice())?;
-    are_same_by(alloc, whole.as_slice(), a, b, limits, mode)?;
+    let whole = joined(alloc, inputs.given, rules.as_slice())?;
+    are_same_by(alloc, whole.as_slice(), inputs, mode)?;
     Ok(Suggestion { rules, mode })
 }
 
 /// Suggests these rules, if two recordings are the same by them. Ids are numbered once in each
 /// recording, or from each stop if only that makes the recordings the same.
-pub fn confirm(
-    alloc: Global,
-    given: &[u8],
-    found: &[u8],
-    a: &[u8],
-    b: &[u8],
-    limits: Limits,
-) -> Result<Suggestion, Unsolved>
-    requires { AreSound limits }
-    ensures { IfOk result
-        (λ s. AreSameBy limits s.mode (given.now ++ s.rules.items) a.now b.now) }
+pub fn confirm(alloc: Global, inputs: &Inputs<'_>, found: &[u8]) -> Result<Suggestion, Unsolved>
+    requires { AreSound inputs.now.limits }
+    ensures { IfOk result (IsSuggestion inputs.now) }
 {
-    match suggested(alloc, given, found, a, b, limits, Mode::Whole) {
-        Ok(suggestion) => Ok(suggestion),
-        Err(Unsolved::Memory) => Err(Unsolved::Memory),
-        Err(Unsolved::NoRules(_)) => { suggested(alloc, given, found, a, b, limits, Mode::PerStop) }
+    match suggested(alloc, inputs, found, Mode::Whole) {
+        Err(Unsolved::NoRules(_)) => suggested(alloc, inputs, found, Mode::PerStop),
+        confirmed => confirmed,
     }
 }

@@ -1,5 +1,6 @@
 //! Counts the events of two recordings, and drops those of which they have different numbers.
-use crate::words::{push_count, push_name};
+use crate::words::{push_count, push_named};
+use dap_compare::Which;
 use dap_diff::Entry;
 use dap_message::Kind;
 use std::alloc::{AllocError, Global};
@@ -10,6 +11,15 @@ use std::collections::BTreeMap;
 pub struct Counts {
     a: u64,
     b: u64,
+}
+
+impl Counts {
+    fn add(&mut self, which: Which) {
+        match which {
+            Which::A => self.a = self.a.saturating_add(1),
+            Which::B => self.b = self.b.saturating_add(1),
+        }
+    }
 }
 
 /// Returns whether events of this name are never dropped: a session needs them.
@@ -37,6 +47,34 @@ pub fn is_dropped(entry: &Entry, counts: &BTreeMap<String, Counts>) -> bool {
     }
 }
 
+/// Counts an event of this name.
+fn count_event(
+    alloc: Global,
+    which: Which,
+    name: &str,
+    counts: &mut BTreeMap<String, Counts>,
+) -> Result<(), AllocError> {
+    let name = String::from_str(alloc, name)?;
+    let count = counts.entry(name)?.or_insert(Counts { a: 0, b: 0 });
+    count.add(which);
+    Ok(())
+}
+
+/// Counts the events of a recording.
+fn count_side(
+    alloc: Global,
+    which: Which,
+    entries: &[Entry],
+    counts: &mut BTreeMap<String, Counts>,
+) -> Result<(), AllocError> {
+    for entry in entries {
+        if entry.message.kind() == Kind::Event {
+            count_event(alloc, which, entry.message.name(), counts)?;
+        }
+    }
+    Ok(())
+}
+
 /// Counts the events of A and of B by their names.
 pub fn count_events(
     alloc: Global,
@@ -44,20 +82,8 @@ pub fn count_events(
     b: &[Entry],
 ) -> Result<BTreeMap<String, Counts>, AllocError> {
     let mut counts = BTreeMap::new(alloc);
-    for entry in a {
-        if entry.message.kind() == Kind::Event {
-            let name = String::from_str(alloc, entry.message.name())?;
-            let count = counts.entry(name)?.or_insert(Counts { a: 0, b: 0 });
-            count.a = count.a.saturating_add(1);
-        }
-    }
-    for entry in b {
-        if entry.message.kind() == Kind::Event {
-            let name = String::from_str(alloc, entry.message.name())?;
-            let count = counts.entry(name)?.or_insert(Counts { a: 0, b: 0 });
-            count.b = count.b.saturating_add(1);
-        }
-    }
+    count_side(alloc, Which::A, a, &mut counts)?;
+    count_side(alloc, Which::B, b, &mut counts)?;
     Ok(counts)
 }
 
@@ -70,21 +96,18 @@ fn push_drop(
 ) -> Result<(), AllocError> {
     push_count("# ", counts.a, out)?;
     push_count(" in A, ", counts.b, out)?;
-    out.extend_from_slice(b" in B\ndrop   event    ")?;
-    push_name(alloc, name, out)?;
+    out.extend_from_slice(b" in B\ndrop   ")?;
+    push_named(alloc, Kind::Event, name, out)?;
     out.extend_from_slice(b"\n\n")
 }
 
-/// Appends the rules that drop events.
-pub fn push_drops(
-    alloc: Global,
-    counts: &BTreeMap<String, Counts>,
-    out: &mut Vec<u8>,
-) -> Result<(), AllocError> {
+/// Returns the rules that drop events.
+pub fn drops(alloc: Global, counts: &BTreeMap<String, Counts>) -> Result<Vec<u8>, AllocError> {
+    let mut out = Vec::new(alloc);
     for (name, found) in counts.iter() {
         if are_dropped(name.as_str(), *found) {
-            push_drop(alloc, name.as_str(), *found, out)?;
+            push_drop(alloc, name.as_str(), *found, &mut out)?;
         }
     }
-    Ok(())
+    Ok(out)
 }

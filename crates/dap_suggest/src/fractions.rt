@@ -1,11 +1,13 @@
 //! Finds the numbers that are not integers of 64 bits, and suggests rules that blank them.
 ghost use Rattle.dap_input.specs.Limits.{AreSound};
 
-use crate::candidates::push_blank;
+use crate::candidates::push_commented;
+use crate::inputs::Inputs;
 use crate::joined_rules::{fault_of, joined, missing_end};
-use crate::words::{push_count, push_name};
+use crate::words::{push_member, push_named, push_record};
 use dap_input::Limits;
 use dap_mask::{MaskRules, read_masked};
+use dap_message::Kind;
 use dap_recording::{FedRecord, Record, RecordCause, RecordReader};
 use dap_tree::{Scratch, TreeFault};
 use serde_json::{Map, Value};
@@ -17,14 +19,6 @@ use std::collections::BTreeMap;
 struct Fraction {
     place: Vec<u8>,
     text: String,
-}
-
-/// Appends a member to a place.
-fn push_member(alloc: Global, name: &str, place: &mut Vec<u8>) -> Result<(), AllocError> {
-    if !place.is_empty() {
-        place.push(b'.')?;
-    }
-    push_name(alloc, name, place)
 }
 
 /// Adds a value, if it is a number that is not an integer of 64 bits.
@@ -96,27 +90,33 @@ fn text_at<'m>(message: &'m Value, name: &str) -> Option<&'m str> {
     }
 }
 
-/// Returns the word for the kind of a message, with spaces after it up to one length, and the
-/// member that has its name.
-fn kind_of(message: &Value) -> Option<(&'static str, &'static str)> {
+/// Returns the kind of a message.
+fn kind_of(message: &Value) -> Option<Kind> {
     match text_at(message, "type")? {
-        "request" => Some(("request  ", "command")),
-        "response" => Some(("response ", "command")),
-        "event" => Some(("event    ", "event")),
+        "request" => Some(Kind::Request),
+        "response" => Some(Kind::Response),
+        "event" => Some(Kind::Event),
         _ => None,
+    }
+}
+
+/// Returns the name of a message of this kind.
+fn name_of(kind: Kind, message: &Value) -> Option<&str> {
+    match kind {
+        Kind::Event => text_at(message, "event"),
+        _ => text_at(message, "command"),
     }
 }
 
 /// Appends the kind and the name of a message, as rules have them. Returns whether it has them.
 fn push_head(alloc: Global, message: &Value, out: &mut Vec<u8>) -> Result<bool, AllocError> {
-    let Some((kind, key)) = kind_of(message) else {
+    let Some(kind) = kind_of(message) else {
         return Ok(false);
     };
-    let Some(name) = text_at(message, key) else {
+    let Some(name) = name_of(kind, message) else {
         return Ok(false);
     };
-    out.extend_from_slice(kind.as_bytes())?;
-    push_name(alloc, name, out)?;
+    push_named(alloc, kind, name, out)?;
     out.push(b' ')?;
     Ok(true)
 }
@@ -124,11 +124,18 @@ fn push_head(alloc: Global, message: &Value, out: &mut Vec<u8>) -> Result<bool, 
 /// The comments on rules, by the messages and the places of the rules.
 type Comments = BTreeMap<Vec<u8>, Vec<u8>>;
 
+/// A record, as comments name it.
+#[derive(Clone, Copy, Drop)]
+struct Origin {
+    /// The words for its recording.
+    side: &'static str,
+    number: u64,
+}
+
 /// Adds the rule for a number, with a comment that shows it, if it is the first at its place.
 fn add_rule(
     alloc: Global,
-    side: &str,
-    number: u64,
+    origin: Origin,
     head: &[u8],
     fraction: &Fraction,
     comments: &mut Comments,
@@ -138,8 +145,7 @@ fn add_rule(
         return Ok(());
     }
     let mut comment = Vec::new(alloc);
-    push_count(side, number, &mut comment)?;
-    comment.extend_from_slice(b": ")?;
+    push_record(origin.side, origin.number, &mut comment)?;
     comment.extend_from_slice(fraction.text.as_bytes())?;
     comment.push(b'\n')?;
     drop(comments.insert(target, comment)?);
@@ -149,8 +155,7 @@ fn add_rule(
 /// Adds the rules for the numbers of a message.
 fn add_message(
     alloc: Global,
-    side: &str,
-    number: u64,
+    origin: Origin,
     message: &Value,
     comments: &mut Comments,
 ) -> Result<(), AllocError> {
@@ -162,41 +167,72 @@ fn add_message(
     let mut found = Vec::new(alloc);
     search(alloc, message, &mut place, &mut found)?;
     for fraction in found.iter() {
-        add_rule(alloc, side, number, head.as_slice(), fraction, comments)?;
+        add_rule(alloc, origin, head.as_slice(), fraction, comments)?;
     }
     Ok(())
+}
+
+/// Returns whether a content has numbers that are not integers of 64 bits after the rules that were
+/// given.
+fn has_fractions(
+    alloc: Global,
+    content: &[u8],
+    rules: &MaskRules,
+    scratch: &mut Scratch,
+) -> Result<bool, AllocError> {
+    match read_masked(alloc, content, rules, scratch) {
+        Err(TreeFault::Memory) => Err(AllocError),
+        Err(TreeFault::Fraction) => Ok(true),
+        _ => Ok(false),
+    }
 }
 
 /// Adds the rules for the numbers of a record, if it has some after the rules that were given.
 fn add_record(
     alloc: Global,
-    side: &str,
-    number: u64,
+    origin: Origin,
     content: &[u8],
     rules: &MaskRules,
     scratch: &mut Scratch,
     comments: &mut Comments,
 ) -> Result<(), AllocError> {
-    match read_masked(alloc, content, rules, scratch) {
-        Ok(_) => return Ok(()),
-        Err(TreeFault::Memory) => return Err(AllocError),
-        Err(TreeFault::Json) => return Ok(()),
-        Err(TreeFault::Fraction) => {}
+    if !has_fractions(alloc, content, rules, scratch)? {
+        return Ok(());
     }
     match Value::from_slice(alloc, content) {
-        Ok(message) => add_message(alloc, side, number, &message, comments),
+        Ok(message) => add_message(alloc, origin, &message, comments),
         Err(_) => Err(AllocError),
     }
 }
 
-fn whole_of(fed: FedRecord) -> Option<Record> {
-    fed.whole
+/// Returns the record that was read, and how many bytes were.
+fn whole_of(fed: FedRecord) -> Option<(usize, Record)> {
+    let FedRecord { used, whole } = fed;
+    match whole {
+        Some(record) => Some((used, record)),
+        None => None,
+    }
+}
+
+/// Returns the next record and how many bytes it has. Returns `None` at the end of a recording and
+/// at an error in its bytes.
+fn next_record(
+    reader: &mut RecordReader,
+    rest: &[u8],
+) -> Result<Option<(usize, Record)>, AllocError> {
+    match reader.feed(rest) {
+        Ok(fed) => Ok(whole_of(fed)),
+        Err(fault) => match fault.cause {
+            RecordCause::Memory => Err(AllocError),
+            _ => Ok(None),
+        },
+    }
 }
 
 /// Adds the rules for the numbers of a recording, up to an error in its bytes.
 fn add_recording(
     alloc: Global,
-    side: &str,
+    side: &'static str,
     recording: &[u8],
     rules: &MaskRules,
     limits: Limits,
@@ -207,22 +243,22 @@ fn add_recording(
     let mut reader = RecordReader::new(alloc, limits.frame);
     let mut scratch = Scratch::new(alloc);
     let mut rest = recording;
-    let mut number: u64 = 0;
-    for _ in 0..recording.len() {
-        let fed = match reader.feed(rest) {
-            Ok(fed) => fed,
-            Err(fault) => match fault.cause {
-                RecordCause::Memory => return Err(AllocError),
-                _ => return Ok(()),
-            },
-        };
-        let used = fed.used;
-        let Some(record) = whole_of(fed) else {
+    for before in 0..u64::MAX {
+        let Some((used, record)) = next_record(&mut reader, rest)? else {
             return Ok(());
         };
-        number = number.saturating_add(1);
-        let content = record.content.as_slice();
-        add_record(alloc, side, number, content, rules, &mut scratch, comments)?;
+        let origin = Origin {
+            side,
+            number: before + 1,
+        };
+        add_record(
+            alloc,
+            origin,
+            record.content.as_slice(),
+            rules,
+            &mut scratch,
+            comments,
+        )?;
         rest = rest.get(used..).unwrap_or(&[]);
     }
     Ok(())
@@ -237,9 +273,7 @@ fn push_accepted(
     out: &mut Vec<u8>,
 ) -> Result<(), AllocError> {
     let length = out.len();
-    out.extend_from_slice(comment)?;
-    push_blank(target, out)?;
-    out.push(b'\n')?;
+    push_commented(comment, None, target, out)?;
     let whole = joined(alloc, given, out.as_slice())?;
     if fault_of(alloc, whole.as_slice())?.is_some() {
         out.truncate(length);
@@ -251,22 +285,33 @@ fn push_accepted(
 /// recordings that are not integers of 64 bits.
 pub fn fraction_rules(
     alloc: Global,
-    given: &[u8],
     rules: &MaskRules,
-    a: &[u8],
-    b: &[u8],
-    limits: Limits,
+    inputs: &Inputs<'_>,
 ) -> Result<Vec<u8>, AllocError>
-    requires { AreSound limits }
+    requires { AreSound inputs.now.limits }
 {
     let mut comments = BTreeMap::new(alloc);
-    add_recording(alloc, "# A record ", a, rules, limits, &mut comments)?;
-    add_recording(alloc, "# B record ", b, rules, limits, &mut comments)?;
-    let mut out = Vec::from_slice(alloc, missing_end(given).as_bytes())?;
+    add_recording(
+        alloc,
+        "# A record ",
+        inputs.a,
+        rules,
+        inputs.limits,
+        &mut comments,
+    )?;
+    add_recording(
+        alloc,
+        "# B record ",
+        inputs.b,
+        rules,
+        inputs.limits,
+        &mut comments,
+    )?;
+    let mut out = Vec::from_slice(alloc, missing_end(inputs.given).as_bytes())?;
     for (target, comment) in comments.iter() {
         push_accepted(
             alloc,
-            given,
+            inputs.given,
             target.as_slice(),
             comment.as_slice(),
             &mut out,

@@ -8,6 +8,7 @@ mod candidates;
 mod confirming;
 mod counting;
 mod fractions;
+mod inputs;
 mod joined_rules;
 mod matched;
 mod obstacle;

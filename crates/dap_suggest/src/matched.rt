@@ -1,8 +1,9 @@
 //! Two recordings whose records are matched.
 ghost use Rattle.dap_input.specs.Limits.{AreSound};
 
-use crate::counting::{count_events, is_dropped, push_drops};
+use crate::counting::{Counts, count_events, drops, is_dropped};
 use crate::obstacle::{Obstacle, Reason, Unsolved, unsolved_entry};
+use crate::sessions::Sessions;
 use dap_compare::{CompareRefused, Which};
 use dap_device::MemorySource;
 use dap_diff::{Entry, Recording, match_records, read_recording};
@@ -11,6 +12,7 @@ use dap_normalise::index_tables;
 use dap_rename::Mode;
 use dap_rules::ApplyRefused;
 use std::alloc::{AllocError, Global};
+use std::collections::BTreeMap;
 
 /// Two recordings whose records are matched, without the events that are dropped.
 #[derive(Drop)]
@@ -59,44 +61,29 @@ fn read_session(
     }
 }
 
+/// Removes the events that are dropped.
+fn remove_dropped(recording: &mut Recording, counts: &BTreeMap<String, Counts>) {
+    recording.entries.retain(|entry| !is_dropped(entry, counts));
+}
+
 /// Removes the events that the recordings have in different numbers, and matches the others.
-fn match_both(alloc: Global, matched: &mut Matched) -> Result<(), AllocError> {
-    let counts = count_events(
-        alloc,
-        matched.a.entries.as_slice(),
-        matched.b.entries.as_slice(),
-    )?;
-    push_drops(alloc, &counts, &mut matched.drops)?;
-    matched
-        .a
-        .entries
-        .retain(|entry| !is_dropped(entry, &counts));
-    matched
-        .b
-        .entries
-        .retain(|entry| !is_dropped(entry, &counts));
-    match_records(
-        alloc,
-        matched.a.entries.as_mut_slice(),
-        matched.b.entries.as_mut_slice(),
-    )
+/// Returns the rules that drop these events.
+fn match_both(alloc: Global, a: &mut Recording, b: &mut Recording) -> Result<Vec<u8>, AllocError> {
+    let counts = count_events(alloc, a.entries.as_slice(), b.entries.as_slice())?;
+    remove_dropped(a, &counts);
+    remove_dropped(b, &counts);
+    match_records(alloc, a.entries.as_mut_slice(), b.entries.as_mut_slice())?;
+    drops(alloc, &counts)
 }
 
 /// Reads and matches the recordings of two sessions that are accepted.
-pub fn read_matched(alloc: Global, a: &[u8], b: &[u8], limits: Limits) -> Result<Matched, Unsolved>
+pub fn read_matched(alloc: Global, sessions: &Sessions, limits: Limits) -> Result<Matched, Unsolved>
     requires { AreSound limits }
 {
-    let a = read_session(alloc, Which::A, a, limits)?;
-    let b = read_session(alloc, Which::B, b, limits)?;
-    let mut matched = Matched {
-        a,
-        b,
-        drops: Vec::new(alloc),
-    };
-    match match_both(alloc, &mut matched) {
-        Ok(()) => Ok(matched),
-        Err(_) => Err(Unsolved::Memory),
-    }
+    let mut a = read_session(alloc, Which::A, sessions.a.as_slice(), limits)?;
+    let mut b = read_session(alloc, Which::B, sessions.b.as_slice(), limits)?;
+    let drops = match_both(alloc, &mut a, &mut b)?;
+    Ok(Matched { a, b, drops })
 }
 
 /// Returns the first record without a counterpart.

@@ -3,7 +3,7 @@ use crate::candidates::tests;
 use crate::matched::Pair;
 use crate::obstacle::{Reason, Unsolved, unsolved_at, unsolved_entry};
 use crate::trial::Trial;
-use crate::walking::{Element, Found, compare_trees};
+use crate::walking::{Element, Found, Walk, compare_trees};
 use crate::words::{push_class, push_quoted};
 use dap_compare::Which;
 use dap_mask::MaskRules;
@@ -21,6 +21,22 @@ struct Part {
     names: Vec<u8>,
 }
 
+impl Part {
+    /// Returns the element at a pair of values, at which the candidates are tried.
+    fn new(
+        alloc: Global,
+        tests: &[MaskRules],
+        pair: &Pair<'_>,
+        found: &Found<'_>,
+        element: Element<'_>,
+    ) -> Result<Part, AllocError> {
+        let mut trial = Trial::new(alloc, tests.len(), pair, found)?;
+        trial.try_at(alloc, tests, found)?;
+        let names = names_target(alloc, pair, found, element)?;
+        Ok(Part { trial, names })
+    }
+}
+
 /// A place of the messages of one kind and name at which some pair differs.
 #[derive(Drop)]
 struct Spot {
@@ -36,21 +52,22 @@ struct Spot {
 }
 
 impl Spot {
+    /// Returns the place at a pair of values, at which the candidates are tried.
     fn new(
         alloc: Global,
-        count: usize,
+        tests: &[MaskRules],
         pair: &Pair<'_>,
         found: &Found<'_>,
     ) -> Result<Spot, AllocError> {
-        let whole = Trial::new(alloc, count, pair, found)?;
-        let head = pair.a.head.clone()?;
-        Ok(Spot {
-            whole,
+        let mut spot = Spot {
+            whole: Trial::new(alloc, tests.len(), pair, found)?,
             number: pair.a.number,
-            head,
+            head: pair.a.head.clone()?,
             parts: BTreeMap::new(alloc),
             is_split: true,
-        })
+        };
+        spot.try_at(alloc, tests, pair, found)?;
+        Ok(spot)
     }
 
     /// Tries the candidates at a pair of values, for the whole place and for the element.
@@ -80,15 +97,11 @@ impl Spot {
         element: Element<'_>,
     ) -> Result<(), AllocError> {
         let target = part_target(alloc, pair, found, element)?;
-        if !self.parts.contains_key(target.as_slice()) {
-            let trial = Trial::new(alloc, tests.len(), pair, found)?;
-            let names = names_target(alloc, pair, found, element)?;
-            let target = Vec::from_slice(alloc, target.as_slice())?;
-            drop(self.parts.insert(target, Part { trial, names })?);
-        }
         if let Some(part) = self.parts.get_mut(target.as_slice()) {
-            part.trial.try_at(alloc, tests, found)?;
+            return part.trial.try_at(alloc, tests, found);
         }
+        let part = Part::new(alloc, tests, pair, found, element)?;
+        drop(self.parts.insert(target, part)?);
         self.is_split = self.parts.len() <= MAX_ELEMENTS;
         Ok(())
     }
@@ -171,27 +184,23 @@ impl Spots {
 
     fn add(&mut self, alloc: Global, pair: &Pair<'_>, found: &Found<'_>) -> Result<(), AllocError> {
         let target = target_of(alloc, pair, found.place.as_slice())?;
-        if !self.by_target.contains_key(target.as_slice()) {
-            let spot = Spot::new(alloc, self.tests.len(), pair, found)?;
-            let target = Vec::from_slice(alloc, target.as_slice())?;
-            drop(self.by_target.insert(target, spot)?);
+        if let Some(spot) = self.by_target.get_mut(target.as_slice()) {
+            return spot.try_at(alloc, self.tests.as_slice(), pair, found);
         }
-        match self.by_target.get_mut(target.as_slice()) {
-            Some(spot) => spot.try_at(alloc, self.tests.as_slice(), pair, found),
-            None => Ok(()),
-        }
+        let spot = Spot::new(alloc, self.tests.as_slice(), pair, found)?;
+        drop(self.by_target.insert(target, spot)?);
+        Ok(())
     }
 
     /// Adds the places at which a pair differs. Returns whether rules for them make it equal.
     fn add_pair(&mut self, alloc: Global, pair: &Pair<'_>) -> Result<bool, AllocError> {
-        let mut place = Vec::new(alloc);
-        let mut found = Vec::new(alloc);
+        let mut walk = Walk::new(alloc);
         let (a, b) = (pair.a.message.tree(), pair.b.message.tree());
-        let is_enough = compare_trees(alloc, a, b, &mut place, None, &mut found)?;
-        for one in found.iter() {
+        compare_trees(alloc, a, b, None, &mut walk)?;
+        for one in walk.found.iter() {
             self.add(alloc, pair, one)?;
         }
-        Ok(is_enough)
+        Ok(walk.is_enough)
     }
 
     /// Returns whether a place has rules for elements by their name: no candidate works for all of

@@ -2,22 +2,21 @@
 ghost use Rattle.std.specs.Prelude.{◌≡◌, ◌++◌, IfErr, IfOk, IfSome};
 ghost use Rattle.dap_input.specs.Limits.{AreSound};
 ghost use Rattle.dap_mask.specs.KeptRules.{mask_of};
-ghost use Rattle.dap_suggest.specs.NotSuggested.{IsNotSuggested, IsRulesRefusal};
-ghost use Rattle.dap_suggest.specs.NotSuggested.{IsSearchRefusal, IsSessionRefusal};
-ghost use Rattle.dap_suggest.specs.NotSuggested.{input_refusal};
-ghost use Rattle.dap_suggest.specs.Suggested.{AreSameBy, MakesNormal};
+ghost use Rattle.dap_mask.specs.RulesFile.{rules_said};
+ghost use Rattle.dap_suggest.specs.NotSuggested.{HasNoSuggestion, IsNotSuggested};
+ghost use Rattle.dap_suggest.specs.NotSuggested.{IsRulesRefusal, IsSearchRefusal};
+ghost use Rattle.dap_suggest.specs.Suggested.{AreSameBy, IsSuggestion};
 
 use crate::confirming::{confirm, read_rules};
 use crate::fractions::fraction_rules;
+use crate::inputs::Inputs;
 use crate::joined_rules::{joined, rules_for};
 use crate::matched::read_matched;
 use crate::obstacle::Unsolved;
-use crate::sessions::{Session, session_of};
+use crate::sessions::{Sessions, sessions_by};
 use crate::suggestion::{SuggestRefused, Suggestion};
-use dap_compare::Which;
 use dap_input::{Limits, Refused};
 use dap_mask::{MaskRules, RulesCause, RulesFault};
-use dap_rename::Mode;
 use dap_rules::ApplyRefused;
 use std::alloc::Global;
 
@@ -31,35 +30,6 @@ fn rules_refusal(fault: RulesFault) -> SuggestRefused
     }
 }
 
-/// Returns that a recording is rejected by the rules that were given.
-fn input_refusal(which: Which, refused: ApplyRefused) -> SuggestRefused
-    ensures { result ≡ input_refusal which refused }
-{
-    match refused {
-        ApplyRefused::Memory => SuggestRefused::Memory,
-        refused => SuggestRefused::Input(which, refused),
-    }
-}
-
-/// Returns the session that the rules that were given make of a recording.
-fn given_session(
-    alloc: Global,
-    rules: &MaskRules,
-    which: Which,
-    recording: &[u8],
-    limits: Limits,
-) -> Result<Session, SuggestRefused>
-    requires { AreSound limits }
-    ensures ok { IfOk result
-        (λ s. MakesNormal limits Mode.Whole (mask_of rules.now) recording.now s.normal.bytes) }
-    ensures err { IfErr result (IsSessionRefusal limits (mask_of rules.now) which recording.now) }
-{
-    match session_of(alloc, rules, recording, limits, Mode::Whole) {
-        Ok(session) => Ok(session),
-        Err(refused) => Err(input_refusal(which, refused)),
-    }
-}
-
 /// Returns why a search found no rules.
 fn search_refusal(unsolved: Unsolved) -> SuggestRefused
     ensures { IsSearchRefusal result }
@@ -70,66 +40,68 @@ fn search_refusal(unsolved: Unsolved) -> SuggestRefused
     }
 }
 
-/// Searches rules that can follow those of a text, for two sessions that these make.
+/// Searches rules for two recordings and their sessions, which the rules that were given and those
+/// `before` the others make. Returns them after those.
 fn find_rules(
     alloc: Global,
-    known: &[u8],
-    a: &Session,
-    b: &Session,
-    limits: Limits,
+    inputs: &Inputs<'_>,
+    before: &[u8],
+    sessions: &Sessions,
 ) -> Result<Vec<u8>, Unsolved>
-    requires { AreSound limits }
+    requires { AreSound inputs.now.limits }
 {
-    let matched = read_matched(alloc, a.bytes.as_slice(), b.bytes.as_slice(), limits)?;
-    rules_for(alloc, known, &matched)
+    let known = joined(alloc, inputs.given, before)?;
+    let matched = read_matched(alloc, sessions, inputs.limits)?;
+    let found = rules_for(alloc, known.as_slice(), &matched)?;
+    Ok(joined(alloc, before, found.as_slice())?)
 }
 
-/// Searches rules for two recordings and their sessions, which the rules that were given and those
-/// `before` the others make, and confirms them.
+/// Searches rules as [`find_rules`], and confirms them.
 fn find_confirmed(
     alloc: Global,
-    given: &[u8],
+    inputs: &Inputs<'_>,
     before: &[u8],
-    sessions: (&Session, &Session),
-    a: &[u8],
-    b: &[u8],
-    limits: Limits,
+    sessions: &Sessions,
 ) -> Result<Suggestion, Unsolved>
-    requires { AreSound limits }
-    ensures { IfOk result
-        (λ s. AreSameBy limits s.mode (given.now ++ s.rules.items) a.now b.now) }
+    requires { AreSound inputs.now.limits }
+    ensures { IfOk result (IsSuggestion inputs.now) }
 {
-    let known = joined(alloc, given, before)?;
-    let found = find_rules(alloc, known.as_slice(), sessions.0, sessions.1, limits)?;
-    let found = joined(alloc, before, found.as_slice())?;
-    confirm(alloc, given, found.as_slice(), a, b, limits)
+    let found = find_rules(alloc, inputs, before, sessions)?;
+    confirm(alloc, inputs, found.as_slice())
+}
+
+/// Returns the sessions that the rules that were given and those of a text after them make. Returns
+/// `None` if they make none.
+fn sessions_after(
+    alloc: Global,
+    inputs: &Inputs<'_>,
+    before: &[u8],
+) -> Result<Option<Sessions>, Unsolved>
+    requires { AreSound inputs.now.limits }
+{
+    let known = joined(alloc, inputs.given, before)?;
+    let rules = read_rules(alloc, known.as_slice())?;
+    match sessions_by(alloc, &rules, inputs) {
+        Ok(sessions) => Ok(Some(sessions)),
+        Err(_) => Ok(None),
+    }
 }
 
 /// Searches rules after those that blank the numbers of which no session can be made. Returns
 /// `None` if these do not make sessions either.
 fn find_after_fractions(
     alloc: Global,
-    given: &[u8],
     rules: &MaskRules,
-    a: &[u8],
-    b: &[u8],
-    limits: Limits,
+    inputs: &Inputs<'_>,
 ) -> Result<Option<Suggestion>, Unsolved>
-    requires { AreSound limits }
-    ensures { IfOk result (λ o. IfSome o
-        (λ s. AreSameBy limits s.mode (given.now ++ s.rules.items) a.now b.now)) }
+    requires { AreSound inputs.now.limits }
+    ensures { IfOk result (λ o. IfSome o (IsSuggestion inputs.now)) }
 {
-    let before = fraction_rules(alloc, given, rules, a, b, limits)?;
-    let known = joined(alloc, given, before.as_slice())?;
-    let rules = read_rules(alloc, known.as_slice())?;
-    let Ok(session_a) = session_of(alloc, &rules, a, limits, Mode::Whole) else {
+    let before = fraction_rules(alloc, rules, inputs)?;
+    let Some(sessions) = sessions_after(alloc, inputs, before.as_slice())? else {
         return Ok(None);
     };
-    let Ok(session_b) = session_of(alloc, &rules, b, limits, Mode::Whole) else {
-        return Ok(None);
-    };
-    let sessions = (&session_a, &session_b);
-    let found = find_confirmed(alloc, given, before.as_slice(), sessions, a, b, limits)?;
+    let found = find_confirmed(alloc, inputs, before.as_slice(), &sessions)?;
     Ok(Some(found))
 }
 
@@ -144,26 +116,55 @@ fn has_fraction(refused: &SuggestRefused) -> bool {
 /// Suggests rules for two recordings, one of which the rules that were given reject.
 fn suggest_after(
     alloc: Global,
-    given: &[u8],
     rules: &MaskRules,
+    inputs: &Inputs<'_>,
     refused: SuggestRefused,
-    a: &[u8],
-    b: &[u8],
-    limits: Limits,
 ) -> Result<Suggestion, SuggestRefused>
-    requires limits { AreSound limits }
-    requires rejected { IsNotSuggested limits given.now a.now b.now refused }
-    ensures ok { IfOk result
-        (λ s. AreSameBy limits s.mode (given.now ++ s.rules.items) a.now b.now) }
-    ensures err { IfErr result (IsNotSuggested limits given.now a.now b.now) }
+    requires limits { AreSound inputs.now.limits }
+    requires rejected { HasNoSuggestion inputs.now refused }
+    ensures ok { IfOk result (IsSuggestion inputs.now) }
+    ensures err { IfErr result (HasNoSuggestion inputs.now) }
 {
     if !has_fraction(&refused) {
         return Err(refused);
     }
-    match find_after_fractions(alloc, given, rules, a, b, limits) {
+    match find_after_fractions(alloc, rules, inputs) {
         Ok(Some(suggestion)) => Ok(suggestion),
         Ok(None) => Err(refused),
         Err(unsolved) => Err(search_refusal(unsolved)),
+    }
+}
+
+/// Suggests rules for two recordings and their sessions, which the rules that were given make.
+fn suggest_for(
+    alloc: Global,
+    inputs: &Inputs<'_>,
+    sessions: &Sessions,
+) -> Result<Suggestion, SuggestRefused>
+    requires { AreSound inputs.now.limits }
+    ensures ok { IfOk result (IsSuggestion inputs.now) }
+    ensures err { IfErr result (HasNoSuggestion inputs.now) }
+{
+    match find_confirmed(alloc, inputs, b"", sessions) {
+        Ok(suggestion) => Ok(suggestion),
+        Err(unsolved) => Err(search_refusal(unsolved)),
+    }
+}
+
+/// Suggests rules in addition to those that were given and read.
+fn suggest_by(
+    alloc: Global,
+    rules: &MaskRules,
+    inputs: &Inputs<'_>,
+) -> Result<Suggestion, SuggestRefused>
+    requires limits { AreSound inputs.now.limits }
+    requires read { rules_said inputs.now.given.now ≡ Ok (mask_of rules.now) }
+    ensures ok { IfOk result (IsSuggestion inputs.now) }
+    ensures err { IfErr result (HasNoSuggestion inputs.now) }
+{
+    match sessions_by(alloc, rules, inputs) {
+        Ok(sessions) => suggest_for(alloc, inputs, &sessions),
+        Err(refused) => suggest_after(alloc, rules, inputs, refused),
     }
 }
 
@@ -204,20 +205,16 @@ pub fn suggest(
     // rules were found.
     ensures err { IfErr result (IsNotSuggested limits given.now a.now b.now) }
 {
-    let rules = match MaskRules::read(alloc, given) {
-        Ok(rules) => rules,
-        Err(fault) => return Err(rules_refusal(fault)),
-    };
-    let session_a = match given_session(alloc, &rules, Which::A, a, limits) {
-        Ok(session) => session,
-        Err(refused) => return suggest_after(alloc, given, &rules, refused, a, b, limits),
-    };
-    let session_b = match given_session(alloc, &rules, Which::B, b, limits) {
-        Ok(session) => session,
-        Err(refused) => return suggest_after(alloc, given, &rules, refused, a, b, limits),
-    };
-    match find_confirmed(alloc, given, b"", (&session_a, &session_b), a, b, limits) {
-        Ok(suggestion) => Ok(suggestion),
-        Err(unsolved) => Err(search_refusal(unsolved)),
+    match MaskRules::read(alloc, given) {
+        Ok(rules) => {
+            let inputs = Inputs {
+                given,
+                a,
+                b,
+                limits,
+            };
+            suggest_by(alloc, &rules, &inputs)
+        }
+        Err(fault) => Err(rules_refusal(fault)),
     }
 }

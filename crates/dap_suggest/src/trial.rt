@@ -1,8 +1,8 @@
 //! The candidates for the rules of one place, and the comment of the rules.
-use crate::candidates::{are_equal_by, push_rules};
+use crate::candidates::{are_equal_by, event_of, push_commented};
 use crate::matched::Pair;
 use crate::walking::Found;
-use crate::words::{push_count, push_value};
+use crate::words::{push_record, push_value};
 use dap_mask::MaskRules;
 use dap_tree::Tree;
 use std::alloc::{AllocError, Global};
@@ -38,15 +38,28 @@ impl Trial {
         tests: &[MaskRules],
         found: &Found<'_>,
     ) -> Result<(), AllocError> {
-        let (Tree::Text(a), Tree::Text(b)) = (found.a, found.b) else {
+        if !matches!(found.a, Tree::Text(_)) || !matches!(found.b, Tree::Text(_)) {
             self.works.clear();
             return Ok(());
-        };
+        }
+        let event = event_of(alloc, found.a, found.b)?;
         for (index, test) in tests.iter().enumerate() {
-            if let Some(works) = self.works.get_mut(index) {
-                if *works {
-                    *works = are_equal_by(alloc, test, a.as_str(), b.as_str())?;
-                }
+            self.try_one(alloc, index, test, event.as_slice())?;
+        }
+        Ok(())
+    }
+
+    /// Tries the candidate of this number at the texts of an event.
+    fn try_one(
+        &mut self,
+        alloc: Global,
+        index: usize,
+        test: &MaskRules,
+        event: &[u8],
+    ) -> Result<(), AllocError> {
+        if let Some(works) = self.works.get_mut(index) {
+            if *works {
+                *works = are_equal_by(alloc, test, event)?;
             }
         }
         Ok(())
@@ -70,22 +83,28 @@ impl Trial {
 
     /// Appends the rules for a place, after their comment.
     pub fn push(&self, target: &[u8], out: &mut Vec<u8>) -> Result<(), AllocError> {
-        out.extend_from_slice(self.comment.as_slice())?;
-        push_rules(self.candidate(), target, out)?;
-        out.push(b'\n')?;
-        Ok(())
+        push_commented(self.comment.as_slice(), self.candidate(), target, out)
     }
+}
+
+/// Appends the line of a comment that shows a value.
+fn push_shown(
+    alloc: Global,
+    words: &str,
+    number: u64,
+    value: &Tree,
+    out: &mut Vec<u8>,
+) -> Result<(), AllocError> {
+    push_record(words, number, out)?;
+    push_value(alloc, value, out)?;
+    out.push(b'\n')?;
+    Ok(())
 }
 
 /// Returns the comment that shows a pair of values.
 fn comment_of(alloc: Global, pair: &Pair<'_>, found: &Found<'_>) -> Result<Vec<u8>, AllocError> {
     let mut out = Vec::new(alloc);
-    push_count("# A record ", pair.a.number, &mut out)?;
-    out.extend_from_slice(b": ")?;
-    push_value(alloc, found.a, &mut out)?;
-    push_count("\n# B record ", pair.b.number, &mut out)?;
-    out.extend_from_slice(b": ")?;
-    push_value(alloc, found.b, &mut out)?;
-    out.push(b'\n')?;
+    push_shown(alloc, "# A record ", pair.a.number, found.a, &mut out)?;
+    push_shown(alloc, "# B record ", pair.b.number, found.b, &mut out)?;
     Ok(out)
 }

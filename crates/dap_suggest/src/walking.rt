@@ -1,5 +1,5 @@
 //! Finds the places at which two messages differ, and at which rules can make them equal.
-use crate::words::push_name;
+use crate::words::push_member;
 use dap_tree::Tree;
 use std::alloc::{AllocError, Global};
 use std::collections::BTreeMap;
@@ -23,24 +23,6 @@ pub struct Found<'t> {
     pub element: Option<Element<'t>>,
     pub a: &'t Tree,
     pub b: &'t Tree,
-}
-
-fn add_found<'t>(
-    alloc: Global,
-    a: &'t Tree,
-    b: &'t Tree,
-    place: &[u8],
-    element: Option<Element<'t>>,
-    found: &mut Vec<Found<'t>>,
-) -> Result<(), AllocError> {
-    let place = Vec::from_slice(alloc, place)?;
-    found.push(Found {
-        place,
-        element,
-        a,
-        b,
-    })?;
-    Ok(())
 }
 
 /// Returns the element of two lists, if both have one name. Otherwise returns the element around
@@ -88,81 +70,126 @@ fn have_one_blank(a: &Tree, b: &Tree) -> bool {
     )
 }
 
-fn compare_scalars<'t>(
-    alloc: Global,
-    a: &'t Tree,
-    b: &'t Tree,
-    place: &[u8],
-    element: Option<Element<'t>>,
-    found: &mut Vec<Found<'t>>,
-) -> Result<bool, AllocError> {
-    if are_equal(a, b) {
-        return Ok(true);
-    }
-    if !have_one_blank(a, b) {
-        return Ok(false);
-    }
-    add_found(alloc, a, b, place, element, found)?;
-    Ok(true)
-}
-
 /// Returns whether a place is a whole message, or each element of a list. Neither is blanked: an
 /// element would lose what the profile wants of it.
 fn is_kept(place: &[u8]) -> bool {
     place.is_empty() || place.ends_with(b"]")
 }
 
-/// Adds the place of a list or an object in place of those in it that were found after `start`,
-/// unless rules for these are enough.
-fn settle<'t>(
-    alloc: Global,
-    is_enough: bool,
+/// What is known before two lists or objects are compared.
+#[derive(Clone, Copy)]
+struct Mark {
+    /// How many places were found before.
     start: usize,
-    pair: (&'t Tree, &'t Tree),
-    place: &[u8],
-    element: Option<Element<'t>>,
-    found: &mut Vec<Found<'t>>,
-) -> Result<bool, AllocError> {
-    if is_enough {
-        return Ok(true);
-    }
-    if is_kept(place) {
-        return Ok(false);
-    }
-    found.truncate(start);
-    add_found(alloc, pair.0, pair.1, place, element, found)?;
-    Ok(true)
+    /// Whether rules for these make what is around the lists or objects equal.
+    is_enough: bool,
 }
 
-/// Adds the places at which two trees differ. Returns whether rules for them make the trees equal.
+/// What a comparison of two messages has found.
+#[derive(Drop)]
+pub struct Walk<'t> {
+    /// The place of the values that are compared, as rules have it.
+    place: Vec<u8>,
+    /// The places at which the messages differ.
+    pub found: Vec<Found<'t>>,
+    /// Whether rules for the places make the innermost lists or objects equal.
+    pub is_enough: bool,
+}
+
+impl<'t> Walk<'t> {
+    /// Returns what is found before a comparison.
+    pub fn new(alloc: Global) -> Walk<'t> {
+        Walk {
+            place: Vec::new(alloc),
+            found: Vec::new(alloc),
+            is_enough: true,
+        }
+    }
+
+    /// Adds this place.
+    fn add(
+        &mut self,
+        a: &'t Tree,
+        b: &'t Tree,
+        element: Option<Element<'t>>,
+    ) -> Result<(), AllocError> {
+        let place = self.place.clone()?;
+        self.found.push(Found {
+            place,
+            element,
+            a,
+            b,
+        })?;
+        Ok(())
+    }
+
+    /// Compares two values that are not both lists or both objects.
+    fn compare_scalars(
+        &mut self,
+        a: &'t Tree,
+        b: &'t Tree,
+        element: Option<Element<'t>>,
+    ) -> Result<(), AllocError> {
+        if are_equal(a, b) {
+            return Ok(());
+        }
+        if have_one_blank(a, b) {
+            return self.add(a, b, element);
+        }
+        self.is_enough = false;
+        Ok(())
+    }
+
+    /// Returns what is known before the comparison of two lists or objects.
+    fn mark(&self) -> Mark {
+        Mark {
+            start: self.found.len(),
+            is_enough: self.is_enough,
+        }
+    }
+
+    /// Ends the comparison of two lists or objects. Their place is added in place of those that were
+    /// found in it, unless rules for these are enough.
+    fn settle(
+        &mut self,
+        mark: Mark,
+        a: &'t Tree,
+        b: &'t Tree,
+        element: Option<Element<'t>>,
+    ) -> Result<(), AllocError> {
+        if self.is_enough {
+            self.is_enough = mark.is_enough;
+            return Ok(());
+        }
+        if is_kept(self.place.as_slice()) {
+            return Ok(());
+        }
+        self.is_enough = mark.is_enough;
+        self.found.truncate(mark.start);
+        self.add(a, b, element)
+    }
+}
+
+/// Adds the places at which two trees differ.
 #[cycle(compare_trees)]
 pub fn compare_trees<'t>(
     alloc: Global,
     a: &'t Tree,
     b: &'t Tree,
-    place: &mut Vec<u8>,
     element: Option<Element<'t>>,
-    found: &mut Vec<Found<'t>>,
-) -> Result<bool, AllocError> {
-    let start = found.len();
-    let is_enough = match (a, b) {
+    walk: &mut Walk<'t>,
+) -> Result<(), AllocError> {
+    let mark = walk.mark();
+    match (a, b) {
         (Tree::List(items), Tree::List(others)) => {
-            compare_items(alloc, items, others, place, element, found)?
+            compare_items(alloc, items, others, element, walk)?;
         }
         (Tree::Object(members), Tree::Object(others)) => {
-            compare_members(alloc, members, others, place, element, found)?
+            compare_members(alloc, members, others, element, walk)?;
         }
-        _ => return compare_scalars(alloc, a, b, place.as_slice(), element, found),
-    };
-    settle(
-        alloc,
-        is_enough,
-        start,
-        (a, b),
-        place.as_slice(),
-        element,
-        found,
-    )
+        _ => return walk.compare_scalars(a, b, element),
+    }
+    walk.settle(mark, a, b, element)
 }
 
 #[cycle(compare_trees)]
@@ -170,30 +197,20 @@ fn compare_items<'t>(
     alloc: Global,
     items: &'t Vec<Tree>,
     others: &'t Vec<Tree>,
-    place: &mut Vec<u8>,
     element: Option<Element<'t>>,
-    found: &mut Vec<Found<'t>>,
-) -> Result<bool, AllocError> {
-    let length = place.len();
-    let mut is_enough = items.len() == others.len();
-    place.extend_from_slice(b"[]")?;
+    walk: &mut Walk<'t>,
+) -> Result<(), AllocError> {
+    let length = walk.place.len();
+    walk.is_enough = items.len() == others.len();
+    walk.place.extend_from_slice(b"[]")?;
     for (index, item) in items.iter().enumerate() {
         if let Some(other) = others.get(index) {
             let inner = element_of(length, item, other, element);
-            let are_equal = compare_trees(alloc, item, other, place, inner, found)?;
-            is_enough = is_enough && are_equal;
+            compare_trees(alloc, item, other, inner, walk)?;
         }
     }
-    place.truncate(length);
-    Ok(is_enough)
-}
-
-/// Appends a member to a place.
-fn push_member(alloc: Global, name: &str, place: &mut Vec<u8>) -> Result<(), AllocError> {
-    if !place.is_empty() {
-        place.push(b'.')?;
-    }
-    push_name(alloc, name, place)
+    walk.place.truncate(length);
+    Ok(())
 }
 
 #[cycle(compare_trees)]
@@ -201,22 +218,20 @@ fn compare_members<'t>(
     alloc: Global,
     members: &'t BTreeMap<String, Tree>,
     others: &'t BTreeMap<String, Tree>,
-    place: &mut Vec<u8>,
     element: Option<Element<'t>>,
-    found: &mut Vec<Found<'t>>,
-) -> Result<bool, AllocError> {
-    let length = place.len();
-    let mut is_enough = members.len() == others.len();
+    walk: &mut Walk<'t>,
+) -> Result<(), AllocError> {
+    let length = walk.place.len();
+    walk.is_enough = members.len() == others.len();
     for (name, member) in members.iter() {
         match others.get(name.as_str()) {
             Some(other) => {
-                push_member(alloc, name.as_str(), place)?;
-                let are_equal = compare_trees(alloc, member, other, place, element, found)?;
-                is_enough = is_enough && are_equal;
-                place.truncate(length);
+                push_member(alloc, name.as_str(), &mut walk.place)?;
+                compare_trees(alloc, member, other, element, walk)?;
+                walk.place.truncate(length);
             }
-            None => is_enough = false,
+            None => walk.is_enough = false,
         }
     }
-    Ok(is_enough)
+    Ok(())
 }

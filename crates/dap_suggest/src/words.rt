@@ -35,10 +35,28 @@ pub fn push_quoted(alloc: Global, text: &Tree, out: &mut Vec<u8>) -> Result<(), 
     out.extend_from_slice(text.as_bytes())
 }
 
+/// Appends a member to a place.
+pub fn push_member(alloc: Global, name: &str, place: &mut Vec<u8>) -> Result<(), AllocError> {
+    if !place.is_empty() {
+        place.push(b'.')?;
+    }
+    push_name(alloc, name, place)
+}
+
+/// Appends a kind and a name of messages, as rules have them.
+pub fn push_named(
+    alloc: Global,
+    kind: Kind,
+    name: &str,
+    out: &mut Vec<u8>,
+) -> Result<(), AllocError> {
+    out.extend_from_slice(kind_word(kind).as_bytes())?;
+    push_name(alloc, name, out)
+}
+
 /// Appends the kind and the name of a message, as rules have them.
 pub fn push_class(alloc: Global, message: &Message, out: &mut Vec<u8>) -> Result<(), AllocError> {
-    out.extend_from_slice(kind_word(message.kind()).as_bytes())?;
-    push_name(alloc, message.name(), out)
+    push_named(alloc, message.kind(), message.name(), out)
 }
 
 /// Appends a word and a number.
@@ -46,6 +64,12 @@ pub fn push_count(word: &str, number: u64, out: &mut Vec<u8>) -> Result<(), Allo
     let mut digits = Buffer::new();
     out.extend_from_slice(word.as_bytes())?;
     out.extend_from_slice(digits.format(number).as_bytes())
+}
+
+/// Appends the words for a recording and the number of a record of it, as comments begin.
+pub fn push_record(words: &str, number: u64, out: &mut Vec<u8>) -> Result<(), AllocError> {
+    push_count(words, number, out)?;
+    out.extend_from_slice(b": ")
 }
 
 /// Returns whether a byte continues the character of the byte before it.

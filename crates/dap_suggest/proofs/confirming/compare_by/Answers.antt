@@ -15,6 +15,6 @@ returns-then-eq c =
     record {
       text = c.in_ok-one.one.bytes;
       of_a = c.in_ok-one.ensures;
-      of_b = subst (MakesNormal c.args.limits c.args.mode (mask_of c.args.rules.now) c.args.b.now)
-          (sym c.bytes-2.ensures.same ∙ sym equal ∙ c.bytes.ensures.same) c.in_ok-other.ensures;
+      of_b = subst (MakesNormal c.args.inputs.now.limits c.args.mode (mask_of c.args.rules.now)
+          c.args.inputs.now.b.now) (sym c.bytes-2.ensures.same ∙ sym equal ∙ c.bytes.ensures.same) c.in_ok-other.ensures;
     }

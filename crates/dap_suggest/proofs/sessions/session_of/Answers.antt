@@ -14,10 +14,13 @@ returns-in_err-bytes-clause-err c =
     (unapplied c.args.limits c.args.mode (mask_of c.args.rules.now) c.args.recording.now
     c.in_err-bytes.field-0.0 c.in_err-bytes.ensures.err)
 
-pub returns-in-Ok-clause-normalises : goal.returns-in-Ok-clause-normalises
-returns-in-Ok-clause-normalises c =
-    subst (λ s. Normalises c.args.limits c.args.mode s c.in-Ok.normal.bytes)
-    c.as_slice.ensures.value c.in-Ok.ensures.ok.normalises
+pub returns-in-Ok-clause-ok : goal.returns-in-Ok-clause-ok
+returns-in-Ok-clause-ok c = record {
+  session = c.in_ok-bytes.bytes.items;
+  applies = c.in_ok-bytes.ensures.ok;
+  normalises = subst (λ s. Normalises c.args.limits c.args.mode s c.in-Ok.normal.bytes)
+      c.as_slice.ensures.value c.in-Ok.ensures.ok.normalises;
+}
 
 pub returns-in-Err-clause-err : goal.returns-in-Err-clause-err
 returns-in-Err-clause-err c =
