@@ -166,6 +166,43 @@ def worked(report):
     report.check("two empty recordings need no rule", answer == (0, same.encode(), b""), repr(answer))
 
 
+def categories(report):
+    """Events in different numbers are dropped by their categories, if these explain the difference; otherwise by their name."""
+    def said(*events):
+        return recording([*BEGUN, *(message("<", "event", name, seq, body) for seq, (name, body) in enumerate(events, 2))])
+
+    def check(name, a, b, *rules, given=b""):
+        with Folder(a=said(*a), b=said(*b), given=given) as folder:
+            answer = folder.run("suggest", "--rules", "given", "a", "b")
+        wanted = "".join(f"# {one} in A, {other} in B\ndrop   event    {rule}\n\n" for one, other, rule in rules)
+        report.check(name, answer == (0, (wanted + "# with these rules: same\n").encode(), b""), repr(answer))
+
+    def output(category, text="x"):
+        return "output", {"category": category, "output": text} if category is not None else {"output": text}
+
+    printed, error, sent, plain = output("stdout"), output("stderr"), output("telemetry"), output(None)
+    check("telemetry goes, and the output of the program stays", [printed, sent], [sent, printed, sent], (1, 2, "output category=telemetry"))
+    check("telemetry of one recording", [printed, plain], [sent, printed, plain, sent, sent], (0, 3, "output category=telemetry"))
+    check(
+        "two categories", [printed, sent, error, printed], [sent, sent, printed],
+        (1, 0, "output category=stderr"), (2, 1, "output category=stdout"), (1, 2, "output category=telemetry"),
+    )
+    check("a category in quotes", [], [output('my "log"'), output("")], (0, 1, 'output category=""'), (0, 1, 'output category="my \\"log\\""'))
+    check("events without a category", [printed, plain], [printed, plain, plain], (2, 3, "output"))
+    check("a category that is no text", [("x", {"category": 7})], [("x", {"category": 7})] * 2, (1, 2, "x"))
+    check("events of a category, and others", [plain], [sent, plain, plain], (1, 3, "output"))
+    check("the others in another order", [printed, error], [error, printed, sent], (2, 3, "output"))
+    number, text = (("output", {"category": "stdout", "output": "x", "data": data}) for data in (1, "1"))
+    check("others that no rule makes equal", [number], [text, sent], (1, 2, "output"))
+    check("a category that a given rule changes", [], [sent], (0, 1, "output"), given=b"hex event output body.category\n")
+    check("another event", [("x", {"category": "a"})], [("x", {"category": "a"}), ("x", {"category": "b"})], (0, 1, "x category=b"))
+    check("equal numbers", [sent, printed], [sent, printed])
+    with Folder(a=said(), b=said(("continued", {"threadId": 1, "category": "a"}))) as folder:
+        answer = folder.run("suggest", "a", "b")
+    line = b'no rules can: record 3 of B, event "continued", has no counterpart in A\n'
+    report.check("an event that a session needs is not dropped by its category", answer == (1, b"", line), repr(answer))
+
+
 def elements(report):
     """If no action is enough at each element of a list, elements with up to eight names have rules of their own."""
     def listed(*values):
@@ -252,6 +289,7 @@ def main():
     report = Report()
     toys(report)
     worked(report)
+    categories(report)
     elements(report)
     refused(report)
     same, tried = real_pairs(report, FOLDERS)

@@ -132,6 +132,15 @@ struct Origin {
     number: u64,
 }
 
+/// Returns the comment that shows a number.
+fn comment_of(alloc: Global, origin: Origin, text: &str) -> Result<Vec<u8>, AllocError> {
+    let mut comment = Vec::new(alloc);
+    push_record(origin.side, origin.number, &mut comment)?;
+    comment.extend_from_slice(text.as_bytes())?;
+    comment.push(b'\n')?;
+    Ok(comment)
+}
+
 /// Adds the rule for a number, with a comment that shows it, if it is the first at its place.
 fn add_rule(
     alloc: Global,
@@ -144,12 +153,17 @@ fn add_rule(
     if comments.contains_key(target.as_slice()) {
         return Ok(());
     }
-    let mut comment = Vec::new(alloc);
-    push_record(origin.side, origin.number, &mut comment)?;
-    comment.extend_from_slice(fraction.text.as_bytes())?;
-    comment.push(b'\n')?;
+    let comment = comment_of(alloc, origin, fraction.text.as_str())?;
     drop(comments.insert(target, comment)?);
     Ok(())
+}
+
+/// Returns the numbers of a message.
+fn fractions_of(alloc: Global, message: &Value) -> Result<Vec<Fraction>, AllocError> {
+    let mut place = Vec::new(alloc);
+    let mut found = Vec::new(alloc);
+    search(alloc, message, &mut place, &mut found)?;
+    Ok(found)
 }
 
 /// Adds the rules for the numbers of a message.
@@ -163,9 +177,7 @@ fn add_message(
     if !push_head(alloc, message, &mut head)? {
         return Ok(());
     }
-    let mut place = Vec::new(alloc);
-    let mut found = Vec::new(alloc);
-    search(alloc, message, &mut place, &mut found)?;
+    let found = fractions_of(alloc, message)?;
     for fraction in found.iter() {
         add_rule(alloc, origin, head.as_slice(), fraction, comments)?;
     }

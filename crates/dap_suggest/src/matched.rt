@@ -1,7 +1,7 @@
 //! Two recordings whose records are matched.
 ghost use Rattle.dap_input.specs.Limits.{AreSound};
 
-use crate::counting::{Counts, count_events, drops, is_dropped};
+use crate::counting::{EventsByName, count_events, drops, is_dropped};
 use crate::obstacle::{Obstacle, Reason, Unsolved, unsolved_entry};
 use crate::sessions::Sessions;
 use dap_compare::{CompareRefused, Which};
@@ -12,7 +12,6 @@ use dap_normalise::index_tables;
 use dap_rename::Mode;
 use dap_rules::ApplyRefused;
 use std::alloc::{AllocError, Global};
-use std::collections::BTreeMap;
 
 /// Two recordings whose records are matched, without the events that are dropped.
 #[derive(Drop)]
@@ -62,27 +61,43 @@ fn read_session(
 }
 
 /// Removes the events that are dropped.
-fn remove_dropped(recording: &mut Recording, counts: &BTreeMap<String, Counts>) {
-    recording.entries.retain(|entry| !is_dropped(entry, counts));
+fn remove_dropped(recording: &mut Recording, events: &EventsByName) {
+    recording.entries.retain(|entry| !is_dropped(entry, events));
 }
 
 /// Removes the events that the recordings have in different numbers, and matches the others.
 /// Returns the rules that drop these events.
-fn match_both(alloc: Global, a: &mut Recording, b: &mut Recording) -> Result<Vec<u8>, AllocError> {
-    let counts = count_events(alloc, a.entries.as_slice(), b.entries.as_slice())?;
-    remove_dropped(a, &counts);
-    remove_dropped(b, &counts);
+fn match_both(
+    alloc: Global,
+    a: &mut Recording,
+    b: &mut Recording,
+    by_category: bool,
+) -> Result<Vec<u8>, AllocError> {
+    let events = count_events(
+        alloc,
+        a.entries.as_slice(),
+        b.entries.as_slice(),
+        by_category,
+    )?;
+    remove_dropped(a, &events);
+    remove_dropped(b, &events);
     match_records(alloc, a.entries.as_mut_slice(), b.entries.as_mut_slice())?;
-    drops(alloc, &counts)
+    drops(alloc, &events)
 }
 
-/// Reads and matches the recordings of two sessions that are accepted.
-pub fn read_matched(alloc: Global, sessions: &Sessions, limits: Limits) -> Result<Matched, Unsolved>
+/// Reads and matches the recordings of two sessions that are accepted. Events that they have in
+/// different numbers are removed, by their category if that is wanted and enough.
+pub fn read_matched(
+    alloc: Global,
+    sessions: &Sessions,
+    by_category: bool,
+    limits: Limits,
+) -> Result<Matched, Unsolved>
     requires { AreSound limits }
 {
     let mut a = read_session(alloc, Which::A, sessions.a.as_slice(), limits)?;
     let mut b = read_session(alloc, Which::B, sessions.b.as_slice(), limits)?;
-    let drops = match_both(alloc, &mut a, &mut b)?;
+    let drops = match_both(alloc, &mut a, &mut b, by_category)?;
     Ok(Matched { a, b, drops })
 }
 

@@ -41,22 +41,40 @@ fn search_refusal(unsolved: Unsolved) -> SuggestRefused
 }
 
 /// Searches rules for two recordings and their sessions, which the rules that were given and those
-/// `before` the others make. Returns them after those.
+/// `before` the others make. Returns them after those. Events are dropped by their category only if
+/// that is wanted.
 fn find_rules(
     alloc: Global,
     inputs: &Inputs<'_>,
     before: &[u8],
     sessions: &Sessions,
+    by_category: bool,
 ) -> Result<Vec<u8>, Unsolved>
     requires { AreSound inputs.now.limits }
 {
     let known = joined(alloc, inputs.given, before)?;
-    let matched = read_matched(alloc, sessions, inputs.limits)?;
+    let matched = read_matched(alloc, sessions, by_category, inputs.limits)?;
     let found = rules_for(alloc, known.as_slice(), &matched)?;
     Ok(joined(alloc, before, found.as_slice())?)
 }
 
 /// Searches rules as [`find_rules`], and confirms them.
+fn find_by(
+    alloc: Global,
+    inputs: &Inputs<'_>,
+    before: &[u8],
+    sessions: &Sessions,
+    by_category: bool,
+) -> Result<Suggestion, Unsolved>
+    requires { AreSound inputs.now.limits }
+    ensures { IfOk result (IsSuggestion inputs.now) }
+{
+    let found = find_rules(alloc, inputs, before, sessions, by_category)?;
+    confirm(alloc, inputs, found.as_slice())
+}
+
+/// Searches and confirms rules. Events are dropped by their category, or by their name alone if no
+/// rules are found otherwise.
 fn find_confirmed(
     alloc: Global,
     inputs: &Inputs<'_>,
@@ -66,8 +84,10 @@ fn find_confirmed(
     requires { AreSound inputs.now.limits }
     ensures { IfOk result (IsSuggestion inputs.now) }
 {
-    let found = find_rules(alloc, inputs, before, sessions)?;
-    confirm(alloc, inputs, found.as_slice())
+    match find_by(alloc, inputs, before, sessions, true) {
+        Err(Unsolved::NoRules(_)) => find_by(alloc, inputs, before, sessions, false),
+        found => found,
+    }
 }
 
 /// Returns the sessions that the rules that were given and those of a text after them make. Returns
@@ -172,10 +192,11 @@ fn suggest_by(
 /// were given.
 ///
 /// The records are matched as those of [`diff_all`](dap_diff::diff_all). Events that the
-/// recordings have in different numbers are dropped. At each place at which pairs differ, the first
-/// verb that makes all pairs equal there is suggested, or a parent is blanked. Pairs in another
-/// order may change places. Numbers that are not integers of 64 bits are blanked. Then the rules
-/// are applied to both recordings, and the results are compared.
+/// recordings have in different numbers are dropped, only those of some categories if these explain
+/// the difference. At each place at which pairs differ, the first verb that makes all pairs equal
+/// there is suggested, or a parent is blanked. Pairs in another order may change places. Numbers
+/// that are not integers of 64 bits are blanked. Then the rules are applied to both recordings, and
+/// the results are compared.
 ///
 /// Each rule follows a comment with the two values and their records. The last line says in which
 /// mode the recordings are the same: `# with these rules: same`, or
