@@ -41,7 +41,7 @@ JOBS = [
     (["diff", "--per-stop", "a.rec", "b.rec"], b"", (0, b"same\n", b"")),
     (["diff", "--all", "a.rec", "b.rec"], b"", (1, ALL, b"")),
     (["diff", "a.rec", "b.rec", "--all", "--per-stop"], b"", (0, b"same\n", b"")),
-    (["suggest", "a.rec", "b.rec"], b"", (0, b"# with these rules and per-stop: same\n", b"")),
+    (["suggest", "a.rec", "b.rec"], b"", (0, b"# without this line the ids differ\nper-stop\n\n# with these rules and per-stop: same\n", b"")),
     (["suggest", "a.rec", "-", "--rules", "lldb.rules"], COMPARED["a stale frame"][0], (0, b"# with these rules: same\n", b"")),
     (["check", "-"], OPEN, ACCEPTED),
     (["check", "open.rec"], b"", ACCEPTED),

@@ -8,10 +8,10 @@ import sys
 
 from golden import Folder
 from report import TOP, Report
-from worked_runs import BEGUN, INITIALIZE, record, recording, refusal
+from worked_runs import BEGUN, COMPARED, INITIALIZE, record, recording, refusal
 
 FOLDERS = [os.path.join(TOP, "examples", name) for name in ("captures", "pairs")]
-LAST = {b"# with these rules: same": [], b"# with these rules and per-stop: same": ["--per-stop"]}
+SAME, PER_STOP = b"# with these rules: same", b"# with these rules and per-stop: same"
 NO_RULES = re.compile(
     r'no rules can: (record \d+ of [AB], (request|response|event) ".*", (has no counterpart in|differs where no rule may change it from|'
     r"comes in an order that no rule allows in) [AB]|[AB]: after the rules: record \d+: .*|after the rules, record \d+ still differs)\n"
@@ -20,11 +20,12 @@ NO_RULES = re.compile(
 
 def makes_same(folder, printed, a, b, given=b""):
     """Whether the printed rules, after those that were given, make the two recordings of a folder the same."""
-    options = LAST.get(printed.splitlines()[-1]) if printed else None
-    if options is None:
+    lines = (given + printed).splitlines()
+    has_line = b"per-stop" in (line.partition(b"#")[0].strip() for line in lines)
+    if lines[-1:] != [PER_STOP if has_line else SAME]:
         return False
     folder.write("suggested", given + printed)
-    status, output, errors = folder.run("compare", *options, "--rules", "suggested", a, b)
+    status, output, errors = folder.run("compare", "--rules", "suggested", a, b)
     return (status, output.splitlines()[:1], errors) == (0, [b"same"], b"")
 
 
@@ -53,8 +54,7 @@ def real_pairs(report, folders):
             if status == 0:
                 same += report.check(f"what is suggested for {name} makes it the same", makes_same(files, printed, "a", "b"), printed.decode()[-400:])
                 again = files.run("suggest", "--rules", "suggested", "a", "b")
-                known = printed.splitlines()[-1] in LAST and again == (0, printed.splitlines()[-1] + b"\n", b"")
-                report.check(f"nothing is added to what was suggested for {name}", known, repr(again))
+                report.check(f"nothing is added to what was suggested for {name}", again == (0, printed.splitlines()[-1] + b"\n", b""), repr(again))
             else:
                 named = status == 1 and printed == b"" and NO_RULES.fullmatch(errors.decode())
                 report.check(f"{name} has rules, or a record is named", named, repr((status, printed, errors)))
@@ -164,6 +164,23 @@ def worked(report):
     report.check("two equal recordings need no rule", answer == (0, same.encode(), b""), repr(answer))
     answer = asked(b"", b"")
     report.check("two empty recordings need no rule", answer == (0, same.encode(), b""), repr(answer))
+
+
+def stops(report):
+    """The file has the line `per-stop` if the recordings are the same only by it. It is not added to rules that have it."""
+    a, b = COMPARED["a stale frame"][:2]
+    added, end = b"# without this line the ids differ\nper-stop\n\n" + PER_STOP + b"\n", PER_STOP + b"\n"
+    for name, other, given, wanted in (
+        ("ids that are used again", b, b"", added), ("ids that are used again, after rules", b, b"blank event x body", b"\n" + added),
+        ("ids that are used again, with the line", b, b"per-stop\n", end), ("equal recordings, with the line", a, b"per-stop # all\n", end),
+    ):
+        with Folder(a=a, b=other, given=given) as folder:
+            answer = folder.run("suggest", "--rules", "given", "a", "b")
+            report.check(f"{name}: what is suggested", answer == (0, wanted, b""), repr(answer))
+            report.check(f"{name}: it makes them the same", makes_same(folder, answer[1], "a", "b", given))
+    with Folder(a=a, b=recording([*BEGUN, message(">", "request", "threads", 2)]), given=b"per-stop\n") as folder:
+        answer = folder.run("suggest", "--rules", "given", "a", "b")
+        report.check("no rules with the line", answer[0] == 1 and answer[2].startswith(b"no rules can: record"), repr(answer))
 
 
 def categories(report):
@@ -289,6 +306,7 @@ def main():
     report = Report()
     toys(report)
     worked(report)
+    stops(report)
     categories(report)
     elements(report)
     refused(report)

@@ -4,12 +4,14 @@ use Rattle.std.specs.Prelude.{◌≡◌, ◌⊎◌, ◌++◌, ℕ, List, Ok}
 use Rattle.dap_mask.specs.Mask.{Mask}
 use Rattle.dap_mask.specs.RulesFile.{rules_said}
 use Rattle.dap_rename.specs.declared.mode.Mode.{Mode}
+use Rattle.dap_rename.specs.declared.mode.Mode.TheVariants.{Whole}
 use Rattle.dap_input.specs.declared.limits.Limits.{Limits}
 use Rattle.dap_input.specs.declared.refused.Refused.{Refused}
 use Rattle.dap_input.specs.Refusals.{IsRefused}
 use Rattle.dap_normalise.specs.Accepting.{accepting}
 use Rattle.dap_normalise.specs.Normalising.{Normalises}
 use Rattle.dap_rules.specs.Applying.{AppliesRules, IsRefusedByRules}
+use Rattle.dap_rules.specs.Modes.{mode_by}
 use Rattle.dap_rules.specs.declared.fault.ApplyRefused.{ApplyRefused}
 use Rattle.dap_rules.specs.declared.fault.ApplyRefused.TheVariants as step
 use Rattle.dap_suggest.specs.declared.inputs.Inputs.{Inputs}
@@ -31,10 +33,12 @@ pub record HaveOneNormal (limits : Limits) (mode : Mode) (mask : Mask) (a b : Li
   pub of_a : MakesNormal limits mode mask a text
   pub of_b : MakesNormal limits mode mask b text
 
--- The file of rules is accepted, and by its rules the two recordings are the same.
+-- The file of rules is accepted, and by its rules the two recordings are the same. This is the mode
+-- in which `compare --rules` then numbers their ids.
 pub record AreSameBy (limits : Limits) (mode : Mode) (rules a b : List ℕ) : Type 0 where
   pub mask : Mask
   pub said : rules_said rules ≡ Ok mask
+  pub mode_is : mode ≡ mode_by mask Whole
   pub one : HaveOneNormal limits mode mask a b
 
 -- The rules that were given, and after them those of the suggestion, make both recordings the same.

@@ -16,8 +16,21 @@ use dap_input::Limits;
 use dap_mask::{MaskRules, RulesCause};
 use dap_normalise::Normalised;
 use dap_rename::Mode;
-use dap_rules::ApplyRefused;
+use dap_rules::{ApplyRefused, mode_by};
 use std::alloc::Global;
+
+/// The last line of rules.
+const SAME: &str = "# with these rules: same\n";
+
+/// The last line of rules that number ids from each stop.
+const SAME_PER_STOP: &str = "# with these rules and per-stop: same\n";
+
+/// The last lines of rules that number ids from each stop only by a line of their own.
+const ADDED_PER_STOP: &str = "# without this line the ids differ
+per-stop
+
+# with these rules and per-stop: same
+";
 
 /// Returns the number of the record in which two different normal texts first differ.
 fn first_difference(text: &[u8], other: &[u8]) -> u64 {
@@ -97,52 +110,59 @@ fn compare_by(
     Err(Unsolved::NoRules(Obstacle::StillDiffers(record)))
 }
 
-/// Compares two recordings by the rules of a text.
+/// Compares two recordings by the rules of a text, as `compare --rules` does. Returns the mode in
+/// which they are the same.
 ///
 /// # Errors
 ///
 /// The text is not a rules file, and those of [`compare_by`].
-fn are_same_by(alloc: Global, text: &[u8], inputs: &Inputs<'_>, mode: Mode) -> Result<(), Unsolved>
+fn same_by(alloc: Global, text: &[u8], inputs: &Inputs<'_>) -> Result<Mode, Unsolved>
     requires { AreSound inputs.now.limits }
-    ensures { OnOk result
-        (AreSameBy inputs.now.limits mode text.now inputs.now.a.now inputs.now.b.now) }
+    ensures { IfOk result (λ mode.
+        AreSameBy inputs.now.limits mode text.now inputs.now.a.now inputs.now.b.now) }
 {
     let rules = read_rules(alloc, text)?;
-    compare_by(alloc, &rules, inputs, mode)
+    let mode = mode_by(&rules, Mode::Whole);
+    compare_by(alloc, &rules, inputs, mode)?;
+    Ok(mode)
 }
 
-/// Returns the last line of a suggestion.
-fn last_line(mode: Mode) -> &'static str {
-    match mode {
-        Mode::Whole => "# with these rules: same\n",
-        Mode::PerStop => "# with these rules and per-stop: same\n",
-    }
-}
-
-/// Suggests these rules, if two recordings are the same by them in this mode.
+/// Suggests these rules and the lines after them, if two recordings are the same by them.
 fn suggested(
     alloc: Global,
     inputs: &Inputs<'_>,
     found: &[u8],
-    mode: Mode,
+    end: &str,
 ) -> Result<Suggestion, Unsolved>
     requires { AreSound inputs.now.limits }
     ensures { IfOk result (IsSuggestion inputs.now) }
 {
-    let rules = joined(alloc, found, last_line(mode).as_bytes())?;
+    let rules = joined(alloc, found, end.as_bytes())?;
     let whole = joined(alloc, inputs.given, rules.as_slice())?;
-    are_same_by(alloc, whole.as_slice(), inputs, mode)?;
+    let mode = same_by(alloc, whole.as_slice(), inputs)?;
     Ok(Suggestion { rules, mode })
 }
 
+/// Suggests these rules, if two recordings are the same by them, or by them and the line `per-stop`.
+fn confirm_added(alloc: Global, inputs: &Inputs<'_>, found: &[u8]) -> Result<Suggestion, Unsolved>
+    requires { AreSound inputs.now.limits }
+    ensures { IfOk result (IsSuggestion inputs.now) }
+{
+    match suggested(alloc, inputs, found, SAME) {
+        Err(Unsolved::NoRules(_)) => suggested(alloc, inputs, found, ADDED_PER_STOP),
+        confirmed => confirmed,
+    }
+}
+
 /// Suggests these rules, if two recordings are the same by them. Ids are numbered once in each
-/// recording, or from each stop if only that makes the recordings the same.
+/// recording; or from each stop, if the rules that were given say so, or if only that makes the
+/// recordings the same.
 pub fn confirm(alloc: Global, inputs: &Inputs<'_>, found: &[u8]) -> Result<Suggestion, Unsolved>
     requires { AreSound inputs.now.limits }
     ensures { IfOk result (IsSuggestion inputs.now) }
 {
-    match suggested(alloc, inputs, found, Mode::Whole) {
-        Err(Unsolved::NoRules(_)) => suggested(alloc, inputs, found, Mode::PerStop),
-        confirmed => confirmed,
+    match inputs.mode {
+        Mode::Whole => confirm_added(alloc, inputs, found),
+        Mode::PerStop => suggested(alloc, inputs, found, SAME_PER_STOP),
     }
 }

@@ -17,7 +17,8 @@ use crate::sessions::{Sessions, sessions_by};
 use crate::suggestion::{SuggestRefused, Suggestion};
 use dap_input::{Limits, Refused};
 use dap_mask::{MaskRules, RulesCause, RulesFault};
-use dap_rules::ApplyRefused;
+use dap_rename::Mode;
+use dap_rules::{ApplyRefused, mode_by};
 use std::alloc::Global;
 
 /// Returns why the rules that were given are rejected.
@@ -230,6 +231,7 @@ pub fn suggest(
         Ok(rules) => {
             let inputs = Inputs {
                 given,
+                mode: mode_by(&rules, Mode::Whole),
                 a,
                 b,
                 limits,

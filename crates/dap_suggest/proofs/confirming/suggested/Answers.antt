@@ -5,7 +5,7 @@ use Rattle.dap_suggest.proofs.confirming.suggested.Goals as goal
 pub returns : goal.returns
 returns c =
     let inputs = c.args.inputs.now in
-    subst (λ rules. AreSameBy inputs.limits c.args.mode rules inputs.a.now inputs.b.now)
+    subst (λ rules. AreSameBy inputs.limits c.in_ok-mode.mode rules inputs.a.now inputs.b.now)
     (c.as_slice-2.ensures.value ∙ c.in_ok-whole.ensures
     ∙ ap (λ rules. inputs.given.now ++ rules) c.as_slice.ensures.value)
-    c.in_ok-are_same_by.ensures
+    c.in_ok-mode.ensures
