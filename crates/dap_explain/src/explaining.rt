@@ -10,7 +10,7 @@ use crate::json_faults::explain_json;
 use crate::lines::Lines;
 use crate::message_faults::explain_message;
 use crate::record_faults::explain_record;
-use crate::records::{RecordPart, record_numbered};
+use crate::records::{Part, record_numbered};
 use crate::session_rules::explain_rule;
 use crate::trace_faults::{explain_piece, explain_recorder};
 use crate::unanswered::explain_incomplete;
@@ -23,57 +23,35 @@ use std::alloc::{AllocError, Global};
 fn explain_content(
     lines: &mut Lines,
     input: &[u8],
-    record: RecordPart<'_>,
+    record: Part<'_>,
     refused: Refused,
     rules: &[MaskRule],
     limits: Limits,
-)
-    requires { IsSound limits.frame }
-{
+) {
     if let Refused::Json(_) = refused {
         return explain_json(lines, record);
     }
-    if let Some(message) = read_value(lines, record.content) {
-        explain_value(lines, input, record, &message, refused, rules, limits);
-    }
-}
-
-/// Explains the rejection of a record whose content is JSON.
-fn explain_value(
-    lines: &mut Lines,
-    input: &[u8],
-    record: RecordPart<'_>,
-    message: &Value,
-    refused: Refused,
-    rules: &[MaskRule],
-    limits: Limits,
-)
-    requires { IsSound limits.frame }
-{
+    let Some(message) = read_value(lines, record.content) else {
+        return;
+    };
     if let Refused::Message(_, fault) = refused {
-        return explain_message(lines, record, message, fault);
+        return explain_message(lines, record, &message, fault);
     }
-    let head = Head::of(record.side, message);
+    let head = Head::of(record.side, &message);
     add_head(lines, record.number, &head);
     match refused {
-        Refused::Fraction(_) => explain_fraction(lines, record.content, message, head, rules),
-        Refused::Rule(_, rule) => {
-            explain_rule(lines, input, record.number, &head, rule, limits.frame)
-        }
-        Refused::TooManyIds(_) => {
-            lines.number("the limit is ", limits.ids as u64);
-            lines.end(" different ids of a kind: record shorter sessions");
-        }
-        Refused::Grew(_) => add_text_limits(lines, limits),
+        Refused::Fraction(_) => explain_fraction(lines, record.content, &message, head, rules),
+        Refused::Rule(_, rule) => explain_rule(lines, input, record.number, &head, rule),
+        Refused::TooManyIds(_) => lines.write(format_args!(
+            "the limit is {} different ids of a kind: record shorter sessions",
+            limits.ids,
+        )),
+        Refused::Grew(_) => lines.write(format_args!(
+            "dapnorm writes at most {} bytes for a record and {} bytes in all: record shorter sessions",
+            limits.frame.content, limits.input,
+        )),
         _ => {}
     }
-}
-
-/// Adds the line about the limits of the output.
-fn add_text_limits(lines: &mut Lines, limits: Limits) {
-    lines.number("dapnorm writes at most ", limits.frame.content as u64);
-    lines.number(" bytes for a record and ", limits.input);
-    lines.end(" bytes in all: record shorter sessions");
 }
 
 /// Adds the lines about a rejection.
@@ -87,10 +65,10 @@ fn add_refusal(
     requires { IsSound limits.frame }
 {
     match refused {
-        Refused::InputTooLong(_) | Refused::TraceTooLong(_) => {
-            lines.number("the limit of an input is ", limits.input);
-            lines.end(" bytes: record shorter sessions");
-        }
+        Refused::InputTooLong(_) | Refused::TraceTooLong(_) => lines.write(format_args!(
+            "the limit of an input is {} bytes: record shorter sessions",
+            limits.input,
+        )),
         Refused::Record(number, cause) => {
             explain_record(lines, input, number, cause, limits.frame)
         }
@@ -99,8 +77,7 @@ fn add_refusal(
             explain_recorder(lines, input, number, fault, limits.frame)
         }
         Refused::Incomplete(client, adapter) => {
-            let count = client.saturating_add(adapter);
-            explain_incomplete(lines, input, count, limits.frame)
+            explain_incomplete(lines, input, client.saturating_add(adapter))
         }
         Refused::Json(number)
         | Refused::Fraction(number)
@@ -108,13 +85,28 @@ fn add_refusal(
         | Refused::Rule(number, _)
         | Refused::TooManyIds(number)
         | Refused::Grew(number) => {
-            match record_numbered(lines.alloc(), input, number, limits.frame) {
-                Some(record) => explain_content(lines, input, record, refused, rules, limits),
-                None => {}
+            if let Some(record) = record_numbered(input, number) {
+                explain_content(lines, input, record, refused, rules, limits);
             }
         }
         Refused::ReadFault | Refused::WriteFault | Refused::Memory => {}
     }
+}
+
+/// Explains the rejection of an input to which these rules were applied.
+fn explanation(
+    alloc: Global,
+    input: &[u8],
+    rules: &[MaskRule],
+    refused: Refused,
+    limits: Limits,
+) -> Result<String, AllocError>
+    requires { IsSound limits.frame }
+    ensures { IfOk result (λ text. ∥ AreLines (string_bytes text) ∥₁) }
+{
+    let mut lines = Lines::new(alloc);
+    add_refusal(&mut lines, input, refused, rules, limits);
+    lines.into_text()
 }
 
 /// Explains a rejection in lines for people.
@@ -139,9 +131,7 @@ pub fn explain(
     requires { IsSound limits.frame }
     ensures { IfOk result (λ text. ∥ AreLines (string_bytes text) ∥₁) }
 {
-    let mut lines = Lines::new(alloc);
-    add_refusal(&mut lines, input, refused, &[], limits);
-    lines.into_text()
+    explanation(alloc, input, &[], refused, limits)
 }
 
 /// Explains a rejection as [`explain`] does, if these rules were applied to the messages of the
@@ -160,9 +150,7 @@ pub fn explain_masked(
     requires { IsSound limits.frame }
     ensures { IfOk result (λ text. ∥ AreLines (string_bytes text) ∥₁) }
 {
-    let mut lines = Lines::new(alloc);
-    add_refusal(&mut lines, input, refused, rules.changes(), limits);
-    lines.into_text()
+    explanation(alloc, input, rules.changes(), refused, limits)
 }
 
 /// Explains that a file cannot be read: returns its name and the reason that the system returned.
@@ -178,7 +166,6 @@ pub fn explain_unreadable<'a>(
     ensures { IfOk result (λ text. ∥ AreLines (string_bytes text) ∥₁) }
 {
     let mut lines = Lines::new(alloc);
-    lines.text(name, ": ");
-    lines.end(reason);
+    lines.write(format_args!("{name}: {reason}"));
     lines.into_text()
 }

@@ -2,11 +2,9 @@
 //! blank them.
 use crate::head::{Head, kind_word};
 use crate::lines::Lines;
-use crate::number_text::number_text;
-use crate::path::{Step, push_name, push_path, push_place};
+use crate::words::{Cut, Name, Path, Step};
 use dap_mask::{MaskRule, MaskRules, RulesCause, Verb};
-use dap_profile::Kind;
-use json::{Reader, Scratch};
+use json::{Reader, Scratch, Token};
 use serde_json::{Map, Number, Value};
 use std::alloc::{AllocError, Global};
 use std::str;
@@ -21,12 +19,7 @@ struct Masking<'r> {
 impl Masking<'_> {
     /// Returns whether a rule blanks the value at a path, or a value that contains it.
     fn blanks(&self, path: &[Step<'_>]) -> bool {
-        for rule in self.rules {
-            if self.is_applied(rule) && is_within(path, &rule.place) {
-                return true;
-            }
-        }
-        false
+        self.rules.iter().any(|rule| self.is_applied(rule) && is_within(path, &rule.place))
     }
 
     /// Returns whether a rule blanks values of the message.
@@ -34,7 +27,7 @@ impl Masking<'_> {
         rule.verb == Verb::Blank
             && self.head.kind == Some(rule.kind)
             && match &rule.name {
-                Some(name) => self.head.is_named(name.as_str()),
+                Some(name) => self.head.name == Some(name.as_str()),
                 None => true,
             }
     }
@@ -42,15 +35,11 @@ impl Masking<'_> {
 
 /// Returns whether a path starts with the path of a rule.
 fn is_within(path: &[Step<'_>], place: &[dap_mask::Step]) -> bool {
-    if path.len() < place.len() {
-        return false;
-    }
-    for (step, rule_step) in path.iter().zip(place) {
-        if !is_at(*step, rule_step) {
-            return false;
-        }
-    }
-    true
+    path.len() >= place.len()
+        && path
+            .iter()
+            .zip(place)
+            .all(|(step, rule_step)| is_at(*step, rule_step))
 }
 
 /// Returns whether a step of a path matches a step of a rule.
@@ -73,15 +62,6 @@ struct Fractions<'m> {
 }
 
 impl<'m> Fractions<'m> {
-    /// Returns the path that all of them share, if it is not the path of the first.
-    fn shared_path(&self) -> Option<&[Step<'m>]> {
-        if self.shared < self.first.len() {
-            self.first.get(..self.shared)
-        } else {
-            None
-        }
-    }
-
     /// Adds the path of a number, if it is not an integer of 64 bits and no rule blanks it.
     fn note_number(
         &mut self,
@@ -112,12 +92,10 @@ impl<'m> Fractions<'m> {
 /// Returns the number of leading steps that two paths share, counting all elements of an array as
 /// equal.
 fn shared_steps(path: &[Step<'_>], other: &[Step<'_>]) -> usize {
-    for shared in 0..path.len().min(other.len()) {
-        if !are_one_place(path[shared], other[shared]) {
-            return shared;
-        }
-    }
-    path.len().min(other.len())
+    path.iter()
+        .zip(other)
+        .position(|(step, other)| !are_one_place(*step, *other))
+        .unwrap_or(path.len().min(other.len()))
 }
 
 /// Returns whether two steps are equal, counting all elements of an array as equal.
@@ -206,25 +184,73 @@ fn fault_of(text: &str) -> &'static str {
     }
 }
 
-/// Adds the line about the number with this text.
-fn add_text(lines: &mut Lines, path: &[Step<'_>], text: &str) {
-    push_path(lines, path);
-    lines.cut(" is ", text);
-    lines.text(", which ", fault_of(text));
-    lines.end("; dapnorm takes only integers of 64 bits");
+/// Moves past a value at a path: if it is an element, to the next one.
+fn pass(path: &mut Vec<Step<'_>>) {
+    if let Some(Step::Element(index)) = path.last_mut() {
+        *index = index.saturating_add(1);
+    }
+}
+
+/// Moves a path past a token.
+fn take<'t>(path: &mut Vec<Step<'t>>, token: Token<'t>) -> Result<(), AllocError> {
+    match token {
+        Token::BeginObject => path.push(Step::Member(""))?,
+        Token::BeginArray => path.push(Step::Element(0))?,
+        Token::Key(name) => {
+            path.pop();
+            path.push(Step::Member(name))?;
+        }
+        Token::EndObject | Token::EndArray => {
+            path.pop();
+            pass(path);
+        }
+        _ => pass(path),
+    }
+    Ok(())
+}
+
+/// Returns the unchanged text of the number at a path of a JSON text. If a member name occurs twice
+/// in an object, the last one counts.
+fn number_text<'t>(
+    alloc: Global,
+    reader: &mut Reader<'t>,
+    path: &[Step<'_>],
+) -> Result<Option<&'t str>, AllocError> {
+    let mut here = Vec::new(alloc);
+    let mut found = None;
+    while let Some(token) = reader.next() {
+        match token {
+            Token::Number(text) if here.as_slice() == path => found = Some(text),
+            _ => {}
+        }
+        take(&mut here, token)?;
+    }
+    Ok(found)
 }
 
 /// Adds the line that states which number is at a path, and what is wrong with it.
-fn add_number(lines: &mut Lines, content: &str, path: &[Step<'_>]) {
+fn add_number(lines: &mut Lines, content: &str, steps: &[Step<'_>]) {
     let mut scratch = Scratch::new(lines.alloc());
-    match Reader::new(content, &mut scratch) {
-        Ok(mut reader) => {
-            if let Some(text) = number_text(&mut reader, path) {
-                add_text(lines, path, text);
-            }
-        }
-        Err(_) => lines.fail(),
+    let Some(mut reader) = lines.noted(Reader::new(content, &mut scratch)) else {
+        return;
+    };
+    let text = number_text(lines.alloc(), &mut reader, steps);
+    if let Some(Some(text)) = lines.noted(text) {
+        add_text(lines, steps, text);
     }
+}
+
+/// Adds the line about the number with this text.
+fn add_text(lines: &mut Lines, steps: &[Step<'_>], text: &str) {
+    let path = Path {
+        steps,
+        is_rule: false,
+    };
+    lines.write(format_args!(
+        "{path} is {}, which {}; dapnorm takes only integers of 64 bits",
+        Cut(text),
+        fault_of(text),
+    ));
 }
 
 /// Adds the line that states how many more such numbers there are.
@@ -232,28 +258,17 @@ fn add_more(lines: &mut Lines, more: u64) {
     match more {
         0 => {}
         1 => lines.add("one more number of this record is not an integer of 64 bits"),
-        _ => {
-            lines.number("", more);
-            lines.end(" more numbers of this record are not integers of 64 bits");
-        }
+        _ => lines.write(format_args!(
+            "{more} more numbers of this record are not integers of 64 bits",
+        )),
     }
 }
 
 /// The maximum number of bytes of a proposed rule.
 const LONGEST_RULE: usize = 500;
 
-/// Returns the rule that blanks the value at a path of a message.
-fn rule_line(lines: &mut Lines, kind: Kind, name: &str, place: &[Step<'_>]) -> String {
-    lines.text("blank ", kind_word(kind));
-    lines.push_str(" ");
-    push_name(lines, name);
-    lines.push_str(" ");
-    push_place(lines, place);
-    lines.take_line()
-}
-
 /// Returns whether a line is a mask rule that blanks the value at a path of a message.
-fn is_rule_for(lines: &mut Lines, line: &str, head: Head<'_>, place: &[Step<'_>]) -> bool {
+fn is_rule_for(lines: &mut Lines, line: &str, head: Head<'_>, path: &[Step<'_>]) -> bool {
     if line.len() > LONGEST_RULE {
         return false;
     }
@@ -263,7 +278,7 @@ fn is_rule_for(lines: &mut Lines, line: &str, head: Head<'_>, place: &[Step<'_>]
                 rules: rules.changes(),
                 head,
             };
-            masking.blanks(place)
+            masking.blanks(path)
         }
         Err(fault) => {
             if fault.cause == RulesCause::Memory {
@@ -276,44 +291,38 @@ fn is_rule_for(lines: &mut Lines, line: &str, head: Head<'_>, place: &[Step<'_>]
 
 /// Adds the line with the rule that blanks `what`, if it is a valid mask rule. Returns whether it
 /// is.
-fn add_rule(lines: &mut Lines, head: Head<'_>, what: &str, place: &[Step<'_>]) -> bool {
+fn add_rule(lines: &mut Lines, head: Head<'_>, what: &str, steps: &[Step<'_>]) -> bool {
     let (Some(kind), Some(name)) = (head.kind, head.name) else {
         return false;
     };
-    let rule = rule_line(lines, kind, name, place);
-    let is_rule = is_rule_for(lines, rule.as_str(), head, place);
+    let path = Path {
+        steps,
+        is_rule: true,
+    };
+    let rule = format!(in lines.alloc(); "blank {} {} {path}", kind_word(kind), Name(name));
+    let Some(rule) = lines.noted(rule) else {
+        return false;
+    };
+    let is_rule = is_rule_for(lines, rule.as_str(), head, steps);
     if is_rule {
-        lines.text("to blank ", what);
-        lines.push_str(", write into a rules file: ");
-        lines.end(rule.as_str());
+        lines.write(format_args!("to blank {what}, write into a rules file: {rule}"));
     }
     is_rule
 }
 
 /// Adds the lines about the rules that blank the numbers found.
 fn add_rules(lines: &mut Lines, head: Head<'_>, found: &Fractions<'_>) {
-    let has_first = add_rule(lines, head, "this number", found.first.as_slice());
-    let has_shared = match found.shared_path() {
-        Some(path) => add_rule(lines, head, "all of them", path),
-        None => false,
+    let path = found.first.as_slice();
+    let has_first = add_rule(lines, head, "this number", path);
+    let has_shared = match path.split_at_checked(found.shared) {
+        Some((shared, [_, ..])) => add_rule(lines, head, "all of them", shared),
+        _ => false,
     };
     lines.add(if has_first || has_shared {
         "apply the rules file with dapnorm mask RULES or dapnorm golden --rules RULES"
     } else {
         "no rule of a mask changes it: let the program that sent it write an integer"
     });
-}
-
-/// Adds the lines about the numbers found in a message.
-fn add_found(lines: &mut Lines, content: &[u8], head: Head<'_>, found: &Fractions<'_>) {
-    if found.count == 0 {
-        return;
-    }
-    if let Ok(text) = str::from_utf8(content) {
-        add_number(lines, text, found.first.as_slice());
-    }
-    add_more(lines, found.count.saturating_sub(1));
-    add_rules(lines, head, found);
 }
 
 /// Explains that a number of a message is not an integer of 64 bits after these rules are applied.
@@ -325,8 +334,16 @@ pub(crate) fn explain_fraction(
     head: Head<'_>,
     rules: &[MaskRule],
 ) {
-    match fractions_of(lines.alloc(), message, rules, head) {
-        Ok(found) => add_found(lines, content, head, &found),
-        Err(_) => lines.fail(),
+    let found = fractions_of(lines.alloc(), message, rules, head);
+    let Some(found) = lines.noted(found) else {
+        return;
+    };
+    if found.count == 0 {
+        return;
     }
+    if let Ok(text) = str::from_utf8(content) {
+        add_number(lines, text, found.first.as_slice());
+    }
+    add_more(lines, found.count.saturating_sub(1));
+    add_rules(lines, head, &found);
 }

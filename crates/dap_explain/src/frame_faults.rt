@@ -1,12 +1,13 @@
 //! Explains frames that are invalid or incomplete.
 use crate::header::{
-    KEEP_LINE_ENDS, bad_line, content_len, has_converted_line_end, has_text_before, header_len,
-    header_of, length_value,
+    KEEP_LINE_ENDS, bad_line, content_len, has_converted_line_end, has_text_before, header_of,
+    length_value, split_header,
 };
 use crate::lines::Lines;
-use crate::words::side_word;
+use crate::words::Bytes;
 use dap_frame::{FrameFault, FrameLimits};
 use dap_tree::Side;
+use std::fmt;
 
 /// The name of a frame in an explanation.
 #[derive(Clone, Copy)]
@@ -17,15 +18,11 @@ pub(crate) enum FrameName {
     Of(Side),
 }
 
-impl FrameName {
-    /// Appends a string and the name.
-    pub(crate) fn push(self, lines: &mut Lines, lead: &str) {
+impl fmt::Display for FrameName {
+    fn fmt<W: fmt::Write>(&self, f: &mut fmt::Formatter<W>) -> fmt::Result {
         match self {
-            FrameName::Record(number) => lines.record(lead, number),
-            FrameName::Of(side) => {
-                lines.push_str(lead);
-                lines.text("the frame of the ", side_word(side));
-            }
+            FrameName::Record(number) => write!(f, "record {number}"),
+            FrameName::Of(side) => write!(f, "the frame of the {side}"),
         }
     }
 }
@@ -42,13 +39,12 @@ pub(crate) struct BadFrame<'a> {
 
 /// Adds the lines about a header part with a line that is not a field line.
 fn add_header_line(lines: &mut Lines, name: FrameName, header: &[u8]) {
-    name.push(lines, "the header part of ");
     match bad_line(header) {
-        Some(line) => {
-            lines.bytes(" has the line ", line);
-            lines.end(", which is not NAME: VALUE");
-        }
-        None => lines.end(" is empty"),
+        Some(line) => lines.write(format_args!(
+            "the header part of {name} has the line {}, which is not NAME: VALUE",
+            Bytes(line),
+        )),
+        None => lines.write(format_args!("the header part of {name} is empty")),
     }
     add_printed(lines, header);
 }
@@ -61,68 +57,48 @@ fn add_printed(lines: &mut Lines, header: &[u8]) {
     }
 }
 
-/// Adds the line about a frame whose header part is invalid for this reason.
-fn add_header(lines: &mut Lines, name: FrameName, header: &[u8], what: &str) {
-    name.push(lines, "the header part of ");
-    lines.bytes(what, header);
-    lines.end("");
-}
-
-/// Adds the line about a length that is not a number.
-fn add_bad_length(lines: &mut Lines, name: FrameName, header: &[u8]) {
-    name.push(lines, "the Content-Length of ");
-    lines.bytes(" is ", length_value(header).unwrap_or(&[]));
-    lines.end(", not 1 to 10 digits");
+/// Adds the line about a frame whose header part has this many fields `Content-Length`.
+fn add_lengths(lines: &mut Lines, name: FrameName, header: &[u8], count: &str) {
+    lines.write(format_args!(
+        "the header part of {name} has {count} Content-Length; it is {}",
+        Bytes(header),
+    ));
 }
 
 /// Adds the lines about a content that is too long.
-fn add_content_too_long(lines: &mut Lines, frame: BadFrame<'_>, limit: usize) {
-    if let Some(len) = content_len(header_of(frame.front)) {
-        frame.name.push(lines, "the content of ");
-        lines.number(" has ", len);
-        lines.number(" bytes; the limit is ", limit as u64);
-        lines.end(" bytes");
+fn add_content_too_long(lines: &mut Lines, name: FrameName, header: &[u8], limit: usize) {
+    if let Some(len) = content_len(header) {
+        lines.write(format_args!(
+            "the content of {name} has {len} bytes; the limit is {limit} bytes",
+        ));
     }
     lines.add("request less at once, such as by start and count of variables");
 }
 
-/// Adds the line about a header part that does not end within its limit.
-fn add_header_too_long(lines: &mut Lines, frame: BadFrame<'_>, limit: usize) {
-    lines.number("no header part ends in the first ", limit as u64);
-    frame.name.push(lines, " bytes of ");
-    lines.bytes(": ", frame.front);
-    lines.end("");
-}
-
 /// Adds the lines about an incomplete frame.
 fn add_cut(lines: &mut Lines, frame: BadFrame<'_>) {
-    let Some(header) = header_len(frame.front) else {
+    let Some((header, _)) = split_header(frame.front) else {
         return add_cut_header(lines, frame);
     };
-    if let Some(len) = content_len(header_of(frame.front)) {
-        let missing = len.saturating_sub(frame.len.saturating_sub(header) as u64);
-        add_missing(lines, frame.name, len, missing);
+    if let Some(len) = content_len(header) {
+        let missing = len.saturating_sub(frame.len.saturating_sub(header.len()) as u64);
+        let name = frame.name;
+        lines.write(format_args!(
+            "the content of {name} has {len} bytes by its header part, and {missing} of them are missing",
+        ));
+        lines.add(
+            "the program that wrote the input may have been stopped early, or the length is too large",
+        );
     }
-}
-
-/// Adds the lines about a content of which bytes are missing.
-fn add_missing(lines: &mut Lines, name: FrameName, len: u64, missing: u64) {
-    name.push(lines, "the content of ");
-    lines.number(" has ", len);
-    lines.number(" bytes by its header part, and ", missing);
-    lines.end(" of them are missing");
-    lines.add(
-        "the program that wrote the input may have been stopped early, or the length is too large",
-    );
 }
 
 /// Adds the lines about a frame whose header part is incomplete.
 fn add_cut_header(lines: &mut Lines, frame: BadFrame<'_>) {
-    frame
-        .name
-        .push(lines, "the input ends in the header part of ");
-    lines.bytes(": ", frame.front);
-    lines.end("");
+    lines.write(format_args!(
+        "the input ends in the header part of {}: {}",
+        frame.name,
+        Bytes(frame.front),
+    ));
     if !has_converted_line_end(frame.front) {
         lines.add("the program that wrote the input may have been stopped early");
     }
@@ -130,24 +106,24 @@ fn add_cut_header(lines: &mut Lines, frame: BadFrame<'_>) {
 
 /// Adds the lines about the error of a frame.
 fn add_fault(lines: &mut Lines, frame: BadFrame<'_>, fault: FrameFault, limits: FrameLimits) {
-    let header = header_of(frame.front);
+    let (name, header) = (frame.name, header_of(frame.front));
     match fault {
-        FrameFault::HeaderLine => add_header_line(lines, frame.name, header),
+        FrameFault::HeaderLine => add_header_line(lines, name, header),
         FrameFault::NoLength => {
-            add_header(lines, frame.name, header, " has no Content-Length; it is ");
+            add_lengths(lines, name, header, "no");
             add_printed(lines, header);
         }
-        FrameFault::TwoLengths => {
-            add_header(
-                lines,
-                frame.name,
-                header,
-                " has more than one Content-Length; it is ",
-            );
-        }
-        FrameFault::BadLength => add_bad_length(lines, frame.name, header),
-        FrameFault::HeaderTooLong => add_header_too_long(lines, frame, limits.header),
-        FrameFault::ContentTooLong => add_content_too_long(lines, frame, limits.content),
+        FrameFault::TwoLengths => add_lengths(lines, name, header, "more than one"),
+        FrameFault::BadLength => lines.write(format_args!(
+            "the Content-Length of {name} is {}, not 1 to 10 digits",
+            Bytes(length_value(header).unwrap_or(&[])),
+        )),
+        FrameFault::HeaderTooLong => lines.write(format_args!(
+            "no header part ends in the first {} bytes of {name}: {}",
+            limits.header,
+            Bytes(frame.front),
+        )),
+        FrameFault::ContentTooLong => add_content_too_long(lines, name, header, limits.content),
         FrameFault::Cut => add_cut(lines, frame),
         FrameFault::Memory => {}
     }

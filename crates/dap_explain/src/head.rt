@@ -1,8 +1,10 @@
 //! Reads the head of a message: its sender, its kind and its name.
 use crate::lines::Lines;
+use crate::words::Quoted;
 use dap_profile::Kind;
 use dap_tree::Side;
 use serde_json::Value;
+use std::fmt;
 
 /// The members that every message of a kind has. A member that is absent or has another type is
 /// `None`.
@@ -27,31 +29,72 @@ impl<'m> Head<'m> {
             Some(name) => kind_named(name),
             None => None,
         };
-        let is_response = kind == Some(Kind::Response);
-        Head {
+        let mut head = Head {
             side,
             kind,
-            name: text_at(message, name_key(kind)),
+            name: None,
             seq: number_at(message, "seq"),
-            request_seq: if is_response {
-                number_at(message, "request_seq")
-            } else {
-                None
-            },
-            is_success: is_response && matches!(message.get("success"), Some(Value::Bool(true))),
+            request_seq: None,
+            is_success: false,
+        };
+        if kind == Some(Kind::Response) {
+            head.request_seq = number_at(message, "request_seq");
+            head.is_success = matches!(message.get("success"), Some(Value::Bool(true)));
+        }
+        let key = if kind == Some(Kind::Event) {
+            "event"
+        } else {
+            "command"
+        };
+        head.name = text_at(message, key);
+        head
+    }
+}
+
+fn text_at<'m>(message: &'m Value, name: &str) -> Option<&'m str> {
+    match message.get(name) {
+        Some(Value::String(text)) => Some(text.as_str()),
+        _ => None,
+    }
+}
+
+fn number_at(message: &Value, name: &str) -> Option<i64> {
+    match message.get(name) {
+        Some(Value::Number(number)) => number.as_i64(),
+        _ => None,
+    }
+}
+
+/// Displays the marker of the sender, the kind and the name of a message, and the request that it
+/// answers.
+impl fmt::Display for Head<'_> {
+    fn fmt<W: fmt::Write>(&self, f: &mut fmt::Formatter<W>) -> fmt::Result {
+        f.write_str(match self.side {
+            Some(Side::Client) => "> ",
+            Some(Side::Adapter) => "< ",
+            None => "",
+        })?;
+        f.write_str(match self.kind {
+            Some(kind) => kind_word(kind),
+            None => "message of unknown type",
+        })?;
+        write!(f, "{}", Named(self.name))?;
+        match self.request_seq {
+            Some(seq) => write!(f, ", to request {seq}"),
+            None => Ok(()),
         }
     }
+}
 
-    /// Returns whether this side sent the message and it has this kind.
-    pub(crate) fn is_sent(&self, side: Side, kind: Kind) -> bool {
-        self.side == Some(side) && self.kind == Some(kind)
-    }
+/// Displays a space and a name as JSON, if there is one.
+#[derive(Clone, Copy)]
+pub(crate) struct Named<'a>(pub(crate) Option<&'a str>);
 
-    /// Returns whether the message has this name.
-    pub(crate) fn is_named(&self, name: &str) -> bool {
-        match self.name {
-            Some(own) => own == name,
-            None => false,
+impl fmt::Display for Named<'_> {
+    fn fmt<W: fmt::Write>(&self, f: &mut fmt::Formatter<W>) -> fmt::Result {
+        match self.0 {
+            Some(name) => write!(f, " {}", Quoted(name)),
+            None => Ok(()),
         }
     }
 }
@@ -75,71 +118,18 @@ pub(crate) fn kind_word(kind: Kind) -> &'static str {
     }
 }
 
-/// Returns the member that contains the name of a message of this kind.
-fn name_key(kind: Option<Kind>) -> &'static str {
-    match kind {
-        Some(Kind::Event) => "event",
-        _ => "command",
-    }
-}
-
-fn text_at<'m>(message: &'m Value, name: &str) -> Option<&'m str> {
-    match message.get(name) {
-        Some(Value::String(text)) => Some(text.as_str()),
-        _ => None,
-    }
-}
-
-fn number_at(message: &Value, name: &str) -> Option<i64> {
-    match message.get(name) {
-        Some(Value::Number(number)) => number.as_i64(),
-        _ => None,
-    }
-}
-
 /// Adds the line that states which message a record contains.
 pub(crate) fn add_head(lines: &mut Lines, number: u64, head: &Head<'_>) {
-    lines.record("", number);
-    lines.text(" is ", marker(head.side));
-    lines.push_str(kind_words(head.kind));
-    push_name(lines, head.name);
-    if let Some(seq) = head.request_seq {
-        lines.seq(", to request ", seq);
-    }
-    lines.end("");
+    lines.write(format_args!("record {number} is {head}"));
 }
 
-/// Appends a space and a name as JSON, if there is one.
-pub(crate) fn push_name(lines: &mut Lines, name: Option<&str>) {
-    if let Some(name) = name {
-        lines.quoted(" ", name);
-    }
-}
-
-/// Returns the words for the kind of a message.
-fn kind_words(kind: Option<Kind>) -> &'static str {
-    match kind {
-        Some(kind) => kind_word(kind),
-        None => "message of unknown type",
-    }
-}
-
-/// Returns the marker of a side, followed by a space.
-fn marker(side: Option<Side>) -> &'static str {
-    match side {
-        Some(Side::Client) => "> ",
-        Some(Side::Adapter) => "< ",
-        None => "",
-    }
-}
-
-/// Returns whom to fix if a message of this side is invalid.
-pub(crate) fn sender_words(side: Option<Side>) -> &'static str {
-    match side {
+/// Adds the line that states whom to fix if a message of this side is invalid.
+pub(crate) fn add_sender(lines: &mut Lines, side: Option<Side>) {
+    lines.add(match side {
         Some(Side::Client) => "the client does not follow the protocol there: fix the client",
         Some(Side::Adapter) => "the adapter does not follow the protocol there: fix the adapter",
         None => "the program that sent it does not follow the protocol there: fix it",
-    }
+    });
 }
 
 /// Reads a content as a JSON value. Returns `None` if it is not JSON, or after a failed allocation.

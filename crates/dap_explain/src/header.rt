@@ -1,6 +1,4 @@
-//! Analyses the header part of a frame for an explanation.
-use crate::likeness::{first_line, is_like_frames, is_number, number_of};
-
+//! Analyses the start of a frame, or of a piece of a trace, for an explanation.
 /// How to keep line ends unchanged.
 pub(crate) const KEEP_LINE_ENDS: &str =
     "git keeps line ends if .gitattributes has -text for recordings and traces";
@@ -8,21 +6,36 @@ pub(crate) const KEEP_LINE_ENDS: &str =
 /// The name of the field that every header part has.
 const LENGTH_NAME: &[u8] = b"Content-Length";
 
-/// Returns the length of the header part at the start of the bytes, including the final CR LF CR
-/// LF.
-pub(crate) fn header_len(bytes: &[u8]) -> Option<usize> {
+/// Splits the bytes after the header part at their start, which ends with CR LF CR LF.
+pub(crate) fn split_header(bytes: &[u8]) -> Option<(&[u8], &[u8])> {
     let end = bytes
         .windows(4)
         .position(|window| window == b"\r\n\r\n".as_slice())?;
-    end.checked_add(4)
+    bytes.split_at_checked(end.checked_add(4)?)
 }
 
 /// Returns the header part at the start of the bytes, or all bytes if it is incomplete.
 pub(crate) fn header_of(bytes: &[u8]) -> &[u8] {
-    match header_len(bytes) {
-        Some(len) => bytes.get(..len).unwrap_or(bytes),
+    match split_header(bytes) {
+        Some((header, _)) => header,
         None => bytes,
     }
+}
+
+/// Returns the content of the frame at the start of the bytes, and the bytes after the frame.
+pub(crate) fn split_frame(bytes: &[u8]) -> Option<(&[u8], &[u8])> {
+    let (header, rest) = split_header(bytes)?;
+    rest.split_at_checked(content_len(header)? as usize)
+}
+
+/// Returns the bytes of the piece at the start of these, without its marker, and the bytes after
+/// it. The piece may be incomplete.
+pub(crate) fn split_piece(bytes: &[u8]) -> Option<(&[u8], &[u8])> {
+    let len = count_of(bytes)? as usize;
+    let rest = bytes
+        .get(first_line(bytes).len().saturating_add(1)..)
+        .unwrap_or(&[]);
+    Some(rest.split_at_checked(len).unwrap_or((rest, &[])))
 }
 
 /// Returns the first line of a header part that is not a field line, without its LF.
@@ -42,7 +55,7 @@ fn is_field(line: &[u8]) -> bool {
     match name_and_value(line) {
         Some((name, value)) => {
             !name.is_empty()
-                && name.iter().all(|byte| matches!(*byte, b'!'..=b'~'))
+                && name.iter().all(|byte| byte.is_ascii_graphic())
                 && value
                     .iter()
                     .all(|byte| matches!(*byte, b' '..=b'~' | b'\t'))
@@ -53,21 +66,21 @@ fn is_field(line: &[u8]) -> bool {
 
 /// Returns the parts of a line before and after its first colon.
 fn name_and_value(line: &[u8]) -> Option<(&[u8], &[u8])> {
-    for (index, byte) in line.iter().enumerate() {
-        if *byte == b':' {
-            return Some((&line[..index], &line[index + 1..]));
-        }
+    let colon = line.iter().position(|byte| *byte == b':')?;
+    match line.split_at_checked(colon)? {
+        (name, [_, value @ ..]) => Some((name, value)),
+        _ => None,
     }
-    None
 }
 
 /// Returns the value of the first field named `Content-Length`, without the surrounding blanks.
 pub(crate) fn length_value(header: &[u8]) -> Option<&[u8]> {
     for line in header.split(|byte| *byte == b'\n') {
-        if let Some((name, value)) = name_and_value(line) {
-            if name.eq_ignore_ascii_case(LENGTH_NAME) {
+        match name_and_value(line) {
+            Some((name, value)) if name.eq_ignore_ascii_case(LENGTH_NAME) => {
                 return Some(value.trim_ascii());
             }
+            _ => {}
         }
     }
     None
@@ -75,11 +88,14 @@ pub(crate) fn length_value(header: &[u8]) -> Option<&[u8]> {
 
 /// Returns the length of the content that a header part declares, if it is 1 to 10 digits.
 pub(crate) fn content_len(header: &[u8]) -> Option<u64> {
-    let digits = length_value(header)?;
-    if is_number(digits) {
-        Some(number_of(digits))
-    } else {
-        None
+    number_of(length_value(header)?)
+}
+
+/// Returns whether the bytes start like a frame: with the field that every frame has.
+pub(crate) fn is_like_frames(bytes: &[u8]) -> bool {
+    match bytes.split_at_checked(15) {
+        Some((name, _)) => name.eq_ignore_ascii_case(b"Content-Length:"),
+        None => false,
     }
 }
 
@@ -98,4 +114,36 @@ pub(crate) fn has_converted_line_end(header: &[u8]) -> bool {
     is_like_frames(header)
         && line.len() < header.len()
         && (!line.ends_with(b"\r") || line.ends_with(b"\r\r"))
+}
+
+/// Returns the count at the start of the bytes, if it is 1 to 10 digits followed by LF. CR may
+/// precede the LF, because line ends may have been converted.
+pub(crate) fn count_of(bytes: &[u8]) -> Option<u64> {
+    let line = first_line(bytes);
+    if line.len() == bytes.len() {
+        return None;
+    }
+    number_of(line.strip_suffix(b"\r").unwrap_or(line))
+}
+
+/// Returns the number that 1 to 10 decimal digits represent.
+fn number_of(digits: &[u8]) -> Option<u64> {
+    if digits.is_empty() || digits.len() > 10 {
+        return None;
+    }
+    let mut number = 0u64;
+    for digit in digits {
+        if !digit.is_ascii_digit() {
+            return None;
+        }
+        number = number
+            .saturating_mul(10)
+            .saturating_add(u64::from(digit.saturating_sub(b'0')));
+    }
+    Some(number)
+}
+
+/// Returns the bytes before the first LF, or all bytes if there is no LF.
+pub(crate) fn first_line(bytes: &[u8]) -> &[u8] {
+    bytes.split(|byte| *byte == b'\n').next().unwrap_or(bytes)
 }

@@ -1,8 +1,10 @@
 //! Explains contents that are not JSON.
-use crate::head::{Head, add_head, kind_named, sender_words};
+use crate::head::{Head, add_head, add_sender, kind_named};
 use crate::lines::Lines;
-use crate::records::RecordPart;
+use crate::records::Part;
+use crate::words::{Bytes, Cut};
 use dap_profile::Kind;
+use dap_tree::Side;
 use json::{Reader, Scratch, Token};
 use serde_json::{Error, Value};
 use std::alloc::{AllocError, Global};
@@ -24,7 +26,7 @@ enum TokenFault<'t> {
 }
 
 /// The information in the tokens up to the first token that is not JSON.
-#[derive(Clone, Copy)]
+#[derive(Clone, Copy, Default)]
 struct Shown<'t> {
     depth: usize,
     /// The name of the last member that is not inside an inner object.
@@ -38,19 +40,6 @@ struct Shown<'t> {
 }
 
 impl<'t> Shown<'t> {
-    /// Returns the information in no tokens.
-    fn nothing() -> Shown<'t> {
-        Shown {
-            depth: 0,
-            member: "",
-            kind: None,
-            command: None,
-            event: None,
-            request_seq: None,
-            fault: None,
-        }
-    }
-
     /// Updates the information for a token.
     fn note(&mut self, token: Token<'t>) {
         match token {
@@ -98,21 +87,20 @@ impl<'t> Shown<'t> {
         }
     }
 
-    /// Returns the head of the message, if the kind is known.
-    fn head(&self, record: RecordPart<'_>) -> Option<Head<'t>> {
+    /// Returns the head of the message, which this side sent, if the kind is known.
+    fn head(&self, side: Option<Side>) -> Option<Head<'t>> {
         let kind = self.kind?;
+        let (name, request_seq) = match kind {
+            Kind::Request => (self.command, None),
+            Kind::Response => (self.command, self.request_seq),
+            Kind::Event => (self.event, None),
+        };
         Some(Head {
-            side: record.side,
+            side,
             kind: Some(kind),
-            name: match kind {
-                Kind::Request | Kind::Response => self.command,
-                Kind::Event => self.event,
-            },
+            name,
             seq: None,
-            request_seq: match kind {
-                Kind::Response => self.request_seq,
-                Kind::Request | Kind::Event => None,
-            },
+            request_seq,
             is_success: false,
         })
     }
@@ -129,7 +117,7 @@ fn is_past_floats(text: &str) -> bool {
 /// Reads the tokens of a string up to the first token that is not JSON.
 fn shown_by<'t>(text: &'t str, scratch: &'t mut Scratch<Global>) -> Result<Shown<'t>, AllocError> {
     let mut reader = Reader::new(text, scratch)?;
-    let mut shown = Shown::nothing();
+    let mut shown = Shown::default();
     while let Some(token) = reader.next() {
         shown.note(token);
     }
@@ -138,93 +126,73 @@ fn shown_by<'t>(text: &'t str, scratch: &'t mut Scratch<Global>) -> Result<Shown
 
 /// Returns the position of an error in a string, in bytes.
 fn offset_of(text: &str, error: &Error) -> usize {
-    let mut left = error.line().saturating_sub(1);
-    let mut start = 0usize;
-    for (index, byte) in text.bytes().enumerate() {
-        if left == 0 {
-            break;
-        }
-        if byte == b'\n' {
-            left -= 1;
-            start = index.saturating_add(1);
-        }
-    }
+    let line_break = match error.line().checked_sub(2) {
+        Some(breaks) => text.match_indices('\n').nth(breaks),
+        None => None,
+    };
+    let start = match line_break {
+        Some((index, _)) => index.saturating_add(1),
+        None => 0,
+    };
     start.saturating_add(error.column()).saturating_sub(1)
 }
 
 /// Adds the lines about a string that is not JSON.
-fn add_syntax(lines: &mut Lines, record: RecordPart<'_>, text: &str, error: &Error) {
-    lines.record("the content of ", record.number);
+fn add_syntax(lines: &mut Lines, record: Part<'_>, text: &str, error: &Error) {
+    let number = record.number;
     if error.is_eof() {
-        lines.number(" ends after ", text.len() as u64);
-        lines.end(" bytes, before its JSON text does");
+        lines.write(format_args!(
+            "the content of record {number} ends after {} bytes, before its JSON text does",
+            text.len(),
+        ));
     } else {
-        add_near(lines, text.as_bytes(), offset_of(text, error));
+        let offset = offset_of(text, error);
+        let near = text.as_bytes().get(offset.saturating_sub(BEFORE)..);
+        lines.write(format_args!(
+            "the content of record {number} is not JSON near byte {offset}: {}",
+            Bytes(near.unwrap_or(&[])),
+        ));
     }
-    lines.add(sender_words(record.side));
-}
-
-/// Ends the line about a string that is not JSON near this position.
-fn add_near(lines: &mut Lines, text: &[u8], offset: usize) {
-    let near = text.get(offset.saturating_sub(BEFORE)..);
-    lines.number(" is not JSON near byte ", offset as u64);
-    lines.bytes(": ", near.unwrap_or(&[]));
-    lines.end("");
-}
-
-/// Adds the line about arrays and objects that are nested too deep.
-fn add_depth(lines: &mut Lines, record: RecordPart<'_>) {
-    lines.record("", record.number);
-    lines.number(" has more than ", MAX_DEPTH as u64);
-    lines.end(" arrays and objects inside one another, which dapnorm does not read");
+    add_sender(lines, record.side);
 }
 
 /// Adds the lines about a number whose absolute value exceeds the largest 64-bit float.
-fn add_past_floats(lines: &mut Lines, record: RecordPart<'_>, number: &str) {
-    lines.cut("the number ", number);
-    lines.record(" of ", record.number);
-    lines.end(" is outside the range of 64-bit floats");
+fn add_past_floats(lines: &mut Lines, record: u64, number: &str) {
+    lines.write(format_args!(
+        "the number {} of record {record} is outside the range of 64-bit floats",
+        Cut(number),
+    ));
     lines.add("let the program that sent it write a number of that range");
 }
 
-/// Adds the lines about a string that is not JSON because of this error.
-fn add_text(lines: &mut Lines, record: RecordPart<'_>, text: &str, error: &Error) {
-    let mut scratch = Scratch::new(lines.alloc());
-    match shown_by(text, &mut scratch) {
-        Ok(shown) => add_shown(lines, record, text, &shown, error),
-        Err(_) => lines.fail(),
-    }
-}
-
-/// Adds the lines about a string whose tokens contain this information.
-fn add_shown(
-    lines: &mut Lines,
-    record: RecordPart<'_>,
-    text: &str,
-    shown: &Shown<'_>,
-    error: &Error,
-) {
-    if let Some(head) = shown.head(record) {
-        add_head(lines, record.number, &head);
+/// Adds the lines about a string whose tokens contain this information, and that is not JSON
+/// because of this error.
+fn add_shown(lines: &mut Lines, record: Part<'_>, text: &str, shown: &Shown<'_>, error: &Error) {
+    let number = record.number;
+    if let Some(head) = shown.head(record.side) {
+        add_head(lines, number, &head);
     }
     match shown.fault {
-        Some(TokenFault::Depth) => add_depth(lines, record),
-        Some(TokenFault::Number(number)) => add_past_floats(lines, record, number),
+        Some(TokenFault::Depth) => lines.write(format_args!(
+            "record {number} has more than {MAX_DEPTH} arrays and objects inside one another, which dapnorm does not read",
+        )),
+        Some(TokenFault::Number(text)) => add_past_floats(lines, number, text),
         None => add_syntax(lines, record, text, error),
     }
 }
 
 /// Adds the lines about a content that is not UTF-8 after this many bytes.
-fn add_not_utf8(lines: &mut Lines, record: RecordPart<'_>, valid: usize) {
-    lines.record("the content of ", record.number);
-    lines.number(" is not UTF-8 after ", valid as u64);
-    lines.bytes(" bytes: ", record.content.get(valid..).unwrap_or(&[]));
-    lines.end("");
-    lines.add(sender_words(record.side));
+fn add_not_utf8(lines: &mut Lines, record: Part<'_>, valid: usize) {
+    lines.write(format_args!(
+        "the content of record {} is not UTF-8 after {valid} bytes: {}",
+        record.number,
+        Bytes(record.content.get(valid..).unwrap_or(&[])),
+    ));
+    add_sender(lines, record.side);
 }
 
 /// Explains that the content of a record is not JSON.
-pub(crate) fn explain_json(lines: &mut Lines, record: RecordPart<'_>) {
+pub(crate) fn explain_json(lines: &mut Lines, record: Part<'_>) {
     match str::from_utf8(record.content) {
         Ok(text) => explain_text(lines, record, text),
         Err(error) => add_not_utf8(lines, record, error.valid_up_to()),
@@ -232,10 +200,14 @@ pub(crate) fn explain_json(lines: &mut Lines, record: RecordPart<'_>) {
 }
 
 /// Explains that a string is not JSON.
-fn explain_text(lines: &mut Lines, record: RecordPart<'_>, text: &str) {
-    match Value::from_str(lines.alloc(), text) {
-        Ok(_) => {}
-        Err(error) if error.is_memory() => lines.fail(),
-        Err(error) => add_text(lines, record, text, &error),
+fn explain_text(lines: &mut Lines, record: Part<'_>, text: &str) {
+    let error = match Value::from_str(lines.alloc(), text) {
+        Ok(_) => return,
+        Err(error) if error.is_memory() => return lines.fail(),
+        Err(error) => error,
+    };
+    let mut scratch = Scratch::new(lines.alloc());
+    if let Some(shown) = lines.noted(shown_by(text, &mut scratch)) {
+        add_shown(lines, record, text, &shown, &error);
     }
 }

@@ -21,41 +21,27 @@
 //! explanation for each kind of rejection, except for the limits that only huge inputs reach.
 #![tactic(auto)]
 
-mod applying;
-mod comparing;
+mod commands;
 mod explaining;
 mod fractions;
 mod frame_faults;
-mod golden;
 mod head;
 mod header;
-mod jobs;
 mod json_faults;
-mod likeness;
 mod lines;
-mod masking;
 mod message_faults;
-mod number_text;
-mod ordering;
-mod path;
-mod pieces;
 mod record_faults;
 mod records;
-mod row_faults;
 mod rules_file;
 mod rules_line;
 mod session_rules;
 mod trace_faults;
 mod unanswered;
-mod viewing;
 mod words;
 
-pub use applying::explain_applying;
-pub use comparing::explain_comparison;
+pub use commands::{
+    explain_applying, explain_comparison, explain_golden, explain_job, explain_mask, explain_order,
+    explain_view,
+};
 pub use explaining::{explain, explain_masked, explain_unreadable};
-pub use golden::explain_golden;
-pub use jobs::explain_job;
-pub use masking::explain_mask;
-pub use ordering::explain_order;
 pub use rules_file::explain_rules;
-pub use viewing::explain_view;

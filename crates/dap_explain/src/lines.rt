@@ -3,22 +3,20 @@ ghost use Rattle.std.specs.Prelude.{◌≡◌, ◌≢◌, ◌<◌, ◌≤◌, tr
 ghost use Rattle.std.specs.Prelude.{string_bytes};
 ghost use Rattle.dap_explain.specs.Lines.{AreLines, IsPrinted, line_of};
 
+use serde_json::Value;
 use std::alloc::{AllocError, Global};
-use std::mem;
+use std::fmt::Display;
 
 /// The maximum number of characters that are written of a line.
 const LONGEST: usize = 1_000;
 
 /// The lines of an explanation.
 ///
-/// `add` appends a whole line. The other methods append parts of the next line, which `end`
-/// completes. After a failed allocation, `into_text` returns an error, whatever is appended.
+/// After a failed allocation, `into_text` returns an error, whatever is added.
 #[derive(Drop)]
 pub(crate) struct Lines {
     alloc: Global,
     text: String,
-    /// The parts of the next line.
-    line: String,
     /// Whether an allocation failed.
     has_failed: bool,
     ghost are_lines: { ∥ AreLines (string_bytes text) ∥₁ },
@@ -30,7 +28,6 @@ impl Lines {
         Lines {
             alloc,
             text: String::new(alloc),
-            line: String::new(alloc),
             has_failed: false,
         }
     }
@@ -44,60 +41,45 @@ impl Lines {
         self.has_failed = true;
     }
 
-    /// Stores whether an allocation failed.
-    fn note(&mut self, outcome: Result<(), AllocError>) {
-        if outcome.is_err() {
+    /// Returns the value of a result. After a failed allocation, stores this and returns `None`.
+    pub(crate) fn noted<T>(&mut self, outcome: Result<T, AllocError>) -> Option<T> {
+        match outcome {
+            Ok(value) => Some(value),
+            Err(_) => {
+                self.has_failed = true;
+                None
+            }
+        }
+    }
+
+    /// Returns a value as JSON. After a failed allocation, stores this and returns an empty string.
+    pub(crate) fn json(&mut self, value: &Value) -> String {
+        match self.noted(value.to_string(self.alloc)) {
+            Some(text) => text,
+            None => String::new(self.alloc),
+        }
+    }
+
+    /// Appends a line. It is truncated after 1,000 characters. A character that a terminal does not
+    /// print is written as a JSON escape.
+    pub(crate) fn add(&mut self, words: &str) {
+        if self.append(words).is_err() {
             self.has_failed = true;
         }
     }
 
-    /// Appends a character.
-    pub(crate) fn push(&mut self, character: char) {
-        let outcome = self.line.push(character);
-        self.note(outcome);
+    /// Appends a line that is displayed so.
+    pub(crate) fn write<D: Display + Drop>(&mut self, words: D) {
+        match words.to_string(self.alloc) {
+            Ok(words) => self.add(words.as_str()),
+            Err(_) => self.has_failed = true,
+        }
     }
 
-    /// Appends a string.
-    pub(crate) fn push_str(&mut self, text: &str) {
-        let outcome = self.line.push_str(text);
-        self.note(outcome);
-    }
-
-    /// Appends a string and a number.
-    pub(crate) fn number(&mut self, lead: &str, number: u64) {
-        let outcome = write!(self.line, "{lead}{number}");
-        self.note(outcome);
-    }
-
-    /// Appends a string and a number from a message.
-    pub(crate) fn seq(&mut self, lead: &str, number: i64) {
-        let outcome = write!(self.line, "{lead}{number}");
-        self.note(outcome);
-    }
-
-    /// Appends a string and ends the line. It is truncated after 1,000 characters. A character that
-    /// a terminal does not print is written as a JSON escape.
-    pub(crate) fn end(&mut self, rest: &str) {
-        self.push_str(rest);
-        let outcome = self.end_line();
-        self.note(outcome);
-    }
-
-    /// Appends a line.
-    pub(crate) fn add(&mut self, line: &str) {
-        self.end(line);
-    }
-
-    /// Appends the next line to the text.
-    fn end_line(&mut self) -> Result<(), AllocError> {
-        let line = indented(self.alloc, self.line.as_str())?;
-        self.line.clear();
+    /// Appends a line, or returns that an allocation failed.
+    fn append(&mut self, words: &str) -> Result<(), AllocError> {
+        let line = indented(self.alloc, words)?;
         self.text.push_str(line.as_str())
-    }
-
-    /// Returns the parts of the next line, and removes them.
-    pub(crate) fn take_line(&mut self) -> String {
-        mem::replace(&mut self.line, String::new(self.alloc))
     }
 
     /// Returns the text of the lines.
@@ -197,7 +179,7 @@ fn push_digit(words: &mut String, number: u32) -> Result<(), AllocError>
 }
 
 /// Returns a hexadecimal digit.
-pub(crate) fn hex_digit(digit: u32) -> char
+fn hex_digit(digit: u32) -> char
     requires { digit < 16 }
     ensures { (48 ≤ result) × (result < 127) }
 {

@@ -1,138 +1,118 @@
-//! Splits an input into its records, as parts of its bytes.
-ghost use Rattle.std.specs.Prelude.{◌≤◌, length, IfSome};
-ghost use Rattle.dap_frame.specs.Limits.{IsSound};
+//! Splits an input into its records or pieces, and recognises inputs of another format.
+ghost use Rattle.std.specs.Prelude.{length};
 
-use crate::header::header_len;
-use dap_frame::{FrameLimits, Framer};
+use crate::header::{count_of, is_like_frames, split_frame, split_piece};
+use crate::lines::Lines;
+use crate::words::Bytes;
 use dap_tree::Side;
-use std::alloc::Global;
 
 /// The format of an input.
-#[derive(Clone, Copy)]
-pub(crate) enum Form {
+#[derive(Clone, Copy, PartialEq, Eq)]
+pub(crate) enum Format {
     /// Records, each of which is a marker, a frame and LF.
     Recording,
     /// Frames of one direction only, as `compact` reads them.
     Frames,
+    /// Pieces, each of which is a marker, a length, LF and as many bytes. The last one may be
+    /// incomplete.
+    Trace,
 }
 
-impl Form {
-    /// Returns the format that the first byte of an input indicates.
-    pub(crate) fn of(input: &[u8]) -> Form {
+impl Format {
+    /// Returns the format that the first byte of a recording or of frames indicates.
+    fn of(input: &[u8]) -> Format {
         match input {
-            [] | [b'>' | b'<', ..] => Form::Recording,
-            _ => Form::Frames,
+            [] | [b'>' | b'<', ..] => Format::Recording,
+            _ => Format::Frames,
         }
     }
 
-    /// Splits the start of a record from the bytes of its frame and after it.
-    fn split_start(self, bytes: &[u8]) -> Option<(Option<Side>, &[u8])>
-        ensures { IfSome result (λ start. length start.1.now ≤ length bytes.now) }
-    {
+    /// Splits the marker of a record or a piece from the bytes after it.
+    pub(crate) fn split_marker(self, bytes: &[u8]) -> Option<(Option<Side>, &[u8])> {
         match (self, bytes) {
-            (Form::Recording, [b'>', rest @ ..]) => Some((Some(Side::Client), rest)),
-            (Form::Recording, [b'<', rest @ ..]) => Some((Some(Side::Adapter), rest)),
-            (Form::Recording, _) => None,
-            (Form::Frames, _) => Some((None, bytes)),
+            (Format::Frames, _) => Some((None, bytes)),
+            (_, [b'>', rest @ ..]) => Some((Some(Side::Client), rest)),
+            (_, [b'<', rest @ ..]) => Some((Some(Side::Adapter), rest)),
+            _ => None,
         }
     }
 
-    /// Returns the bytes after the end of a record. `bytes` are those after its frame.
-    fn after_end(self, bytes: &[u8]) -> Option<&[u8]>
-        ensures { IfSome result (λ rest. length rest.now ≤ length bytes.now) }
-    {
-        match (self, bytes) {
-            (Form::Recording, [b'\n', rest @ ..]) => Some(rest),
-            (Form::Recording, _) => None,
-            (Form::Frames, _) => Some(bytes),
+    /// Splits the content of a record, or the bytes of a piece, from those after the record or the
+    /// piece. `bytes` are those after its marker.
+    fn split_content(self, bytes: &[u8]) -> Option<(&[u8], &[u8])> {
+        let (content, rest) = match self {
+            Format::Trace => split_piece(bytes)?,
+            _ => split_frame(bytes)?,
+        };
+        match (self, rest) {
+            (Format::Recording, [b'\n', rest @ ..]) => Some((content, rest)),
+            (Format::Recording, _) => None,
+            _ => Some((content, rest)),
         }
     }
 }
 
-/// A record of an input.
+/// A record of an input, or a piece of a trace.
 #[derive(Clone, Copy)]
-pub(crate) struct RecordPart<'a> {
-    /// The number of the record, counted from 1.
+pub(crate) struct Part<'a> {
+    /// Its number, counted from 1.
     pub(crate) number: u64,
     /// The sender. `None` in frames of one direction.
     pub(crate) side: Option<Side>,
+    /// The content of the record, or the bytes of the piece.
     pub(crate) content: &'a [u8],
-    /// The bytes after the record.
-    pub(crate) rest: &'a [u8],
+    /// The bytes after it.
+    rest: &'a [u8],
 }
 
-/// An iterator over the records of an input, up to the first bytes that are not a record.
-#[derive(Drop)]
-pub(crate) struct RecordParts<'a> {
-    framer: Framer,
-    form: Form,
+/// An iterator over the records or pieces of an input, up to the first bytes that are not one.
+#[derive(Clone, Copy)]
+pub(crate) struct Parts<'a> {
+    format: Format,
     rest: &'a [u8],
     number: u64,
 }
 
-impl<'a> RecordParts<'a> {
-    /// Returns the records of an input. Does not allocate.
-    pub(crate) fn new(
-        alloc: Global,
-        form: Form,
-        input: &'a [u8],
-        limits: FrameLimits,
-    ) -> RecordParts<'a>
-        requires { IsSound limits }
-    {
-        RecordParts {
-            framer: Framer::new(alloc, limits),
-            form,
+impl<'a> Parts<'a> {
+    /// Returns the records or pieces of an input.
+    pub(crate) fn new(format: Format, input: &'a [u8]) -> Parts<'a> {
+        Parts {
+            format,
             rest: input,
             number: 1,
         }
     }
 }
 
-impl<'a> Iterator for RecordParts<'a> {
+impl<'a> Iterator for Parts<'a> {
     ghost use Rattle.std.specs.Iterator.{at_most};
 
-    type Item = RecordPart<'a>;
+    type Item = Part<'a>;
 
     ghost remaining = { λ s. at_most (length s.rest.now) };
 
-    fn next(&mut self) -> Option<RecordPart<'a>> {
-        let (side, frame) = self.form.split_start(self.rest)?;
-        let used = self.framer.frame_in(frame)?;
-        if used == 0 {
+    fn next(&mut self) -> Option<Part<'a>> {
+        let (side, bytes) = self.format.split_marker(self.rest)?;
+        let (content, rest) = self.format.split_content(bytes)?;
+        // Each record or piece has bytes.
+        if rest.len() >= self.rest.len() {
             return None;
         }
-        let (frame, rest) = frame.split_at(used);
-        self.rest = self.form.after_end(rest)?;
         let number = self.number;
+        self.rest = rest;
         self.number = number.saturating_add(1);
-        Some(RecordPart {
+        Some(Part {
             number,
             side,
-            content: content_of(frame),
-            rest: self.rest,
+            content,
+            rest,
         })
     }
 }
 
-/// Returns the content of a complete frame.
-fn content_of(frame: &[u8]) -> &[u8] {
-    match header_len(frame) {
-        Some(len) => frame.get(len..).unwrap_or(&[]),
-        None => &[],
-    }
-}
-
 /// Returns the record with this number, if the input contains it.
-pub(crate) fn record_numbered<'a>(
-    alloc: Global,
-    input: &'a [u8],
-    number: u64,
-    limits: FrameLimits,
-) -> Option<RecordPart<'a>>
-    requires { IsSound limits }
-{
-    for record in RecordParts::new(alloc, Form::of(input), input, limits) {
+pub(crate) fn record_numbered(input: &[u8], number: u64) -> Option<Part<'_>> {
+    for record in Parts::new(Format::of(input), input) {
         if record.number == number {
             return Some(record);
         }
@@ -140,23 +120,62 @@ pub(crate) fn record_numbered<'a>(
     None
 }
 
-/// Returns the bytes from the record with this number on, if the records before it exist.
-pub(crate) fn bytes_from<'a>(
-    alloc: Global,
-    form: Form,
-    input: &'a [u8],
-    number: u64,
-    limits: FrameLimits,
-) -> Option<&'a [u8]>
-    requires { IsSound limits }
-{
+/// Returns the bytes from the record or piece with this number on, if those before it exist.
+pub(crate) fn bytes_from(format: Format, input: &[u8], number: u64) -> Option<&[u8]> {
     if number == 1 {
         return Some(input);
     }
-    for record in RecordParts::new(alloc, form, input, limits) {
-        if record.number.saturating_add(1) == number {
-            return Some(record.rest);
+    for part in Parts::new(format, input) {
+        if part.number.saturating_add(1) == number {
+            return Some(part.rest);
         }
     }
     None
+}
+
+/// The bytes of the byte order mark that some editors write before UTF-8.
+const BYTE_ORDER_MARK: &[u8] = b"\xef\xbb\xbf";
+
+/// Returns which format an input seems to have, and what to do, if the format is recognised and is
+/// not the expected one.
+fn likeness_of(input: &[u8], expected: Format) -> Option<&'static str> {
+    let after_marker = match input {
+        [b'>' | b'<', rest @ ..] => rest,
+        _ => &[],
+    };
+    let is_recording = is_like_frames(after_marker);
+    if input.starts_with(BYTE_ORDER_MARK) {
+        return Some("the input begins with a UTF-8 byte order mark: save it without one");
+    }
+    if count_of(after_marker).is_some() && expected != Format::Trace {
+        return Some("this looks like a trace: dapnorm record makes a recording of it");
+    }
+    if is_recording && expected == Format::Trace {
+        return Some("this looks like a recording: leave out dapnorm record");
+    }
+    if is_recording && expected == Format::Frames {
+        return Some("this looks like a recording: dapnorm compact reads frames without > and <");
+    }
+    if is_like_frames(input) && expected != Format::Frames {
+        return Some("this looks like frames without > and <: only dapnorm compact reads these");
+    }
+    match input {
+        [b'{' | b'[', ..] => {
+            Some("this looks like JSON without frames: each message needs a header part")
+        }
+        _ => None,
+    }
+}
+
+/// Adds the lines about an input that seems to have another format than the expected one. Returns
+/// whether it does.
+pub(crate) fn add_likeness(lines: &mut Lines, input: &[u8], expected: Format) -> bool {
+    match likeness_of(input, expected) {
+        Some(likeness) => {
+            lines.write(format_args!("the input begins {}", Bytes(input)));
+            lines.add(likeness);
+            true
+        }
+        None => false,
+    }
 }

@@ -3,28 +3,15 @@ ghost use Rattle.std.specs.Prelude.{IfOk, string_bytes};
 ghost use Rattle.dap_explain.specs.Lines.{AreLines};
 
 use crate::lines::Lines;
-use crate::rules_line::{after_verb, is_drop, is_end, is_word, place_of};
+use crate::rules_line::{is_end, place_of, split_verb};
+use crate::words::{Bytes, Cut};
 use dap_mask::{MaskRules, RulesCause, RulesFault};
 use std::alloc::{AllocError, Global};
 use std::str;
 
-/// The forms of a rule for messages, and those of the other rules.
-const RULE_FORMS: &str =
-    "a rule is VERB KIND NAME PLACE, drop event NAME, swap KIND NAME KIND NAME, ";
-
-const OTHER_FORMS: &str = "word TEXT WORD, or per-stop";
-
 /// What to do about a rule for the category by which another rule drops events.
 const CATEGORY_ADVICE: &str =
     "no rule changes the category by which a rule drops events: leave one of them out";
-
-/// What to do about a rule for the names by which another rule finds elements.
-const NAME_ADVICE: &str =
-    "no rule changes the names by which a rule finds elements: leave one of them out";
-
-/// What to do about a word that can overlap a text.
-const WORD_ADVICE: &str =
-    "choose a word that shares no start or end with a text, such as \"<home>\"";
 
 /// Returns the line of a file with this number, counted from 1, without its LF.
 fn line_of(rules: &[u8], number: usize) -> &[u8] {
@@ -34,202 +21,161 @@ fn line_of(rules: &[u8], number: usize) -> &[u8] {
         .unwrap_or(&[])
 }
 
+/// Returns whether a line starts with a verb.
+fn has_verb(line: &[u8], verb: &[u8]) -> bool {
+    split_verb(line).0 == verb
+}
+
 /// Adds a line of the file, unchanged.
 fn add_line(lines: &mut Lines, number: usize, line: &[u8]) {
-    lines.number("line ", number as u64);
     match str::from_utf8(line) {
-        Ok(text) => lines.cut(" is: ", text.trim()),
+        Ok(text) => lines.write(format_args!("line {number} is: {}", Cut(text.trim()))),
         Err(error) => {
             let valid = error.valid_up_to();
-            lines.number(" is not UTF-8 after ", valid as u64);
-            lines.bytes(" bytes: ", line.get(valid..).unwrap_or(&[]));
+            let rest = line.get(valid..).unwrap_or(&[]);
+            lines.write(format_args!(
+                "line {number} is not UTF-8 after {valid} bytes: {}",
+                Bytes(rest),
+            ));
         }
     }
-    lines.end("");
 }
 
 /// Adds the line about a line that is not a rule.
 fn add_bad_rule(lines: &mut Lines, line: &[u8]) {
-    match place_of(line) {
-        Ok(_) => {
-            lines.push_str(RULE_FORMS);
-            lines.end(OTHER_FORMS);
-        }
-        Err(fault) => {
-            if let Some(word) = fault.word {
-                lines.bytes("", word);
-            }
-            lines.end(fault.what);
-        }
+    let Err(fault) = place_of(line) else {
+        return lines.add(
+            "a rule is VERB KIND NAME PLACE, drop event NAME, swap KIND NAME KIND NAME, word TEXT WORD, or per-stop",
+        );
+    };
+    match fault.word {
+        Some(word) => lines.write(format_args!("{}{}", Bytes(word), fault.what)),
+        None => lines.add(fault.what),
     }
 }
 
-/// Adds the lines about a rule with a path that no rule may change.
-fn add_bad_place(lines: &mut Lines, line: &[u8]) {
-    let Ok(place) = place_of(line) else {
-        return;
-    };
-    lines.bytes("", place);
-    lines.end(if is_head_member(place) {
-        " is a member by which dapnorm recognises messages: leave the rule out"
-    } else if is_name(place) {
-        " is the name by which the rule finds its element: leave the rule out"
+/// Returns what is wrong with a path that no rule may change.
+fn place_words(place: &[u8]) -> &'static str {
+    if is_head_member(place) {
+        "a member by which dapnorm recognises messages"
+    } else if place.ends_with(b".name") || place.ends_with(b".\"name\"") {
+        "the name by which the rule finds its element"
     } else if place.contains(&b'"') {
-        " is an id, or a member by which dapnorm recognises messages: leave the rule out"
+        "an id, or a member by which dapnorm recognises messages"
     } else {
-        " is an id that normalise renames, so no rule changes it: leave the rule out"
-    });
+        "an id that normalise renames, so no rule changes it"
+    }
 }
 
 /// Returns whether a path is a member by which messages are recognised.
 fn is_head_member(place: &[u8]) -> bool {
-    place == b"type".as_slice()
-        || place == b"command".as_slice()
-        || place == b"event".as_slice()
-        || place == b"success".as_slice()
+    match str::from_utf8(place) {
+        Ok(name) => matches!(name, "type" | "command" | "event" | "success"),
+        Err(_) => false,
+    }
 }
 
-/// Returns whether a path ends at a member `name`.
-fn is_name(place: &[u8]) -> bool {
-    place.ends_with(b".name") || place.ends_with(b".\"name\"")
+/// Adds the line about a rule with a path that no rule may change.
+fn add_bad_place(lines: &mut Lines, line: &[u8]) {
+    if let Ok(place) = place_of(line) {
+        let what = place_words(place);
+        lines.write(format_args!("{} is {what}: leave the rule out", Bytes(place)));
+    }
 }
 
-/// Returns the number of the first earlier line after which this line is rejected for this reason.
-fn earlier_line(
-    alloc: Global,
-    rules: &[u8],
-    number: usize,
-    cause: RulesCause,
-) -> Result<Option<usize>, AllocError> {
-    let line = line_of(rules, number);
+/// Returns why a text is not a file of rules. Stores if an allocation failed.
+fn fault_in(lines: &mut Lines, rules: &[u8]) -> Option<RulesFault> {
+    let fault = MaskRules::read(lines.alloc(), rules).err()?;
+    if fault.cause == RulesCause::Memory {
+        lines.fail();
+    }
+    Some(fault)
+}
+
+/// Returns whether the second of two lines, which these parts form, is the first that is rejected,
+/// for this reason.
+fn is_second_refused(lines: &mut Lines, parts: &[&[u8]], cause: RulesCause) -> bool {
+    let rules = parts.concat(lines.alloc());
+    let Some(rules) = lines.noted(rules) else {
+        return false;
+    };
+    match fault_in(lines, rules.as_slice()) {
+        Some(fault) => fault.line == 2 && fault.cause == cause,
+        None => false,
+    }
+}
+
+/// Returns the number of the first earlier line after which the line is rejected for this reason.
+fn earlier_line(lines: &mut Lines, rules: &[u8], fault: RulesFault) -> Option<usize> {
+    let line = line_of(rules, fault.line);
     for (index, earlier) in rules.split(|byte| *byte == b'\n').enumerate() {
-        let earlier_number = index.saturating_add(1);
-        if earlier_number >= number {
+        let number = index.saturating_add(1);
+        if number >= fault.line {
             break;
         }
-        if !is_end(earlier) && is_refused_after(alloc, earlier, line, cause)? {
-            return Ok(Some(earlier_number));
+        if !is_end(earlier)
+            && is_second_refused(lines, &[earlier, b"\n".as_slice(), line], fault.cause)
+        {
+            return Some(number);
         }
     }
-    Ok(None)
-}
-
-/// Returns whether a line is rejected for this reason after another line.
-fn is_refused_after(
-    alloc: Global,
-    earlier: &[u8],
-    line: &[u8],
-    cause: RulesCause,
-) -> Result<bool, AllocError> {
-    let both = two_lines(alloc, earlier, line)?;
-    is_second_refused(alloc, both.as_slice(), cause)
-}
-
-/// Returns whether a line is rejected for its word without any other line.
-fn is_word_refused(alloc: Global, line: &[u8]) -> Result<bool, AllocError> {
-    match MaskRules::read(alloc, line) {
-        Ok(_) => Ok(false),
-        Err(fault) if fault.cause == RulesCause::Memory => Err(AllocError),
-        Err(fault) => Ok(fault.cause == RulesCause::BadWord),
-    }
-}
-
-/// Returns whether the second line of a file is the first one that is rejected, for this reason.
-fn is_second_refused(alloc: Global, rules: &[u8], cause: RulesCause) -> Result<bool, AllocError> {
-    match MaskRules::read(alloc, rules) {
-        Ok(_) => Ok(false),
-        Err(fault) if fault.cause == RulesCause::Memory => Err(AllocError),
-        Err(fault) => Ok(fault.line == 2 && fault.cause == cause),
-    }
-}
-
-/// Returns a file of two lines.
-fn two_lines(alloc: Global, first: &[u8], second: &[u8]) -> Result<Vec<u8>, AllocError> {
-    let mut both = Vec::from_slice(alloc, first)?;
-    both.push(b'\n')?;
-    both.extend_from_slice(second)?;
-    Ok(both)
+    None
 }
 
 /// Adds the line about the earlier line that contains the same rule, or a rule that must come
 /// later.
 fn add_earlier(lines: &mut Lines, rules: &[u8], fault: RulesFault, what: &str) {
-    if let Some(number) = find_earlier(lines, rules, fault) {
-        lines.number("line ", number as u64);
-        lines.end(what);
+    if let Some(number) = earlier_line(lines, rules, fault) {
+        lines.write(format_args!("line {number} {what}"));
     }
 }
 
-/// Returns the number of the first earlier line after which the line is rejected.
-fn find_earlier(lines: &mut Lines, rules: &[u8], fault: RulesFault) -> Option<usize> {
-    match earlier_line(lines.alloc(), rules, fault.line, fault.cause) {
-        Ok(number) => number,
-        Err(_) => {
-            lines.fail();
-            None
-        }
-    }
+/// Returns whether one of two changes changes the names by which the other finds elements: with
+/// `blank` as their verbs, two lines clash only then.
+fn is_renaming(lines: &mut Lines, earlier: &[u8], line: &[u8]) -> bool {
+    let (first, second) = (split_verb(earlier).1, split_verb(line).1);
+    let parts = [b"blank".as_slice(), first, b"\nblank".as_slice(), second];
+    is_second_refused(lines, &parts, RulesCause::Clash)
 }
 
-/// Returns a line with `blank` as its verb. Two such lines clash only if one of them changes the
-/// names by which the other finds elements.
-fn with_blank(alloc: Global, line: &[u8]) -> Result<Vec<u8>, AllocError> {
-    let mut changed = Vec::from_slice(alloc, b"blank".as_slice())?;
-    changed.extend_from_slice(after_verb(line))?;
-    Ok(changed)
-}
-
-/// Returns whether one of two changes changes the names by which the other finds elements.
-fn is_renaming(alloc: Global, earlier: &[u8], line: &[u8]) -> Result<bool, AllocError> {
-    let first = with_blank(alloc, earlier)?;
-    let second = with_blank(alloc, line)?;
-    is_refused_after(
-        alloc,
-        first.as_slice(),
-        second.as_slice(),
-        RulesCause::Clash,
-    )
-}
-
-/// Adds the lines about a change that the change in the line `earlier` excludes.
-fn add_clash_of_changes(lines: &mut Lines, rules: &[u8], fault: RulesFault, earlier: usize) {
-    let (first, second) = (line_of(rules, earlier), line_of(rules, fault.line));
-    lines.number("line ", earlier as u64);
-    match is_renaming(lines.alloc(), first, second) {
-        Ok(true) => {
-            lines.end(" is about the same elements");
-            lines.add(NAME_ADVICE);
-        }
-        Ok(false) => {
-            lines.end(" has another action for the same place");
-            lines.add("write uuid before long and hex last, and do not join uuid and digits");
-        }
-        Err(_) => lines.fail(),
+/// Adds the lines about a change that the change in an earlier line excludes.
+fn add_clash_of_changes(lines: &mut Lines, number: usize, earlier: &[u8], line: &[u8]) {
+    if is_renaming(lines, earlier, line) {
+        lines.write(format_args!("line {number} is about the same elements"));
+        lines.add(
+            "no rule changes the names by which a rule finds elements: leave one of them out",
+        );
+    } else {
+        lines.write(format_args!("line {number} has another action for the same place"));
+        lines.add("write uuid before long and hex last, and do not join uuid and digits");
     }
 }
 
 /// Adds the lines about a rule that an earlier one excludes.
 fn add_clash(lines: &mut Lines, rules: &[u8], fault: RulesFault) {
-    if is_drop(line_of(rules, fault.line)) {
-        add_earlier(lines, rules, fault, " changes the category");
+    let line = line_of(rules, fault.line);
+    if has_verb(line, b"drop") {
+        add_earlier(lines, rules, fault, "changes the category");
         return lines.add(CATEGORY_ADVICE);
     }
-    match find_earlier(lines, rules, fault) {
-        Some(number) if is_drop(line_of(rules, number)) => {
-            add_earlier(lines, rules, fault, " drops events by this category");
-            lines.add(CATEGORY_ADVICE);
-        }
-        Some(number) => add_clash_of_changes(lines, rules, fault, number),
-        None => {}
+    let Some(number) = earlier_line(lines, rules, fault) else {
+        return;
+    };
+    let earlier = line_of(rules, number);
+    if has_verb(earlier, b"drop") {
+        lines.write(format_args!("line {number} drops events by this category"));
+        lines.add(CATEGORY_ADVICE);
+    } else {
+        add_clash_of_changes(lines, number, earlier, line);
     }
 }
 
 /// Adds the lines about a rule that is there already.
 fn add_repeated(lines: &mut Lines, rules: &[u8], fault: RulesFault) {
-    let what = if is_word(line_of(rules, fault.line)) {
-        " has a word for this text"
+    let what = if has_verb(line_of(rules, fault.line), b"word") {
+        "has a word for this text"
     } else {
-        " has the same rule"
+        "has the same rule"
     };
     add_earlier(lines, rules, fault, what);
     lines.add("leave one of them out");
@@ -237,17 +183,14 @@ fn add_repeated(lines: &mut Lines, rules: &[u8], fault: RulesFault) {
 
 /// Adds the lines about a text that is empty, or a word that can overlap a text.
 fn add_bad_word(lines: &mut Lines, rules: &[u8], fault: RulesFault) {
-    match is_word_refused(lines.alloc(), line_of(rules, fault.line)) {
-        Ok(true) => lines.add("the text is empty, or its word can overlap it"),
-        Ok(false) => add_earlier(
-            lines,
-            rules,
-            fault,
-            " has a text or a word that can overlap those of this line",
-        ),
-        Err(_) => lines.fail(),
+    let alone = fault_in(lines, line_of(rules, fault.line));
+    if alone.is_some_and(|alone| alone.cause == RulesCause::BadWord) {
+        lines.add("the text is empty, or its word can overlap it");
+    } else {
+        let what = "has a text or a word that can overlap those of this line";
+        add_earlier(lines, rules, fault, what);
     }
-    lines.add(WORD_ADVICE);
+    lines.add("choose a word that shares no start or end with a text, such as \"<home>\"");
 }
 
 /// Adds the lines about why a line is rejected.
@@ -260,7 +203,7 @@ fn add_cause(lines: &mut Lines, rules: &[u8], fault: RulesFault) {
         RulesCause::BadPlace => add_bad_place(lines, line_of(rules, fault.line)),
         RulesCause::Repeated => add_repeated(lines, rules, fault),
         RulesCause::DigitsBehindHex => {
-            add_earlier(lines, rules, fault, " has a hex rule for the same place");
+            add_earlier(lines, rules, fault, "has a hex rule for the same place");
             lines.add("write the digits rule before the hex rule");
         }
         RulesCause::Clash => add_clash(lines, rules, fault),
@@ -274,10 +217,10 @@ fn add_cause(lines: &mut Lines, rules: &[u8], fault: RulesFault) {
 fn add_fault(lines: &mut Lines, rules: &[u8], fault: RulesFault) {
     match fault.cause {
         RulesCause::Memory => {}
-        RulesCause::TooLong => {
-            lines.number("the file has ", rules.len() as u64);
-            lines.end(" bytes; a file of rules has at most 65536");
-        }
+        RulesCause::TooLong => lines.write(format_args!(
+            "the file has {} bytes; a file of rules has at most 65536",
+            rules.len(),
+        )),
         _ => {
             add_line(lines, fault.line, line_of(rules, fault.line));
             add_cause(lines, rules, fault);

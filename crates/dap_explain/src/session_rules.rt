@@ -1,11 +1,7 @@
 //! Explains messages that violate a session rule.
-ghost use Rattle.dap_frame.specs.Limits.{IsSound};
-
-use crate::head::{Head, push_name, read_value};
+use crate::head::{Head, Named, read_value};
 use crate::lines::Lines;
-use crate::records::{Form, RecordPart, RecordParts};
-use crate::words::side_word;
-use dap_frame::FrameLimits;
+use crate::records::{Format, Part, Parts};
 use dap_profile::Kind;
 use dap_session::Rule;
 use dap_tree::Side;
@@ -26,22 +22,16 @@ enum Sought {
 impl Sought {
     /// Returns whether a message matches.
     fn is_met_by(self, head: &Head<'_>) -> bool {
-        match self {
-            Sought::Request(side, seq) => {
-                head.is_sent(side, Kind::Request) && head.seq == Some(seq)
-            }
-            Sought::Response(side, seq) => {
-                head.is_sent(side, Kind::Response) && head.request_seq == Some(seq)
-            }
-            Sought::Command(name) => {
-                head.is_sent(Side::Client, Kind::Request) && head.is_named(name)
-            }
+        let (side, kind, is_met) = match self {
+            Sought::Request(side, seq) => (side, Kind::Request, head.seq == Some(seq)),
+            Sought::Response(side, seq) => (side, Kind::Response, head.request_seq == Some(seq)),
+            Sought::Command(name) => (Side::Client, Kind::Request, head.name == Some(name)),
             Sought::Farewell => {
-                head.is_sent(Side::Adapter, Kind::Response)
-                    && head.is_success
-                    && head.is_named("disconnect")
+                let is_met = head.is_success && head.name == Some("disconnect");
+                (Side::Adapter, Kind::Response, is_met)
             }
-        }
+        };
+        is_met && head.side == Some(side) && head.kind == Some(kind)
     }
 }
 
@@ -51,19 +41,11 @@ struct Earlier<'a> {
     input: &'a [u8],
     /// The number of that record.
     before: u64,
-    limits: FrameLimits,
 }
 
 /// Returns the record of the first matching message.
-fn find<'a>(lines: &mut Lines, earlier: Earlier<'a>, sought: Sought) -> Option<RecordPart<'a>>
-    requires { IsSound earlier.limits }
-{
-    for record in RecordParts::new(
-        lines.alloc(),
-        Form::Recording,
-        earlier.input,
-        earlier.limits,
-    ) {
+fn find<'a>(lines: &mut Lines, earlier: Earlier<'a>, sought: Sought) -> Option<Part<'a>> {
+    for record in Parts::new(Format::Recording, earlier.input) {
         if record.number >= earlier.before {
             break;
         }
@@ -75,7 +57,7 @@ fn find<'a>(lines: &mut Lines, earlier: Earlier<'a>, sought: Sought) -> Option<R
 }
 
 /// Returns whether the message of a record matches.
-fn is_sought(lines: &mut Lines, record: RecordPart<'_>, sought: Sought) -> bool {
+fn is_sought(lines: &mut Lines, record: Part<'_>, sought: Sought) -> bool {
     match read_value(lines, record.content) {
         Some(message) => sought.is_met_by(&Head::of(record.side, &message)),
         None => false,
@@ -136,76 +118,58 @@ fn advice(rule: Rule) -> &'static str {
     }
 }
 
-/// Adds a line about the first matching message, with these words and the number of its record.
-fn add_found(lines: &mut Lines, earlier: Earlier<'_>, sought: Sought, words: &str)
-    requires { IsSound earlier.limits }
-{
+/// Adds a line about the first matching message: what it is, and the number of its record.
+fn add_found(lines: &mut Lines, earlier: Earlier<'_>, sought: Sought, what: &str) {
     if let Some(record) = find(lines, earlier, sought) {
-        lines.record(words, record.number);
-        lines.end("");
+        lines.write(format_args!("{what} is record {}", record.number));
     }
 }
 
 /// Adds a line about the earlier request of a side with this `seq`.
-fn add_request(lines: &mut Lines, earlier: Earlier<'_>, side: Option<Side>, seq: Option<i64>)
-    requires { IsSound earlier.limits }
-{
+fn add_request(lines: &mut Lines, earlier: Earlier<'_>, side: Option<Side>, seq: Option<i64>) {
     if let (Some(side), Some(seq)) = (side, seq) {
         match find(lines, earlier, Sought::Request(side, seq)) {
             Some(record) => add_named(lines, record, side, seq),
-            None => add_no_request(lines, side, seq),
+            None => lines.write(format_args!(
+                "the {side} sent no request with seq {seq} before it",
+            )),
         }
     }
 }
 
-/// Adds the line about a request that does not exist.
-fn add_no_request(lines: &mut Lines, side: Side, seq: i64) {
-    lines.text("the ", side_word(side));
-    lines.seq(" sent no request with seq ", seq);
-    lines.end(" before it");
-}
-
 /// Adds the line about a request that was found.
-fn add_named(lines: &mut Lines, record: RecordPart<'_>, side: Side, seq: i64) {
+fn add_named(lines: &mut Lines, record: Part<'_>, side: Side, seq: i64) {
     if let Some(message) = read_value(lines, record.content) {
-        lines.text("the ", side_word(side));
-        lines.seq("'s request with seq ", seq);
-        lines.push_str(" is");
-        push_name(lines, Head::of(record.side, &message).name);
-        lines.record(", in ", record.number);
-        lines.end("");
+        lines.write(format_args!(
+            "the {side}'s request with seq {seq} is{}, in record {}",
+            Named(Head::of(record.side, &message).name),
+            record.number,
+        ));
     }
 }
 
 /// Adds a line about the first response to the request that a response answers.
-fn add_response(lines: &mut Lines, earlier: Earlier<'_>, head: &Head<'_>)
-    requires { IsSound earlier.limits }
-{
+fn add_response(lines: &mut Lines, earlier: Earlier<'_>, head: &Head<'_>) {
     if let (Some(side), Some(seq)) = (head.side, head.request_seq) {
         if let Some(record) = find(lines, earlier, Sought::Response(side, seq)) {
-            lines.record("", record.number);
-            lines.end(" is its first response");
+            lines.write(format_args!("record {} is its first response", record.number));
         }
     }
 }
 
 /// Adds the lines about the earlier messages that are relevant for a rule.
-fn add_earlier(lines: &mut Lines, earlier: Earlier<'_>, head: &Head<'_>, rule: Rule)
-    requires { IsSound earlier.limits }
-{
+fn add_earlier(lines: &mut Lines, earlier: Earlier<'_>, head: &Head<'_>, rule: Rule) {
     match rule {
         Rule::EventFromClient | Rule::NotInitialized | Rule::ConfiguredEarly => {}
         Rule::StillInitializing | Rule::InitializeTwice => {
-            let words = "the client's initialize request is ";
-            add_found(lines, earlier, Sought::Command("initialize"), words);
+            let what = "the client's initialize request";
+            add_found(lines, earlier, Sought::Command("initialize"), what);
         }
         Rule::ConfiguredTwice => {
-            let words = "the client's configurationDone request is ";
-            add_found(lines, earlier, Sought::Command("configurationDone"), words);
+            let what = "the client's configurationDone request";
+            add_found(lines, earlier, Sought::Command("configurationDone"), what);
         }
-        Rule::AfterDisconnect => {
-            add_found(lines, earlier, Sought::Farewell, "that response is ")
-        }
+        Rule::AfterDisconnect => add_found(lines, earlier, Sought::Farewell, "that response"),
         Rule::SeqUsed => add_request(lines, earlier, head.side, head.seq),
         Rule::NoRequest | Rule::OtherCommand => {
             add_request(lines, earlier, other(head.side), head.request_seq)
@@ -224,14 +188,10 @@ pub(crate) fn explain_rule(
     number: u64,
     head: &Head<'_>,
     rule: Rule,
-    limits: FrameLimits,
-)
-    requires { IsSound limits }
-{
+) {
     let earlier = Earlier {
         input,
         before: number,
-        limits,
     };
     lines.add(meaning(rule));
     add_earlier(lines, earlier, head, rule);

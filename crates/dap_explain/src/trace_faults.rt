@@ -3,10 +3,10 @@ ghost use Rattle.std.specs.Prelude.{◌≡◌};
 ghost use Rattle.dap_frame.specs.Limits.{IsSound};
 
 use crate::frame_faults::{BadFrame, FrameName, explain_frame};
-use crate::header::KEEP_LINE_ENDS;
-use crate::likeness::{Expected, add_likeness, count_of, first_line, likeness_of, number_of};
+use crate::header::{KEEP_LINE_ENDS, count_of, first_line, split_piece};
 use crate::lines::Lines;
-use crate::pieces::{PieceParts, bytes_from};
+use crate::records::{Format, Parts, add_likeness, bytes_from};
+use crate::words::Bytes;
 use dap_frame::{FrameFault, FrameLimits, Framer};
 use dap_recording::{RecorderFault, TraceCause, TraceReader};
 use dap_tree::Side;
@@ -26,71 +26,50 @@ fn is_refused(bytes: &[u8], cause: TraceCause) -> bool {
 
 /// Adds the lines about a piece that starts incorrectly.
 fn add_bad_piece(lines: &mut Lines, number: u64, bytes: &[u8]) {
-    lines.number("piece ", number);
-    lines.bytes(" begins ", bytes);
-    lines.end("");
+    lines.write(format_args!("piece {number} begins {}", Bytes(bytes)));
     lines.add("a piece begins with > or <, its length in decimal digits without leading 0, and LF");
 }
 
 /// Adds the lines about an incomplete piece.
 fn add_cut(lines: &mut Lines, number: u64, bytes: &[u8]) {
-    let after = match bytes {
-        [_, after @ ..] => after,
-        [] => bytes,
-    };
-    match count_of(after) {
-        Some(digits) => {
-            let front = first_line(after).len().saturating_add(1);
-            let came = after.len().saturating_sub(front);
-            add_missing(lines, number, number_of(digits), came as u64);
+    let after = bytes.get(1..).unwrap_or(bytes);
+    match (count_of(after), split_piece(after)) {
+        (Some(count), Some((came, _))) => {
+            let missing = count.saturating_sub(came.len() as u64);
+            lines.write(format_args!(
+                "piece {number} has {count} bytes, and {missing} of them are missing",
+            ));
         }
-        None => {
-            lines.number("the trace ends in the length of piece ", number);
-            lines.bytes(": ", bytes);
-            lines.end("");
-        }
+        _ => lines.write(format_args!(
+            "the trace ends in the length of piece {number}: {}",
+            Bytes(bytes),
+        )),
     }
     lines.add("the program that wrote the input may have been stopped early");
 }
 
-/// Adds the line about a piece of this many bytes, of which these came.
-fn add_missing(lines: &mut Lines, number: u64, count: u64, came: u64) {
-    lines.number("piece ", number);
-    lines.number(" has ", count);
-    lines.number(" bytes, and ", count.saturating_sub(came));
-    lines.end(" of them are missing");
-}
-
 /// Explains that the bytes of a piece are not a piece of a trace.
 pub(crate) fn explain_piece(lines: &mut Lines, trace: &[u8], number: u64, cause: TraceCause) {
-    match bytes_from(trace, number) {
-        Some(bytes) if is_refused(bytes, cause) => {
-            match likeness_of(trace, Expected::Trace) {
-                Some(likeness) if number == 1 => add_likeness(lines, trace, likeness),
-                _ => add_cause(lines, number, bytes, cause),
-            }
-        }
-        _ => {}
+    let Some(bytes) = bytes_from(Format::Trace, trace, number) else {
+        return;
+    };
+    if is_refused(bytes, cause) && (number != 1 || !add_likeness(lines, trace, Format::Trace)) {
+        add_cause(lines, number, bytes, cause);
     }
 }
 
 /// Adds the lines about why a piece is rejected.
 fn add_cause(lines: &mut Lines, number: u64, bytes: &[u8], cause: TraceCause) {
-    match cause {
-        TraceCause::BadMarker => {
-            add_bad_piece(lines, number, bytes);
-            if number > 1 {
-                lines.add("the length of the piece before it may be wrong: it counts bytes");
-            }
-        }
-        TraceCause::BadCount => {
-            add_bad_piece(lines, number, bytes);
-            if first_line(bytes).ends_with(b"\r") {
-                lines.add("line ends may have been converted");
-                lines.add(KEEP_LINE_ENDS);
-            }
-        }
-        TraceCause::Cut => add_cut(lines, number, bytes),
+    if cause == TraceCause::Cut {
+        return add_cut(lines, number, bytes);
+    }
+    add_bad_piece(lines, number, bytes);
+    if cause == TraceCause::BadMarker && number > 1 {
+        lines.add("the length of the piece before it may be wrong: it counts bytes");
+    }
+    if cause == TraceCause::BadCount && first_line(bytes).ends_with(b"\r") {
+        lines.add("line ends may have been converted");
+        lines.add(KEEP_LINE_ENDS);
     }
 }
 
@@ -125,10 +104,21 @@ impl LastFrame {
     /// Stores bytes of the frame.
     fn keep(&mut self, bytes: &[u8]) -> Result<(), AllocError> {
         let room = self.limit.saturating_sub(self.front.len());
-        self.front
-            .extend_from_slice(bytes.get(..room).unwrap_or(bytes))?;
         self.len = self.len.saturating_add(bytes.len());
-        Ok(())
+        self.front
+            .extend_from_slice(bytes.get(..room).unwrap_or(bytes))
+    }
+
+    /// Explains that the frame of this side is invalid or incomplete, if it is so for this reason.
+    fn explain(&self, lines: &mut Lines, side: Side, fault: FrameFault, limits: FrameLimits) {
+        let frame = BadFrame {
+            name: FrameName::Of(side),
+            front: self.front.as_slice(),
+            len: self.len,
+        };
+        if self.framer.finish() == Err(fault) {
+            explain_frame(lines, frame, fault, limits);
+        }
     }
 }
 
@@ -148,12 +138,12 @@ fn frame_in_piece(
         front: Vec::new(alloc),
         len: 0,
     };
-    for piece in PieceParts::new(trace) {
-        if piece.part.piece > number {
+    for piece in Parts::new(Format::Trace, trace) {
+        if piece.number > number {
             break;
         }
-        if piece.part.side == side {
-            frame.take(piece.part.bytes)?;
+        if piece.side == Some(side) {
+            frame.take(piece.content)?;
         }
     }
     Ok(frame)
@@ -169,30 +159,10 @@ pub(crate) fn explain_recorder(
 )
     requires { IsSound limits }
 {
-    let RecorderFault::Frame(side, fault) = fault else {
-        return;
-    };
-    match frame_in_piece(lines.alloc(), trace, number, side, limits) {
-        Ok(frame) => explain_last(lines, frame, side, fault, limits),
-        Err(_) => lines.fail(),
-    }
-}
-
-/// Explains that the last frame of a side is invalid or incomplete, if it is so for this reason.
-fn explain_last(
-    lines: &mut Lines,
-    frame: LastFrame,
-    side: Side,
-    fault: FrameFault,
-    limits: FrameLimits,
-) {
-    let bad = BadFrame {
-        name: FrameName::Of(side),
-        front: frame.front.as_slice(),
-        len: frame.len,
-    };
-    match frame.framer.finish() {
-        Err(found) if found == fault => explain_frame(lines, bad, fault, limits),
-        _ => {}
+    if let RecorderFault::Frame(side, fault) = fault {
+        match frame_in_piece(lines.alloc(), trace, number, side, limits) {
+            Ok(frame) => frame.explain(lines, side, fault, limits),
+            Err(_) => lines.fail(),
+        }
     }
 }

@@ -1,7 +1,5 @@
-//! Appends parts of a line: numbers, names, and parts of an input.
-use crate::lines::{Lines, hex_digit};
-use dap_tree::Side;
-use serde_json::Value;
+//! Displays parts of an input, and paths into its messages, in the words of a line.
+use std::fmt;
 
 /// The number of bytes that are shown at the position of an error.
 const SHOWN_BYTES: usize = 40;
@@ -9,101 +7,124 @@ const SHOWN_BYTES: usize = 40;
 /// The number of characters that are shown of a value.
 const SHOWN_CHARACTERS: usize = 60;
 
-/// Returns the word for a side.
-pub(crate) fn side_word(side: Side) -> &'static str {
-    match side {
-        Side::Client => "client",
-        Side::Adapter => "adapter",
-    }
-}
+/// Displays the first 40 bytes of these in quotes, followed by `...` if there are more. A byte that
+/// is not printable ASCII is escaped as in a byte string of Rust.
+#[derive(Clone, Copy)]
+pub(crate) struct Bytes<'a>(pub(crate) &'a [u8]);
 
-impl Lines {
-    /// Appends two strings.
-    pub(crate) fn text(&mut self, lead: &str, text: &str) {
-        self.push_str(lead);
-        self.push_str(text);
-    }
-
-    /// Appends a string, and `record` with a number.
-    pub(crate) fn record(&mut self, lead: &str, number: u64) {
-        self.push_str(lead);
-        self.number("record ", number);
-    }
-
-    /// Appends a string, and another one as JSON, in quotes.
-    pub(crate) fn quoted(&mut self, lead: &str, text: &str) {
-        self.text(lead, "\"");
-        for character in text.chars() {
-            self.push_escaped(character, false);
-        }
-        self.push_str("\"");
-    }
-
-    /// Appends a string, and the first 40 bytes of these, in quotes, followed by `...` if there are
-    /// more. A byte that is not printable ASCII is escaped as in a byte string of Rust.
-    pub(crate) fn bytes(&mut self, lead: &str, bytes: &[u8]) {
-        let shown = bytes.get(..SHOWN_BYTES).unwrap_or(bytes);
-        self.text(lead, "\"");
+impl fmt::Display for Bytes<'_> {
+    fn fmt<W: fmt::Write>(&self, f: &mut fmt::Formatter<W>) -> fmt::Result {
+        let shown = self.0.get(..SHOWN_BYTES).unwrap_or(self.0);
+        f.write_str("\"")?;
         for byte in shown {
-            self.push_escaped(char::from(*byte), true);
+            write_escaped(f, char::from(*byte), true)?;
         }
-        self.push_str(if shown.len() < bytes.len() {
+        f.write_str(if shown.len() < self.0.len() {
             "\"..."
         } else {
             "\""
-        });
-    }
-
-    /// Appends a string, and the first 60 characters of another one, followed by `...` if there are
-    /// more.
-    pub(crate) fn cut(&mut self, lead: &str, text: &str) {
-        let shown = first_characters(text, SHOWN_CHARACTERS);
-        self.text(lead, shown);
-        if shown.len() < text.len() {
-            self.push_str("...");
-        }
-    }
-
-    /// Appends a string, and the first 60 characters of a value as JSON, followed by `...` if there
-    /// are more.
-    pub(crate) fn json(&mut self, lead: &str, value: &Value) {
-        match value.to_string(self.alloc()) {
-            Ok(text) => self.cut(lead, text.as_str()),
-            Err(_) => self.fail(),
-        }
-    }
-
-    /// Appends a character as in a JSON string, or as in a byte string of Rust.
-    fn push_escaped(&mut self, character: char, is_byte: bool) {
-        match character {
-            '"' => self.push_str("\\\""),
-            '\\' => self.push_str("\\\\"),
-            '\n' => self.push_str("\\n"),
-            '\r' => self.push_str("\\r"),
-            '\t' => self.push_str("\\t"),
-            ' '..='~' => self.push(character),
-            _ if is_byte => self.push_hex("\\x", u32::from(character)),
-            '\0'..='\u{1f}' => self.push_hex("\\u00", u32::from(character)),
-            _ => self.push(character),
-        }
-    }
-
-    /// Appends a string and the last two hexadecimal digits of a number.
-    fn push_hex(&mut self, lead: &str, number: u32) {
-        self.push_str(lead);
-        self.push(hex_digit(number / 16 % 16));
-        self.push(hex_digit(number % 16));
+        })
     }
 }
 
-/// Returns the first characters of a string, at most `count`.
-pub(crate) fn first_characters(text: &str, count: usize) -> &str {
-    let mut rest = text.chars();
-    for _ in 0..count {
-        if rest.next().is_none() {
-            return text;
+/// Displays a string as JSON, in quotes.
+#[derive(Clone, Copy)]
+pub(crate) struct Quoted<'a>(pub(crate) &'a str);
+
+impl fmt::Display for Quoted<'_> {
+    fn fmt<W: fmt::Write>(&self, f: &mut fmt::Formatter<W>) -> fmt::Result {
+        f.write_str("\"")?;
+        for character in self.0.chars() {
+            write_escaped(f, character, false)?;
+        }
+        f.write_str("\"")
+    }
+}
+
+/// Displays the first 60 characters of a string, followed by `...` if there are more.
+#[derive(Clone, Copy)]
+pub(crate) struct Cut<'a>(pub(crate) &'a str);
+
+impl fmt::Display for Cut<'_> {
+    fn fmt<W: fmt::Write>(&self, f: &mut fmt::Formatter<W>) -> fmt::Result {
+        match self.0.char_indices().nth(SHOWN_CHARACTERS) {
+            Some((end, _)) => write!(f, "{}...", self.0.get(..end).unwrap_or(self.0)),
+            None => f.write_str(self.0),
         }
     }
-    text.get(..text.len().saturating_sub(rest.as_str().len()))
-        .unwrap_or(text)
+}
+
+/// Writes a character as in a JSON string, or as in a byte string of Rust.
+fn write_escaped<W: fmt::Write>(
+    f: &mut fmt::Formatter<W>,
+    character: char,
+    is_byte: bool,
+) -> fmt::Result {
+    match character {
+        '"' => f.write_str("\\\""),
+        '\\' => f.write_str("\\\\"),
+        '\n' => f.write_str("\\n"),
+        '\r' => f.write_str("\\r"),
+        '\t' => f.write_str("\\t"),
+        ' '..='~' => f.write_char(character),
+        _ if is_byte => write!(f, "\\x{:02x}", u32::from(character)),
+        '\0'..='\u{1f}' => write!(f, "\\u{:04x}", u32::from(character)),
+        _ => f.write_char(character),
+    }
+}
+
+/// A step into a JSON value.
+#[derive(Clone, Copy, PartialEq)]
+pub(crate) enum Step<'a> {
+    /// To the member of an object with this name.
+    Member(&'a str),
+    /// To the element of an array with this index, counted from 0.
+    Element(usize),
+}
+
+/// Displays a path in the notation of `diff`, such as `body.stackFrames[2].line`, or of a mask rule
+/// that matches it, such as `body.stackFrames[].line`.
+#[derive(Clone, Copy)]
+pub(crate) struct Path<'p> {
+    pub(crate) steps: &'p [Step<'p>],
+    /// Whether it is the path of a rule.
+    pub(crate) is_rule: bool,
+}
+
+impl fmt::Display for Path<'_> {
+    fn fmt<W: fmt::Write>(&self, f: &mut fmt::Formatter<W>) -> fmt::Result {
+        if self.steps.is_empty() && !self.is_rule {
+            f.write_str(".")?;
+        }
+        for (index, step) in self.steps.iter().enumerate() {
+            match step {
+                Step::Member(name) if index == 0 => write!(f, "{}", Name(name))?,
+                Step::Member(name) => write!(f, ".{}", Name(name))?,
+                Step::Element(_) if self.is_rule => f.write_str("[]")?,
+                Step::Element(element) => write!(f, "[{element}]")?,
+            }
+        }
+        Ok(())
+    }
+}
+
+/// Displays a name in the notation of paths and rules: unchanged, or as a JSON string.
+#[derive(Clone, Copy)]
+pub(crate) struct Name<'a>(pub(crate) &'a str);
+
+impl fmt::Display for Name<'_> {
+    fn fmt<W: fmt::Write>(&self, f: &mut fmt::Formatter<W>) -> fmt::Result {
+        if is_plain(self.0) {
+            f.write_str(self.0)
+        } else {
+            write!(f, "{}", Quoted(self.0))
+        }
+    }
+}
+
+/// Returns whether a name consists of one or more letters, digits, `_`, `-` and `$`.
+fn is_plain(name: &str) -> bool {
+    !name.is_empty()
+        && name.bytes().all(|byte| byte.is_ascii_alphanumeric()
+            || matches!(byte, b'_' | b'-' | b'$'))
 }

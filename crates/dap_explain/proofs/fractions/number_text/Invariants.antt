@@ -1,5 +1,5 @@
 use Rattle.std.proofs.Common.{length}
-use Rattle.dap_explain.proofs.number_text.number_text.Given as goal
+use Rattle.dap_explain.proofs.fractions.number_text.Given as goal
 
 abbrev pub decreases-loop-token : goal.decreases-loop-token
 decreases-loop-token l = length l.reader
