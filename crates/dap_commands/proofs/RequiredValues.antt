@@ -18,7 +18,8 @@ use Rattle.clap.specs.Walk.{finished, values_or_missing, walk_from, walked, with
 use Rattle.clap.specs.Walk.{with_values}
 use Rattle.clap.specs.Walk.{without}
 use Rattle.clap.specs.declared.builder.action.ArgAction.{ArgAction}
-use Rattle.clap.specs.declared.builder.action.ArgAction.TheVariants.{Set, SetTrue, Help, Version}
+use Rattle.clap.specs.declared.builder.action.ArgAction.TheVariants.{Append, Set, SetTrue, Help}
+use Rattle.clap.specs.declared.builder.action.ArgAction.TheVariants.{Version}
 use Rattle.clap.specs.declared.builder.value_parser.Reading.{Reading}
 use Rattle.clap.specs.declared.parser.matches.ValueSource.{ValueSource}
 use Rattle.clap.specs.declared.parser.matches.ValueSource.TheVariants.{CommandLine, DefaultValue}
@@ -73,6 +74,7 @@ default_added rows a was = by_row (has_row a.id rows)
 abbrev pub has_values_as : ArgAction → Rule → Bool
 has_values_as Set a = nat_lt 0 (unwrap_or_range a.range).start_inclusive
 has_values_as SetTrue a = nat_lt 0 (length a.missing)
+has_values_as Append a = nat_lt 0 (unwrap_or_range a.range).start_inclusive
 has_values_as Help a = true
 has_values_as Version a = true
 has_values_as other a = false
@@ -102,6 +104,9 @@ kept_as SetTrue again a [] rows some least passes was =
 kept_as SetTrue again a (v ∷ vs) rows some least passes was =
     values_added a.id (reading_by a) CommandLine (v ∷ vs) (without a.id rows) (omega arith)
     (row_removed a.id rows was)
+kept_as Append again a [] rows some least passes was = absurd (no_fewer _ some least)
+kept_as Append again a (v ∷ vs) rows some least passes was =
+    values_added a.id (reading_by a) CommandLine (v ∷ vs) rows (omega arith) was
 kept_as Help again a values rows some least passes was = absurd (true≢false (sym passes))
 kept_as Version again a values rows some least passes was = absurd (true≢false (sym passes))
 kept_as other again a values rows some least passes was = absurd (true≢false (sym some))

@@ -4,7 +4,7 @@ use Rattle.clap.specs.Words.{subcommand_of}
 use Rattle.clap.proofs.OnLiterals.{clap_on_literals}
 use Rattle.dap_commands.specs.CommandLine as line
 use Rattle.dap_commands.specs.Commands.{command_named, comparison, golden, job, order, program}
-use Rattle.dap_commands.specs.Commands.{view}
+use Rattle.dap_commands.specs.Commands.{view, words_named}
 use Rattle.dap_commands.specs.declared.commands.Printed.TheVariants.{Verdict, AllDifferences}
 
 -- `-` is a file.
@@ -109,3 +109,34 @@ order_with_output : command_named (subcommand_of program (codes "dapnorm" ∷ co
     })
 unfolding clap_on_literals
 order_with_output = refl
+
+-- Words are rules too.
+compare_by_words : command_named (subcommand_of program (codes "dapnorm" ∷ codes "compare"
+    ∷ codes "--word" ∷ codes "x=<x>" ∷ codes "a" ∷ codes "b" ∷ []))
+    ≡ Some (record {
+      action = comparison (record {
+        a = codes "a";
+        b = codes "b";
+        per_stop = false;
+        rules = None;
+        printed = Verdict;
+      });
+      input = None;
+      output = None;
+      explain = false;
+    })
+unfolding clap_on_literals
+compare_by_words = refl
+
+-- Each use of the option has a value, in order.
+words_in_order : words_named (subcommand_of program (codes "dapnorm" ∷ codes "mask"
+    ∷ codes "--word" ∷ codes "b=<b>" ∷ codes "rules" ∷ codes "--word=a==" ∷ codes "in" ∷ []))
+    ≡ codes "b=<b>" ∷ codes "a==" ∷ []
+unfolding clap_on_literals
+words_in_order = refl
+
+no_words : words_named (subcommand_of program (codes "dapnorm" ∷ codes "golden" ∷ codes "file"
+    ∷ []))
+    ≡ []
+unfolding clap_on_literals
+no_words = refl

@@ -2,8 +2,9 @@
 use Rattle.std.specs.Prelude.{◌≡◌, ◌||◌, Bool, true, false, is_some, List, [], ◌∷◌, ◌++◌}
 use Rattle.std.specs.Prelude.{Option, Some, None, codes}
 use Rattle.std.specs.Prelude.{if◌then◌else◌, option_map, option_and_then}
+use Rattle.std.specs.Option.{option_map_or}
 use Rattle.std.specs.Str.{bytes_eq}
-use Rattle.clap.specs.Words.{App, IsAmong, Kinds, Row, Rule, Shape, Text, app_of, first_of}
+use Rattle.clap.specs.Words.{App, IsAmong, Kinds, Row, Rule, Shape, Text, all_of, app_of, first_of}
 use Rattle.clap.specs.Words.{found_of}
 use Rattle.clap.specs.Words.{new_rule, rows_of, rule_of}
 use Rattle.clap.specs.Simple.{new_shape}
@@ -11,7 +12,7 @@ use Rattle.clap.specs.declared.Command.{Command as Definition}
 use Rattle.clap.specs.declared.Command.TheViews.{out-Command as fields_of}
 use Rattle.clap.specs.declared.Arg.{Arg}
 use Rattle.clap.specs.declared.ArgMatches.{ArgMatches}
-use Rattle.clap.specs.declared.builder.ArgAction.TheVariants.{Set, SetTrue}
+use Rattle.clap.specs.declared.builder.ArgAction.TheVariants.{Append, Set, SetTrue}
 use Rattle.clap.specs.declared.error.kind.ErrorKind.{ErrorKind}
 use Rattle.dap_commands.specs.CommandLine.{asks_per_stop, file, is_help_or_version, is_set}
 use Rattle.dap_commands.specs.CommandLine.{job_of}
@@ -38,6 +39,10 @@ flag name = record (new_rule name) { long = Some name; action = Some SetTrue }
 abbrev pub option : Text → Rule
 option name = record (new_rule name) { long = Some name; action = Some Set; value_names = 1 }
 
+-- An option with a value that may be given several times, such as `--word TEXT=WORD`.
+abbrev pub repeated : Text → Rule
+repeated name = record (option name) { action = Some Append }
+
 -- An optional argument, such as `[INPUT]`.
 abbrev pub optional : Text → Rule
 optional name = record (new_rule name) { action = Some Set }
@@ -49,6 +54,10 @@ input_file = optional (codes "FILE")
 -- The file of the output, `-o FILE` or `--output FILE`; 111 is `o`.
 abbrev pub output_file : Rule
 output_file = record (option (codes "output")) { short = Some 111 }
+
+-- The option `--word`.
+abbrev pub word_option : Rule
+word_option = repeated (codes "word")
 
 -- A subcommand with these arguments.
 abbrev pub subcommand : Text → List Rule → Shape
@@ -81,7 +90,8 @@ normaliser =
 -- `mask`.
 abbrev pub masker : Shape
 masker =
-    subcommand (codes "mask") (file (codes "RULES") ∷ explain_flag ∷ input_file ∷ output_file ∷ [])
+    subcommand (codes "mask") (file (codes "RULES") ∷ word_option ∷ explain_flag ∷ input_file
+    ∷ output_file ∷ [])
 
 -- `order`.
 abbrev pub orderer : Shape
@@ -97,7 +107,7 @@ checker =
 -- these.
 abbrev pub of_two_files : Text → List Rule → Shape
 of_two_files name rules =
-    subcommand name (file (codes "A") ∷ file (codes "B") ∷ option (codes "rules")
+    subcommand name (file (codes "A") ∷ file (codes "B") ∷ option (codes "rules") ∷ word_option
     ∷ flag (codes "per-stop") ∷ explain_flag ∷ rules)
 
 -- `compare` and `diff`.
@@ -111,7 +121,7 @@ differ = of_two_files (codes "diff") (flag (codes "all") ∷ [])
 abbrev pub suggester : Shape
 suggester =
     subcommand (codes "suggest") (file (codes "A") ∷ file (codes "B") ∷ option (codes "rules")
-    ∷ explain_flag ∷ [])
+    ∷ word_option ∷ explain_flag ∷ [])
 
 -- `rows`.
 abbrev pub row_printer : Shape
@@ -120,7 +130,7 @@ row_printer = subcommand (codes "rows") (optional (codes "N") ∷ [])
 -- `golden`.
 abbrev pub golden_keeper : Shape
 golden_keeper =
-    subcommand (codes "golden") (option (codes "rules") ∷ flag (codes "per-stop")
+    subcommand (codes "golden") (option (codes "rules") ∷ word_option ∷ flag (codes "per-stop")
     ∷ flag (codes "open") ∷ flag (codes "update") ∷ file (codes "GOLDEN")
     ∷ optional (codes "INPUT") ∷ [])
 
@@ -239,18 +249,19 @@ comparison_of printed given files = record {
   printed = printed;
 }
 
--- The option `--rules` was given.
+-- The option `--rules` or `--word` was given.
 abbrev pub has_rules : List Row → Bool
-has_rules given = is_some (first_of (codes "rules") given)
+has_rules given =
+    is_some (first_of (codes "rules") given) || is_some (first_of (codes "word") given)
 
--- The action of `compare` for two files: its job, unless there are rules.
+-- The action of `compare` for two files: its job, unless there are rules or words.
 abbrev pub compare_action : List Row → Text × Text → ToldAction
 compare_action given files =
     if has_rules given then comparison (comparison_of Verdict given files)
     else job (line.compare files.0 files.1 (asks_per_stop given))
 
--- The action of `diff` for two files: its job, unless there are rules or all differences are
--- requested.
+-- The action of `diff` for two files: its job, unless there are rules or words, or all differences
+-- are requested.
 abbrev pub diff_action : List Row → Text × Text → ToldAction
 diff_action given files =
     if has_flag (codes "all") given then comparison (comparison_of AllDifferences given files)
@@ -339,6 +350,14 @@ command_of name given =
 
 abbrev pub command_named : Option (Text × List Row) → Option Told
 command_named = option_and_then (λ p. command_of p.0 p.1)
+
+-- All values of an option, in the order of the arguments.
+abbrev pub values_of : Text → List Row → List Text
+values_of id given = option_map_or (λ values. values) (all_of id given) []
+
+-- The values of the option `--word` of the subcommand, in the order of the arguments.
+abbrev pub words_named : Option (Text × List Row) → List Text
+words_named found = option_map_or (λ p. values_of (codes "word") p.1) found []
 
 -- The arguments that the parser found.
 abbrev pub given : ArgMatches → List Row

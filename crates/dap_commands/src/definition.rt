@@ -6,7 +6,7 @@ ghost use Rattle.dap_commands.specs.Commands.{IsArgument, IsSubcommand, checker,
 ghost use Rattle.dap_commands.specs.Commands.{explain_flag, flag, golden_keeper, input_file, masker, normaliser};
 ghost use Rattle.dap_commands.specs.Commands.{of_two_files, option, optional, orderer, output_file};
 ghost use Rattle.dap_commands.specs.Commands.{program, row_printer, stream, subcommand, suggester};
-ghost use Rattle.dap_commands.specs.Commands.{viewer, with_argument};
+ghost use Rattle.dap_commands.specs.Commands.{viewer, with_argument, word_option};
 
 use clap::{Arg, ArgAction, Command};
 use std::alloc::{AllocError, Global};
@@ -39,6 +39,14 @@ fn option<'a>(alloc: Global, name: &'a str, value: &'a str, help: &'a str) -> Ar
         .action(ArgAction::Set)
         .value_name(value)
         .help(help)
+}
+
+/// Returns the option `--word TEXT=WORD`, which may be given several times.
+fn word_option<'a>(alloc: Global) -> Arg<'a>
+    ensures { IsArgument word_option result }
+{
+    let help = "Replaces TEXT by WORD in every text of a message; repeatable";
+    option(alloc, "word", "TEXT=WORD", help).action(ArgAction::Append)
 }
 
 /// Returns a required argument: a file.
@@ -211,6 +219,7 @@ fn mask_command<'a>(alloc: Global) -> Result<Command<'a>, AllocError>
         "Example: dapnorm mask lldb.rules session.rec -o session.masked",
     ));
     let command = with_argument(command, file(alloc, "RULES", RULES));
+    let command = with_argument(command, word_option(alloc));
     let command = with_argument(command, explain_flag(alloc));
     let command = with_argument(command, input_file(alloc));
     with_argument(command, output_file(alloc))
@@ -261,6 +270,7 @@ fn two_files_command<'a>(
     let command = with_argument(command, file(alloc, "A", "The first recording"));
     let command = with_argument(command, file(alloc, "B", "The second recording"));
     let command = with_argument(command, option(alloc, "rules", "RULES", RULES));
+    let command = with_argument(command, word_option(alloc));
     let command = with_argument(command, per_stop_flag(alloc));
     with_argument(command, explain_flag(alloc))
 }
@@ -305,6 +315,7 @@ fn suggest_command<'a>(alloc: Global) -> Result<Command<'a>, AllocError>
     let command = with_argument(command, file(alloc, "B", "The recording of another run"));
     let rules = "The file of the rules that there are; only further rules are printed";
     let command = with_argument(command, option(alloc, "rules", "RULES", rules));
+    let command = with_argument(command, word_option(alloc));
     with_argument(command, explain_flag(alloc))
 }
 
@@ -332,6 +343,7 @@ fn golden_command<'a>(alloc: Global) -> Result<Command<'a>, AllocError>
         "Example: dapnorm golden session.golden session.trace",
     ));
     let command = with_argument(command, option(alloc, "rules", "RULES", RULES));
+    let command = with_argument(command, word_option(alloc));
     let command = with_argument(command, per_stop_flag(alloc));
     let open = "Accepts a session in which some request has no response";
     let command = with_argument(command, flag(alloc, "open", open));

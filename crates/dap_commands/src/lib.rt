@@ -14,4 +14,4 @@ mod words;
 pub use commands::{Action, Command, Comparison, Golden, Order, Printed, Show, Suggest};
 pub use job_words::job;
 pub use jobs::{Job, UsageFault};
-pub use words::command;
+pub use words::{command, words_given};

@@ -1,8 +1,9 @@
 //! Reads the arguments of a command line with `clap`.
 ghost use Rattle.std.specs.Prelude.{[], ◌≡◌, codes, IfOk, IfErr, None, Some, true};
-ghost use Rattle.std.specs.Prelude.{if◌then◌else◌, option_map};
+ghost use Rattle.std.specs.Prelude.{if◌then◌else◌, map, option_map};
 ghost use Rattle.clap.specs.Walk.{texts};
-ghost use Rattle.clap.specs.Words.{fault_of as faults_of, first_of, kind_of, subcommand_of};
+ghost use Rattle.clap.specs.Words.{all_of, fault_of as faults_of, first_of, kind_of};
+ghost use Rattle.clap.specs.Words.{subcommand_of};
 ghost use Rattle.clap.specs.Words.{subcommand_rows_of, takes};
 ghost use Rattle.dap_commands.specs.CommandLine.{IsUsageErrorOf, compare, diff};
 ghost use Rattle.dap_commands.specs.CommandLine.{is_help_or_version};
@@ -14,6 +15,7 @@ ghost use Rattle.dap_commands.specs.declared.jobs.UsageFault.TheVariants.{Memory
 ghost use Rattle.dap_commands.specs.Commands.{IsFaultFor, command_named, command_of};
 ghost use Rattle.dap_commands.specs.Commands.{compare_action, compare_of, comparison_of};
 ghost use Rattle.dap_commands.specs.Commands.{diff_action, diff_of, given, golden_of, has_flag};
+ghost use Rattle.dap_commands.specs.Commands.{has_rules, words_named};
 ghost use Rattle.dap_commands.specs.Commands.{order_of, program, reads_input, show_action};
 ghost use Rattle.dap_commands.specs.Commands.{show_of, suggest_of, reported, told_action};
 ghost use Rattle.dap_commands.specs.Commands.{told_comparison};
@@ -24,7 +26,7 @@ use crate::commands::{Action, Command, Comparison, Golden, Order, Printed, Show,
 use crate::{Job, UsageFault, definition};
 use clap::error::ErrorKind;
 use clap::{ArgMatches, Error};
-use std::alloc::Global;
+use std::alloc::{AllocError, Global};
 
 /// Returns the value of an argument, if it has one.
 fn value_of<'a>(rows: &ArgMatches<'a>, id: &str) -> Option<&'a str>
@@ -179,12 +181,19 @@ fn comparison_of<'a>(
     }
 }
 
+/// Returns whether the option `--rules` or `--word` was given.
+fn has_rules(rows: &ArgMatches<'_>) -> bool
+    ensures { result ≡ has_rules (given rows.now) }
+{
+    value_of(rows, "rules").is_some() || value_of(rows, "word").is_some()
+}
+
 /// Returns the action of `compare` for two files.
 fn compare_action<'a>(rows: &ArgMatches<'a>, a: &'a str, b: &'a str) -> Action<'a>
     ensures { told_action result ≡ compare_action (given rows.now) (a.entry.now, b.entry.now) }
 {
     let comparison = comparison_of(rows, a, b, Printed::Verdict);
-    if comparison.rules.is_some() {
+    if has_rules(rows) {
         Action::Compare(comparison)
     } else {
         let per_stop = comparison.per_stop;
@@ -200,7 +209,7 @@ fn diff_action<'a>(rows: &ArgMatches<'a>, a: &'a str, b: &'a str) -> Action<'a>
         return Action::Compare(comparison_of(rows, a, b, Printed::AllDifferences));
     }
     let comparison = comparison_of(rows, a, b, Printed::FirstDifference);
-    if comparison.rules.is_some() {
+    if has_rules(rows) {
         Action::Compare(comparison)
     } else {
         let per_stop = comparison.per_stop;
@@ -403,6 +412,55 @@ pub fn command<'a>(alloc: Global, words: &'a [&'a str]) -> Result<Command<'a>, U
             Some(command) => Ok(command),
             // Arguments that clap accepts select a command (`accepted_command` in proofs/).
             None => unreachable!(),
+        },
+        Err(error) => Err(fault_of(alloc, &error)),
+    }
+}
+
+/// Returns all values of an option, in the order of the arguments.
+fn values_of<'r, 'a>(rows: &'r ArgMatches<'a>, id: &str) -> Option<&'r [&'a str]>
+    ensures { option_map (λ values. map (λ text. text.now) values.now) result
+        ≡ all_of id.now (given rows.now) }
+{
+    rows.get_strs(id)
+}
+
+/// Returns the values of the option `--word` of the subcommand, in the order of the arguments.
+fn words_in<'a>(alloc: Global, matches: &ArgMatches<'a>) -> Result<Vec<&'a str>, AllocError>
+    ensures { IfOk result
+        (λ v. map (λ text. text.now) v.items ≡ words_named (subcommand_rows_of matches.now)) }
+{
+    let Some((_, rows)) = matches.subcommand() else {
+        return Ok(Vec::new(alloc));
+    };
+    match values_of(rows, "word") {
+        Some(values) => Vec::from_slice(alloc, values),
+        None => Ok(Vec::new(alloc)),
+    }
+}
+
+/// Returns the values of the option `--word` of a command line, in the order of the arguments. The
+/// first argument is the program's name.
+///
+/// # Errors
+///
+/// Those of [`command`].
+pub fn words_given<'a>(alloc: Global, words: &'a [&'a str]) -> Result<Vec<&'a str>, UsageFault>
+    // The words are those that the model of clap finds in the arguments.
+    ensures ok { IfOk result (λ v. map (λ text. text.now) v.items
+        ≡ words_named (subcommand_of program (texts words.entry.now))) }
+
+    // If the model of clap accepts the arguments, the only possible error is `Memory`.
+    ensures err { IfErr result (λ fault. takes program (texts words.entry.now) ≡ true
+        → fault ≡ Memory) }
+{
+    let Ok(program) = definition::program(alloc) else {
+        return Err(UsageFault::Memory);
+    };
+    match program.try_get_matches_from(words) {
+        Ok(matches) => match words_in(alloc, &matches) {
+            Ok(values) => Ok(values),
+            Err(_) => Err(UsageFault::Memory),
         },
         Err(error) => Err(fault_of(alloc, &error)),
     }

@@ -3,8 +3,9 @@ use Rattle.dap_commands.proofs.definition.golden_command.Goals as goal
 pub returns : goal.returns
 returns c =
     let with-1 = c.with_argument-command.ensures _ _ c.subcommand.ensures c.option.ensures in
-    let with-2 = c.with_argument-command-2.ensures _ _ with-1 c.per_stop_flag.ensures in
-    let with-3 = c.with_argument-command-3.ensures _ _ with-2 c.flag.ensures in
-    let with-4 = c.with_argument-command-4.ensures _ _ with-3 c.flag-2.ensures in
-    let with-5 = c.with_argument-command-5.ensures _ _ with-4 c.file.ensures in
-    c.with_argument.ensures _ _ with-5 c.optional.ensures
+    let with-2 = c.with_argument-command-2.ensures _ _ with-1 c.word_option.ensures in
+    let with-3 = c.with_argument-command-3.ensures _ _ with-2 c.per_stop_flag.ensures in
+    let with-4 = c.with_argument-command-4.ensures _ _ with-3 c.flag.ensures in
+    let with-5 = c.with_argument-command-5.ensures _ _ with-4 c.flag-2.ensures in
+    let with-6 = c.with_argument-command-6.ensures _ _ with-5 c.file.ensures in
+    c.with_argument.ensures _ _ with-6 c.optional.ensures
