@@ -8,18 +8,18 @@ _dapnorm() {
         words="$commands -h --help -V --version"
     elif [[ $command == help ]]; then
         ((COMP_CWORD == 2)) && words=$commands
-    elif [[ $word == -* && $before != --output && $before != --record && $before != --rules && $before != -o ]]; then
+    elif [[ $word == -* && $before != --output && $before != --record && $before != --rules && $before != --word && $before != -o ]]; then
         words='-h --help'
         case $command in
-            golden) words+=' --rules --per-stop --open --update' ;;
+            golden) words+=' --rules --word --per-stop --open --update' ;;
             record) words+=' --explain -o --output' ;;
             check) words+=' --complete --per-stop --explain' ;;
             normalise) words+=' --per-stop --explain -o --output' ;;
-            compare) words+=' --rules --per-stop --explain' ;;
-            diff) words+=' --rules --per-stop --explain --all' ;;
-            suggest) words+=' --rules --explain' ;;
+            compare) words+=' --rules --word --per-stop --explain' ;;
+            diff) words+=' --rules --word --per-stop --explain --all' ;;
+            suggest) words+=' --rules --word --explain' ;;
             show) words+=' --full --faulty --record --explain -o --output' ;;
-            mask) words+=' --explain -o --output' ;;
+            mask) words+=' --word --explain -o --output' ;;
             order) words+=' -o --output' ;;
             compact) words+=' --explain -o --output' ;;
         esac

@@ -17,6 +17,7 @@ complete -c dapnorm -n __fish_use_subcommand -a compact -d 'Rewrites frames of o
 complete -c dapnorm -n __fish_use_subcommand -a rows -d 'Prints the rows of the profile, or row N'
 complete -c dapnorm -n __fish_use_subcommand -a help -d 'Prints the help of the program or of a command'
 complete -c dapnorm -n '__fish_seen_subcommand_from golden compare diff' -l rules -r -F -d 'The rules file: what may differ between runs'
+complete -c dapnorm -n '__fish_seen_subcommand_from golden compare diff suggest mask' -l word -r -d 'Replaces TEXT by WORD in every text of a message; repeatable'
 complete -c dapnorm -n '__fish_seen_subcommand_from golden check normalise compare diff' -l per-stop -d 'Restarts frame ids and variables references at 1 after each stop'
 complete -c dapnorm -n '__fish_seen_subcommand_from golden' -l open -d 'Accepts a session in which some request has no response'
 complete -c dapnorm -n '__fish_seen_subcommand_from golden' -l update -d 'Writes the golden file if it differs or does not exist'

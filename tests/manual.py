@@ -52,7 +52,7 @@ def manual(report, commands, statuses):
         report.check(f"the synopsis has {command}", re.search(rf"^\.Nm\n\.Cm {command}$", text, re.MULTILINE))
         report.check(f"the man page explains {command}", re.search(rf"^\.It Cm {command}$", text, re.MULTILINE))
         for option in options:
-            report.check(f"the man page explains --{option}", re.search(rf"^\.It Fl (?:\w , )?-{option}(?: Ar \w+)?$", text, re.MULTILINE))
+            report.check(f"the man page explains --{option}", re.search(rf"^\.It Fl (?:\w , )?-{option}(?: Ar \S+)?$", text, re.MULTILINE))
     report.check("the man page explains --help", ".It Fl h , -help" in text)
     report.check("the man page explains --version", ".It Fl V , -version" in text)
     listed = re.findall(r"^\.It (\d+)$", text, re.MULTILINE)

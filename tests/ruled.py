@@ -1,4 +1,5 @@
 """Runs `order`, and `compare`, `diff` and `golden` by rules, on small sessions: outputs, refusals, files and explanations."""
+import json
 import os
 import sys
 
@@ -130,6 +131,90 @@ def words(report):
         report.check("order leaves the words of the file", answers[0][0] == 0 and answers[0][1] != answers[1][1], repr(answers))
 
 
+def word_option(report):
+    """The option `--word` is as a line `word` after the rules: on one machine, and on two."""
+    folders = ("/home/ada/project/tests/progs", "/srv/ci/build-17")
+    lines = capture("debugpy-l-stopentry.1.rec")
+    files = {"a": recording(lines), "b": moved(lines, *folders), "none": b"# no rule"}
+    rules = {f"word-{name}": f'word "{folder}" "<project>"\n'.encode() for name, folder in zip("ab", folders)}
+    rules["word-both"] = b"".join(rules.values())
+    of_a, of_b = (["--word", f"{folder}=<project>"] for folder in folders)
+    with Folder(**files, **rules) as folder:
+        answer = folder.run("golden", *of_a, "--update", "g", "a")
+        report.check("a golden file of one folder by the option", answer[0] == 0 and folders[0].encode() not in folder.read("g"), repr(answer))
+        folder.run("golden", "--rules", "word-a", "--update", "h", "a")
+        report.check("it is that of the line", folder.read("g") == folder.read("h"))
+        answer = folder.run("golden", *of_b, "g", "b")
+        report.check("it is that of the other machine by its option", answer == (0, b"same\n", b""), repr(answer))
+        report.check("but not by the option of the first", folder.run("golden", *of_a, "g", "b")[0] == 1)
+        answer = folder.run("golden", *of_a, *of_b, "g", "b")
+        report.check("both options serve both machines", answer == (0, b"same\n", b""), repr(answer))
+        for words in (["compare"], ["diff"], ["diff", "--all"]):
+            wanted = folder.run(*words, "--rules", "word-both", "a", "b")
+            report.check(f"{words} by two options", wanted[0] == 0 and folder.run(*words, *of_a, *of_b, "a", "b") == wanted)
+            report.check(f"{words} by one option", folder.run(*words, *of_a, "a", "b")[0] == 1)
+            report.check(f"{words} by a line and an option", folder.run(*words, "--rules", "word-a", *of_b, "a", "b") == wanted)
+            report.check(f"{words} by a comment and options", folder.run(*words, "a", "b", *of_b, "--rules", "none", *of_a) == wanted)
+        masked = folder.run("mask", "word-a", "a")
+        report.check("mask of two machines, each by its option", folder.run("mask", *of_a, "none", "a") == folder.run("mask", *of_b, "none", "b") == masked)
+        answer = folder.run("mask", *of_a, "none", "-o", "c", given=files["a"])
+        report.check("mask into a file", answer == (0, b"", b"") and folder.read("c") == masked[1], repr(answer))
+        answer = folder.run("suggest", *of_a, *of_b, "a", "b")
+        report.check("suggest after the words", answer == (0, b"# with these rules: same\n", b""), repr(answer))
+
+
+def values(report):
+    """What a value means: TEXT ends at the first `=`, and both are any text."""
+    first, many = ANSWERED_FIRST[0], b"".join(b"drop event e%d\n" % it for it in range(999))
+    with Folder(a=recording(ANSWERED_FIRST), none=b"", many=many, bad=b"# a comment\nswap\n", long=b"#" * 65_500) as folder:
+        for text, word in (("mock", "<a=b>"), ("mock", "="), ("mock", '"\\\t='), ("mock", "\u00e9\x01")):
+            answer = folder.run("mask", "--word", f"{text}={word}", "none", "a")
+            content = json.dumps(word, ensure_ascii=False)[1:-1]
+            written = recording([first.replace(text, content), *ANSWERED_FIRST[1:]])
+            report.check(f"{text} becomes {word!r}", text in first and answer == (0, written, b""), repr(answer))
+        answer = folder.run("mask", "--word=mock=<m>", "--word", "mo=<n>", "none", "a")
+        report.check("the longer text is found", answer[1] == recording([first.replace("mock", "<m>"), *ANSWERED_FIRST[1:]]), repr(answer))
+        report.check("the thousandth rule", folder.run("mask", "--word", "x=<w>", "many", "a")[0] == 0)
+        for name, given, why in (("many", ["x=<w>", "y=<v>"], TOO_MANY), ("long", ["x=<w>", f"y=<{'v' * 99}>"], TOO_LONG)):
+            answer = folder.run("mask", *(it for value in given for it in ("--word", value)), name, "a")
+            report.check(f"the rules of {name} and words", answer == bad_word(given[-1], why), repr(answer))
+        for words in (["mask", "bad", "a"], ["compare", "--rules", "bad", "a", "a"], ["golden", "--rules", "bad", "g", "a"]):
+            answer = folder.run(*words, "--word", "x=<w>")
+            report.check(f"{words} names its own line", answer == (2, b"", refusal("rules: line 2: BadRule")), repr(answer))
+            answer = folder.run(*["missing" if it == "bad" else it for it in words], "--word", "x=<w>")
+            report.check(f"{words} without the file", answer == (4, b"", refusal("rules: read fault")), repr(answer))
+
+
+# Why a value of the option `--word` is wrong.
+NO_EQUALS, EMPTY, REPEATED = "write TEXT=WORD", "TEXT is empty", "TEXT has a WORD already"
+EMPTY_WORD = "WORD is empty"
+OVERLAP = "a WORD and a TEXT overlap: take another WORD, such as <home>"
+TOO_MANY, TOO_LONG = "there are more than 1,000 rules", "the rules are longer than 65,536 bytes"
+
+# A file of rules, values, and why the last of them is wrong.
+BAD_WORDS = [
+    (None, ["x"], NO_EQUALS), (None, [""], NO_EQUALS), (None, ["a=<a>", "x"], NO_EQUALS), (None, ["=x"], EMPTY), (None, ["="], EMPTY),
+    (None, ["a=1", "=x"], EMPTY), (None, ["x="], EMPTY_WORD), (None, ["a=1", "b="], EMPTY_WORD), (None, ["a=ba"], OVERLAP), (None, ["a=1", "b=a"], OVERLAP), (None, ["a=1", "1=b"], OVERLAP),
+    (None, ["a=1", "a=2"], REPEATED), (None, ["a=1", "b=2", "a=1"], REPEATED),
+    ("word", ["mock=<n>"], REPEATED), ("word", ["a=1", "<m=<n>"], OVERLAP), ("bad", ["=x"], EMPTY), ("missing", ["x"], NO_EQUALS),
+]
+
+
+def bad_word(value, why):
+    return 3, b"", f"error: --word {value}: {why}\n".encode()
+
+
+def bad_words(report):
+    with Folder(a=recording(ANSWERED_FIRST), none=b"", word=b'word mock "<m>"\n', bad=b"swap\n") as folder:
+        for rules, given, why in BAD_WORDS:
+            options = [it for value in given for it in ("--word", value)]
+            named = ["--rules", rules] if rules else []
+            runs = [["mask", rules or "none", "a"], ["compare", *named, "a", "a"], ["diff", "--all", *named, "a", "a"]]
+            for words in (*runs, ["golden", *named, "--update", "g", "a"], ["suggest", *named, "a", "a"]):
+                answer = folder.run(*words, *options)
+                report.check(f"{words} {options}", answer == bad_word(given[-1], why) and folder.read("g") is None, repr(answer))
+
+
 def refusals(report):
     files = {"a": recording(ANSWERED_FIRST), "early": CONFIGURED, "bytes": recording(BEGUN) + b"x", "json": recording(BEGUN) + record("<{")}
     rules = {"drop": b"drop event initialized\n", "both": b"drop event initialized\n" + SWAP, "bad": b"swap\n"}
@@ -161,6 +246,9 @@ def main():
     comparisons(report)
     per_stop(report)
     words(report)
+    word_option(report)
+    values(report)
+    bad_words(report)
     refusals(report)
     return report.close()
 

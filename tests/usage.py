@@ -11,8 +11,10 @@ from report import PROGRAM, TOP, Report, run
 MANUAL = os.path.join(TOP, "docs", "dapnorm.1")
 COMMANDS = os.path.join(TOP, "docs", "COMMANDS.md")
 HELP = ["-h", "--help"]
+# An option with this value may be repeated.
+REPEATED = "TEXT=WORD"
 # An argument or a value of another name is a file.
-NUMBER = "N"
+NO_FILES = ("N", REPEATED)
 
 
 class Option(NamedTuple):
@@ -32,7 +34,7 @@ class Command(NamedTuple):
     options: List[Option]
 
     def takes_files(self) -> bool:
-        return any(it.strip("[]") != NUMBER for it in self.arguments)
+        return any(it.strip("[]") not in NO_FILES for it in self.arguments)
 
 
 def command(name: str, about: str) -> Command:
@@ -40,7 +42,7 @@ def command(name: str, about: str) -> Command:
     text = run([name, "--help"])[1].decode()
     usage = re.search(rf"^Usage: \w+ {name}(.*)$", text, re.MULTILINE)[1]
     arguments = [it.strip("<>") for it in usage.replace("[OPTIONS]", "").split()]
-    found = re.findall(r"^ +(?:-(\w), |)--([\w-]+)(?: <(\w+)>)? +(.*)$", text.partition("Options:")[2], re.MULTILINE)
+    found = re.findall(r"^ +(?:-(\w), |)--([\w-]+)(?: <([\w=]+)>)? +(.*)$", text.partition("Options:")[2], re.MULTILINE)
     return Command(name, about, arguments, [Option(short, long, value or None, help_text) for short, long, value, help_text in found if long != "help"])
 
 
@@ -107,18 +109,18 @@ def zsh_text(text: str) -> str:
 
 
 def zsh_option(option: Option) -> str:
-    value = "" if option.value is None else f":{option.value.lower()}:" + ("" if option.value == NUMBER else "_files")
+    value = "" if option.value is None else f":{option.value.lower()}:" + ("" if option.value in NO_FILES else "_files")
     text = f"[{zsh_text(option.about)}]{value}"
     if option.short:
         return f"'({' '.join(option.names())})'{{{','.join(option.names())}}}'{text}'"
-    return f"'--{option.long}{text}'"
+    return f"'{'*' if option.value == REPEATED else ''}--{option.long}{text}'"
 
 
 def zsh(of: List[Command]) -> str:
     listed = "\n".join(f"        '{it.name}:{zsh_text(it.about)}'" for it in of)
     cases = []
     for it in of:
-        files = [f"'{at}:{name.strip('[]').lower()}:{'_files' if name.strip('[]') != NUMBER else ''}'" for at, name in enumerate(it.arguments, 1)]
+        files = [f"'{at}:{name.strip('[]').lower()}:{'_files' if name.strip('[]') not in NO_FILES else ''}'" for at, name in enumerate(it.arguments, 1)]
         words = " \\\n                ".join(["_arguments $help", *map(zsh_option, it.options), *files])
         cases.append(f"        {it.name})\n            {words}\n            ;;")
     return """#compdef dapnorm
@@ -165,7 +167,7 @@ def fish(of: List[Command]) -> str:
             users.setdefault(option, []).append(it.name)
     for option, names in users.items():
         short = f" -s {option.short}" if option.short else ""
-        value = "" if option.value is None else " -r" if option.value == NUMBER else " -r -F"
+        value = "" if option.value is None else " -r" if option.value in NO_FILES else " -r -F"
         lines.append(f"complete -c dapnorm -n '__fish_seen_subcommand_from {' '.join(names)}'{short} -l {option.long}{value} -d '{fish_text(option.about)}'")
     lines.append(f"complete -c dapnorm -n '__fish_seen_subcommand_from {' '.join(it.name for it in of if it.takes_files())}' -F")
     lines.append(f"complete -c dapnorm -n '__fish_seen_subcommand_from help' -a '{' '.join([*(it.name for it in of), 'help'])}'")

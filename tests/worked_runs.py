@@ -481,6 +481,10 @@ def of_rules():
     for name, (rules, told) in REFUSED_RULES.items():
         yield stream(name, ["mask", "rules"], recording(CONFIGURED), (2, b"", refusal(f"rules: {told}")), {"rules": rules})
     yield stream("no rules", ["mask", "rules"], recording(CONFIGURED), (0, recording(CONFIGURED), b""), {"rules": b"# nothing\n"})
+    worded = [line.replace("mock", "<m>") for line in CONFIGURED]
+    yield stream("a word", ["mask", "--word", "mock=<m>", "rules"], recording(CONFIGURED), (0, recording(worded), b""), {"rules": b"# nothing"})
+    wrong = (3, b"", b"error: --word mock=mo: a WORD and a TEXT overlap: take another WORD, such as <home>\n")
+    yield stream("a wrong word", ["compare", "--word", "x=<w>", "--word", "mock=mo", "a", "a"], b"", wrong, {"a": recording(CONFIGURED)})
 
 
 def of_suggestions():

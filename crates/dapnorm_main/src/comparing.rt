@@ -1,6 +1,6 @@
 //! Compares the recordings of two files, or prints how they differ.
 use crate::explaining::{explain_no_rules, print};
-use crate::files::{OpenedInput, SystemFiles, SystemRules};
+use crate::files::{OpenedInput, SystemFiles};
 use crate::reports::{report_failure, report_reason};
 use crate::{REFUSED, Setting, tables};
 use dap_explain::{explain_applying, explain_comparison};
@@ -20,7 +20,7 @@ fn explain(
     inputs: (&KeptInput, &KeptInput),
     status: u8,
     mode: Mode,
-    setting: Setting,
+    setting: Setting<'_>,
 ) {
     let (a, b) = inputs;
     report_failure(rt, Some(names.0), a);
@@ -41,7 +41,7 @@ fn print_verdict(
     a: &str,
     b: &str,
     mode: Mode,
-    setting: Setting,
+    setting: Setting<'_>,
 ) -> TwoFilesRun<OpenedInput> {
     let alloc = rt.alloc();
     let files = SystemFiles {
@@ -68,7 +68,7 @@ fn print_first_difference(
     a: &str,
     b: &str,
     mode: Mode,
-    setting: Setting,
+    setting: Setting<'_>,
 ) -> TwoFilesRun<OpenedInput> {
     let alloc = rt.alloc();
     let files = SystemFiles {
@@ -94,7 +94,7 @@ fn print_all_differences(
     a: &str,
     b: &str,
     mode: Mode,
-    setting: Setting,
+    setting: Setting<'_>,
 ) -> TwoFilesRun<OpenedInput> {
     let alloc = rt.alloc();
     let files = SystemFiles {
@@ -133,7 +133,7 @@ fn explained(
     names: (&str, &str),
     run: &TwoFilesRun<OpenedInput>,
     mode: Mode,
-    setting: Setting,
+    setting: Setting<'_>,
 ) -> u8 {
     if !setting.explain {
         return run.status;
@@ -152,7 +152,7 @@ pub fn compare_two(
     b: &str,
     mode: Mode,
     printed: Printed,
-    setting: Setting,
+    setting: Setting<'_>,
 ) -> u8 {
     let run = match printed {
         Printed::Verdict => print_verdict(rt, a, b, mode, setting),
@@ -180,7 +180,7 @@ fn print_by_rules(
     rt: &HostRuntime,
     comparison: &Comparison<'_>,
     rules: &str,
-    setting: Setting,
+    setting: Setting<'_>,
 ) -> RuledPairRun<OpenedInput> {
     let alloc = rt.alloc();
     let files = SystemFiles {
@@ -190,7 +190,7 @@ fn print_by_rules(
     let maker = HashedTables {
         hasher: setting.hasher,
     };
-    let rules_files = SystemRules { rt };
+    let rules_files = setting.system_rules(rt);
     let (a, b, mode) = (comparison.a, comparison.b, comparison.mode());
     let mut writer = StdSink::new(rt.stdout());
     let mut errors = StdSink::new(rt.stderr());
@@ -245,11 +245,12 @@ fn print_by_rules(
 fn explain_rules_stop(
     rt: &HostRuntime,
     comparison: &Comparison<'_>,
-    rules: &str,
+    name: &str,
+    text: Option<&[u8]>,
     stop: &RulesStop<OpenedInput>,
 ) {
     match stop {
-        RulesStop::NoRules(why) => explain_no_rules(rt, rules, why),
+        RulesStop::NoRules(why) => explain_no_rules(rt, name, text, why),
         RulesStop::Unopened(stop) => explain_open_stop(rt, (comparison.a, comparison.b), stop),
         RulesStop::Unapplied {
             which,
@@ -274,16 +275,16 @@ fn explain_rules_stop(
 }
 
 /// Makes a comparison, by the rules if it has some.
-pub fn run_comparison(rt: &HostRuntime, comparison: &Comparison<'_>, setting: Setting) -> u8 {
+pub fn run_comparison(rt: &HostRuntime, comparison: &Comparison<'_>, setting: Setting<'_>) -> u8 {
     let (a, b) = (comparison.a, comparison.b);
-    let Some(rules) = comparison.rules else {
+    let Some(rules) = setting.rules_name(comparison.rules) else {
         return compare_two(rt, a, b, comparison.mode(), comparison.printed, setting);
     };
     let run = print_by_rules(rt, comparison, rules, setting);
     if let Some(stop) = &run.stop
         && setting.explain
     {
-        explain_rules_stop(rt, comparison, rules, stop);
+        explain_rules_stop(rt, comparison, rules, setting.rules, stop);
     }
     run.status
 }

@@ -27,17 +27,25 @@ pub fn explain_file(rt: &HostRuntime, name: &str, refused: Refused, hasher: Rand
     }
 }
 
-/// Explains why a line of a file of rules is rejected. The file is read again.
-pub fn explain_rules_of(rt: &HostRuntime, name: &str, fault: RulesFault) {
-    if let Ok(rules) = fs::read(rt, name) {
+/// Returns the text of the rules. Without one, a rules file is read again. `None`: it cannot be
+/// read, or an allocation failed.
+fn rules_text(rt: &HostRuntime, name: &str, text: Option<&[u8]>) -> Option<Vec<u8>> {
+    match text {
+        Some(text) => Vec::from_slice(rt.alloc(), text).ok(),
+        None => fs::read(rt, name).ok(),
+    }
+}
+
+/// Explains why a line of the rules is rejected.
+fn explain_rules_of(rt: &HostRuntime, name: &str, text: Option<&[u8]>, fault: RulesFault) {
+    if let Some(rules) = rules_text(rt, name, text) {
         print(rt, explain_rules(rt.alloc(), rules.as_slice(), fault));
     }
 }
 
-/// Explains why a file of rules is rejected, or why the rules cannot mask an input. The file is
-/// read again.
-pub fn explain_mask_of(rt: &HostRuntime, name: &str, input: &[u8]) {
-    if let Ok(rules) = fs::read(rt, name) {
+/// Explains why the rules are rejected, or why they cannot mask an input.
+pub fn explain_mask_of(rt: &HostRuntime, name: &str, text: Option<&[u8]>, input: &[u8]) {
+    if let Some(rules) = rules_text(rt, name, text) {
         print(
             rt,
             explain_mask(rt.alloc(), rules.as_slice(), input, LIMITS),
@@ -56,11 +64,11 @@ pub fn explain_order_of(rt: &HostRuntime, name: &str, input: &[u8]) {
     }
 }
 
-/// Explains why rules were not read.
-pub fn explain_no_rules(rt: &HostRuntime, rules: &str, why: &NoRules) {
+/// Explains why rules were not read, or are rejected.
+pub fn explain_no_rules(rt: &HostRuntime, name: &str, text: Option<&[u8]>, why: &NoRules) {
     match why {
-        NoRules::Unopened(RulesOpenFault::Unread(error)) => report_reason(rt, rules, error),
-        NoRules::Refused(RulesRefused::Line(fault)) => explain_rules_of(rt, rules, *fault),
+        NoRules::Unopened(RulesOpenFault::Unread(error)) => report_reason(rt, name, error),
+        NoRules::Refused(RulesRefused::Line(fault)) => explain_rules_of(rt, name, text, *fault),
         _ => {}
     }
 }

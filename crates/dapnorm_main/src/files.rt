@@ -84,13 +84,65 @@ impl Files<OpenedInput> for SystemFiles<'_> {
     }
 }
 
-/// The files of rules of the operating system.
+/// Rules that are read from a file or a text. It counts what it gave and how often it failed.
+#[derive(Drop)]
+pub struct RulesInput<'a> {
+    /// The file. `None`: the rules are a text.
+    file: Option<File>,
+    /// The rest of the text, which was not read yet.
+    rest: &'a [u8],
+    given: u64,
+    failures: u64,
+}
+
+impl Source for RulesInput<'_> {
+    ghost use Rattle.std.specs.Prelude.{None};
+
+    ghost left = { λ s. None };
+
+    ghost given = { λ s. s.given };
+
+    ghost failures = { λ s. s.failures };
+
+    fn read(&mut self, buffer: &mut [u8]) -> Result<usize, DeviceFault> {
+        if let Some(file) = &mut self.file {
+            return match StdSource::new(file).read(buffer) {
+                Ok(count) => {
+                    self.given += count as u64;
+                    Ok(count)
+                }
+                Err(fault) => {
+                    self.failures += 1;
+                    Err(fault)
+                }
+            };
+        }
+        let count = self.rest.len().min(buffer.len());
+        let (front, rest) = self.rest.split_at(count);
+        buffer[..count].copy_from_slice(front);
+        self.rest = rest;
+        self.given += count as u64;
+        Ok(count)
+    }
+
+    fn given(&self) -> u64 {
+        self.given
+    }
+
+    fn failures(&self) -> u64 {
+        self.failures
+    }
+}
+
+/// The rules of a command: a text that the program made, or the files of the operating system.
 #[derive(Clone, Copy)]
 pub struct SystemRules<'a> {
     pub rt: &'a HostRuntime,
+    /// The text, to which every name leads. `None`: a name leads to a file.
+    pub text: Option<&'a [u8]>,
 }
 
-impl RulesFiles<StdSource<File>> for SystemRules<'_> {
+impl<'a> RulesFiles<RulesInput<'a>> for SystemRules<'a> {
     ghost opened = { λ files name file. Unit {0} };
 
     ghost unopened = { λ files name is_input_standard fault. Unit {0} };
@@ -99,7 +151,15 @@ impl RulesFiles<StdSource<File>> for SystemRules<'_> {
         &self,
         name: &str,
         is_input_standard: bool,
-    ) -> Result<StdSource<File>, RulesOpenFault> {
+    ) -> Result<RulesInput<'a>, RulesOpenFault> {
+        if let Some(text) = self.text {
+            return Ok(RulesInput {
+                file: None,
+                rest: text,
+                given: 0,
+                failures: 0,
+            });
+        }
         let file = match fs::open(self.rt, name) {
             Ok(file) => file,
             Err(error) if is_out_of_memory(&error) => return Err(RulesOpenFault::Memory),
@@ -108,7 +168,12 @@ impl RulesFiles<StdSource<File>> for SystemRules<'_> {
         if is_input_standard && shows_closed_input(&file) {
             return Err(RulesOpenFault::ClosedInput);
         }
-        Ok(StdSource::new(file))
+        Ok(RulesInput {
+            file: Some(file),
+            rest: &[],
+            given: 0,
+            failures: 0,
+        })
     }
 }
 

@@ -1,8 +1,8 @@
 //! Compares a session with its golden file, or makes or renews the golden file.
-use crate::USAGE;
 use crate::explaining::{explain_file, explain_no_rules, print};
-use crate::files::{OpenedInput, SystemFile, SystemFiles, SystemRules, SystemTargets};
+use crate::files::{OpenedInput, SystemFile, SystemFiles, SystemTargets};
 use crate::reports::{explain_unopened, explain_unread, report_reason};
+use crate::{Setting, USAGE};
 use dap_explain::explain_golden;
 use dapnorm::{
     Golden, GoldenEnd, GoldenFilesRun, GoldenStop, LIMITS, MaskRules, StdSink, golden_files,
@@ -52,12 +52,12 @@ fn explain_end(
     golden: &Golden<'_>,
     name: Option<&str>,
     end: &GoldenEnd<OpenedInput, SystemFile<'_>>,
-    hasher: RandomState,
+    setting: Setting<'_>,
 ) {
     match end {
         GoldenEnd::NoRules(why) => {
             if let Some(rules) = golden.rules {
-                explain_no_rules(rt, rules, why);
+                explain_no_rules(rt, rules, setting.rules, why);
             }
         }
         GoldenEnd::Unread(why) => explain_unread(rt, name, why),
@@ -69,7 +69,7 @@ fn explain_end(
             stop: Some(stop),
         } => {
             let (bytes, rules) = (input.bytes.as_slice(), rules.as_ref());
-            explain_stop(rt, *stop, bytes, rules, file, golden.golden, hasher);
+            explain_stop(rt, *stop, bytes, rules, file, golden.golden, setting.hasher);
         }
         GoldenEnd::Ran { .. } => {}
     }
@@ -80,14 +80,22 @@ fn run_golden<'a>(
     rt: &'a HostRuntime,
     golden: &Golden<'_>,
     input: Option<&str>,
-    hasher: RandomState,
+    setting: Setting<'_>,
 ) -> GoldenFilesRun<OpenedInput, SystemFile<'a>> {
+    let targets = SystemTargets {
+        rt,
+        hasher: setting.hasher,
+    };
+    let golden = Golden {
+        rules: setting.rules_name(golden.rules),
+        ..*golden
+    };
     golden_files(
         rt.alloc(),
         &SystemFiles { rt, is_kept: false },
-        &SystemRules { rt },
-        &SystemTargets { rt, hasher },
-        golden,
+        &setting.system_rules(rt),
+        &targets,
+        &golden,
         input,
         &mut StdSink::new(rt.stdout()),
         &mut StdSink::new(rt.stderr()),
@@ -99,7 +107,7 @@ pub fn keep_golden(
     rt: &HostRuntime,
     golden: &Golden<'_>,
     input: Option<&str>,
-    hasher: RandomState,
+    setting: Setting<'_>,
 ) -> u8 {
     if golden.update
         && let Some(name) = input
@@ -110,7 +118,7 @@ pub fn keep_golden(
         );
         return USAGE;
     }
-    let run = run_golden(rt, golden, input, hasher);
-    explain_end(rt, golden, input, &run.end, hasher);
+    let run = run_golden(rt, golden, input, setting);
+    explain_end(rt, golden, input, &run.end, setting);
     run.status
 }

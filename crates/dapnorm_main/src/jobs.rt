@@ -3,9 +3,7 @@ ghost use Rattle.std.specs.Prelude.{◌≡◌};
 
 use crate::comparing::compare_two;
 use crate::explaining::{explain_mask_of, explain_order_of, print};
-use crate::files::{
-    OpenedInput, SystemDevices, SystemFile, SystemFiles, SystemRules, SystemTargets,
-};
+use crate::files::{OpenedInput, SystemDevices, SystemFile, SystemFiles, SystemTargets};
 use crate::reports::{explain_unopened, report_failure, report_reason};
 use crate::{REFUSED, Setting, tables};
 use dap_explain::{explain_job, explain_view};
@@ -15,12 +13,12 @@ use dapnorm::{
     ShowRequest, StdSink, Task, mask_file, order_file, run_file, save_run, view_file, write_run,
 };
 use std::fs::{self, File};
-use std::hash::RandomState;
 
 /// Explains why a task refused an input.
-fn explain_refusal(rt: &HostRuntime, task: Task<'_>, input: &[u8], hasher: RandomState) {
+fn explain_refusal(rt: &HostRuntime, task: Task<'_>, input: &[u8], setting: Setting<'_>) {
+    let hasher = setting.hasher;
     match task {
-        Task::Mask { rules } => explain_mask_of(rt, rules, input),
+        Task::Mask { rules } => explain_mask_of(rt, rules, setting.rules, input),
         Task::Order { rules } => explain_order_of(rt, rules, input),
         Task::Job(job) => print(rt, explain_job(rt.alloc(), &job, input, LIMITS, hasher)),
         Task::Show(request) => print(rt, explain_view(rt.alloc(), request, input, LIMITS)),
@@ -44,13 +42,13 @@ fn explain(
     name: Option<&str>,
     input: &KeptInput,
     status: u8,
-    setting: Setting,
+    setting: Setting<'_>,
 ) {
     report_failure(rt, name, input);
     if let Some(bytes) = input.bytes()
         && status == REFUSED
     {
-        explain_refusal(rt, task, bytes, setting.hasher);
+        explain_refusal(rt, task, bytes, setting);
     }
 }
 
@@ -59,7 +57,7 @@ fn print_job(
     rt: &HostRuntime,
     job: Job<'_>,
     name: Option<&str>,
-    setting: Setting,
+    setting: Setting<'_>,
 ) -> OneFileRun<OpenedInput>
     requires no_compare { (a b per_stop : _) → job ≡ Job.Compare a b per_stop → ⊥ }
     requires no_mask { (rules : _) → job ≡ Job.Mask rules → ⊥ }
@@ -85,7 +83,7 @@ fn print_view(
     rt: &HostRuntime,
     request: ShowRequest,
     name: Option<&str>,
-    setting: Setting,
+    setting: Setting<'_>,
 ) -> OneFileRun<OpenedInput> {
     let files = SystemFiles {
         rt,
@@ -106,7 +104,7 @@ fn print_masked(
     rt: &HostRuntime,
     rules: &str,
     name: Option<&str>,
-    setting: Setting,
+    setting: Setting<'_>,
 ) -> RuledFileRun<OpenedInput> {
     let files = SystemFiles {
         rt,
@@ -115,7 +113,7 @@ fn print_masked(
     mask_file(
         rt.alloc(),
         &files,
-        &SystemRules { rt },
+        &setting.system_rules(rt),
         rules,
         name,
         &mut StdSink::new(rt.stdout()),
@@ -128,7 +126,7 @@ fn print_ordered(
     rt: &HostRuntime,
     rules: &str,
     name: Option<&str>,
-    setting: Setting,
+    setting: Setting<'_>,
 ) -> RuledFileRun<OpenedInput> {
     let files = SystemFiles {
         rt,
@@ -137,7 +135,7 @@ fn print_ordered(
     order_file(
         rt.alloc(),
         &files,
-        &SystemRules { rt },
+        &setting.system_rules(rt),
         rules,
         name,
         &mut StdSink::new(rt.stdout()),
@@ -153,7 +151,7 @@ fn explain_input(
     name: Option<&str>,
     input: &Result<OpenedInput, OpenFault>,
     status: u8,
-    setting: Setting,
+    setting: Setting<'_>,
 ) {
     match input {
         Ok(input) => {
@@ -172,7 +170,7 @@ fn explained_by_rules(
     task: Task<'_>,
     name: Option<&str>,
     run: &RuledFileRun<OpenedInput>,
-    setting: Setting,
+    setting: Setting<'_>,
 ) -> u8 {
     if setting.explain {
         explain_rules(rt, task, run.unopened_rules);
@@ -187,14 +185,14 @@ fn explained(
     task: Task<'_>,
     name: Option<&str>,
     run: &OneFileRun<OpenedInput>,
-    setting: Setting,
+    setting: Setting<'_>,
 ) -> u8 {
     explain_input(rt, task, name, &run.input, run.status, setting);
     run.status
 }
 
 /// Does a task over one input, and writes its output to standard output.
-fn print_task(rt: &HostRuntime, task: Task<'_>, name: Option<&str>, setting: Setting) -> u8
+fn print_task(rt: &HostRuntime, task: Task<'_>, name: Option<&str>, setting: Setting<'_>) -> u8
     requires no_compare { (a b per_stop : _) → task ≡ Task.Job (Job.Compare a b per_stop) → ⊥ }
     requires no_mask { (rules : _) → task ≡ Task.Job (Job.Mask rules) → ⊥ }
     requires no_diff { (a b per_stop : _) → task ≡ Task.Job (Job.Diff a b per_stop) → ⊥ }
@@ -233,7 +231,7 @@ fn write_task(
     task: Task<'_>,
     name: Option<&str>,
     output: &str,
-    setting: Setting,
+    setting: Setting<'_>,
 ) -> SavedRun<OpenedInput, StdSink<File>>
     requires no_compare { (a b per_stop : _) → task ≡ Task.Job (Job.Compare a b per_stop) → ⊥ }
     requires no_mask { (rules : _) → task ≡ Task.Job (Job.Mask rules) → ⊥ }
@@ -246,7 +244,7 @@ fn write_task(
     write_run(
         rt.alloc(),
         &files,
-        &SystemRules { rt },
+        &setting.system_rules(rt),
         &SystemDevices { rt },
         &task,
         name,
@@ -262,7 +260,7 @@ fn save_task<'a>(
     task: Task<'_>,
     name: Option<&str>,
     output: &str,
-    setting: Setting,
+    setting: Setting<'_>,
 ) -> SavedRun<OpenedInput, SystemFile<'a>>
     requires no_compare { (a b per_stop : _) → task ≡ Task.Job (Job.Compare a b per_stop) → ⊥ }
     requires no_mask { (rules : _) → task ≡ Task.Job (Job.Mask rules) → ⊥ }
@@ -279,7 +277,7 @@ fn save_task<'a>(
     save_run(
         rt.alloc(),
         &files,
-        &SystemRules { rt },
+        &setting.system_rules(rt),
         &targets,
         &task,
         name,
@@ -297,7 +295,7 @@ fn explained_end<O>(
     name: Option<&str>,
     output: &str,
     run: &SavedRun<OpenedInput, O>,
-    setting: Setting,
+    setting: Setting<'_>,
 ) -> u8 {
     match &run.end {
         SaveEnd::Unopened(fault) => explain_unopened(rt, name, fault),
@@ -331,7 +329,7 @@ pub fn run_over_input(
     task: Task<'_>,
     input: Option<&str>,
     output: Option<&str>,
-    setting: Setting,
+    setting: Setting<'_>,
 ) -> u8
     requires no_compare { (a b per_stop : _) → task ≡ Task.Job (Job.Compare a b per_stop) → ⊥ }
     requires no_mask { (rules : _) → task ≡ Task.Job (Job.Mask rules) → ⊥ }
@@ -357,7 +355,7 @@ pub fn run_job(
     job: Job<'_>,
     input: Option<&str>,
     output: Option<&str>,
-    setting: Setting,
+    setting: Setting<'_>,
 ) -> u8 {
     match job {
         Job::Compare { a, b, .. } => {

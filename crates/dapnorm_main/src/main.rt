@@ -14,13 +14,18 @@ mod jobs;
 mod reports;
 mod showing;
 mod suggesting;
+mod words;
 
 use crate::comparing::run_comparison;
+use crate::files::SystemRules;
 use crate::golden::keep_golden;
 use crate::jobs::{run_job, run_over_input};
 use crate::showing::show_recording;
 use crate::suggesting::suggest_rules;
-use dapnorm::{Action, IndexNames, Limits, StdSink, Tables, Task, UsageFault, command, run_usage};
+use crate::words::rules_given;
+use dapnorm::{
+    Action, Command, IndexNames, Limits, StdSink, Tables, Task, UsageFault, command, run_usage,
+};
 use std::alloc::Global;
 use std::env;
 use std::hash::RandomState;
@@ -41,11 +46,32 @@ const NOT_UTF_8: &str = "error: an argument is not valid UTF-8\n";
 
 /// How a command is run.
 #[derive(Clone, Copy)]
-pub struct Setting {
+pub struct Setting<'a> {
     /// Whether refusals are explained in further lines.
     explain: bool,
     /// Random words for tables and for the names of temporary files.
     hasher: RandomState,
+    /// The text of the rules with the words of the option `--word`, if it was given. Without it,
+    /// the rules are those of a file.
+    rules: Option<&'a [u8]>,
+}
+
+impl<'a> Setting<'a> {
+    /// Returns the rules, which are read from the text or from a file.
+    fn system_rules(&self, rt: &'a HostRuntime) -> SystemRules<'a> {
+        SystemRules {
+            rt,
+            text: self.rules,
+        }
+    }
+
+    /// Returns the name of the rules file. It is empty if the rules are only words.
+    fn rules_name<'n>(&self, name: Option<&'n str>) -> Option<&'n str> {
+        match name {
+            None if self.rules.is_some() => Some(""),
+            name => name,
+        }
+    }
 }
 
 /// Returns whether the environment requests explanations: `DAPNORM_EXPLAIN` has a value that is
@@ -86,13 +112,27 @@ fn run_words(rt: &HostRuntime, alloc: Global, words: &[String]) -> u8 {
         Ok(command) => command,
         Err(fault) => return report_usage(rt, &fault),
     };
+    let explain = command.explain || requests_explanations(rt);
+    let rules = match rules_given(rt, &command.action, words.as_slice(), explain) {
+        Ok(rules) => rules,
+        Err(status) => return status,
+    };
     let Ok(hasher) = RandomState::new(rt) else {
         return report_unread(rt);
     };
     let setting = Setting {
-        explain: command.explain || requests_explanations(rt),
+        explain,
         hasher,
+        rules: match &rules {
+            Some(text) => Some(text.as_slice()),
+            None => None,
+        },
     };
+    run_command(rt, command, setting)
+}
+
+/// Does what a command requests.
+fn run_command(rt: &HostRuntime, command: Command<'_>, setting: Setting<'_>) -> u8 {
     match command.action {
         Action::Job(job) => run_job(rt, job, command.input, command.output, setting),
         Action::Compare(comparison) => run_comparison(rt, &comparison, setting),
@@ -105,7 +145,7 @@ fn run_words(rt: &HostRuntime, alloc: Global, words: &[String]) -> u8 {
             setting,
         ),
         Action::Show(show) => show_recording(rt, show, command.input, command.output, setting),
-        Action::Golden(golden) => keep_golden(rt, &golden, command.input, hasher),
+        Action::Golden(golden) => keep_golden(rt, &golden, command.input, setting),
     }
 }
 

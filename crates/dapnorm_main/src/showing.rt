@@ -35,7 +35,7 @@ pub fn show_recording(
     show: Show<'_>,
     input: Option<&str>,
     output: Option<&str>,
-    setting: Setting,
+    setting: Setting<'_>,
 ) -> u8 {
     match request_of(show) {
         Ok(request) => run_over_input(rt, Task::Show(request), input, output, setting),

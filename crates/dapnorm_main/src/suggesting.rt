@@ -1,6 +1,6 @@
 //! Suggests rules that make the recordings of two files the same.
 use crate::explaining::{explain_no_rules, print};
-use crate::files::{OpenedInput, SystemFiles, SystemRules};
+use crate::files::{OpenedInput, SystemFiles};
 use crate::reports::explain_unread;
 use crate::{REFUSED, Setting};
 use dap_explain::explain_comparison;
@@ -13,13 +13,13 @@ fn explain_end(
     files: (&str, &str),
     rules: Option<&str>,
     run: &SuggestFilesRun<OpenedInput>,
-    setting: Setting,
+    setting: Setting<'_>,
 ) {
     match &run.end {
         SuggestEnd::TwoStandard => {}
         SuggestEnd::NoRules(why) => {
             if let Some(name) = rules {
-                explain_no_rules(rt, name, why);
+                explain_no_rules(rt, name, setting.rules, why);
             }
         }
         SuggestEnd::Unread(Which::A, why) => explain_unread(rt, Some(files.0), why),
@@ -42,13 +42,13 @@ pub fn suggest_rules(
     rt: &HostRuntime,
     files: (&str, &str),
     rules: Option<&str>,
-    setting: Setting,
+    setting: Setting<'_>,
 ) -> u8 {
     let run = suggest_files(
         rt.alloc(),
         &SystemFiles { rt, is_kept: false },
-        &SystemRules { rt },
-        rules,
+        &setting.system_rules(rt),
+        setting.rules_name(rules),
         files.0,
         files.1,
         &mut StdSink::new(rt.stdout()),
