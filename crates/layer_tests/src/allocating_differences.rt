@@ -28,7 +28,7 @@ fn tells(rt: &impl Abort, alloc: Global, (a, b): (&Tree, &Tree), turn: u16) -> b
     let is_refused = was_refused(alloc);
     match outcome {
         Ok(text) => assert!(rt; text.as_slice() == LINES),
-        Err(_) => was_wanted(rt, is_refused, turn),
+        Err(_) => was_wanted(rt, is_refused),
     }
     is_refused
 }

@@ -1,8 +1,9 @@
 //! Makes each allocation of a framer, of `write_frame`, of reading a tree and of copying it fail in
 //! turn.
 use crate::examples::{LIMITS, was_wanted};
+use crate::trees::is_written;
 use dap_frame::{Fed, FrameFault, Framer, write_frame};
-use dap_tree::{Tree, TreeFault, read_tree, write_tree};
+use dap_tree::{Tree, TreeFault, read_tree};
 use fault_injection::{refuse_growth, was_refused};
 use std::alloc::Global;
 use std::process::Abort;
@@ -15,7 +16,7 @@ fn writes_frame(rt: &impl Abort, alloc: Global, turn: u16) -> bool {
     let outcome = write_frame(&mut out, b"{}", LIMITS);
     let is_refused = was_refused(alloc);
     if outcome == Err(FrameFault::Memory) {
-        was_wanted(rt, is_refused, turn);
+        was_wanted(rt, is_refused);
         assert!(rt; out.as_slice() == b"before".as_slice());
         assert!(rt; write_frame(&mut out, b"{}", LIMITS) == Ok(()));
     } else {
@@ -23,15 +24,6 @@ fn writes_frame(rt: &impl Abort, alloc: Global, turn: u16) -> bool {
     }
     assert!(rt; out.as_slice() == b"beforeContent-Length: 2\r\n\r\n{}".as_slice());
     is_refused
-}
-
-#[test]
-fn write_frame_is_refused_in_turn(rt: HostRuntime) {
-    for turn in 1..100u16 {
-        if !writes_frame(&rt, rt.alloc(), turn) {
-            break;
-        }
-    }
 }
 
 /// A frame whose content has spaces and unordered members.
@@ -87,7 +79,7 @@ fn feeds_all(rt: &impl Abort, alloc: Global, turn: u16) -> bool {
                 break;
             }
             Made::Wanted => is_wanted = true,
-            Made::Failed => assert!(rt; false, "another answer at turn {turn}"),
+            Made::Failed => assert!(rt; false, "another answer"),
         }
     }
     assert!(rt; is_given && rest.is_empty());
@@ -96,64 +88,54 @@ fn feeds_all(rt: &impl Abort, alloc: Global, turn: u16) -> bool {
     is_refused
 }
 
-#[test]
-fn a_framer_is_refused_in_turn(rt: HostRuntime) {
-    for turn in 1..100u16 {
-        if !feeds_all(&rt, rt.alloc(), turn) {
-            break;
-        }
-    }
-}
-
-/// Returns whether the tree is serialisable and is written as this text.
-fn is_written(alloc: Global, tree: &Tree, text: &str) -> bool {
-    tree.sound() && matches!(write_tree(alloc, tree), Ok(written) if written.as_str() == text)
-}
-
 const CONTENT: &[u8] =
     b"{ \"b\" : [1, {\"c\": \"a text of some forty bytes, more or less\"}], \"a\": null }";
 
 const TEXT: &str = "{\"a\":null,\"b\":[1,{\"c\":\"a text of some forty bytes, more or less\"}]}";
 
 /// Checks that the result is the tree of the content, or `Memory` if an allocation failed.
-fn is_tree(
-    rt: &impl Abort,
-    alloc: Global,
-    outcome: Result<Tree, TreeFault>,
-    (is_refused, turn): (bool, u16),
-) {
+fn is_tree(rt: &impl Abort, alloc: Global, outcome: Result<Tree, TreeFault>, is_refused: bool) {
     match outcome {
         Ok(tree) => assert!(rt; is_written(alloc, &tree, TEXT)),
         Err(fault) => {
             assert!(rt; fault == TreeFault::Memory);
-            was_wanted(rt, is_refused, turn);
+            was_wanted(rt, is_refused);
         }
     }
 }
 
-#[test]
-fn a_tree_is_refused_in_turn(rt: HostRuntime) {
-    for turn in 1..1000u16 {
-        refuse_growth(rt.alloc(), turn);
-        let outcome = read_tree(rt.alloc(), CONTENT);
-        let is_refused = was_refused(rt.alloc());
-        is_tree(&rt, rt.alloc(), outcome, (is_refused, turn));
-        if !is_refused {
-            break;
-        }
-    }
+/// Checks the tree of the content while allocation `turn` fails. Returns whether it failed.
+fn reads_tree(rt: &impl Abort, alloc: Global, turn: u16) -> bool {
+    refuse_growth(alloc, turn);
+    let outcome = read_tree(alloc, CONTENT);
+    let is_refused = was_refused(alloc);
+    is_tree(rt, alloc, outcome, is_refused);
+    is_refused
+}
+
+/// Checks the copy of a tree while allocation `turn` fails, and that the tree is unchanged. Returns
+/// whether it failed.
+fn copies_tree(rt: &impl Abort, alloc: Global, turn: u16) -> bool {
+    let tree = read_tree(alloc, TEXT.as_bytes()).expect(rt, "no tree");
+    refuse_growth(alloc, turn);
+    let outcome = tree.copy(alloc);
+    let is_refused = was_refused(alloc);
+    is_tree(rt, alloc, outcome, is_refused);
+    assert!(rt; is_written(alloc, &tree, TEXT));
+    is_refused
+}
+
+/// Makes allocation `turn` of each call fail. Returns whether one of them failed.
+fn is_refused(rt: &impl Abort, alloc: Global, turn: u16) -> bool {
+    let frames = writes_frame(rt, alloc, turn) | feeds_all(rt, alloc, turn);
+    let trees = reads_tree(rt, alloc, turn) | copies_tree(rt, alloc, turn);
+    frames | trees
 }
 
 #[test]
-fn a_copy_is_refused_in_turn(rt: HostRuntime) {
-    let tree = read_tree(rt.alloc(), TEXT.as_bytes()).expect(&rt, "no tree");
+fn frames_and_trees_are_refused_in_turn(rt: HostRuntime) {
     for turn in 1..1000u16 {
-        refuse_growth(rt.alloc(), turn);
-        let outcome = tree.copy(rt.alloc());
-        let is_refused = was_refused(rt.alloc());
-        is_tree(&rt, rt.alloc(), outcome, (is_refused, turn));
-        assert!(rt; is_written(rt.alloc(), &tree, TEXT));
-        if !is_refused {
+        if !is_refused(&rt, rt.alloc(), turn) {
             break;
         }
     }

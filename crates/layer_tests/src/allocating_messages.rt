@@ -1,6 +1,7 @@
 //! Makes each allocation of a call on messages fail in turn. The values that the call borrows are
 //! unchanged.
 use crate::examples::was_wanted;
+use crate::lines::message;
 use dap_message::{Message, MessageFault, Side, typed};
 use dap_tree::{Sort, Tree, TreeFault, read_tree, write_tree};
 use fault_injection::{refuse_growth, was_refused};
@@ -63,14 +64,6 @@ const KNOWN: [Known; 3] = [
 const TEXT_AS_COLUMN: &str =
     "{\"body\":{\"stackFrames\":[{\"column\":\"1\",\"id\":1000,\"line\":3,\"name\":\"f\"}]},\"command\":\"stackTrace\",\"request_seq\":2,\"seq\":2,\"success\":true,\"type\":\"response\"}";
 
-/// Returns the message of an adapter with this content.
-fn message(alloc: Global, text: &str) -> Result<Message, MessageFault> {
-    match read_tree(alloc, text.as_bytes()) {
-        Ok(tree) => typed(alloc, Side::Adapter, tree),
-        Err(_) => Err(MessageFault::Memory),
-    }
-}
-
 fn content(alloc: Global, message: Result<Message, MessageFault>) -> Result<String, MessageFault> {
     message?.content(alloc)
 }
@@ -89,7 +82,7 @@ fn types_turn(
     let is_refused = was_refused(alloc);
     let found = content(alloc, outcome);
     if found == Err(MessageFault::Memory) {
-        was_wanted(rt, is_refused, turn);
+        was_wanted(rt, is_refused);
     } else {
         assert!(rt; found == *wanted);
     }
@@ -112,23 +105,15 @@ fn length(found: &Result<String, MessageFault>) -> Result<usize, MessageFault> {
     }
 }
 
-#[test]
-fn typing_is_refused_in_turn(rt: HostRuntime) {
+/// Makes allocation `turn` of `typed` fail. Returns whether one of them failed.
+fn is_typing_refused(rt: &impl Abort, alloc: Global, turn: u16) -> bool {
+    let mut is_refused = false;
     for (text, wanted) in &TYPED {
-        let ample = content(rt.alloc(), message(rt.alloc(), text));
+        let ample = content(alloc, message(alloc, (Side::Adapter, *text)));
         assert!(rt; length(&ample) == *wanted);
-        for turn in 1..1000u16 {
-            if !types_turn(&rt, rt.alloc(), text, &ample, turn) {
-                break;
-            }
-        }
+        is_refused |= types_turn(rt, alloc, text, &ample, turn);
     }
-}
-
-/// Returns the message of a known content.
-fn message_of(rt: &impl Abort, alloc: Global, known: Known) -> Message {
-    let tree = read_tree(alloc, known.text.as_bytes()).expect(rt, "no tree");
-    typed(alloc, known.side, tree).expect(rt, "no message")
+    is_refused
 }
 
 /// A call that leaves its message unchanged.
@@ -154,12 +139,12 @@ const CALLS: [Call; 5] = [
     Call::CopyOfTree,
 ];
 
-fn has_ids(alloc: Global, message: &Message, known: Known) -> Result<bool, MessageFault> {
+fn has_ids(alloc: Global, message: &Message, known: &Known) -> Result<bool, MessageFault> {
     let ids = message.ids(alloc)?;
     Ok(ids.as_slice() == known.ids)
 }
 
-fn has_content(alloc: Global, message: &Message, known: Known) -> Result<bool, MessageFault> {
+fn has_content(alloc: Global, message: &Message, known: &Known) -> Result<bool, MessageFault> {
     let content = message.content(alloc)?;
     Ok(content.as_str() == known.text)
 }
@@ -170,7 +155,7 @@ fn has_content_behind(
     rt: &impl Abort,
     alloc: Global,
     message: &Message,
-    known: Known,
+    known: &Known,
 ) -> Result<bool, MessageFault> {
     let mut out = Vec::new(alloc);
     if out.extend_from_slice(b"before").is_err() {
@@ -185,7 +170,7 @@ fn has_content_behind(
     Ok(rest == Some(known.text.as_bytes()))
 }
 
-fn has_copy(alloc: Global, message: &Message, known: Known) -> Result<bool, MessageFault> {
+fn has_copy(alloc: Global, message: &Message, known: &Known) -> Result<bool, MessageFault> {
     let copy = message.copy(alloc)?;
     Ok(copy.side() == known.side && has_content(alloc, &copy, known)?)
 }
@@ -198,7 +183,7 @@ fn text_of_copy(alloc: Global, tree: &Tree) -> Result<Option<String>, TreeFault>
     Ok(Some(write_tree(alloc, &copy)?))
 }
 
-fn has_copy_of_tree(alloc: Global, message: &Message, known: Known) -> Result<bool, MessageFault> {
+fn has_copy_of_tree(alloc: Global, message: &Message, known: &Known) -> Result<bool, MessageFault> {
     match text_of_copy(alloc, message.tree()) {
         Ok(Some(text)) => Ok(text.as_str() == known.text),
         Ok(None) => Ok(false),
@@ -212,7 +197,7 @@ fn gives(
     alloc: Global,
     call: Call,
     message: &Message,
-    known: Known,
+    known: &Known,
 ) -> Result<bool, MessageFault> {
     match call {
         Call::Ids => has_ids(alloc, message, known),
@@ -229,14 +214,14 @@ fn gives_turn(
     rt: &impl Abort,
     alloc: Global,
     call: Call,
-    (message, known): (&Message, Known),
+    (message, known): (&Message, &Known),
     turn: u16,
 ) -> bool {
     refuse_growth(alloc, turn);
     let outcome = gives(rt, alloc, call, message, known);
     let is_refused = was_refused(alloc);
     if outcome == Err(MessageFault::Memory) {
-        was_wanted(rt, is_refused, turn);
+        was_wanted(rt, is_refused);
     } else {
         assert!(rt; outcome == Ok(true));
     }
@@ -244,30 +229,12 @@ fn gives_turn(
     is_refused
 }
 
-fn gives_each_turn(rt: &impl Abort, alloc: Global, call: Call, known: (&Message, Known)) {
-    for turn in 1..1000u16 {
-        if !gives_turn(rt, alloc, call, known, turn) {
-            break;
-        }
-    }
-}
-
-#[test]
-fn calls_on_a_message_are_refused_in_turn(rt: HostRuntime) {
-    for known in KNOWN {
-        let message = message_of(&rt, rt.alloc(), known);
-        for call in CALLS {
-            gives_each_turn(&rt, rt.alloc(), call, (&message, known));
-        }
-    }
-}
-
 /// Checks the ids that are appended to a list while allocation `turn` fails, and again if they were
 /// not appended. Returns whether it failed.
 fn adds_ids(
     rt: &impl Abort,
     alloc: Global,
-    (message, known): (&Message, Known),
+    (message, known): (&Message, &Known),
     turn: u16,
 ) -> bool {
     let mut found = Vec::new(alloc);
@@ -276,7 +243,7 @@ fn adds_ids(
     let is_added = message.tree().add_ids(&mut found).is_ok();
     let is_refused = was_refused(alloc);
     if !is_added {
-        was_wanted(rt, is_refused, turn);
+        was_wanted(rt, is_refused);
         assert!(rt; found.as_slice() == [(Sort::Reference, 7)].as_slice());
         assert!(rt; message.tree().add_ids(&mut found).is_ok());
     }
@@ -285,14 +252,30 @@ fn adds_ids(
     is_refused
 }
 
+/// Makes allocation `turn` of each call on a message fail. Returns whether one of them failed.
+fn is_known_refused(rt: &impl Abort, alloc: Global, known: &Known, turn: u16) -> bool {
+    let message = message(alloc, (known.side, known.text)).expect(rt, "no message");
+    let mut is_refused = adds_ids(rt, alloc, (&message, known), turn);
+    for call in &CALLS {
+        is_refused |= gives_turn(rt, alloc, *call, (&message, known), turn);
+    }
+    is_refused
+}
+
+/// Makes allocation `turn` of each call fail. Returns whether one of them failed.
+fn is_refused(rt: &impl Abort, alloc: Global, turn: u16) -> bool {
+    let mut is_refused = is_typing_refused(rt, alloc, turn);
+    for known in &KNOWN {
+        is_refused |= is_known_refused(rt, alloc, known, turn);
+    }
+    is_refused
+}
+
 #[test]
-fn ids_of_a_tree_are_refused_in_turn(rt: HostRuntime) {
-    for known in KNOWN {
-        let message = message_of(&rt, rt.alloc(), known);
-        for turn in 1..1000u16 {
-            if !adds_ids(&rt, rt.alloc(), (&message, known), turn) {
-                break;
-            }
+fn messages_are_refused_in_turn(rt: HostRuntime) {
+    for turn in 1..1000u16 {
+        if !is_refused(&rt, rt.alloc(), turn) {
+            break;
         }
     }
 }

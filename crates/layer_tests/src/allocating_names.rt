@@ -1,8 +1,8 @@
 //! Makes each allocation of name tables, and of the renaming between names, fail in turn.
 use crate::examples::{IndexTable, index_tables, was_wanted};
-use dap_message::{Message, MessageFault, Side, typed};
+use crate::lines::{Line, message};
 use dap_rename::{IndexNames, Mode, NameFault, NameTable, Names, PlainNames, Renaming};
-use dap_tree::read_tree;
+use dap_tree::Side;
 use fault_injection::{refuse_growth, was_refused};
 use std::alloc::Global;
 use std::hash::RandomState;
@@ -10,13 +10,7 @@ use std::process::Abort;
 
 /// Checks the canonical number of a new id, and again if an allocation failed. Returns whether an
 /// allocation failed.
-fn names_new<T: NameTable>(
-    rt: &impl Abort,
-    alloc: Global,
-    table: &mut T,
-    index: i64,
-    turn: u16,
-) -> bool {
+fn names_new<T: NameTable>(rt: &impl Abort, alloc: Global, table: &mut T, index: i64) -> bool {
     assert!(rt; 0 <= index && index < 40);
     let number = 7 * index - 90;
     let outcome = table.name(number);
@@ -24,7 +18,7 @@ fn names_new<T: NameTable>(
         assert!(rt; outcome == Ok(index + 1));
         return false;
     }
-    was_wanted(rt, was_refused(alloc), turn);
+    was_wanted(rt, was_refused(alloc));
     assert!(rt; table.len() as i64 == index);
     assert!(rt; table.find(number).is_none());
     assert!(rt; table.name(number) == Ok(index + 1));
@@ -37,9 +31,7 @@ fn names_turn<T: NameTable>(rt: &impl Abort, alloc: Global, table: &mut T, turn:
     let mut is_wanted = false;
     refuse_growth(alloc, turn);
     for index in 0..40i64 {
-        if names_new(rt, alloc, table, index, turn) {
-            is_wanted = true;
-        }
+        is_wanted |= names_new(rt, alloc, table, index);
     }
     assert!(rt; table.name(1_000) == Err(NameFault::Full));
     assert!(rt; table.name(-90) == Ok(1));
@@ -47,30 +39,18 @@ fn names_turn<T: NameTable>(rt: &impl Abort, alloc: Global, table: &mut T, turn:
     is_wanted || was_refused(alloc)
 }
 
-#[test]
-fn tables_are_refused_in_turn(rt: HostRuntime) {
-    let hasher = RandomState::new(&rt).expect(&rt, "no random words");
-    for turn in 1..1_000u16 {
-        let mut plain = PlainNames::new(rt.alloc(), 40);
-        let mut index = IndexNames::new(rt.alloc(), 40, hasher);
-        let by_plain = names_turn(&rt, rt.alloc(), &mut plain, turn);
-        let by_index = names_turn(&rt, rt.alloc(), &mut index, turn);
-        if !by_plain && !by_index {
-            break;
-        }
-    }
+/// Makes allocation `turn` of each table fail. Returns whether one of them failed.
+fn are_tables_refused(rt: &impl Abort, alloc: Global, hasher: RandomState, turn: u16) -> bool {
+    let mut plain = PlainNames::new(alloc, 40);
+    let mut index = IndexNames::new(alloc, 40, hasher);
+    names_turn(rt, alloc, &mut plain, turn) | names_turn(rt, alloc, &mut index, turn)
 }
 
 /// A request with a frame id.
-const SCOPES_REQUEST: &str =
-    "{\"arguments\":{\"frameId\":5},\"command\":\"scopes\",\"seq\":8,\"type\":\"request\"}";
-
-fn request(alloc: Global) -> Result<Message, MessageFault> {
-    match read_tree(alloc, SCOPES_REQUEST.as_bytes()) {
-        Ok(tree) => typed(alloc, Side::Client, tree),
-        Err(_) => Err(MessageFault::Memory),
-    }
-}
+const SCOPES_REQUEST: Line = (
+    Side::Client,
+    "{\"arguments\":{\"frameId\":5},\"command\":\"scopes\",\"seq\":8,\"type\":\"request\"}",
+);
 
 /// Returns the number of pairs between the names and themselves.
 fn own_pairs(alloc: Global, names: &Names<IndexTable>) -> Result<usize, NameFault> {
@@ -84,7 +64,7 @@ fn pairs_turn(rt: &impl Abort, alloc: Global, names: &Names<IndexTable>, turn: u
     let outcome = own_pairs(alloc, names);
     let is_refused = was_refused(alloc);
     if outcome == Err(NameFault::Memory) {
-        was_wanted(rt, is_refused, turn);
+        was_wanted(rt, is_refused);
     } else {
         assert!(rt; outcome == Ok(2));
     }
@@ -94,16 +74,18 @@ fn pairs_turn(rt: &impl Abort, alloc: Global, names: &Names<IndexTable>, turn: u
 /// Returns the names of a request.
 fn request_names(rt: &impl Abort, alloc: Global) -> Names<IndexTable> {
     let mut names = Names::new(alloc, index_tables(alloc, 9), Mode::Whole);
-    let request = request(alloc).expect(rt, "no message");
+    let request = message(alloc, SCOPES_REQUEST).expect(rt, "no message");
     assert!(rt; names.rename(request).is_ok());
     names
 }
 
 #[test]
-fn the_renaming_between_names_is_refused_in_turn(rt: HostRuntime) {
+fn names_and_pairs_are_refused_in_turn(rt: HostRuntime) {
+    let hasher = RandomState::new(&rt).expect(&rt, "no random words");
     let names = request_names(&rt, rt.alloc());
     for turn in 1..1_000u16 {
-        if !pairs_turn(&rt, rt.alloc(), &names, turn) {
+        let is_refused = are_tables_refused(&rt, rt.alloc(), hasher, turn);
+        if !pairs_turn(&rt, rt.alloc(), &names, turn) && !is_refused {
             break;
         }
     }

@@ -1,14 +1,15 @@
 //! Makes each allocation of a record reader, a recorder, a session and names fail in turn. After a
 //! failed allocation each of them is unchanged, and accepts the same input again.
 use crate::examples::{IndexTable, LIMITS, index_tables, was_wanted};
+use crate::lines::{Line, message};
 use dap_frame::FrameFault;
-use dap_message::{Message, MessageFault, Side, typed};
+use dap_message::{Message, Side};
 use dap_recording::{
     FedRecord, Record, RecordCause, RecordReader, Recorder, RecorderFault, write_record,
 };
 use dap_rename::{Mode, NameFault, Names};
 use dap_session::{Session, SessionFault};
-use dap_tree::{SORTS, Sort, read_tree};
+use dap_tree::{SORTS, Sort};
 use fault_injection::{refuse_growth, was_refused};
 use std::alloc::Global;
 use std::process::Abort;
@@ -42,15 +43,8 @@ const RENAMED_SCOPES: &str =
     "{\"body\":{\"scopes\":[{\"name\":\"a\",\"variablesReference\":1},{\"name\":\"b\",\"variablesReference\":2}]},\"command\":\"scopes\",\"request_seq\":1,\"seq\":1,\"success\":true,\"type\":\"response\"}";
 
 /// Returns the message of a side with this content.
-fn message(rt: &impl Abort, alloc: Global, side: Side, text: &str) -> Message {
-    typed_text(alloc, side, text).expect(rt, "no message")
-}
-
-fn typed_text(alloc: Global, side: Side, text: &str) -> Result<Message, MessageFault> {
-    match read_tree(alloc, text.as_bytes()) {
-        Ok(tree) => typed(alloc, side, tree),
-        Err(_) => Err(MessageFault::Memory),
-    }
+fn expected(rt: &impl Abort, alloc: Global, side: Side, text: &'static str) -> Message {
+    message(alloc, (side, text)).expect(rt, "no message")
 }
 
 /// The result of a call for one chunk.
@@ -100,22 +94,13 @@ fn reads_all(rt: &impl Abort, alloc: Global, bytes: &[u8], turn: u16) -> bool {
         match read(&mut reader, rest) {
             Made::Took(used) => rest = rest.get(used..).unwrap_or(b"!"),
             Made::Wanted => is_wanted = true,
-            Made::Failed => assert!(rt; false, "another answer at turn {turn}"),
+            Made::Failed => assert!(rt; false, "another answer"),
         }
     }
     assert!(rt; rest.is_empty());
     let is_refused = was_refused(alloc);
     assert!(rt; is_wanted == is_refused);
     is_refused
-}
-
-#[test]
-fn a_reader_of_records_is_refused_in_turn(rt: HostRuntime) {
-    for turn in 1..100u16 {
-        if !reads_all(&rt, rt.alloc(), RECORD, turn) {
-            break;
-        }
-    }
 }
 
 /// Passes bytes of a side to a recorder. If an allocation fails, its text must be unchanged.
@@ -159,24 +144,13 @@ fn records_pieces(rt: &impl Abort, alloc: Global, turn: u16) -> bool {
     let mut is_wanted = false;
     refuse_growth(alloc, turn);
     for (side, piece) in &PIECES {
-        if records_all(rt, &mut recorder, *side, piece) {
-            is_wanted = true;
-        }
+        is_wanted |= records_all(rt, &mut recorder, *side, piece);
     }
     assert!(rt; recorder.text() == RECORDED);
     assert!(rt; recorder.finish().is_ok());
     let is_refused = was_refused(alloc);
     assert!(rt; is_wanted == is_refused);
     is_refused
-}
-
-#[test]
-fn a_recorder_is_refused_in_turn(rt: HostRuntime) {
-    for turn in 1..100u16 {
-        if !records_pieces(&rt, rt.alloc(), turn) {
-            break;
-        }
-    }
 }
 
 /// Checks the record that is appended to a buffer while allocation `turn` fails. Returns whether it
@@ -187,7 +161,7 @@ fn writes_record(rt: &impl Abort, alloc: Global, turn: u16) -> bool {
     let outcome = write_record(&mut out, Side::Adapter, b"{}", LIMITS);
     let is_refused = was_refused(alloc);
     if outcome.is_err() {
-        was_wanted(rt, is_refused, turn);
+        was_wanted(rt, is_refused);
         assert!(rt; outcome == Err(FrameFault::Memory));
         assert!(rt; out.as_slice() == b"before".as_slice());
         assert!(rt; write_record(&mut out, Side::Adapter, b"{}", LIMITS).is_ok());
@@ -196,35 +170,28 @@ fn writes_record(rt: &impl Abort, alloc: Global, turn: u16) -> bool {
     is_refused
 }
 
-#[test]
-fn write_record_is_refused_in_turn(rt: HostRuntime) {
-    for turn in 1..100u16 {
-        if !writes_record(&rt, rt.alloc(), turn) {
-            break;
-        }
-    }
-}
-
 /// Checks that a session accepts a message, and after a failed allocation is unchanged and accepts
 /// it again. Returns whether an allocation failed.
-fn accepts(
-    rt: &impl Abort,
-    alloc: Global,
-    session: &mut Session,
-    message: &Message,
-    turn: u16,
-) -> bool {
+fn accepts(rt: &impl Abort, alloc: Global, session: &mut Session, message: &Message) -> bool {
     let open = session.open(Side::Client);
     let outcome = session.accept(message);
     if outcome.is_ok() {
         return false;
     }
-    was_wanted(rt, was_refused(alloc), turn);
+    was_wanted(rt, was_refused(alloc));
     assert!(rt; outcome == Err(SessionFault::Memory));
     assert!(rt; session.open(Side::Client) == open);
     assert!(rt; session.accept(message) == Ok(()));
     true
 }
+
+/// The messages of a session.
+const MESSAGES: [Line; 4] = [
+    (Side::Client, INITIALIZE),
+    (Side::Adapter, INITIALIZE_RESPONSE),
+    (Side::Client, SCOPES_REQUEST),
+    (Side::Client, OTHER_REQUEST),
+];
 
 /// Checks that a session accepts the messages while allocation `turn` fails. Returns whether it
 /// failed.
@@ -233,29 +200,11 @@ fn accepts_all(rt: &impl Abort, alloc: Global, messages: &[Message], turn: u16) 
     let mut is_wanted = false;
     refuse_growth(alloc, turn);
     for message in messages {
-        if accepts(rt, alloc, &mut session, message, turn) {
-            is_wanted = true;
-        }
+        is_wanted |= accepts(rt, alloc, &mut session, message);
     }
     assert!(rt; session.open(Side::Client) == 2);
     // `was_refused` ends the request, so it is called last.
     is_wanted || was_refused(alloc)
-}
-
-#[test]
-fn a_session_is_refused_in_turn(rt: HostRuntime) {
-    let alloc = rt.alloc();
-    let messages = [
-        message(&rt, alloc, Side::Client, INITIALIZE),
-        message(&rt, alloc, Side::Adapter, INITIALIZE_RESPONSE),
-        message(&rt, alloc, Side::Client, SCOPES_REQUEST),
-        message(&rt, alloc, Side::Client, OTHER_REQUEST),
-    ];
-    for turn in 1..100u16 {
-        if !accepts_all(&rt, alloc, &messages, turn) {
-            break;
-        }
-    }
 }
 
 /// Returns the message that the names rename.
@@ -280,14 +229,14 @@ fn has_content(alloc: Global, message: &Message, text: &str) -> bool {
 /// empty. Returns whether it failed.
 fn renames(rt: &impl Abort, alloc: Global, turn: u16) -> bool {
     let mut names = Names::new(alloc, index_tables(alloc, 4), Mode::Whole);
-    let first = message(rt, alloc, Side::Adapter, SCOPES);
-    let again = message(rt, alloc, Side::Adapter, SCOPES);
+    let first = expected(rt, alloc, Side::Adapter, SCOPES);
+    let again = expected(rt, alloc, Side::Adapter, SCOPES);
     refuse_growth(alloc, turn);
     let mut outcome = renamed(&mut names, first);
     let is_refused = was_refused(alloc);
     if let Err(fault) = outcome {
         assert!(rt; fault == NameFault::Memory);
-        was_wanted(rt, is_refused, turn);
+        was_wanted(rt, is_refused);
         assert!(rt; are_empty(&names));
         outcome = renamed(&mut names, again);
     }
@@ -295,15 +244,6 @@ fn renames(rt: &impl Abort, alloc: Global, turn: u16) -> bool {
     assert!(rt; has_content(alloc, &outcome, RENAMED_SCOPES));
     assert!(rt; names.len(Sort::Reference) == 2);
     is_refused
-}
-
-#[test]
-fn names_are_refused_in_turn(rt: HostRuntime) {
-    for turn in 1..1000u16 {
-        if !renames(&rt, rt.alloc(), turn) {
-            break;
-        }
-    }
 }
 
 /// An event after which the numbering restarts.
@@ -320,16 +260,16 @@ fn have_counts(names: &Names<IndexTable>, stops: u64, references: usize) -> bool
 /// unchanged. Returns whether it failed.
 fn begins_again(rt: &impl Abort, alloc: Global, turn: u16) -> bool {
     let mut names = Names::new(alloc, index_tables(alloc, 4), Mode::PerStop);
-    let scopes = message(rt, alloc, Side::Adapter, SCOPES);
+    let scopes = expected(rt, alloc, Side::Adapter, SCOPES);
     assert!(rt; renamed(&mut names, scopes).is_ok());
-    let first = message(rt, alloc, Side::Adapter, STOPPED);
-    let again = message(rt, alloc, Side::Adapter, STOPPED);
+    let first = expected(rt, alloc, Side::Adapter, STOPPED);
+    let again = expected(rt, alloc, Side::Adapter, STOPPED);
     refuse_growth(alloc, turn);
     let outcome = renamed(&mut names, first);
     let is_refused = was_refused(alloc);
     if let Err(fault) = outcome {
         assert!(rt; fault == NameFault::Memory);
-        was_wanted(rt, is_refused, turn);
+        was_wanted(rt, is_refused);
         assert!(rt; have_counts(&names, 0, 2));
         assert!(rt; renamed(&mut names, again).is_ok());
     }
@@ -338,10 +278,29 @@ fn begins_again(rt: &impl Abort, alloc: Global, turn: u16) -> bool {
     is_refused
 }
 
+/// Makes allocation `turn` of each call on a session fail. Returns whether one of them failed.
+fn is_session_refused(rt: &impl Abort, alloc: Global, turn: u16) -> bool {
+    let mut messages = Vec::new(alloc);
+    for line in &MESSAGES {
+        let message = message(alloc, *line).expect(rt, "no message");
+        messages.push(message).expect(rt, "no memory");
+    }
+    accepts_all(rt, alloc, messages.as_slice(), turn)
+}
+
+/// Makes allocation `turn` of each call fail. Returns whether one of them failed.
+fn is_refused(rt: &impl Abort, alloc: Global, turn: u16) -> bool {
+    let records = reads_all(rt, alloc, RECORD, turn)
+        | records_pieces(rt, alloc, turn)
+        | writes_record(rt, alloc, turn);
+    let names = renames(rt, alloc, turn) | begins_again(rt, alloc, turn);
+    records | names | is_session_refused(rt, alloc, turn)
+}
+
 #[test]
-fn stops_are_refused_in_turn(rt: HostRuntime) {
+fn records_and_sessions_are_refused_in_turn(rt: HostRuntime) {
     for turn in 1..1000u16 {
-        if !begins_again(&rt, rt.alloc(), turn) {
+        if !is_refused(&rt, rt.alloc(), turn) {
             break;
         }
     }

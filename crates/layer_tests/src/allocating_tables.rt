@@ -1,10 +1,11 @@
 //! Makes each allocation of a small name table, of a renaming, and of writing a content that is too
 //! long fail in turn.
 use crate::examples::was_wanted;
+use crate::renamings::{RENAMINGS, outcome_of};
 use dap_frame::{FrameFault, FrameLimits, write_frame};
 use dap_recording::write_record;
-use dap_rename::{IndexNames, NameFault, NameTable, Pair, PairFault, PlainNames, Renaming};
-use dap_tree::{Side, Sort};
+use dap_rename::{IndexNames, NameFault, NameTable, Pair, PairFault, PlainNames};
+use dap_tree::Side;
 use fault_injection::{refuse_growth, was_refused};
 use std::alloc::Global;
 use std::hash::{BuildHasherDefault, FoldHasher};
@@ -26,11 +27,10 @@ fn names<T: NameTable>(
     alloc: Global,
     table: &mut T,
     (number, wanted): (i64, Result<i64, NameFault>),
-    turn: u16,
 ) -> bool {
     let outcome = table.name(number);
     if outcome == Err(NameFault::Memory) {
-        was_wanted(rt, was_refused(alloc), turn);
+        was_wanted(rt, was_refused(alloc));
         assert!(rt; table.name(number) == wanted);
         return true;
     }
@@ -43,112 +43,23 @@ fn names<T: NameTable>(
 fn names_turn<T: NameTable>(rt: &impl Abort, alloc: Global, table: &mut T, turn: u16) -> bool {
     let mut is_wanted = false;
     refuse_growth(alloc, turn);
-    for named in NAMED {
-        is_wanted |= names(rt, alloc, table, named, turn);
+    for named in &NAMED {
+        is_wanted |= names(rt, alloc, table, *named);
     }
     assert!(rt; table.find(0).is_none());
     assert!(rt; table.len() == 2);
     table.cut(1);
-    is_wanted |= names(rt, alloc, table, (0, Ok(2)), turn);
+    is_wanted |= names(rt, alloc, table, (0, Ok(2)));
     // `was_refused` ends the request, so it is called last.
     is_wanted || was_refused(alloc)
 }
 
-#[test]
-fn tables_for_two_are_refused_in_turn(rt: HostRuntime) {
+/// Makes allocation `turn` of each table fail. Returns whether one of them failed.
+fn are_tables_refused(rt: &impl Abort, alloc: Global, turn: u16) -> bool {
     let hasher: BuildHasherDefault<FoldHasher> = BuildHasherDefault::new();
-    for turn in 1..100u16 {
-        let mut plain = PlainNames::new(rt.alloc(), 2);
-        let mut index = IndexNames::new(rt.alloc(), 2, hasher);
-        let by_plain = names_turn(&rt, rt.alloc(), &mut plain, turn);
-        let by_index = names_turn(&rt, rt.alloc(), &mut index, turn);
-        if !by_plain && !by_index {
-            break;
-        }
-    }
-}
-
-/// Two pairs of ids of one kind, and why they are not a renaming.
-const PAIRS: [([Pair; 2], Option<PairFault>); 4] = [
-    (
-        [
-            Pair {
-                sort: Sort::Frame,
-                stop: 0,
-                from: 5,
-                to: 6,
-            },
-            Pair {
-                sort: Sort::Frame,
-                stop: 0,
-                from: 6,
-                to: 5,
-            },
-        ],
-        None,
-    ),
-    (
-        [
-            Pair {
-                sort: Sort::Frame,
-                stop: 0,
-                from: 5,
-                to: 6,
-            },
-            Pair {
-                sort: Sort::Frame,
-                stop: 0,
-                from: 5,
-                to: 7,
-            },
-        ],
-        Some(PairFault::FromTwice(2)),
-    ),
-    (
-        [
-            Pair {
-                sort: Sort::Frame,
-                stop: 0,
-                from: 5,
-                to: 6,
-            },
-            Pair {
-                sort: Sort::Frame,
-                stop: 0,
-                from: 7,
-                to: 6,
-            },
-        ],
-        Some(PairFault::ToTwice(2)),
-    ),
-    (
-        [
-            Pair {
-                sort: Sort::Reference,
-                stop: 0,
-                from: 0,
-                to: 0,
-            },
-            Pair {
-                sort: Sort::Frame,
-                stop: 0,
-                from: 5,
-                to: 6,
-            },
-        ],
-        Some(PairFault::ZeroReference(1)),
-    ),
-];
-
-/// Returns why the pairs are not a renaming. A renaming must contain exactly these pairs.
-fn fault_of(rt: &impl Abort, alloc: Global, pairs: &[Pair]) -> Option<PairFault> {
-    match Renaming::new(alloc, pairs) {
-        Ok(renaming) => {
-            assert!(rt; renaming.pairs() == pairs);
-            None
-        }
-        Err(fault) => Some(fault),
-    }
+    let mut plain = PlainNames::new(alloc, 2);
+    let mut index = IndexNames::new(alloc, 2, hasher);
+    names_turn(rt, alloc, &mut plain, turn) | names_turn(rt, alloc, &mut index, turn)
 }
 
 /// Checks the renaming of the pairs while allocation `turn` fails, and again without a failure.
@@ -156,30 +67,19 @@ fn fault_of(rt: &impl Abort, alloc: Global, pairs: &[Pair]) -> Option<PairFault>
 fn pairs_turn(
     rt: &impl Abort,
     alloc: Global,
-    (pairs, wanted): (&[Pair], Option<PairFault>),
+    (pairs, wanted): (&[Pair], Result<(), PairFault>),
     turn: u16,
 ) -> bool {
     refuse_growth(alloc, turn);
-    let found = fault_of(rt, alloc, pairs);
+    let found = outcome_of(rt, alloc, pairs);
     let is_refused = was_refused(alloc);
-    if found == Some(PairFault::Memory) {
-        was_wanted(rt, is_refused, turn);
+    if found == Err(PairFault::Memory) {
+        was_wanted(rt, is_refused);
     } else {
         assert!(rt; found == wanted);
     }
-    assert!(rt; fault_of(rt, alloc, pairs) == wanted);
+    assert!(rt; outcome_of(rt, alloc, pairs) == wanted);
     is_refused
-}
-
-#[test]
-fn pairs_are_refused_in_turn(rt: HostRuntime) {
-    for (pairs, wanted) in &PAIRS {
-        for turn in 1..100u16 {
-            if !pairs_turn(&rt, rt.alloc(), (pairs.as_slice(), *wanted), turn) {
-                break;
-            }
-        }
-    }
 }
 
 /// Limits for contents of one byte.
@@ -204,7 +104,7 @@ fn writes_turn(rt: &impl Abort, alloc: Global, turn: u16) -> bool {
     let is_refused = was_refused(alloc);
     for outcome in answers {
         if outcome == Err(FrameFault::Memory) {
-            was_wanted(rt, is_refused, turn);
+            was_wanted(rt, is_refused);
         } else {
             assert!(rt; outcome == Err(FrameFault::ContentTooLong));
         }
@@ -213,10 +113,19 @@ fn writes_turn(rt: &impl Abort, alloc: Global, turn: u16) -> bool {
     is_refused
 }
 
+/// Makes allocation `turn` of each call fail. Returns whether one of them failed.
+fn is_refused(rt: &impl Abort, alloc: Global, turn: u16) -> bool {
+    let mut is_refused = are_tables_refused(rt, alloc, turn) | writes_turn(rt, alloc, turn);
+    for (pairs, wanted) in &RENAMINGS {
+        is_refused |= pairs_turn(rt, alloc, (pairs, *wanted), turn);
+    }
+    is_refused
+}
+
 #[test]
-fn a_content_past_its_limit_is_refused_in_turn(rt: HostRuntime) {
+fn tables_and_pairs_are_refused_in_turn(rt: HostRuntime) {
     for turn in 1..100u16 {
-        if !writes_turn(&rt, rt.alloc(), turn) {
+        if !is_refused(&rt, rt.alloc(), turn) {
             break;
         }
     }

@@ -36,9 +36,9 @@ fn has_text(rt: &impl Abort, alloc: Global, tree: &Tree, wanted: &str) -> Result
 }
 
 /// Checks that the result is `true`, or `Memory` if an allocation failed.
-fn is_true(rt: &impl Abort, outcome: Result<bool, TreeFault>, (is_refused, turn): (bool, u16)) {
+fn is_true(rt: &impl Abort, outcome: Result<bool, TreeFault>, is_refused: bool) {
     if outcome == Err(TreeFault::Memory) {
-        was_wanted(rt, is_refused, turn);
+        was_wanted(rt, is_refused);
     } else {
         assert!(rt; outcome == Ok(true));
     }
@@ -50,21 +50,9 @@ fn writes_turn(rt: &impl Abort, alloc: Global, tree: &Tree, wanted: &str, turn: 
     refuse_growth(alloc, turn);
     let outcome = has_text(rt, alloc, tree, wanted);
     let is_refused = was_refused(alloc);
-    is_true(rt, outcome, (is_refused, turn));
+    is_true(rt, outcome, is_refused);
     assert!(rt; has_text(rt, alloc, tree, wanted) == Ok(true));
     is_refused
-}
-
-#[test]
-fn the_text_of_a_tree_is_refused_in_turn(rt: HostRuntime) {
-    for (content, wanted) in &WRITTEN {
-        let tree = read_tree(rt.alloc(), content).expect(&rt, "no tree");
-        for turn in 1..1000u16 {
-            if !writes_turn(&rt, rt.alloc(), &tree, wanted, turn) {
-                break;
-            }
-        }
-    }
 }
 
 /// Appends the text of a tree, which must be serialisable.
@@ -81,7 +69,7 @@ fn appends_turn(rt: &impl Abort, alloc: Global, tree: &Tree, wanted: &str, turn:
     let outcome = append(rt, alloc, tree, &mut out);
     let is_refused = was_refused(alloc);
     if outcome == Err(TreeFault::Memory) {
-        was_wanted(rt, is_refused, turn);
+        was_wanted(rt, is_refused);
         assert!(rt; out.as_slice() == b"before".as_slice());
         assert!(rt; append(rt, alloc, tree, &mut out) == Ok(()));
     } else {
@@ -89,18 +77,6 @@ fn appends_turn(rt: &impl Abort, alloc: Global, tree: &Tree, wanted: &str, turn:
     }
     assert!(rt; out.as_slice().strip_prefix(b"before") == Some(wanted.as_bytes()));
     is_refused
-}
-
-#[test]
-fn a_text_behind_another_is_refused_in_turn(rt: HostRuntime) {
-    for (content, wanted) in &WRITTEN {
-        let tree = read_tree(rt.alloc(), content).expect(&rt, "no tree");
-        for turn in 1..1000u16 {
-            if !appends_turn(&rt, rt.alloc(), &tree, wanted, turn) {
-                break;
-            }
-        }
-    }
 }
 
 /// Contents, and for each the text of its tree, or the error of reading it.
@@ -144,18 +120,35 @@ fn reads_turn(
     refuse_growth(alloc, turn);
     let outcome = has_tree(rt, alloc, read, &mut scratch);
     let is_refused = was_refused(alloc);
-    is_true(rt, outcome, (is_refused, turn));
+    is_true(rt, outcome, is_refused);
     assert!(rt; has_tree(rt, alloc, read, &mut scratch) == Ok(true));
     is_refused
 }
 
-#[test]
-fn a_tree_read_with_kept_room_is_refused_in_turn(rt: HostRuntime) {
+/// Makes allocation `turn` of writing a tree fail. Returns whether one of them failed.
+fn is_writing_refused(rt: &impl Abort, alloc: Global, written: &Written, turn: u16) -> bool {
+    let (content, wanted) = *written;
+    let tree = read_tree(alloc, content).expect(rt, "no tree");
+    writes_turn(rt, alloc, &tree, wanted, turn) | appends_turn(rt, alloc, &tree, wanted, turn)
+}
+
+/// Makes allocation `turn` of each call fail. Returns whether one of them failed.
+fn is_refused(rt: &impl Abort, alloc: Global, turn: u16) -> bool {
+    let mut is_refused = false;
+    for written in &WRITTEN {
+        is_refused |= is_writing_refused(rt, alloc, written, turn);
+    }
     for read in &READ {
-        for turn in 1..1000u16 {
-            if !reads_turn(&rt, rt.alloc(), *read, turn) {
-                break;
-            }
+        is_refused |= reads_turn(rt, alloc, *read, turn);
+    }
+    is_refused
+}
+
+#[test]
+fn texts_and_kept_buffers_are_refused_in_turn(rt: HostRuntime) {
+    for turn in 1..1000u16 {
+        if !is_refused(&rt, rt.alloc(), turn) {
+            break;
         }
     }
 }

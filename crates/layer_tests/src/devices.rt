@@ -164,19 +164,6 @@ const TWO_BYTES: [Seen; 2] = [
     },
 ];
 
-#[test]
-fn an_interrupted_read_is_made_again(rt: HostRuntime) {
-    reads(&rt, &INTERRUPTED_READS, &TWO_BYTES);
-}
-
-/// Reads that fail, each with another error, before a read returns bytes.
-const FAILED_READS: [&[Read]; 4] = [
-    &[Read::Fails(ErrorKind::UnexpectedEof), Read::Gives(b"ab")],
-    &[Read::Fails(ErrorKind::WouldBlock), Read::Gives(b"ab")],
-    &[Read::Fails(ErrorKind::TimedOut), Read::Gives(b"ab")],
-    &[Read::Fails(ErrorKind::BrokenPipe), Read::Gives(b"ab")],
-];
-
 /// A read that fails, then a read of two bytes.
 const FAILED_AND_TWO_BYTES: [Seen; 2] = [
     Seen {
@@ -193,10 +180,32 @@ const FAILED_AND_TWO_BYTES: [Seen; 2] = [
     },
 ];
 
+/// The reads of a reader, and what is read from a source over it. An interrupted read is repeated,
+/// and any other error of a read is not the end.
+const READ_STEPS: [(&[Read], &[Seen]); 5] = [
+    (&INTERRUPTED_READS, &TWO_BYTES),
+    (
+        &[Read::Fails(ErrorKind::UnexpectedEof), Read::Gives(b"ab")],
+        &FAILED_AND_TWO_BYTES,
+    ),
+    (
+        &[Read::Fails(ErrorKind::WouldBlock), Read::Gives(b"ab")],
+        &FAILED_AND_TWO_BYTES,
+    ),
+    (
+        &[Read::Fails(ErrorKind::TimedOut), Read::Gives(b"ab")],
+        &FAILED_AND_TWO_BYTES,
+    ),
+    (
+        &[Read::Fails(ErrorKind::BrokenPipe), Read::Gives(b"ab")],
+        &FAILED_AND_TWO_BYTES,
+    ),
+];
+
 #[test]
-fn an_error_of_a_read_is_no_end(rt: HostRuntime) {
-    for steps in &FAILED_READS {
-        reads(&rt, steps, &FAILED_AND_TWO_BYTES);
+fn reads_after_errors(rt: HostRuntime) {
+    for (steps, seen) in &READ_STEPS {
+        reads(&rt, steps, seen);
     }
 }
 
@@ -319,7 +328,7 @@ const WRITTEN: [Written; 6] = [
 
 #[test]
 fn a_text_is_written_and_flushed(rt: HostRuntime) {
-    for (number, written) in WRITTEN.iter().enumerate() {
-        assert!(rt; writes(rt.alloc(), written), "row {number}");
+    for written in &WRITTEN {
+        assert!(rt; writes(rt.alloc(), written));
     }
 }

@@ -27,6 +27,6 @@ pub fn index_tables(alloc: Global, ids: usize) -> Tables<IndexTable>
 }
 
 /// Asserts that an allocation failed in this turn.
-pub fn was_wanted(rt: &impl Abort, is_refused: bool, turn: u16) {
-    assert!(rt; is_refused, "memory was there at turn {turn}");
+pub fn was_wanted(rt: &impl Abort, is_refused: bool) {
+    assert!(rt; is_refused);
 }

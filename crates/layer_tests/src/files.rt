@@ -1,137 +1,182 @@
 //! Tests replacements in memory in which each call fails in turn, and replacements of real files.
 ghost use Rattle.std.specs.Prelude.{◌≡◌, None, IfOk};
 
+use crate::texts::is_printed;
 use dap_file::{FileAt, MemoryFile, ReadFault, ReplaceFault, Replaceable, Step, replace};
-use std::alloc::Global;
+use std::alloc::{AllocError, Global};
 use std::ops::Range;
 use std::os::unix::fs::{PermissionsExt, symlink};
-use std::test::Fail;
-use std::{env, fs, process};
+use std::path::PathBuf;
+use std::{env, fs, io, process};
 
-const OLD: &[u8; 3] = b"old";
+const OLD: &[u8] = b"old";
 
-const NEW: &[u8; 7] = b"the new";
+const NEW: &[u8] = b"the new";
 
 /// Returns a file that writes at most three bytes per call: a replacement then makes seven calls.
-fn memory_file(alloc: Global, failing: Range<u64>) -> Result<MemoryFile, Fail>
+fn memory_file(alloc: Global, failing: Range<u64>) -> Result<MemoryFile, AllocError>
     ensures none { IfOk result (λ file. file.temporary ≡ None) }
     ensures few { IfOk result (λ file. file.failures ≡ 0) }
 {
-    Ok(MemoryFile::new(alloc, Some(OLD.to_vec(alloc)?), failing, 3))
+    let content = OLD.to_vec(alloc)?;
+    Ok(MemoryFile::new(alloc, Some(content), failing, 3))
 }
 
-/// Returns the step of the call with this number.
-fn step_of(call: u64) -> Step {
-    match call {
-        0 => Step::Create,
-        1 | 2 | 3 => Step::Write,
-        4 => Step::Sync,
-        5 => Step::Rename,
-        _ => Step::SyncFolder,
+/// Returns whether a file has this content, a temporary file, and this number of failed calls.
+fn is_left(file: &MemoryFile, content: &[u8], has_temporary: bool, failures: u64) -> bool {
+    file.content() == Some(content)
+        && file.temporary().is_some() == has_temporary
+        && file.failures() == failures
+}
+
+/// Returns whether no call on the file has failed, and a read with this limit has this outcome.
+fn reads<F: Replaceable>(
+    alloc: Global,
+    file: &mut F,
+    limit: u64,
+    wanted: Result<&[u8], ReadFault>,
+) -> bool {
+    if file.failures() != 0 {
+        return false;
+    }
+    match (file.read(alloc, limit), wanted) {
+        (Ok(Some(found)), Ok(wanted)) => found.as_slice() == wanted,
+        (Err(fault), Err(wanted)) => fault == wanted,
+        _ => false,
+    }
+}
+
+/// Returns whether a file is replaced if no call fails.
+fn is_replaced(alloc: Global) -> bool {
+    let Ok(mut file) = memory_file(alloc, 0..0) else {
+        return false;
+    };
+    file.failures() == 0
+        && replace(&mut file, NEW).is_ok()
+        && is_left(&file, NEW, false, 0)
+        && reads(alloc, &mut file, 7, Ok(NEW))
+        && reads(alloc, &mut file, 6, Err(ReadFault::TooLong))
+}
+
+#[test]
+fn a_file_is_replaced(rt: HostRuntime) {
+    assert!(rt; is_replaced(rt.alloc()));
+}
+
+/// A replacement in which some calls fail: the first one and the one after the last one, by their
+/// numbers, the error, and the content after it. The temporary file is left if `is_left` is set.
+type Failed = (u64, u64, ReplaceFault, &'static [u8]);
+
+macro_rules! fault {
+    ($step:ident, $is_left:literal) => {
+        ReplaceFault {
+            step: Step::$step,
+            is_left: $is_left,
+        }
+    };
+}
+
+const FAILED: [Failed; 12] = [
+    (0, 1, fault!(Create, false), OLD),
+    (1, 2, fault!(Write, false), OLD),
+    (2, 3, fault!(Write, false), OLD),
+    (3, 4, fault!(Write, false), OLD),
+    (4, 5, fault!(Sync, false), OLD),
+    (5, 6, fault!(Rename, false), OLD),
+    (6, 7, fault!(SyncFolder, false), NEW),
+    // The removal of the temporary file is the next call, and fails too.
+    (1, 3, fault!(Write, true), OLD),
+    (2, 4, fault!(Write, true), OLD),
+    (3, 5, fault!(Write, true), OLD),
+    (4, 6, fault!(Sync, true), OLD),
+    (5, 7, fault!(Rename, true), OLD),
+];
+
+/// Returns whether the replacement fails in this way.
+fn fails(alloc: Global, row: &Failed) -> bool {
+    let (first, end, fault, content) = *row;
+    match memory_file(alloc, first..end) {
+        Ok(mut file) => {
+            replace(&mut file, NEW) == Err(fault)
+                && is_left(&file, content, fault.is_left, end.saturating_sub(first))
+        }
+        Err(_) => false,
     }
 }
 
 #[test]
-fn a_file_is_replaced(rt: HostRuntime) -> Result<(), Fail> {
-    let alloc = rt.alloc();
-    let mut file = memory_file(alloc, 0..0)?;
-    assert_eq!(rt; file.failures(), 0);
-    replace(&mut file, NEW)?;
-    assert_eq!(rt; file.content(), Some(NEW.as_slice()));
-    assert_eq!(rt; file.temporary(), None);
-    let found = file.read(alloc, 7)?.ok_or("no file")?;
-    assert_eq!(rt; found.as_slice(), NEW.as_slice());
-    assert_eq!(rt; file.read(alloc, 6).err(), Some(ReadFault::TooLong));
-    Ok(())
-}
-
-#[test]
-fn each_call_fails_in_turn(rt: HostRuntime) -> Result<(), Fail> {
-    let alloc = rt.alloc();
-    for call in 0..7 {
-        let mut file = memory_file(alloc, call..call + 1)?;
-        let step = step_of(call);
-        let fault = ReplaceFault {
-            step,
-            is_left: false,
-        };
-        assert_eq!(rt; replace(&mut file, NEW), Err(fault), "call {call}");
-        let content = if step == Step::SyncFolder {
-            NEW.as_slice()
-        } else {
-            OLD.as_slice()
-        };
-        assert_eq!(rt; file.content(), Some(content), "call {call}");
-        assert_eq!(rt; file.temporary(), None, "call {call}");
-        assert_eq!(rt; file.failures(), 1, "call {call}");
+fn each_call_fails_in_turn(rt: HostRuntime) {
+    for row in &FAILED {
+        assert!(rt; fails(rt.alloc(), row));
     }
-    Ok(())
-}
-
-#[test]
-fn a_removal_fails_too(rt: HostRuntime) -> Result<(), Fail> {
-    let alloc = rt.alloc();
-    for call in 1..6 {
-        let mut file = memory_file(alloc, call..call + 2)?;
-        let fault = ReplaceFault {
-            step: step_of(call),
-            is_left: true,
-        };
-        assert_eq!(rt; replace(&mut file, NEW), Err(fault), "call {call}");
-        assert_eq!(rt; file.content(), Some(OLD.as_slice()), "call {call}");
-        assert!(rt; file.temporary().is_some(), "call {call}");
-        assert_eq!(rt; file.failures(), 2, "call {call}");
-    }
-    Ok(())
 }
 
 /// Replaces the file at a path, and returns whether a read returns the new bytes.
-fn replace_at(rt: &HostRuntime, path: &str, bytes: &[u8]) -> Result<bool, Fail> {
+fn replaces(rt: &HostRuntime, path: &str, bytes: &[u8]) -> io::Result<bool> {
     let mut file = FileAt::new(rt.alloc(), rt, path, 10)?;
-    replace(&mut file, bytes)?;
-    let found = file.read(rt.alloc(), 7)?.ok_or("no file")?;
-    Ok(found.as_slice() == bytes && file.reason().is_none())
+    Ok(
+        replace(&mut file, bytes).is_ok()
+            && reads(rt.alloc(), &mut file, 7, Ok(bytes))
+            && file.reason().is_none(),
+    )
 }
 
-/// Creates a folder with two symbolic links and no files, and makes it the current folder.
-fn enter_folder(rt: &HostRuntime) -> Result<String, Fail> {
+/// Returns the path of a folder for a test.
+fn folder_path(rt: &HostRuntime) -> io::Result<PathBuf> {
     let number = process::id(rt.process());
     let name = format!(in rt.alloc(); "dap_file-{number}")?;
     let mut folder = env::temp_dir(rt)?;
     folder.push(name.as_str())?;
-    fs::create_dir(rt, folder.as_str())?;
-    env::set_current_dir(rt, folder.as_str())?;
+    Ok(folder)
+}
+
+/// Creates a folder with two symbolic links and no files, and makes it the current folder.
+fn enter_folder(rt: &HostRuntime, folder: &str) -> io::Result<()> {
+    fs::create_dir(rt, folder)?;
+    env::set_current_dir(rt, folder)?;
     symlink(rt, "golden", "link")?;
-    symlink(rt, "missing", "open_link")?;
-    Ok(folder.into_string())
+    symlink(rt, "missing", "open_link")
 }
 
-/// Returns the access permissions of the file at a path.
-fn mode_of(rt: &HostRuntime, path: &str) -> Result<u32, Fail> {
-    Ok(fs::symlink_metadata(rt, path)?.permissions().mode() & 0o777)
+/// Returns whether the links are left, and the files have replaced their targets.
+fn has_files(rt: &HostRuntime) -> io::Result<bool> {
+    let mode = fs::symlink_metadata(rt, "golden")?.permissions().mode() & 0o777;
+    let is_link = fs::symlink_metadata(rt, "link")?.is_symlink();
+    let is_file = fs::symlink_metadata(rt, "missing")?.is_file();
+    let count = fs::read_dir(rt, ".")?.count();
+    Ok(mode == 0o640 && is_link && is_file && count == 4)
+}
+
+/// Replacements through links, and of a file with permissions of its own.
+const REPLACED: [(&str, &[u8]); 3] = [("link", NEW), ("open_link", OLD), ("golden", NEW)];
+
+/// Returns whether these files of the folder are replaced.
+fn are_replaced(rt: &HostRuntime, folder: &str) -> io::Result<bool> {
+    enter_folder(rt, folder)?;
+    let mut is_right = replaces(rt, "golden", OLD)?;
+    fs::set_permissions(rt, "golden", fs::Permissions::from_mode(0o640))?;
+    for (path, bytes) in &REPLACED {
+        is_right &= replaces(rt, path, bytes)?;
+    }
+    is_right &= has_files(rt)?;
+    fs::remove_dir_all(rt, folder)?;
+    Ok(is_right)
 }
 
 #[test]
-fn a_real_file_is_replaced(rt: HostRuntime) -> Result<(), Fail> {
-    let folder = enter_folder(&rt)?;
-    assert!(rt; replace_at(&rt, "golden", OLD)?);
-    fs::set_permissions(&rt, "golden", fs::Permissions::from_mode(0o640))?;
-    assert!(rt; replace_at(&rt, "link", NEW)?);
-    assert!(rt; replace_at(&rt, "open_link", OLD)?);
-    assert!(rt; replace_at(&rt, "golden", NEW)?);
-    assert_eq!(rt; mode_of(&rt, "golden")?, 0o640);
-    assert!(rt; fs::symlink_metadata(&rt, "link")?.is_symlink());
-    assert!(rt; fs::symlink_metadata(&rt, "missing")?.is_file());
-    assert_eq!(rt; fs::read_dir(&rt, ".")?.count(), 4);
-    fs::remove_dir_all(&rt, folder.as_str())?;
-    Ok(())
+fn a_real_file_is_replaced(rt: HostRuntime) {
+    let folder = folder_path(&rt).expect(&rt, "no folder");
+    assert!(rt; matches!(are_replaced(&rt, folder.as_str()), Ok(true)));
+}
+
+fn is_folder_refused(rt: &HostRuntime) -> bool {
+    match FileAt::new(rt.alloc(), rt, "/", 10) {
+        Ok(_) => false,
+        Err(refused) => is_printed(rt.alloc(), &refused, "is a folder"),
+    }
 }
 
 #[test]
-fn a_folder_is_refused(rt: HostRuntime) -> Result<(), Fail> {
-    let refused = FileAt::new(rt.alloc(), &rt, "/", 10)
-        .err()
-        .ok_or("not refused")?;
-    assert_eq!(rt; refused.to_string(rt.alloc())?.as_str(), "is a folder");
-    Ok(())
+fn a_folder_is_refused(rt: HostRuntime) {
+    assert!(rt; is_folder_refused(&rt));
 }

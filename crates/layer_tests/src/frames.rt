@@ -77,45 +77,31 @@ fn answers(framer: &mut Framer, step: Step) -> bool {
 /// Checks that a new framer returns these results.
 fn answers_all(rt: &impl Abort, alloc: Global, steps: &[Step]) {
     let mut framer = Framer::new(alloc, LIMITS);
-    for (number, step) in steps.iter().enumerate() {
-        assert!(rt; answers(&mut framer, *step), "step {number}");
+    for step in steps {
+        assert!(rt; answers(&mut framer, *step));
     }
 }
 
-#[test]
-fn header_too_long(rt: HostRuntime) {
-    let steps = [
-        Step::TakesAll(b"a", 4095),
-        Step::Holds(4095),
-        Step::Ends(Err(FrameFault::Cut)),
-        Step::Refuses(b"a", FrameFault::HeaderTooLong),
-    ];
-    answers_all(&rt, rt.alloc(), &steps);
-}
+const HEADER_TOO_LONG: [Step; 4] = [
+    Step::TakesAll(b"a", 4095),
+    Step::Holds(4095),
+    Step::Ends(Err(FrameFault::Cut)),
+    Step::Refuses(b"a", FrameFault::HeaderTooLong),
+];
 
-const CUT: [Step; 4] = [
+const CUT_IN_A_CONTENT: [Step; 4] = [
     Step::Ends(Ok(())),
     Step::Takes(b"Content-Length: 2\r\n\r\n{"),
     Step::Holds(22),
     Step::Ends(Err(FrameFault::Cut)),
 ];
 
-#[test]
-fn cut_in_a_content(rt: HostRuntime) {
-    answers_all(&rt, rt.alloc(), &CUT);
-}
-
 const EMPTY_CONTENT: [Step; 2] = [
     Step::Gives(b"Content-Length: 0\r\n\r\nContent-Length", 21, b""),
     Step::Ends(Ok(())),
 ];
 
-#[test]
-fn empty_content(rt: HostRuntime) {
-    answers_all(&rt, rt.alloc(), &EMPTY_CONTENT);
-}
-
-const FIELDS_AND_CASE: [Step; 5] = [
+const HEADER_FIELDS_AND_CASE: [Step; 5] = [
     Step::TakesEach(
         b"Content-Type: application/json\r\ncontent-length:0015\r\n\r\n{ \"b\":1,\"a\":2 ",
     ),
@@ -125,11 +111,6 @@ const FIELDS_AND_CASE: [Step; 5] = [
     Step::Gives(b"CONTENT-LENGTH: \t3 \t\r\nX:\r\n\r\nabcd", 31, b"abc"),
 ];
 
-#[test]
-fn header_fields_and_case(rt: HostRuntime) {
-    answers_all(&rt, rt.alloc(), &FIELDS_AND_CASE);
-}
-
 const AFTER_A_FAULT: [Step; 5] = [
     Step::Refuses(b"X: 1\r\n\r\n", FrameFault::NoLength),
     Step::Holds(0),
@@ -138,19 +119,54 @@ const AFTER_A_FAULT: [Step; 5] = [
     Step::Holds(0),
 ];
 
+/// The calls of each framer.
+const FRAMERS: [&[Step]; 5] = [
+    &HEADER_TOO_LONG,
+    &CUT_IN_A_CONTENT,
+    &EMPTY_CONTENT,
+    &HEADER_FIELDS_AND_CASE,
+    &AFTER_A_FAULT,
+];
+
 #[test]
-fn after_a_fault(rt: HostRuntime) {
-    answers_all(&rt, rt.alloc(), &AFTER_A_FAULT);
+fn framers_step_by_step(rt: HostRuntime) {
+    for steps in &FRAMERS {
+        answers_all(&rt, rt.alloc(), steps);
+    }
 }
 
-/// Returns whether `write_frame` returns this result, with the smallest header limit and this
-/// content limit, and leaves this buffer.
-fn writes(
-    alloc: Global,
-    (before, content, most): (&[u8], &[u8], usize),
-    outcome: Result<(), FrameFault>,
-    after: &[u8],
-) -> bool {
+/// A frame that is appended to a buffer: the buffer, the content and the limit for contents, the
+/// result, and the buffer after it.
+type Written = (
+    &'static [u8],
+    &'static [u8],
+    usize,
+    Result<(), FrameFault>,
+    &'static [u8],
+);
+
+const WRITTEN: [Written; 3] = [
+    (b"", b"{}", 12, Ok(()), b"Content-Length: 2\r\n\r\n{}"),
+    (
+        b"Content-Length: 2\r\n\r\n{}",
+        b"hello, world",
+        12,
+        Ok(()),
+        b"Content-Length: 2\r\n\r\n{}Content-Length: 12\r\n\r\nhello, world",
+    ),
+    (
+        b"before",
+        b"abc",
+        2,
+        Err(FrameFault::ContentTooLong),
+        b"before",
+    ),
+];
+
+/// Returns whether `write_frame`, with the smallest header limit, returns this result and leaves
+/// this buffer.
+fn writes(alloc: Global, written: &Written) -> bool {
+    let (before, content, most, outcome, after) = *written;
     let limits = FrameLimits {
         header: 32,
         content: most,
@@ -161,27 +177,11 @@ fn writes(
     limits.sound() && write_frame(&mut out, content, limits) == outcome && out.as_slice() == after
 }
 
-/// The buffer before a frame, the content of the frame, and the buffer with the frame.
-const WRITTEN: [(&[u8], &[u8], &[u8]); 2] = [
-    (b"", b"{}", b"Content-Length: 2\r\n\r\n{}"),
-    (
-        b"Content-Length: 2\r\n\r\n{}",
-        b"hello, world",
-        b"Content-Length: 2\r\n\r\n{}Content-Length: 12\r\n\r\nhello, world",
-    ),
-];
-
 #[test]
 fn written_frames(rt: HostRuntime) {
-    for (before, content, after) in &WRITTEN {
-        assert!(rt; writes(rt.alloc(), (before, content, 12), Ok(()), after));
+    for written in &WRITTEN {
+        assert!(rt; writes(rt.alloc(), written));
     }
-}
-
-#[test]
-fn written_content_too_long(rt: HostRuntime) {
-    let outcome = Err(FrameFault::ContentTooLong);
-    assert!(rt; writes(rt.alloc(), (b"before", b"abc", 2), outcome, b"before"));
 }
 
 const LIMITS_AND_WHETHER_SOUND: [(usize, usize, bool); 5] = [

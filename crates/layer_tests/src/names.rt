@@ -7,11 +7,6 @@ use dap_tree::Sort;
 use std::alloc::Global;
 use std::process::Abort;
 
-/// Returns names with `Mode::Whole` in plain tables with this limit.
-pub fn plain_names(alloc: Global, limit: u8) -> Names<PlainNames> {
-    names_of_mode(alloc, (limit, limit), Mode::Whole)
-}
-
 /// Returns names in plain tables with these limits, of which the second one applies to frames.
 pub fn names_of_mode(alloc: Global, (limit, frames): (u8, u8), mode: Mode) -> Names<PlainNames> {
     let mut tables = Tables::plain(alloc, limit as usize);
@@ -77,16 +72,12 @@ fn answers(alloc: Global, names: &mut Names<PlainNames>, step: Step) -> bool {
     }
 }
 
-/// Checks these results for new names with this limit.
-fn answers_all(rt: &impl Abort, alloc: Global, limit: u8, steps: &[Step]) {
-    let mut names = plain_names(alloc, limit);
-    names_answer(rt, alloc, &mut names, steps);
-}
-
-/// Checks these results for the names.
-fn names_answer(rt: &impl Abort, alloc: Global, names: &mut Names<PlainNames>, steps: &[Step]) {
-    for (number, step) in steps.iter().enumerate() {
-        assert!(rt; answers(alloc, names, *step), "step {number}");
+/// Checks these results for new names, with these limits in this mode.
+fn answers_all(rt: &impl Abort, alloc: Global, limits: (u8, u8), mode: Mode, steps: &[Step]) {
+    let mut names = names_of_mode(alloc, limits, mode);
+    assert!(rt; names.mode() == mode);
+    for step in steps {
+        assert!(rt; answers(alloc, &mut names, *step));
     }
 }
 
@@ -109,11 +100,6 @@ const FULL: [Step; 4] = [
     Step::Text(OTHER, OTHER_TEXT),
 ];
 
-#[test]
-fn full_table_leaves_the_names(rt: HostRuntime) {
-    answers_all(&rt, rt.alloc(), 1, &FULL);
-}
-
 /// A request with two sequence numbers.
 const CANCEL: Line = (
     Client,
@@ -126,11 +112,6 @@ const FULL_IN_THE_MIDDLE: [Step; 3] = [
     Step::Count(Sort::ClientSeq, 0),
     Step::Text(INITIALIZE, INITIALIZE_TEXT),
 ];
-
-#[test]
-fn full_in_the_middle_of_a_message(rt: HostRuntime) {
-    answers_all(&rt, rt.alloc(), 1, &FULL_IN_THE_MIDDLE);
-}
 
 pub const STACK_TRACE: Line = (
     Client,
@@ -182,13 +163,6 @@ const BEGIN_AGAIN: [Step; 13] = [
     Step::CountAt(Sort::Reference, 1, 0),
 ];
 
-#[test]
-fn frames_begin_again_behind_a_stop(rt: HostRuntime) {
-    let mut names = names_of_mode(rt.alloc(), (100, 1), Mode::PerStop);
-    assert!(rt; names.mode() == Mode::PerStop);
-    names_answer(&rt, rt.alloc(), &mut names, &BEGIN_AGAIN);
-}
-
 /// With `Mode::Whole` the second frame exceeds the limit.
 const GO_ON: [Step; 6] = [
     Step::Ids(FRAME, FRAME_IDS),
@@ -199,11 +173,19 @@ const GO_ON: [Step; 6] = [
     Step::CountAt(Sort::Frame, 1, 0),
 ];
 
+/// The limits of the tables, for all ids and for frames, the mode, and the calls on the names.
+const NAMES: [((u8, u8), Mode, &[Step]); 4] = [
+    ((1, 1), Mode::Whole, &FULL),
+    ((1, 1), Mode::Whole, &FULL_IN_THE_MIDDLE),
+    ((100, 1), Mode::PerStop, &BEGIN_AGAIN),
+    ((100, 1), Mode::Whole, &GO_ON),
+];
+
 #[test]
-fn frames_go_on_behind_a_stop(rt: HostRuntime) {
-    let mut names = names_of_mode(rt.alloc(), (100, 1), Mode::Whole);
-    assert!(rt; names.mode() == Mode::Whole);
-    names_answer(&rt, rt.alloc(), &mut names, &GO_ON);
+fn names_step_by_step(rt: HostRuntime) {
+    for (limits, mode, steps) in &NAMES {
+        answers_all(&rt, rt.alloc(), *limits, *mode, steps);
+    }
 }
 
 #[test]

@@ -178,7 +178,7 @@ const RECORDED: &[u8] = b"<Content-Length: 4\r\n\r\nnull\n>Content-Length: 2\r\n
 fn records_stand_in_the_order_of_their_last_bytes(rt: HostRuntime) {
     for step in 1..64 {
         let recorder = recorder_of(&rt, rt.alloc(), BOTH_SIDES, step);
-        assert!(rt; has_recorded(&recorder, RECORDED), "{step} bytes");
+        assert!(rt; has_recorded(&recorder, RECORDED));
     }
 }
 

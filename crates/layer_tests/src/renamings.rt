@@ -11,72 +11,64 @@ use dap_tree::Sort;
 use std::alloc::Global;
 use std::process::Abort;
 
-const fn pair(sort: Sort, from: i64, to: i64) -> Pair {
-    pair_at(sort, 0, from, to)
+macro_rules! pair {
+    ($sort:ident, $from:literal, $to:literal) => {
+        pair!($sort, 0, $from, $to)
+    };
+    ($sort:ident, $stop:literal, $from:literal, $to:literal) => {
+        Pair {
+            sort: Sort::$sort,
+            stop: $stop,
+            from: $from,
+            to: $to,
+        }
+    };
 }
 
-const fn pair_at(sort: Sort, stop: u64, from: i64, to: i64) -> Pair {
-    Pair {
-        sort,
-        stop,
-        from,
-        to,
-    }
-}
+const FIRST: Pair = pair!(Frame, 5, 6);
 
-/// Returns whether the pairs are a renaming, or are rejected with the expected error.
-fn is_renaming(alloc: Global, pairs: &[Pair], wanted: Result<(), PairFault>) -> bool {
+const ZERO: Pair = pair!(Reference, 0, 0);
+
+/// Pairs, and whether they are a renaming.
+pub const RENAMINGS: [(&[Pair], Result<(), PairFault>); 12] = [
+    (&[FIRST, pair!(Frame, 6, 5)], Ok(())),
+    (
+        &[FIRST, pair!(Reference, 5, 6), pair!(ClientSeq, 0, 0)],
+        Ok(()),
+    ),
+    (&[], Ok(())),
+    (&[pair!(Frame, 1, 5, 6), pair!(Frame, 2, 5, 7)], Ok(())),
+    (&[FIRST, pair!(Frame, 5, 7)], Err(PairFault::FromTwice(2))),
+    (&[FIRST, pair!(Frame, 7, 6)], Err(PairFault::ToTwice(2))),
+    (&[FIRST, FIRST], Err(PairFault::FromTwice(2))),
+    (&[ZERO], Err(PairFault::ZeroReference(1))),
+    (&[ZERO, FIRST], Err(PairFault::ZeroReference(1))),
+    (&[pair!(ClientSeq, 1, 1, 1)], Err(PairFault::BadStop(1))),
+    (
+        &[pair!(Frame, 1, 5, 6), pair!(Frame, 1, 7, 6)],
+        Err(PairFault::ToTwice(2)),
+    ),
+    (
+        &[FIRST, pair!(Reference, 1, 0), FIRST],
+        Err(PairFault::ZeroReference(2)),
+    ),
+];
+
+/// Returns why the pairs are not a renaming. A renaming must contain exactly these pairs.
+pub fn outcome_of(rt: &impl Abort, alloc: Global, pairs: &[Pair]) -> Result<(), PairFault> {
     match Renaming::new(alloc, pairs) {
-        Ok(renaming) => wanted == Ok(()) && renaming.pairs() == pairs,
-        Err(fault) => wanted == Err(fault),
+        Ok(renaming) => {
+            assert!(rt; renaming.pairs() == pairs);
+            Ok(())
+        }
+        Err(fault) => Err(fault),
     }
 }
 
 #[test]
 fn pairs_that_are_a_renaming(rt: HostRuntime) {
-    let exchanged = [pair(Sort::Frame, 5, 6), pair(Sort::Frame, 6, 5)];
-    assert!(rt; is_renaming(rt.alloc(), &exchanged, Ok(())));
-    let of_two_sorts = [
-        pair(Sort::Frame, 5, 6),
-        pair(Sort::Reference, 5, 6),
-        pair(Sort::ClientSeq, 0, 0),
-    ];
-    assert!(rt; is_renaming(rt.alloc(), &of_two_sorts, Ok(())));
-    assert!(rt; is_renaming(rt.alloc(), &[], Ok(())));
-    let of_two_stops = [pair_at(Sort::Frame, 1, 5, 6), pair_at(Sort::Frame, 2, 5, 7)];
-    assert!(rt; is_renaming(rt.alloc(), &of_two_stops, Ok(())));
-}
-
-#[test]
-fn pairs_that_are_none(rt: HostRuntime) {
-    let first = pair(Sort::Frame, 5, 6);
-    let zero = pair(Sort::Reference, 0, 0);
-    let to_zero = pair(Sort::Reference, 1, 0);
-    for (pairs, fault) in &[
-        (
-            [first, pair(Sort::Frame, 5, 7)].as_slice(),
-            PairFault::FromTwice(2),
-        ),
-        (
-            [first, pair(Sort::Frame, 7, 6)].as_slice(),
-            PairFault::ToTwice(2),
-        ),
-        ([first, first].as_slice(), PairFault::FromTwice(2)),
-        ([zero].as_slice(), PairFault::ZeroReference(1)),
-        (
-            [pair_at(Sort::ClientSeq, 1, 1, 1)].as_slice(),
-            PairFault::BadStop(1),
-        ),
-        (
-            [pair_at(Sort::Frame, 1, 5, 6), pair_at(Sort::Frame, 1, 7, 6)].as_slice(),
-            PairFault::ToTwice(2),
-        ),
-        (
-            [first, to_zero, first].as_slice(),
-            PairFault::ZeroReference(2),
-        ),
-    ] {
-        assert!(rt; is_renaming(rt.alloc(), pairs, Err(*fault)));
+    for (pairs, outcome) in &RENAMINGS {
+        assert!(rt; outcome_of(&rt, rt.alloc(), pairs) == *outcome);
     }
 }
 
@@ -99,11 +91,16 @@ fn own_pairs(alloc: Global, names: &Names<PlainNames>) -> Result<Renaming, NameF
 /// second frame has this stop.
 fn pairs_of_two_frames(stop: u64) -> [Pair; 5] {
     [
-        pair(Sort::ClientSeq, 2, 2),
-        pair(Sort::AdapterSeq, 3, 3),
-        pair(Sort::AdapterSeq, 2, 2),
-        pair_at(Sort::Frame, 0, 1000, 1000),
-        pair_at(Sort::Frame, stop, 1002, 1002),
+        pair!(ClientSeq, 2, 2),
+        pair!(AdapterSeq, 3, 3),
+        pair!(AdapterSeq, 2, 2),
+        pair!(Frame, 0, 1000, 1000),
+        Pair {
+            sort: Sort::Frame,
+            stop,
+            from: 1002,
+            to: 1002,
+        },
     ]
 }
 
@@ -118,48 +115,13 @@ fn renaming_between_names_with_a_stop(rt: HostRuntime) {
 }
 
 const PAIRS: [Pair; 7] = [
-    Pair {
-        sort: Sort::ClientSeq,
-        stop: 0,
-        from: 1,
-        to: 1,
-    },
-    Pair {
-        sort: Sort::ClientSeq,
-        stop: 0,
-        from: 2,
-        to: 2,
-    },
-    Pair {
-        sort: Sort::AdapterSeq,
-        stop: 0,
-        from: 1,
-        to: 1,
-    },
-    Pair {
-        sort: Sort::AdapterSeq,
-        stop: 0,
-        from: 2,
-        to: 2,
-    },
-    Pair {
-        sort: Sort::Frame,
-        stop: 0,
-        from: 1000,
-        to: 1001,
-    },
-    Pair {
-        sort: Sort::Frame,
-        stop: 0,
-        from: 1001,
-        to: 1000,
-    },
-    Pair {
-        sort: Sort::Thread,
-        stop: 0,
-        from: 1,
-        to: 1,
-    },
+    pair!(ClientSeq, 1, 1),
+    pair!(ClientSeq, 2, 2),
+    pair!(AdapterSeq, 1, 1),
+    pair!(AdapterSeq, 2, 2),
+    pair!(Frame, 1000, 1001),
+    pair!(Frame, 1001, 1000),
+    pair!(Thread, 1, 1),
 ];
 
 /// Returns whether the renaming maps the first `count` messages to the first `other_count` others.
@@ -197,20 +159,7 @@ fn fronts_that_are_carried(rt: HostRuntime) {
 }
 
 /// The pairs of two sequence numbers.
-const SEVENS: [Pair; 2] = [
-    Pair {
-        sort: Sort::ClientSeq,
-        stop: 0,
-        from: 2,
-        to: 7,
-    },
-    Pair {
-        sort: Sort::AdapterSeq,
-        stop: 0,
-        from: 2,
-        to: 7,
-    },
-];
+const SEVENS: [Pair; 2] = [pair!(ClientSeq, 2, 7), pair!(AdapterSeq, 2, 7)];
 
 /// Lines, and whether `threads` is mapped to each of them.
 const CARRIED: [(Line, bool); 4] = [

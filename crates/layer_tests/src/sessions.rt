@@ -42,7 +42,7 @@ fn answers(alloc: Global, session: &mut Session, sent: &Sent) -> bool {
 #[test]
 fn refused_request_is_not_kept(rt: HostRuntime) {
     let mut session = Session::new(rt.alloc());
-    for (number, sent) in SENT.iter().enumerate() {
-        assert!(rt; answers(rt.alloc(), &mut session, sent), "line {number}");
+    for sent in &SENT {
+        assert!(rt; answers(rt.alloc(), &mut session, sent));
     }
 }

@@ -44,8 +44,8 @@ fn answers<T: NameTable>(table: &mut T, step: Step) -> bool {
 
 /// Checks that a table returns these results.
 fn answers_all<T: NameTable>(rt: &impl Abort, table: &mut T, steps: &[Step]) {
-    for (number, step) in steps.iter().enumerate() {
-        assert!(rt; answers(table, *step), "step {number}");
+    for step in steps {
+        assert!(rt; answers(table, *step));
     }
 }
 
@@ -63,21 +63,6 @@ const BY_FIRST_APPEARANCE: [Step; 12] = [
     Step::Name(0, Ok(2)),
     Step::Len(2),
 ];
-
-#[test]
-fn names_by_first_appearance(rt: HostRuntime) {
-    let mut plain = PlainNames::new(rt.alloc(), 2);
-    answers_all(&rt, &mut plain, &BY_FIRST_APPEARANCE);
-    let mut index = IndexNames::new(rt.alloc(), 2, hasher());
-    answers_all(&rt, &mut index, &BY_FIRST_APPEARANCE);
-}
-
-#[test]
-fn names_by_random_hashes(rt: HostRuntime) {
-    let words = RandomState::new(&rt).expect(&rt, "no random words");
-    let mut table = IndexNames::new(rt.alloc(), 2, words);
-    answers_all(&rt, &mut table, &BY_FIRST_APPEARANCE);
-}
 
 const AFTER_A_CUT: [Step; 21] = [
     Step::Name(7, Ok(1)),
@@ -103,23 +88,11 @@ const AFTER_A_CUT: [Step; 21] = [
     Step::At(2, 5),
 ];
 
-#[test]
-fn names_after_a_cut(rt: HostRuntime) {
-    let mut table = IndexNames::new(rt.alloc(), 3, hasher());
-    answers_all(&rt, &mut table, &AFTER_A_CUT);
-}
-
 const NO_NAME: [Step; 3] = [
     Step::Name(1, Err(NameFault::Full)),
     Step::Find(1, None),
     Step::Len(0),
 ];
-
-#[test]
-fn no_name_at_limit_zero(rt: HostRuntime) {
-    let mut table = IndexNames::new(rt.alloc(), 0, hasher());
-    answers_all(&rt, &mut table, &NO_NAME);
-}
 
 const BOTH_ENDS: [Step; 6] = [
     Step::Name(i64::MAX, Ok(1)),
@@ -130,10 +103,25 @@ const BOTH_ENDS: [Step; 6] = [
     Step::Find(0, Some(3)),
 ];
 
+/// The calls on each table, and the limit of its ids.
+const TABLES: [(usize, &[Step]); 4] = [
+    (2, &BY_FIRST_APPEARANCE),
+    (3, &AFTER_A_CUT),
+    (0, &NO_NAME),
+    (3, &BOTH_ENDS),
+];
+
 #[test]
-fn numbers_at_both_ends(rt: HostRuntime) {
-    let mut table = IndexNames::new(rt.alloc(), 3, hasher());
-    answers_all(&rt, &mut table, &BOTH_ENDS);
+fn names_by_first_appearance(rt: HostRuntime) {
+    for (limit, steps) in &TABLES {
+        let mut table = IndexNames::new(rt.alloc(), *limit, hasher());
+        answers_all(&rt, &mut table, steps);
+    }
+    let mut plain = PlainNames::new(rt.alloc(), 2);
+    answers_all(&rt, &mut plain, &BY_FIRST_APPEARANCE);
+    let words = RandomState::new(&rt).expect(&rt, "no random words");
+    let mut random = IndexNames::new(rt.alloc(), 2, words);
+    answers_all(&rt, &mut random, &BY_FIRST_APPEARANCE);
 }
 
 /// Returns a distinct id for each index: unordered, and with both signs.

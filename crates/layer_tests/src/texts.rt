@@ -9,7 +9,7 @@ use std::alloc::Global;
 use std::fmt::Display;
 
 /// Returns whether the value is printed as this text.
-fn is_printed<D: Display>(alloc: Global, value: &D, text: &str) -> bool {
+pub fn is_printed<D: Display>(alloc: Global, value: &D, text: &str) -> bool {
     matches!(format!(in alloc; "{value}"), Ok(printed) if printed.as_str() == text)
 }
 
@@ -22,11 +22,6 @@ fn is_memory_printed(alloc: Global) -> bool {
         && is_printed(alloc, &SessionFault::Memory, "Memory")
 }
 
-#[test]
-fn texts_of_memory(rt: HostRuntime) {
-    assert!(rt; is_memory_printed(rt.alloc()));
-}
-
 /// Returns whether the sides and the errors of trees are printed correctly.
 fn are_trees_printed(alloc: Global) -> bool {
     is_printed(alloc, &Side::Client, "client")
@@ -34,11 +29,6 @@ fn are_trees_printed(alloc: Global) -> bool {
         && is_printed(alloc, &TreeFault::Json, "Json")
         && is_printed(alloc, &TreeFault::Fraction, "Fraction")
         && is_printed(alloc, &TreeFault::Memory, "Memory")
-}
-
-#[test]
-fn texts_of_trees(rt: HostRuntime) {
-    assert!(rt; are_trees_printed(rt.alloc()));
 }
 
 /// Returns whether the errors of names and of pairs are printed correctly.
@@ -50,11 +40,6 @@ fn are_names_printed(alloc: Global) -> bool {
         && is_printed(alloc, &PairFault::FromTwice(2), "FromTwice 2")
         && is_printed(alloc, &PairFault::ToTwice(3), "ToTwice 3")
         && is_printed(alloc, &PairFault::Memory, "Memory")
-}
-
-#[test]
-fn texts_of_names(rt: HostRuntime) {
-    assert!(rt; are_names_printed(rt.alloc()));
 }
 
 const RULES: [(Rule, &str); 11] = [
@@ -72,7 +57,10 @@ const RULES: [(Rule, &str); 11] = [
 ];
 
 #[test]
-fn texts_of_broken_rules(rt: HostRuntime) {
+fn texts_of_errors(rt: HostRuntime) {
+    assert!(rt; is_memory_printed(rt.alloc()));
+    assert!(rt; are_trees_printed(rt.alloc()));
+    assert!(rt; are_names_printed(rt.alloc()));
     for (rule, text) in &RULES {
         assert!(rt; is_printed(rt.alloc(), &SessionFault::Broken(*rule), text));
     }

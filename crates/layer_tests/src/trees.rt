@@ -173,13 +173,6 @@ fn has_ids(alloc: Global, tree: &Tree, ids: &[(Sort, i64)]) -> bool {
     tree.add_ids(&mut found).is_ok() && found.as_slice() == ids
 }
 
-#[test]
-fn ids_in_the_order_of_the_text(rt: HostRuntime) {
-    let alloc = rt.alloc();
-    let ids = [(Sort::Frame, 7), (Sort::ClientSeq, 2)];
-    assert!(rt; matches!(evaluate_request(alloc), Ok(tree) if has_ids(alloc, &tree, &ids)));
-}
-
 /// Returns whether an `evaluate` request has two ids, and is written as this text after these
 /// numbers replace them.
 fn is_replaced(alloc: Global, numbers: &[i64; 2], text: &str) -> bool {
@@ -196,26 +189,10 @@ fn is_replaced(alloc: Global, numbers: &[i64; 2], text: &str) -> bool {
 }
 
 #[test]
-fn replaced_ids(rt: HostRuntime) {
-    let text =
-        "{\"arguments\":{\"expression\":\"x\",\"frameId\":4},\"command\":\"evaluate\",\"seq\":9,\"type\":\"request\"}";
-    assert!(rt; is_replaced(rt.alloc(), &[4, 9], text));
-}
-
-/// Returns whether an `evaluate` request is serialisable and contains ids.
-fn has_sound_ids(alloc: Global) -> bool {
-    match evaluate_request(alloc) {
-        Ok(tree) => tree.sound() && !tree.plain(),
-        Err(_) => false,
-    }
-}
-
-#[test]
 fn plain_trees(rt: HostRuntime) {
     assert!(rt; Tree::Whole(1).plain());
     assert!(rt; !Tree::Id(Sort::Frame, 1).plain());
     assert!(rt; !Tree::Whole(18446744073709551616).plain());
-    assert!(rt; has_sound_ids(rt.alloc()));
 }
 
 /// Returns whether a copy of the tree has the ids of an `evaluate` request at the same paths.
@@ -234,12 +211,6 @@ fn has_frame(tree: &Tree) -> bool {
     matches!(tree.child("frameId"), Some(Tree::Id(Sort::Frame, 7)))
 }
 
-#[test]
-fn copied_ids(rt: HostRuntime) {
-    let alloc = rt.alloc();
-    assert!(rt; matches!(evaluate_request(alloc), Ok(tree) if is_copied_with_ids(alloc, &tree)));
-}
-
 /// Returns whether a copy of this many nested arrays has their text, two bytes for each array.
 fn is_nest_copied(alloc: Global, levels: usize) -> bool {
     match nested_tree(alloc, levels) {
@@ -251,11 +222,6 @@ fn is_nest_copied(alloc: Global, levels: usize) -> bool {
     }
 }
 
-#[test]
-fn copy_of_nested_lists(rt: HostRuntime) {
-    assert!(rt; is_nest_copied(rt.alloc(), 127));
-}
-
 /// Returns an array of two ids.
 fn ids(alloc: Global) -> Result<Tree, TreeFault> {
     let mut items = Vec::new(alloc);
@@ -264,11 +230,35 @@ fn ids(alloc: Global) -> Result<Tree, TreeFault> {
     Ok(Tree::List(items))
 }
 
-#[test]
-fn ids_written_as_numbers(rt: HostRuntime) {
-    let alloc = rt.alloc();
+/// The text of an `evaluate` request with other ids.
+const REPLACED: &str =
+    "{\"arguments\":{\"expression\":\"x\",\"frameId\":4},\"command\":\"evaluate\",\"seq\":9,\"type\":\"request\"}";
+
+/// Returns whether an `evaluate` request is serialisable, and it and its copy have its ids.
+fn has_two_ids(alloc: Global) -> bool {
+    match evaluate_request(alloc) {
+        Ok(tree) => {
+            tree.sound()
+                && !tree.plain()
+                && has_ids(alloc, &tree, &[(Sort::Frame, 7), (Sort::ClientSeq, 2)])
+                && is_copied_with_ids(alloc, &tree)
+        }
+        Err(_) => false,
+    }
+}
+
+/// Returns whether ids are written as numbers.
+fn are_ids_written(alloc: Global) -> bool {
     let text = "[-9223372036854775808,9223372036854775807]";
-    assert!(rt; matches!(ids(alloc), Ok(tree) if is_written(alloc, &tree, text)));
+    matches!(ids(alloc), Ok(tree) if is_written(alloc, &tree, text))
+}
+
+#[test]
+fn trees_with_ids(rt: HostRuntime) {
+    assert!(rt; has_two_ids(rt.alloc()));
+    assert!(rt; is_replaced(rt.alloc(), &[4, 9], REPLACED));
+    assert!(rt; are_ids_written(rt.alloc()));
+    assert!(rt; is_nest_copied(rt.alloc(), 127));
 }
 
 #[test]
