@@ -1,7 +1,7 @@
 -- Checking a record after others: the state then represents its message too, or the record is
 -- rejected.
 use Rattle.std.proofs.Common.{◌≡◌, ◌⊎◌, inl, inr, ℕ, ℤ, ◌+◌, ◌<◌, ◌≤◌, List, [], ◌∷◌, ◌++◌, length}
-use Rattle.std.proofs.Common.{None, Err, sym, ◌∙◌, ap, subst, arith, append-nil, length-append}
+use Rattle.std.proofs.Common.{None, Result, Ok, Err, sym, ◌∙◌, ap, subst, arith, append-nil, length-append}
 use Rattle.std.specs.List.{AllByRecursion}
 use Rattle.dap_tree.specs.Json.{text_of}
 use Rattle.dap_tree.specs.declared.sort.Sort.{Sort}
@@ -22,8 +22,8 @@ use Rattle.dap_input.specs.declared.refused.Refused.TheVariants.{Grew, Memory}
 use Rattle.dap_input.specs.Validation.{grew, too_many_ids}
 use Rattle.dap_input.specs.Refusals.{RejectsPayload}
 use Rattle.dap_normalise.specs.Accepting.{Payload, Fits, IsMessage, IsNext, Rejects, id_limit, text}
-use Rattle.dap_normalise.specs.JudgingSteps.{IsTaken, RepresentsMessages, Writes, judge_mode}
-use Rattle.dap_normalise.specs.JudgingSteps.{record_of}
+use Rattle.dap_normalise.specs.JudgingSteps.{ChecksRecord, IsTaken, JudgesRecord}
+use Rattle.dap_normalise.specs.JudgingSteps.{RepresentsMessages, Writes, judge_mode, record_of}
 use Rattle.dap_normalise.proofs.AcceptingFacts.{message_proper}
 use Rattle.dap_normalise.proofs.NormalTexts.{normal, normal_fits, proper_push, text-append}
 
@@ -46,6 +46,18 @@ none_stand judge session represents limits written = record {
   fits = record { each = tt; whole = omega arith };
   written = written;
 }
+
+-- A record that was checked, and appended to nothing.
+pub as_checked : {T : Type 0} (numbers : T → List ℤ) (table_limit : T → ℕ)
+    (messages normal : List Sent) (held : Payload) (n : ℕ) (before after : Judge T)
+    (first text : List ℕ) (r : Result (Unit {0}) Refused) → first ≡ []
+    → JudgesRecord numbers table_limit messages normal held n before after first text r
+    → ChecksRecord numbers table_limit messages normal held n before after r
+as_checked numbers table_limit messages normal held n before after first text (Ok done)
+    none judged =
+    (text, subst (λ xs. IsTaken numbers table_limit messages normal held after xs text) none judged)
+as_checked numbers table_limit messages normal held n before after first text (Err because) none
+    judged = judged
 
 module _ {T : Type 0} {numbers : T → List ℤ} {table_limit : T
     → ℕ} (old : Judge T) (messages names : List Sent)

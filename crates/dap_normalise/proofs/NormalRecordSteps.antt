@@ -26,7 +26,8 @@ use Rattle.dap_input.proofs.InputSteps as steps
 use Rattle.dap_normalise.specs.declared.judging.Judge.{Judge}
 use Rattle.dap_normalise.specs.declared.normal_records.NormalRecords.{NormalRecords}
 use Rattle.dap_normalise.specs.Accepting.{Rejects, IsNext, accepting}
-use Rattle.dap_normalise.specs.JudgingSteps.{JudgesRecord, RepresentsMessages, payload_of}
+use Rattle.dap_normalise.specs.JudgingSteps.{IsTaken, JudgesRecord, RepresentsMessages}
+use Rattle.dap_normalise.specs.JudgingSteps.{payload_of}
 use Rattle.dap_normalise.specs.JudgingSteps.{judge_limits}
 use Rattle.dap_normalise.specs.JudgingSteps.{judge_mode}
 use Rattle.dap_normalise.specs.NormalSteps.{HasEnded, HasAdvanced, HasStoppedAt, IsBuffered}
@@ -220,11 +221,11 @@ module _ {T R : Type 0} {numbers : T → List ℤ} {table_limit : T → ℕ} (so
 
     -- the record is accepted
     pub gone_on : judge_limits judge ≡ judge_limits old.judge
-        → judge_mode judge ≡ judge_mode old.judge → Judged (Ok tt)
+        → judge_mode judge ≡ judge_mode old.judge
+        → IsTaken numbers table_limit messages normal (payload_of whole) judge text longer
         → HasAdvanced numbers table_limit source limits mode bytes messages normal old record
         { records = new; judge = judge; scratch = left.scratch } before after text longer
-    gone_on same_limits same_mode judged =
-        let added = judged messages normal was.represents in
+    gone_on same_limits same_mode added =
         let limits_are = same_limits ∙ was.judge_limits_are in
         let mode_is = same_mode ∙ was.judge_mode_is in
         let is_next =

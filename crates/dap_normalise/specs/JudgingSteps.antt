@@ -78,3 +78,11 @@ module _ {T : Type 0} (numbers : T → List ℤ) (table_limit : T → ℕ) where
       IsTaken messages normal held after old new
   JudgesRecord messages normal held n before after old new (Err because) =
       RejectsPayload (Rejects before.limits (judge_mode before) messages held) n because
+
+  -- The same if nothing is appended.
+  abbrev pub ChecksRecord : List Sent → List Sent → Payload → ℕ → Judge T → Judge T
+      → Result (Unit {0}) Refused → Type 0
+  ChecksRecord messages normal held n before after (Ok done) =
+      (text : List ℕ) × IsTaken messages normal held after [] text
+  ChecksRecord messages normal held n before after (Err because) =
+      RejectsPayload (Rejects before.limits (judge_mode before) messages held) n because

@@ -92,3 +92,7 @@ module _ {T R : Type 0} (numbers : T → List ℤ) (table_limit : T → ℕ) (so
   HasNext text longer (Ok true) = HasAdvanced text longer
   HasNext text longer (Ok false) = HasEnded text longer
   HasNext text longer (Err refused) = HasStoppedAt refused
+
+  -- The same if nothing is appended.
+  abbrev pub ChecksNext : Result Bool Refused → Type 0
+  ChecksNext outcome = (text : List ℕ) × HasNext [] text outcome

@@ -119,10 +119,7 @@ fn judge_records<R: Source, T: NameTable + Drop>(
     ensures outcome { Checks R.Source limits mode false reader.old reader.new result }
     ensures taken { R.given reader.new ≤ R.given reader.old + limits.input + 1 }
 {
-    let mut text = Vec::new(alloc);
-    while records.next(alloc, reader, &mut text)? {
-        text.clear();
-    }
+    'records: while records.check_next(alloc, reader)? {}
     Ok(Checked {
         records: records.number() - 1,
         client_open: records.open(Side::Client),

@@ -1,11 +1,13 @@
 //! Checks the records of a recording one after another, for both `check` and `normalise`.
 ghost use Rattle.std.specs.Prelude.{◌≡◌, ◌≤◌, List, [], OnErr};
+ghost use Rattle.dap_flat.specs.FlatMessages.{flat_sent};
 ghost use Rattle.dap_message.specs.Message.{Sent};
 ghost use Rattle.dap_session.specs.Rules.{open_requests};
 ghost use Rattle.dap_input.specs.Limits.{AreSound};
 ghost use Rattle.dap_normalise.specs.NameTables.{AreReady};
 
-use crate::messages::{append_record, read_flat, read_message};
+use crate::messages::{append_record, count_record, read_flat, read_message};
+use dap_flat::FlatMessage;
 use dap_input::{Limits, Refused};
 use dap_message::{AnyMessage, Side};
 use dap_recording::Record;
@@ -31,6 +33,7 @@ pub struct Judge<T> {
 impl<T: NameTable + Drop> Judge<T> {
     ghost use Rattle.dap_normalise.specs.Accepting.{Payload, IsMessage};
     ghost use Rattle.dap_normalise.specs.JudgingSteps.{
+      ChecksRecord,
       JudgesRecord,
       RepresentsMessages,
       payload_of,
@@ -90,6 +93,35 @@ impl<T: NameTable + Drop> Judge<T> {
         self.judge_message(alloc, number, message, out)
     }
 
+    /// Checks the record with this number as [`judge`](Judge::judge) does, but appends nothing. A
+    /// flat document is not written: its length is enough.
+    ///
+    /// # Errors
+    ///
+    /// The same as those of [`judge`](Judge::judge).
+    pub fn check(
+        &mut self,
+        alloc: Global,
+        number: u64,
+        whole: &Record,
+        scratch: &mut Scratch,
+    ) -> Result<(), Refused>
+        ensures checks { (messages normal : List Sent)
+            → RepresentsMessages T.numbers T.limit self.old messages normal
+            → ChecksRecord T.numbers T.limit messages normal (payload_of whole.now) number self.old
+            self.new result }
+        ensures limits { judge_limits self.new ≡ judge_limits self.old }
+        ensures mode { judge_mode self.new ≡ judge_mode self.old }
+    {
+        let content = whole.content.as_slice();
+        if let Some(message) = read_flat(alloc, number, whole.side, content, scratch)? {
+            return self.check_flat(number, &message);
+        }
+        let message = read_message(alloc, number, whole.side, content, scratch)?;
+        let mut text = Vec::new(alloc);
+        self.judge_message(alloc, number, message, &mut text)
+    }
+
     /// Checks the message of the record with this number, and appends the record of its normal form
     /// to `out`. The message may represent its document in any way.
     ///
@@ -132,6 +164,34 @@ impl<T: NameTable + Drop> Judge<T> {
         };
         let content = self.content.as_slice();
         self.written = append_record(number, side, content, self.written, self.limits, out)?;
+        Ok(())
+    }
+
+    /// Checks the message of the record with this number, and counts the bytes of the record of its
+    /// normal form.
+    fn check_flat(&mut self, number: u64, message: &FlatMessage<'_>) -> Result<(), Refused>
+        ensures checks { (messages normal : List Sent) (held : Payload)
+            → RepresentsMessages T.numbers T.limit self.old messages normal
+            → IsMessage held (flat_sent message.now)
+            → ChecksRecord T.numbers T.limit messages normal held number self.old self.new result }
+        ensures limits { judge_limits self.new ≡ judge_limits self.old }
+        ensures mode { judge_mode self.new ≡ judge_mode self.old }
+    {
+        match self.session.accept_any(message) {
+            Ok(()) => {}
+            Err(SessionFault::Broken(rule)) => return Err(Refused::Rule(number, rule)),
+            Err(SessionFault::Memory) => return Err(Refused::Memory),
+        }
+        let names = match self.names.name_message(message) {
+            Ok(names) => names,
+            Err(NameFault::Full) => return Err(Refused::TooManyIds(number)),
+            Err(NameFault::Memory) => return Err(Refused::Memory),
+        };
+        let limit = self.limits.frame.content;
+        let Some(content_len) = message.length_with_ids(names.as_slice(), limit) else {
+            return Err(Refused::Grew(number));
+        };
+        self.written = count_record(number, content_len, self.written, self.limits)?;
         Ok(())
     }
 

@@ -1,14 +1,15 @@
 //! Reads the message of a record, and writes the record of a content.
-ghost use Rattle.std.specs.Prelude.{◌≡◌, ◌≤◌, List, IfOk, IfErr, IfSome, OnErr};
+ghost use Rattle.std.specs.Prelude.{◌≡◌, ◌≤◌, ℕ, List, [], IfOk, IfErr, IfSome, OnErr, length};
 ghost use Rattle.dap_tree.specs.Json.{text_of};
 ghost use Rattle.dap_flat.specs.FlatMessages.{flat_sent};
 ghost use Rattle.dap_message.specs.Message.{Sent, sent};
 ghost use Rattle.dap_normalise.specs.Accepting.{HoldsNoMessage, IsMessage, Rejects};
-ghost use Rattle.dap_normalise.specs.JudgingSteps.{Writes};
+ghost use Rattle.dap_normalise.specs.JudgingSteps.{Writes, record_of};
+ghost use Rattle.dap_recording.specs.Recording.{record_text};
 ghost use Rattle.dap_input.specs.Limits.{AreSound};
 ghost use Rattle.dap_input.specs.Refusals.{RejectsPayload};
 
-use dap_flat::{FlatFault, FlatMessage, read_flat_message};
+use dap_flat::{FlatFault, FlatMessage, digit_count, read_flat_message};
 use dap_frame::FrameFault;
 use dap_input::{Limits, Refused};
 use dap_message::{Message, MessageFault, Side, typed};
@@ -120,4 +121,40 @@ pub fn append_record(
         return Err(Refused::Grew(number));
     }
     Ok(after)
+}
+
+/// Returns the length of an output of `written` bytes after the record of a content of this length,
+/// which is within its limit. Writes nothing.
+///
+/// # Errors
+///
+/// - `Grew`: the output would exceed its limit.
+pub fn count_record(
+    number: u64,
+    content_len: usize,
+    written: u64,
+    limits: Limits,
+) -> Result<u64, Refused>
+    requires sound { AreSound limits }
+    requires short { written ≤ limits.input }
+    requires content { content_len ≤ limits.frame.content }
+    ensures counts { (message : Sent) → length (text_of message.doc) ≡ content_len
+        → Writes limits message number written [] (record_of message) result }
+    ensures within { IfOk result (λ after. after ≤ limits.input) }
+{
+    let after = written + record_len(content_len);
+    if after > limits.input {
+        return Err(Refused::Grew(number));
+    }
+    Ok(after)
+}
+
+/// Returns the length of the record of a content of this length.
+fn record_len(content_len: usize) -> u64
+    requires { content_len ≤ 2147483647 }
+    ensures len { (side : Side) (content : List ℕ) → length content ≡ content_len
+        → result ≡ length (record_text side content) }
+    ensures short { result ≤ 2147483689 }
+{
+    (content_len + digit_count(content_len as u64) + 22) as u64
 }

@@ -31,7 +31,8 @@ pub struct NormalRecords<T> {
 
 impl<T: NameTable + Drop> NormalRecords<T> {
     ghost use Rattle.dap_normalise.specs.JudgingSteps.{RepresentsMessages as JudgeStandsFor};
-    ghost use Rattle.dap_normalise.specs.NormalSteps.{HasNext, IsBuffered, RepresentsBefore};
+    ghost use Rattle.dap_normalise.specs.NormalSteps.{ChecksNext, HasNext, IsBuffered};
+    ghost use Rattle.dap_normalise.specs.NormalSteps.{RepresentsBefore};
 
     /// Returns the records of an input before the first one is read.
     ///
@@ -124,6 +125,31 @@ impl<T: NameTable + Drop> NormalRecords<T> {
         };
         self.judge
             .judge(alloc, number, &whole, &mut self.scratch, text)?;
+        self.records.recycle(whole);
+        Ok(true)
+    }
+
+    /// Reads and checks the next record as [`next`](NormalRecords::next) does, without the record of
+    /// its normal form. Returns `false` if the input has ended and is accepted.
+    ///
+    /// # Errors
+    ///
+    /// The same as those of [`next`](NormalRecords::next).
+    pub fn check_next<R: Source>(&mut self, alloc: Global, reader: &mut R) -> Result<bool, Refused>
+        requires number { self.old.records.number < 2 ^ 63 }
+        requires given { R.given
+            reader.old + (self.old.records.pieces.limit - self.old.records.pieces.taken) < 2 ^ 63 }
+        requires failures { R.failures reader.old < 2 ^ 63 }
+        ensures { (limits : Limits) (mode : Mode) (bytes : List ℕ) (messages normal : List Sent)
+            → RepresentsBefore T.numbers T.limit limits mode bytes self.old messages normal
+            → ChecksNext T.numbers T.limit R.Source limits mode bytes messages normal
+            self.old self.new reader.old reader.new result }
+    {
+        let number = self.records.number();
+        let Some(whole) = self.records.next(reader)? else {
+            return Ok(false);
+        };
+        self.judge.check(alloc, number, &whole, &mut self.scratch)?;
         self.records.recycle(whole);
         Ok(true)
     }

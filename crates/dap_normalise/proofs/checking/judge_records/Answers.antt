@@ -5,86 +5,86 @@ use Rattle.dap_normalise.proofs.StreamAnswers.{ended, gone, check_refuses, check
 use Rattle.dap_normalise.proofs.StreamLoop.{all_taken, few_taken, on}
 use Rattle.dap_normalise.proofs.checking.judge_records.Goals as goal
 
-pub returns-in_err-next-clause-outcome : goal.returns-in_err-next-clause-outcome
-returns-in_err-next-clause-outcome g c =
-    let was = c.loop-text.invariant in
+pub returns-in_err-check_next-clause-outcome : goal.returns-in_err-check_next-clause-outcome
+returns-in_err-check_next-clause-outcome g c =
+    let was = c.records.invariant in
     let because = err_from_is_err_and c.from_residual.result c.from_residual.ensures.1 in
     rw (because.1, because.2)
     (check_refuses g.R.Source c.args.limits c.args.mode
-    c.args.reader.now c.loop-text.reader c.loop-text.records was c.next.new.self
-    c.next.new.reader false _
-    (c.in_err-next.ensures.next c.args.limits c.args.mode was.bytes was.messages was.normal
-    was.represents))
+    c.args.reader.now c.records.reader c.records.records was c.check_next.new.self
+    c.check_next.new.reader false _
+    (c.in_err-check_next.ensures c.args.limits c.args.mode was.bytes was.messages was.normal
+    was.represents).1)
 
-pub returns-in_err-next-clause-taken : goal.returns-in_err-next-clause-taken
-returns-in_err-next-clause-taken g c =
-    let was = c.loop-text.invariant in
+pub returns-in_err-check_next-clause-taken : goal.returns-in_err-check_next-clause-taken
+returns-in_err-check_next-clause-taken g c =
+    let was = c.records.invariant in
     few_taken g.R.Source c.args.limits c.args.mode c.args.reader.now
-    c.loop-text.reader c.loop-text.records was c.next.new.reader c.next.new.self _
-    (c.in_err-next.ensures.next c.args.limits c.args.mode was.bytes was.messages was.normal
-    was.represents)
+    c.records.reader c.records.records was c.check_next.new.reader c.check_next.new.self _
+    (c.in_err-check_next.ensures c.args.limits c.args.mode was.bytes was.messages was.normal
+    was.represents).1
 
-pub loop-text-smaller : goal.loop-text-smaller
-loop-text-smaller g c =
-    let was = c.loop-text.invariant in
+pub records-smaller : goal.records-smaller
+records-smaller g c =
+    let was = c.records.invariant in
     (gone g.R.Source c.args.limits c.args.mode c.args.reader.now
-    c.loop-text.reader c.loop-text.records was c.next.new.self c.next.new.reader _ _ _
-    (c.in_ok-next.ensures.next c.args.limits c.args.mode was.bytes was.messages was.normal
-    was.represents)
+    c.records.reader c.records.records was c.check_next.new.self c.check_next.new.reader _ _ _
+    (c.in_ok-check_next.ensures c.args.limits c.args.mode was.bytes was.messages was.normal
+    was.represents).1
     c.if-branch.true).shorter
 
-pub loop-text-preserved : goal.loop-text-preserved
-loop-text-preserved g c =
-    let was = c.loop-text.invariant in
+pub records-preserved : goal.records-preserved
+records-preserved g c =
+    let was = c.records.invariant in
     on g.R.Source c.args.limits c.args.mode c.args.reader.now
-    c.loop-text.reader c.loop-text.records was c.next.new.self c.next.new.reader _ _
+    c.records.reader c.records.records was c.check_next.new.self c.check_next.new.reader _ _
     (gone g.R.Source c.args.limits c.args.mode c.args.reader.now
-    c.loop-text.reader c.loop-text.records was c.next.new.self c.next.new.reader _ _ _
-    (c.in_ok-next.ensures.next c.args.limits c.args.mode was.bytes was.messages was.normal
-    was.represents)
+    c.records.reader c.records.records was c.check_next.new.self c.check_next.new.reader _ _ _
+    (c.in_ok-check_next.ensures c.args.limits c.args.mode was.bytes was.messages was.normal
+    was.represents).1
     c.if-branch.true)
 
 pub overflow_sub-result : goal.overflow_sub-result
 overflow_sub-result g c =
-    let was = c.loop-text.invariant in
+    let was = c.records.invariant in
     let end = ended g.R.Source c.args.limits c.args.mode
-    c.args.reader.now c.loop-text.reader c.loop-text.records was c.next.new.self
-    c.next.new.reader _ _ _
-    (c.in_ok-next.ensures.next c.args.limits c.args.mode was.bytes was.messages was.normal
-    was.represents)
+    c.args.reader.now c.records.reader c.records.records was c.check_next.new.self
+    c.check_next.new.reader _ _ _
+    (c.in_ok-check_next.ensures c.args.limits c.args.mode was.bytes was.messages was.normal
+    was.represents).1
     c.if-branch.false in
     let some = some_records g.R.Source c.args.limits c.args.mode
-    c.args.reader.now c.loop-text.reader c.loop-text.records was c.next.new.self
-    c.next.new.reader false _ _ end in
+    c.args.reader.now c.records.reader c.records.records was c.check_next.new.self
+    c.check_next.new.reader false _ _ end in
     let is = c.number.ensures in
     omega (arith, some, is)
 
 pub returns-clause-outcome : goal.returns-clause-outcome
 returns-clause-outcome g c =
-    let was = c.loop-text.invariant in
+    let was = c.records.invariant in
     let end = ended g.R.Source c.args.limits c.args.mode
-    c.args.reader.now c.loop-text.reader c.loop-text.records was c.next.new.self
-    c.next.new.reader _ _ _
-    (c.in_ok-next.ensures.next c.args.limits c.args.mode was.bytes was.messages was.normal
-    was.represents)
+    c.args.reader.now c.records.reader c.records.records was c.check_next.new.self
+    c.check_next.new.reader _ _ _
+    (c.in_ok-check_next.ensures c.args.limits c.args.mode was.bytes was.messages was.normal
+    was.represents).1
     c.if-branch.false in
     let some = some_records g.R.Source c.args.limits c.args.mode
-    c.args.reader.now c.loop-text.reader c.loop-text.records was c.next.new.self
-    c.next.new.reader false _ _ end in
+    c.args.reader.now c.records.reader c.records.records was c.check_next.new.self
+    c.check_next.new.reader false _ _ end in
     let is = c.number.ensures in
     check_accepts g.R.Source c.args.limits c.args.mode
-    c.args.reader.now c.loop-text.reader c.loop-text.records was c.next.new.self
-    c.next.new.reader false _ _ end
+    c.args.reader.now c.records.reader c.records.records was c.check_next.new.self
+    c.check_next.new.reader false _ _ end
     c.open.result c.open-2.result (c.open.ensures, c.open-2.ensures) _ (omega (arith, some, is))
     refl refl (λ asked. absurd (true≢false (sym asked)))
 
 pub returns-clause-taken : goal.returns-clause-taken
 returns-clause-taken g c =
-    let was = c.loop-text.invariant in
+    let was = c.records.invariant in
     all_taken g.R.Source c.args.limits c.args.mode c.args.reader.now
-    c.loop-text.reader c.loop-text.records was c.next.new.reader c.next.new.self _ _
+    c.records.reader c.records.records was c.check_next.new.reader c.check_next.new.self _ _
     (ended g.R.Source c.args.limits c.args.mode c.args.reader.now
-    c.loop-text.reader c.loop-text.records was c.next.new.self c.next.new.reader _ _ _
-    (c.in_ok-next.ensures.next c.args.limits c.args.mode was.bytes was.messages was.normal
-    was.represents)
+    c.records.reader c.records.records was c.check_next.new.self c.check_next.new.reader _ _ _
+    (c.in_ok-check_next.ensures c.args.limits c.args.mode was.bytes was.messages was.normal
+    was.represents).1
     c.if-branch.false)

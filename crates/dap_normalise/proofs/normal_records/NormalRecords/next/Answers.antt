@@ -59,7 +59,7 @@ returns-clause-next g c = λ limits mode bytes messages normal was.
       judge = c.judge.new.self;
       scratch = c.judge.new.scratch;
     }) c.args.text.now.items c.judge.new.out.items c.in_ok-judge.ensures.limits
-    c.in_ok-judge.ensures.mode c.in_ok-judge.ensures.judges)
+    c.in_ok-judge.ensures.mode (c.in_ok-judge.ensures.judges messages normal was.represents))
 
 pub returns-in_err-whole-clause-at_hand : goal.returns-in_err-whole-clause-at_hand
 returns-in_err-whole-clause-at_hand g c = λ limits mode bytes messages normal was has.
