@@ -11,3 +11,4 @@ pub mod StreamLoop
 pub mod StreamWriting
 pub mod WholeInput
 pub mod PendingTexts
+pub mod SomeContents

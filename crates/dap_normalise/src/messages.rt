@@ -1,5 +1,6 @@
 //! Reads the message of a record, and writes the record of a content.
-ghost use Rattle.std.specs.Prelude.{◌≡◌, ◌≤◌, ℕ, List, [], IfOk, IfErr, IfSome, OnErr, length};
+ghost use Rattle.std.specs.Prelude.{◌≡◌, ◌<◌, ◌≤◌, ℕ, List, [], IfOk, IfErr, IfSome, OnErr, length};
+ghost use Rattle.std.specs.Prelude.{IsErrOf};
 ghost use Rattle.dap_tree.specs.Json.{text_of};
 ghost use Rattle.dap_flat.specs.FlatMessages.{flat_sent};
 ghost use Rattle.dap_message.specs.Message.{Sent, sent};
@@ -28,7 +29,8 @@ const BYTES_A_NODE: usize = 8;
 ///
 /// - `Json`, `Fraction`: the content is not JSON, or a number is not an integer of 64 bits.
 /// - `Message`: the content violates the profile.
-/// - `Memory`: an allocation failed.
+/// - `Memory`: an allocation failed. The content is not empty.
+#[tactic(auto, using(crate::proofs::SomeContents::some_content))]
 pub fn read_message(
     alloc: Global,
     number: u64,
@@ -41,6 +43,7 @@ pub fn read_message(
         → RejectsPayload (Rejects limits mode messages (side, content.now)) number because) }
     ensures only { IfErr result
         (λ because. RejectsPayload (HoldsNoMessage (side, content.now)) number because) }
+    ensures memory { IsErrOf result Refused.Memory → 0 < length content.now }
 {
     let tree = match read_tree_with(alloc, content, scratch) {
         Ok(tree) => tree,

@@ -1,10 +1,10 @@
 //! The records of an input one by one, each with the record of its normal form.
 ghost use Rattle.std.specs.Prelude.{◌≡◌, ◌+◌, ◌-◌, ◌<◌, ◌^◌, ℕ, List, [], IfErr, IfOk, IsTrue};
-ghost use Rattle.std.specs.Prelude.{OnErr};
+ghost use Rattle.std.specs.Prelude.{IsOk, OnErr};
 ghost use Rattle.dap_message.specs.Message.{Sent};
 ghost use Rattle.dap_rename.specs.Messages.{equal_places};
 ghost use Rattle.dap_rename.specs.Modes.{stop_in};
-ghost use Rattle.dap_rename.specs.Names.{HaveEqualCounts, Represents, mode_of};
+ghost use Rattle.dap_rename.specs.Names.{HaveEqualCounts, HaveNoNumbers, Represents, mode_of};
 ghost use Rattle.dap_rename.specs.Pairs.{entries};
 ghost use Rattle.dap_rename.specs.Renaming.{pairs_of};
 ghost use Rattle.dap_session.specs.Rules.{open_requests};
@@ -129,8 +129,8 @@ impl<T: NameTable + Drop> NormalRecords<T> {
         Ok(true)
     }
 
-    /// Reads and checks the next record as [`next`](NormalRecords::next) does, without the record of
-    /// its normal form. Returns `false` if the input has ended and is accepted.
+    /// Reads and checks the next record as [`next`](NormalRecords::next) does, without the record
+    /// of its normal form. Returns `false` if the input has ended and is accepted.
     ///
     /// # Errors
     ///
@@ -155,7 +155,7 @@ impl<T: NameTable + Drop> NormalRecords<T> {
     }
 
     /// Returns the renaming that maps the numbers of these records to those of `other` with the
-    /// same canonical numbers.
+    /// same canonical numbers. Does not allocate if no id has a number.
     ///
     /// # Errors
     ///
@@ -172,6 +172,7 @@ impl<T: NameTable + Drop> NormalRecords<T> {
             → entries (pairs_of renaming)
             ≡ equal_places (stop_in (mode_of self.now.judge.names)) messages others) }
         ensures memory { IfErr result (λ f. f ≡ NameFault.Memory) }
+        ensures empty { HaveNoNumbers T.numbers self.now.judge.names → IsOk result }
     {
         Renaming::between(alloc, self.judge.names(), other.judge.names())
     }
