@@ -1,5 +1,5 @@
 //! Applies the rules of a file to a recording in memory.
-ghost use Rattle.std.specs.Prelude.{◌≡◌, IfErr, IfOk};
+ghost use Rattle.std.specs.Prelude.{◌≡◌, [], IfErr, IfOk, IsOk};
 ghost use Rattle.dap_input.specs.Limits.{AreSound};
 ghost use Rattle.dap_mask.specs.KeptRules.{mask_of, swaps_of_mask};
 ghost use Rattle.dap_rules.specs.Applying.{AppliesRules, IsRefusedByRules, OrdersBy};
@@ -15,7 +15,7 @@ use dap_rename::Mode;
 use std::alloc::Global;
 
 /// Puts a masked recording in order, as [`order_bytes`] does. If no rules are for the order,
-/// returns the recording unchanged and does not check it.
+/// returns the recording unchanged, does not check it, and does not allocate.
 ///
 /// # Errors
 ///
@@ -32,6 +32,7 @@ pub fn order_masked(
         (λ text. OrdersBy limits mode (swaps_of_mask rules.now) masked.items text.items) }
     ensures err { IfErr result
         (RefusesOrderBy limits mode (swaps_of_mask rules.now) masked.items) }
+    ensures none { swaps_of_mask rules.now ≡ [] → IsOk result }
 {
     let swaps = rules.swaps();
     if swaps.is_empty() {

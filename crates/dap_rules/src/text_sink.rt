@@ -1,6 +1,7 @@
 //! Writes into a growing buffer in memory.
-ghost use Rattle.std.specs.Prelude.{◌≡◌, ◌↔◌, [], IsTrue, false};
-ghost use Rattle.dap_rules.specs.Memory.{IsOutOfMemory};
+ghost use Rattle.std.specs.Prelude.{◌≡◌, ◌<◌, ◌^◌, ◌↔◌, [], Some, IsErr, IsTrue, false, length};
+ghost use Rattle.dap_device.specs.Device.{HasWritten};
+ghost use Rattle.dap_rules.specs.Memory.{IsOutOfMemory, WrittenBytes};
 
 use dap_device::{DeviceFault, Sink};
 use dap_input::Refused;
@@ -48,15 +49,24 @@ impl TextSink {
 }
 
 impl Sink for TextSink {
-    ghost use Rattle.std.specs.Prelude.{Some};
-
     ghost out = { λ s. Some s.out };
 
     ghost unflushed = { λ s. s.unflushed };
 
     ghost failures = { λ s. s.failures };
 
-    fn write(&mut self, bytes: &[u8]) -> Result<usize, DeviceFault> {
+    /// Appends all bytes, and returns their number. A write of nothing does not allocate.
+    ///
+    /// # Errors
+    ///
+    /// - `DeviceFault`: an allocation failed. `bytes` is not empty.
+    fn write(&mut self, bytes: &[u8]) -> Result<usize, DeviceFault>
+        requires { self.old.failures < 2 ^ 63 }
+        ensures written { HasWritten (λ (s : WrittenBytes). Some s.out)
+            (λ (s : WrittenBytes). s.unflushed) (λ (s : WrittenBytes). s.failures) self.old
+            self.new result bytes.now }
+        ensures some { IsErr result → 0 < length bytes.now }
+    {
         if self.bytes.extend_from_slice(bytes).is_err() {
             self.failures += 1;
             return Err(DeviceFault {});

@@ -17,3 +17,8 @@ returns-clause-err c =
     (subst (λ bytes. IfErr c.order_bytes.result
     (RefusesToOrder c.args.limits c.args.mode rules bytes)) c.as_slice.ensures.value
     c.order_bytes.ensures.err))
+
+pub returns-clause-none : goal.returns-clause-none
+returns-clause-none c = λ none.
+    absurd (not_empty c.swaps-swaps.result.now (sym c.is_empty.ensures ∙ c.if-is_empty.false)
+    (c.swaps-swaps.ensures ∙ none))
