@@ -16,12 +16,13 @@ use Rattle.dap_golden.specs.declared.fault.GoldenRefused.TheVariants as because
 use Rattle.dap_golden.specs.Golden.{RefusesSession}
 use Rattle.dap_golden.specs.TraceHead.{IsTraceHead}
 
--- The input is a trace and is rejected for this reason, or an allocation failed.
+-- The input is a trace, and it is rejected for this reason or an allocation failed. Any other input
+-- is its own recording, without an allocation.
 abbrev pub RefusesTrace : Limits → List ℕ → GoldenRefused → Type 0
 RefusesTrace limits input (because.Trace refused) =
     IsTraceHead input
     × ((messages : List (Side × List ℕ)) × IsTraceRefused limits input refused messages)
-RefusesTrace limits input because.Memory = Unit {0}
+RefusesTrace limits input because.Memory = IsTraceHead input
 RefusesTrace limits input _ = ⊥
 
 -- The rules cannot mask the recording for this reason, or an allocation failed.

@@ -55,7 +55,7 @@ fn record_trace(alloc: Global, trace: &[u8], limits: Limits) -> Result<Vec<u8>, 
 /// # Errors
 ///
 /// - `Trace`: the trace was rejected, or ends inside a piece or a frame.
-/// - `Memory`: an allocation failed.
+/// - `Memory`: an allocation failed. The input is a trace.
 pub fn recording_of<'a>(
     alloc: Global,
     input: &'a [u8],
