@@ -1,5 +1,6 @@
 //! Words in the place of texts.
-ghost use Rattle.std.specs.Prelude.{◌≡◌, ◌++◌, option_map, OnOk, OnErr, IfOk, string_bytes};
+ghost use Rattle.std.specs.Prelude.{◌≡◌, ◌++◌, [], option_map, OnOk, OnErr, IfOk, IsOk};
+ghost use Rattle.std.specs.Prelude.{string_bytes};
 ghost use Rattle.std.specs.Io.{StartsWith};
 ghost use Rattle.dap_texts.specs.Words.{pair_of, pairs_of, begins_here, is_longer_than, found};
 ghost use Rattle.dap_texts.specs.Words.{replaced};
@@ -14,7 +15,8 @@ pub struct Word {
 }
 
 /// Appends `text` with words in the place of texts. From left to right, the longest text that
-/// starts at a byte is replaced by its word, and reading continues after that text.
+/// starts at a byte is replaced by its word, and reading continues after that text. Does not
+/// allocate for an empty text.
 ///
 /// # Errors
 /// `AllocError`: an allocation failed. The bytes of `out` are then unchanged.
@@ -22,6 +24,7 @@ pub fn replace_words(text: &str, words: &[Word], out: &mut Vec<u8>) -> Result<()
     ensures ok { OnOk result
         (out.new.items ≡ out.old.items ++ replaced (pairs_of words.now) text.now) }
     ensures err { OnErr result (out.new.items ≡ out.old.items) }
+    ensures empty { text.now ≡ [] → IsOk result }
 {
     let len = out.len();
     match write_words(text, words, out) {
@@ -38,6 +41,7 @@ fn write_words(text: &str, words: &[Word], out: &mut Vec<u8>) -> Result<(), Allo
     ensures ok { OnOk result
         (out.new.items ≡ out.old.items ++ replaced (pairs_of words.now) text.now) }
     ensures err { OnErr result (StartsWith out.new.items out.old.items) }
+    ensures empty { text.now ≡ [] → IsOk result }
 {
     let bytes = text.as_bytes();
     let mut i = 0;
@@ -56,12 +60,14 @@ fn write_words(text: &str, words: &[Word], out: &mut Vec<u8>) -> Result<(), Allo
     Ok(())
 }
 
-/// Returns `text` with words in the place of texts, as [`replace_words`] appends it.
+/// Returns `text` with words in the place of texts, as [`replace_words`] appends it. Does not
+/// allocate for an empty text.
 ///
 /// # Errors
 /// `AllocError`: an allocation failed.
 pub fn with_words(alloc: Global, text: &str, words: &[Word]) -> Result<String, AllocError>
-    ensures { IfOk result (λ t. string_bytes t ≡ replaced (pairs_of words.now) text.now) }
+    ensures worded { IfOk result (λ t. string_bytes t ≡ replaced (pairs_of words.now) text.now) }
+    ensures empty { text.now ≡ [] → IsOk result }
 {
     let mut out = Vec::new(alloc);
     replace_words(text, words, &mut out)?;
