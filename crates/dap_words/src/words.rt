@@ -1,6 +1,6 @@
 //! A list of texts and their words.
 ghost use Rattle.std.specs.Prelude.{◌≡◌, ◌<◌, ◌++◌, ◌∷◌, [], IfOk, IfErr, OnErr, OnOk, IsTrue};
-ghost use Rattle.std.specs.Prelude.{length, true, None};
+ghost use Rattle.std.specs.Prelude.{length, true, None, IsErrOf};
 ghost use Rattle.dap_texts.specs.Apart.{are_apart};
 ghost use Rattle.dap_texts.specs.Words.{pair_of, pairs_of, have_own_texts};
 
@@ -64,7 +64,7 @@ impl Words {
     ///
     /// The first of these that holds:
     ///
-    /// - `Empty`: the text is empty.
+    /// - `Empty`: the text is empty. Does not allocate.
     /// - `Memory`: an allocation failed.
     /// - `Repeated`: a word of the list replaces the same text.
     /// - `Meets`: a word overlaps a text.
@@ -73,6 +73,7 @@ impl Words {
         ensures some { IfOk result (λ _. 0 < length (pair_of word).text) }
         ensures settled { IfOk result (λ w. AreSettled (pairs_in w)) }
         ensures err { IfErr result (Explains (pairs_in self) (pair_of word)) }
+        ensures memory { IsErrOf result WordCause.Memory → 0 < length (pair_of word).text }
     {
         if word.text.is_empty() {
             return Err(WordCause::Empty);
