@@ -87,14 +87,15 @@ impl Model for MemorySink {
 }
 
 impl MemorySink {
-    /// Returns a writer that accepts at most `room` bytes.
+    /// Returns a writer that accepts at most `room` bytes. Does not allocate if that is 0.
     ///
     /// # Errors
     ///
     /// - `AllocError`: an allocation failed.
     pub fn new(alloc: Global, room: usize) -> Result<MemorySink, AllocError>
-        ensures { IfOk result (λ s. s
+        ensures starts { IfOk result (λ s. s
             ≡ record { out = []; room = room; unflushed = false; failures = 0 }) }
+        ensures none { room ≡ 0 → IsOk result }
     {
         Ok(MemorySink {
             bytes: Vec::with_capacity(alloc, room)?,
