@@ -1,5 +1,6 @@
 //! The numbers that the ids of two recordings share.
-ghost use Rattle.std.specs.Prelude.{◌≡◌, ℕ, suc, pos, ◌<ℤ◌, None, Some, IfOk, OnOk, unwrap_or};
+ghost use Rattle.std.specs.Prelude.{◌≡◌, ℕ, suc, pos, ◌<ℤ◌, None, Some, IfOk, IsOk, OnOk};
+ghost use Rattle.std.specs.Prelude.{unwrap_or};
 ghost use Rattle.std.specs.BTreeMap.{Updates, get};
 ghost use Rattle.dap_diff.specs.JointNumbers.{IsNumberOf, ids_of};
 
@@ -98,7 +99,7 @@ impl JointNumbers {
     }
 
     /// Returns the number of an id, counted from 1. An id without a number gets the next number of
-    /// its sort.
+    /// its sort. Does not allocate for an id that has a number.
     pub fn number(&mut self, which: Which, id: Id) -> Result<i64, AllocError>
         ensures positive { IfOk result (λ number. pos 0 <ℤ number) }
 
@@ -108,6 +109,8 @@ impl JointNumbers {
         ensures kept { IfOk result (λ number. (n : ℕ)
             → get ⟦<Id as Ord>⟧.cmp (ids_of which self.old) id ≡ Some n
             → number ≡ pos (suc n)) }
+        ensures known { (n : ℕ) → get ⟦<Id as Ord>⟧.cmp (ids_of which self.old) id ≡ Some n
+            → IsOk result }
 
         // Otherwise it is the next number of its sort.
         ensures fresh { IfOk result (λ number.

@@ -1,5 +1,5 @@
 //! The message of a record, and the tree of a message as plain JSON.
-ghost use Rattle.std.specs.Prelude.{◌≡◌, IfOk, option_map, true};
+ghost use Rattle.std.specs.Prelude.{◌≡◌, [], IfOk, IsOk, option_map, true};
 ghost use Rattle.dap_input.specs.Limits.{AreSound};
 ghost use Rattle.dap_message.specs.Message.{Sent, doc_of, sent};
 ghost use Rattle.dap_normalise.specs.Accepting.{IsMessage};
@@ -76,11 +76,13 @@ pub fn message_of(alloc: Global, text: &[u8], limits: Limits) -> Result<Message,
     }
 }
 
-/// Returns the message in the text of a record, or `None` if the text is empty.
+/// Returns the message in the text of a record, or `None` if the text is empty, without an
+/// allocation.
 pub fn message_in(alloc: Global, text: &[u8], limits: Limits) -> Result<Option<Message>, AllocError>
     requires sound { AreSound limits }
     requires is_left { IsLeftText limits text.now }
-    ensures { IfOk result (λ message. Holds limits text.now (option_map sent message)) }
+    ensures holds { IfOk result (λ message. Holds limits text.now (option_map sent message)) }
+    ensures none { text.now ≡ [] → IsOk result }
 {
     if text.is_empty() {
         return Ok(None);

@@ -6,7 +6,7 @@ pub returns : goal.returns
 returns c = record {
   of_a = option_map sent c.in_ok-message_a.message_a;
   of_b = option_map sent c.in_ok-message_b.message_b;
-  holds_a = c.in_ok-message_a.ensures;
-  holds_b = c.in_ok-message_b.ensures;
+  holds_a = c.in_ok-message_a.ensures.holds;
+  holds_b = c.in_ok-message_b.ensures.holds;
   lines_are = c.in_ok-lines.ensures;
 }
