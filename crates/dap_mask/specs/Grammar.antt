@@ -1,5 +1,4 @@
--- The grammar of a line of a rules file, independent of the parser (docs/FORMATS.md, "The rules of
--- a mask").
+-- The grammar of a line of a rules file, independent of the parser (docs/RULES.md).
 use Rattle.std.specs.Prelude.{◌≡◌, ◌≢◌, ◌↔◌, ℕ, true, List, [], ◌∷◌, ◌++◌, Option, Some, None}
 use Rattle.std.specs.Prelude.{codes}
 use Rattle.serde_json.specs.Data as json
