@@ -498,8 +498,34 @@ def of_suggestions():
     yield stream("a request more", ["suggest", "a", "b"], b"", (1, b"", told), {"a": recording(BEGUN), "b": recording([*BEGUN, THREADS])})
 
 
+def of_options():
+    """All differences of two recordings, and the options of `show`."""
+    other_reason = (
+        b'differ: 1 paired, 0 only in A, 0 only in B\n3/3 < event "stopped"\nA body.reason "step"\nB body.reason "breakpoint"\n'
+    )
+    yield stream("another reason", ["diff", "--all", "a", "b"], b"", (1, other_reason, b""), {"a": STEP, "b": HIT})
+    yield stream("one recording", ["diff", "--all", "a", "a"], b"", (0, b"same\n", b""), {"a": STEP})
+    shown, given = b'1 < event "initialized" seq=2\n', recording([INITIALIZED])
+    yield stream("an event", ["show", "--full"], given, (0, shown + b'  event "initialized"\n  seq 2\n  type "event"\n', b""))
+    told = refusal("record 1: NotInitialized")
+    yield stream("an event", ["show", "--faulty"], given, (2, shown + b"  fault: NotInitialized\n", told))
+    content = b'{\n  "event": "initialized",\n  "seq": 2,\n  "type": "event"\n}\n'
+    yield stream("an event", ["show", "--record", "1"], given, (0, content, b""))
+
+
+def of_order():
+    """A session whose adapter stops and then answers, put in order."""
+    lines = [
+        INITIALIZE, FILLED, '>{"arguments":{"threadId":1},"command":"continue","seq":2,"type":"request"}',
+        '<{"body":{"reason":"step"},"event":"stopped","seq":2,"type":"event"}',
+        '<{"command":"continue","request_seq":2,"seq":3,"success":true,"type":"response"}',
+    ]
+    rules = {"rules": b"swap response continue event stopped\n"}
+    yield stream("a stop", ["order", "rules"], recording(lines), (0, recording([*lines[:3], lines[4], lines[3]]), b""), rules)
+
+
 def all_runs():
     """Each run, by its name."""
-    runs = [*of_sessions(), *of_refusals(), *of_others(), *of_stops(), *of_rules(), *of_suggestions()]
+    runs = [*of_sessions(), *of_refusals(), *of_others(), *of_stops(), *of_rules(), *of_suggestions(), *of_options(), *of_order()]
     assert len({run.name for run in runs}) == len(runs)
     return runs
