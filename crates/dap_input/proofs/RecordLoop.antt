@@ -1,5 +1,5 @@
 -- The invariant of reading the next record, and its possible results, for any kind of record.
-use Rattle.std.proofs.Common.{◌≡◌, ◌≢◌, ◌⊎◌, inl, inr, ℕ, ◌+◌, ◌-◌, ◌≤◌, true, false}
+use Rattle.std.proofs.Common.{◌≡◌, ◌≢◌, ◌⊎◌, inl, inr, ℕ, ◌+◌, ◌-◌, ◌<◌, ◌≤◌, true, false}
 use Rattle.std.proofs.Common.{List, [], ◌∷◌, ◌++◌, length, take, drop, Option, Some, None}
 use Rattle.std.proofs.Common.{Result, Ok, Err, refl, sym, ◌∙◌, ap, subst, arith, append_assoc}
 use Rattle.std.proofs.Common.{append-nil, length-append, take-append-drop}
@@ -368,8 +368,18 @@ module _ {I A R : Type 0} (g : Grammar A RecordCause) (represents : I → List �
       kept_limit : new.pieces.limit ≡ old.pieces.limit
       kept_limit = ap (λ (w : Window). w.limit) pieces_are ∙ was.limit_is
 
-      pub no_memory : new.number ≡ now.number → Gives new mid (Err Memory)
-      no_memory number_is =
+      some_bytes : 0 < length now.pieces.unread → old.pieces.unread ++ was.more ≢ []
+      some_bytes some none =
+          omega (
+            arith,
+            some,
+            ap length (sym was.split ∙ none),
+            length-append was.held now.pieces.unread,
+          )
+
+      pub no_memory : 0 < length now.pieces.unread → new.number ≡ now.number
+          → Gives new mid (Err Memory)
+      no_memory some number_is =
           record {
             more = was.more;
             stop = None;
@@ -379,7 +389,7 @@ module _ {I A R : Type 0} (g : Grammar A RecordCause) (represents : I → List �
             taken = λ same. same_taken;
             limit_is = kept_limit;
             over = over_is ∙ was.goes_on;
-            finds = (refl, number_is ∙ was.number_is);
+            finds = (refl, some_bytes some, number_is ∙ was.number_is);
           }
 
       abbrev Faulty : RecordCause → Type 0

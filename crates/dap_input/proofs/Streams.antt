@@ -165,7 +165,7 @@ module _ {I A R W : Type 0} (j : Validation) (g : Grammar A RecordCause) (held_o
           few : because ≡ Memory → new.number ≤ records.number + 1
           few is =
               let same = (subst (λ b. Finds g represents records new
-              (records.pieces.unread ++ read.more) read.more read.stop (Err b)) is read.finds).1 in
+              (records.pieces.unread ++ read.more) read.more read.stop (Err b)) is read.finds).2 in
               omega (arith, same)
 
       -- All records were received.

@@ -60,7 +60,8 @@ module _ {I A : Type 0} (g : Grammar A RecordCause) (represents : I → List ℕ
     pub between : IsBetweenRecords represents new
     pub number_is : new.number ≡ old.number + 1
 
-  -- The result for the next record, if these bytes were received, of which `more` came last.
+  -- The result for the next record, if these bytes were received, of which `more` came last. Without
+  -- a byte no allocation fails.
   abbrev pub Finds : Records I → Records I → List ℕ → List ℕ → Option Stop
       → Result (Option A) Refused → Type 0
   Finds old new bytes more stop (Ok (Some whole)) = (stop ≡ None) × HasWhole old new bytes whole
@@ -74,7 +75,8 @@ module _ {I A : Type 0} (g : Grammar A RecordCause) (represents : I → List ℕ
   Finds old new bytes more stop (Err (InputTooLong n)) = (n ≡ old.number) × (stop ≡ Some Full)
       × IsTooLong g old.pieces.unread more
   Finds old new bytes more stop (Err ReadFault) = (stop ≡ Some Failed) × g.IsOpen bytes
-  Finds old new bytes more stop (Err Memory) = (stop ≡ None) × (new.number ≡ old.number)
+  Finds old new bytes more stop (Err Memory) = (stop ≡ None) × (bytes ≢ [])
+      × (new.number ≡ old.number)
   Finds old new bytes more stop (Err refused) = ⊥
 
   module _ {R : Type 0} (source : Source R) where

@@ -169,7 +169,7 @@ module _ {T R : Type 0} {numbers : T → List ℤ} {table_limit : T → ℕ} (so
       messages behind new before after because read)
       (λ is. let same = (subst (λ b. Finds (record_items limits.frame)
       (RepresentsRecord limits.frame) old.records new (old.records.pieces.unread ++ read.more)
-      read.more read.stop (Err b)) is read.finds).1 in omega (arith, same))
+      read.more read.stop (Err b)) is read.finds).2 in omega (arith, same))
       (λ is. (subst (λ b. Finds (record_items limits.frame)
       (RepresentsRecord limits.frame) old.records new (old.records.pieces.unread ++ read.more)
       read.more read.stop (Err b)) is read.finds).0)

@@ -1,4 +1,4 @@
-use Rattle.std.proofs.Common.{ℕ, List, Err, arith, refl, sym, ◌∙◌, ap, subst}
+use Rattle.std.proofs.Common.{ℕ, ◌<◌, List, length, Err, arith, refl, sym, ◌∙◌, ap, subst}
 use Rattle.dap_device.specs.Pieces.{Window}
 use Rattle.dap_input.specs.ItemReading.{GivesFedItem, GivesItem}
 use Rattle.dap_input.specs.declared.records.Records.{Records}
@@ -35,7 +35,9 @@ returns-in-Memory g c = λ limits between.
     now c.fill.new.reader c.in_default.ensures refl refl refl in
     no_memory (g.I.ItemReader.items limits) (g.I.ItemReader.represents limits)
     (g.met.I.ItemReader.is_open limits) g.R.Source
-    c.args.self.now c.args.reader.now now c.fill.new.reader was _ refl refl refl
+    c.args.self.now c.args.reader.now now c.fill.new.reader was _ refl refl
+    (subst (λ piece. 0 < length piece) c.unread.ensures
+    (c.in-Err-feed.ensures.memory_for_bytes (ap Err c.in-Memory.is) limits was.held was.reads)) refl
 
 pub returns-in_default-cause : goal.returns-in_default-cause
 returns-in_default-cause g c = λ limits between.
