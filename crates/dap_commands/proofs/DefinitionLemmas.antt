@@ -1,11 +1,16 @@
--- A subcommand with one more argument, and a command with one more subcommand.
-use Rattle.std.proofs.Common.{◌≡◌, ◌∙◌, ◌||◌, ap, ap₂, [], ◌∷◌, ◌++◌, Result, Ok, Err, IfOk}
-use Rattle.clap.specs.Words.{AddsArg, App, Rule, Shape, app_of, with_rule, with_subcommand}
+-- A subcommand with one more argument, and a program with one more subcommand.
+use Rattle.std.proofs.Common.{◌≡◌, ◌∙◌, ◌||◌, ◌<◌, ◌+◌, ℕ, sym, subst, ap, ap₂, List, [], ◌∷◌}
+use Rattle.std.proofs.Common.{◌++◌, length, map, take, get_or}
+use Rattle.std.specs.List.{fold}
+use Rattle.std.proofs.lemmas.Grind.{fold-append}
+use Rattle.std.proofs.lemmas.List.{map_more}
+use Rattle.clap.specs.Words.{AddsArg, AddsSubcommand, App, Rule, Shape, Text, app_of, with_rule}
+use Rattle.clap.specs.Words.{with_subcommand}
 use Rattle.clap.specs.declared.Arg.{Arg}
 use Rattle.clap.specs.declared.Command.{Command}
-use Rattle.dap_commands.specs.Commands.{IsArgument, IsSubcommand}
+use Rattle.dap_commands.specs.Commands.{IsArgument, IsSubcommand, subcommand}
 
-pub added : {old new : Command} {a : Arg} {shape : Shape} {rule : Rule} → AddsArg old a new
+added : {old new : Command} {a : Arg} {shape : Shape} {rule : Rule} → AddsArg old a new
     → IsArgument rule a → IsSubcommand shape old
     → IsSubcommand (record shape { rules = shape.rules ++ rule ∷ [] }) new
 added adds is old_is = record {
@@ -13,15 +18,21 @@ added adds is old_is = record {
   local = adds.globals ∙ ap₂ ◌||◌ old_is.local is.local;
 }
 
-pub added_last : {E : Type 0} {old : Command} {a : Arg} {shape : Shape} {rule : Rule}
-    (r : Result Command E) → IfOk r (λ new. AddsArg old a new) → IsArgument rule a
-    → IsSubcommand shape old
-    → IfOk r (λ new. IsSubcommand (record shape { rules = shape.rules ++ rule ∷ [] }) new)
-added_last (Ok new) adds is old_is = added adds is old_is
-added_last (Err e) adds is old_is = tt
+pub argument_added : {X : Type 0} (rule : X → Rule) (name : Text) (xs : List X) (i : ℕ) (d : X)
+    {old new : Command} {a : Arg} → i < length xs → AddsArg old a new
+    → IsArgument (rule (get_or xs i d)) a
+    → IsSubcommand (subcommand name (map rule (take i xs))) old
+    → IsSubcommand (subcommand name (map rule (take (i + 1) xs))) new
+argument_added rule name xs i d {old} {new} within adds is old_is =
+    subst (λ rules. IsSubcommand (subcommand name rules) new) (sym (map_more rule xs i d within))
+    (added adds is old_is)
 
-pub with_last : {E : Type 0} {a b : App} (r : Result Command E) (shape : Shape)
-    → IfOk r (λ c. app_of c ≡ with_subcommand a shape) → a ≡ b
-    → IfOk r (λ c. app_of c ≡ with_subcommand b shape)
-with_last (Ok c) shape is same = is ∙ ap (λ x. with_subcommand x shape) same
-with_last (Err e) shape is same = tt
+pub subcommand_added : {X : Type 0} (shape : X → Shape) (app : App) (xs : List X) (i : ℕ) (d : X)
+    {old sub new : Command} → i < length xs → AddsSubcommand old sub new
+    → IsSubcommand (shape (get_or xs i d)) sub
+    → app_of old ≡ fold with_subcommand app (map shape (take i xs))
+    → app_of new ≡ fold with_subcommand app (map shape (take (i + 1) xs))
+subcommand_added shape app xs i d within adds is old_is =
+    adds.shape is.local ∙ ap₂ with_subcommand old_is (ap (λ (a : App). a.top) is.app)
+    ∙ sym (fold-append with_subcommand app (map shape (take i xs)) (shape (get_or xs i d) ∷ []))
+    ∙ ap (fold with_subcommand app) (sym (map_more shape xs i d within))

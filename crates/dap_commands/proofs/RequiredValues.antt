@@ -1,9 +1,9 @@
 -- After a parse that accepts the arguments of a subcommand, each required argument has a value.
 use Rattle.std.proofs.Common.{◌≡◌, ◌&&◌, ◌<◌, ◌++◌, ◌||◌, ℕ, not, cond, is_some, Bool, true, false}
-use Rattle.std.proofs.Common.{List, [], ◌∷◌, Some, length, nat_le, nat_lt, refl, sym}
+use Rattle.std.proofs.Common.{List, [], ◌∷◌, Option, Some, None, length, nat_le, nat_lt, refl, sym}
 use Rattle.std.proofs.Common.{ap₂, arith, true≢false, length-append}
 use Rattle.std.proofs.lemmas.Bool.Decides.{nat_tests}
-use Rattle.std.specs.Prelude.{option_and_then, slice_get}
+use Rattle.std.specs.Prelude.{option_and_then, option_map, slice_get}
 use Rattle.std.specs.List.{find, fold, list_all, list_any}
 use Rattle.std.specs.Option.{option_map_or}
 use Rattle.std.specs.Str.{bytes_eq}
@@ -24,6 +24,7 @@ use Rattle.clap.specs.declared.builder.value_parser.Reading.{Reading}
 use Rattle.clap.specs.declared.parser.matches.ValueSource.{ValueSource}
 use Rattle.clap.specs.declared.parser.matches.ValueSource.TheVariants.{CommandLine, DefaultValue}
 use Rattle.clap.proofs.WalkLemmas.{both}
+use Rattle.dap_commands.specs.CommandLine.{two_files}
 use Rattle.dap_commands.proofs.CommandWalk.{finished_keeps}
 use Rattle.dap_commands.proofs.Found.{each_passes, found_in}
 
@@ -180,3 +181,18 @@ level_has_required s words all passes =
     || list_any (λ (r : Row). explicit_source r.source) rows)) _ defaults.1).1 in
     let required = both (list_all (λ (a : Rule). a.is_free) s.rules) _ needs.1 in
     required_given s.rules rows have (not_excused s.subcommand_negates_reqs required.1)
+
+-- ---- functions of values that exist
+
+-- A function of a value that exists.
+pub mapped : {X Y : Type 0} (f : X → Y) (o : Option X) → is_some o ≡ true
+    → is_some (option_map f o) ≡ true
+mapped f None some = some
+mapped f (Some x) some = refl
+
+-- A function of two files that are both given.
+pub both_files : {Y : Type 0} (f : Text × Text → Y) (a b : Option Text) → is_some a ≡ true
+    → is_some b ≡ true → is_some (option_map f (two_files a b)) ≡ true
+both_files f None b some other = absurd (true≢false (sym some))
+both_files f (Some a) None some other = absurd (true≢false (sym other))
+both_files f (Some a) (Some b) some other = refl

@@ -16,7 +16,6 @@ use Rattle.clap.specs.Takes.{settle_passes, takes, walk_passes}
 use Rattle.clap.specs.Walk.{Text, answers_to, first_of, nothing_held, rows_after}
 use Rattle.clap.specs.Walk.{stop_after, walk, walk_from}
 use Rattle.clap.proofs.WalkLemmas.{both}
-use Rattle.dap_commands.specs.CommandLine.{two_files}
 use Rattle.dap_commands.specs.CommandLine as line
 use Rattle.dap_commands.specs.Commands.{command_named, command_of, comparer, differ}
 use Rattle.dap_commands.specs.Commands.{golden_keeper, masker, orderer, program, suggester}
@@ -24,22 +23,9 @@ use Rattle.dap_commands.specs.Commands.{with_files}
 use Rattle.dap_commands.proofs.EnteredSubcommand.{IsNotHelp, walk_meets}
 use Rattle.dap_commands.proofs.Found.{found_in}
 use Rattle.dap_commands.proofs.NoFault.{no_fault-takes}
-use Rattle.dap_commands.proofs.RequiredValues.{level_has_required}
+use Rattle.dap_commands.proofs.RequiredValues.{both_files, level_has_required, mapped}
 
 -- ---- each subcommand
-
--- A function of a value that exists.
-mapped : {X Y : Type 0} (f : X → Y) (o : Option X) → is_some o ≡ true
-    → is_some (option_map f o) ≡ true
-mapped f None some = some
-mapped f (Some x) some = refl
-
--- A function of two files that are both given.
-both_files : {Y : Type 0} (f : Text × Text → Y) (a b : Option Text) → is_some a ≡ true
-    → is_some b ≡ true → is_some (option_map f (two_files a b)) ≡ true
-both_files f None b some other = absurd (true≢false (sym some))
-both_files f (Some a) None some other = absurd (true≢false (sym other))
-both_files f (Some a) (Some b) some other = refl
 
 -- If the subcommand was entered by an argument other than `help`, and its level passes, it selects
 -- a command.

@@ -1,5 +1,5 @@
 -- The program's command line, as `clap` reads it, and the command that it selects. Source: own.
-use Rattle.std.specs.Prelude.{◌≡◌, ◌||◌, Bool, true, false, is_some, List, [], ◌∷◌, ◌++◌}
+use Rattle.std.specs.Prelude.{◌≡◌, ◌||◌, Bool, true, false, is_some, List, [], ◌∷◌}
 use Rattle.std.specs.Prelude.{Option, Some, None, codes}
 use Rattle.std.specs.Prelude.{if◌then◌else◌, option_map, option_and_then}
 use Rattle.std.specs.Option.{option_map_or}
@@ -62,10 +62,6 @@ word_option = repeated (codes "word")
 -- A subcommand with these arguments.
 abbrev pub subcommand : Text → List Rule → Shape
 subcommand name rules = record (new_shape name) { rules = rules }
-
--- A subcommand with one more argument.
-abbrev pub with_argument : Shape → Rule → Shape
-with_argument shape rule = record shape { rules = shape.rules ++ rule ∷ [] }
 
 -- The flag `--explain`.
 abbrev pub explain_flag : Rule

@@ -1,3 +1,4 @@
+pub mod Arguments
 pub mod Commands
 pub mod CommandLine
 pub mod FirstWords

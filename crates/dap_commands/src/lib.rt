@@ -4,6 +4,7 @@
 //! an action, and the files that it reads and writes.
 #![tactic(auto)]
 
+mod arguments;
 mod commands;
 mod definition;
 mod job_definition;

@@ -98,7 +98,7 @@ fn diff_job<'a>(rows: &ArgMatches<'a>) -> Option<Job<'a>>
 }
 
 /// Returns the job of a subcommand with its arguments.
-fn job_by<'a>(name: &str, rows: &ArgMatches<'a>) -> Option<Job<'a>>
+pub(crate) fn job_by<'a>(name: &str, rows: &ArgMatches<'a>) -> Option<Job<'a>>
     ensures { option_map told_job result ≡ job_of name.now (given rows.now) }
 {
     match name {
@@ -363,7 +363,7 @@ fn is_help_or_version(kind: ErrorKind) -> bool
 }
 
 /// Returns the message for the user: the requested help or version, or the usage error.
-fn fault_of(alloc: Global, error: &Error) -> UsageFault
+pub(crate) fn fault_of(alloc: Global, error: &Error) -> UsageFault
     ensures memory { kind_of error.now ≡ ErrorKind.OutOfMemory → result ≡ Memory }
     ensures reported { IsUsageErrorOf (kind_of error.now) result }
 {

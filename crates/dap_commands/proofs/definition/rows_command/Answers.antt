@@ -1,6 +1,0 @@
-use Rattle.dap_commands.proofs.DefinitionLemmas.{added_last}
-use Rattle.dap_commands.proofs.definition.rows_command.Goals as goal
-
-pub returns : goal.returns
-returns c =
-    added_last c.arg.result c.arg.ensures c.optional.ensures c.subcommand.ensures

@@ -1,8 +1,0 @@
-use Rattle.dap_commands.proofs.definition.with_comparing_commands.Goals as goal
-
-pub returns : goal.returns
-returns c = λ app is.
-    let with-1 = c.with_subcommand-command.ensures _ _ is c.compare_command.ensures in
-    let with-2 = c.with_subcommand-command-2.ensures _ _ with-1 c.diff_command.ensures in
-    let with-3 = c.with_subcommand-command-3.ensures _ _ with-2 c.suggest_command.ensures in
-    c.with_subcommand.ensures _ _ with-3 c.show_command.ensures
