@@ -66,28 +66,35 @@ abbrev pub refusal_status : CompareRefused → ℕ
 refusal_status (Input which refused) = refused_status refused
 refusal_status Memory = 5
 
-module _ {W E V : Type 0} (sink : Sink W) (errors : Sink E) (text : V → List ℕ)
-    (status_for : V → ℕ) where
-  -- The text of a verdict is written and flushed, and the status is that of the verdict. Or a prefix
-  -- of the text is written and the writer fails, which is reported. If an input is rejected, that is
-  -- reported, and nothing is written.
-  abbrev pub ComparisonIsReported : Result V CompareRefused → W → W → E → E → ℕ → Type 0
-  ComparisonIsReported (Ok outcome) before after old new status =
-      (AllSent sink before after (text outcome) × (new ≡ old) × (status ≡ status_for outcome))
-      ⊎ (PrefixWritten sink before after (text outcome)
+module _ {W E : Type 0} (sink : Sink W) (errors : Sink E) where
+  -- The text is written and flushed, and the status is the one that is given. Or a prefix of the
+  -- text is written and the writer fails, which is reported.
+  abbrev pub IsPrinted : List ℕ → ℕ → W → W → E → E → ℕ → Type 0
+  IsPrinted text given before after old new status =
+      (AllSent sink before after text × (new ≡ old) × (status ≡ given))
+      ⊎ (PrefixWritten sink before after text
       × HasSent errors old new (fault_line (refused_text WriteFault)) × (status ≡ 4))
-  ComparisonIsReported (Err because) before after old new status = (after ≡ before)
-      × HasSent errors old new (fault_line (compare_refused_text because))
-      × (status ≡ refusal_status because)
 
--- The result of `compare` for these readers is printed or reported.
-pub record CompareIsReported {R S W E : Type 0} (source_a : Source R) (source_b : Source S)
-    (sink : Sink W) (errors : Sink E) (limits : Limits) (mode : Mode) (old_a new_a : R) (old_b new_b
-    : S)
-    (before after : W) (silent spoken : E) (status : ℕ) : Type 0 where
-  pub outcome : Result Verdict CompareRefused
-  pub compares : Compares source_a source_b limits mode old_a new_a old_b new_b outcome
-  pub tells : ComparisonIsReported sink errors (verdict_text mode) verdict_status outcome before
-      after
-      silent
-      spoken status
+  module _ {V : Type 0} (text : V → List ℕ) (status_for : V → ℕ) where
+    -- The text of a result is printed, with the status of the result. If an input is rejected, that
+    -- is reported, and nothing is written.
+    abbrev pub ComparisonIsReported : Result V CompareRefused → W → W → E → E → ℕ → Type 0
+    ComparisonIsReported (Ok outcome) before after old new status =
+        IsPrinted (text outcome) (status_for outcome) before after old new status
+    ComparisonIsReported (Err because) before after old new status = (after ≡ before)
+        × HasSent errors old new (fault_line (compare_refused_text because))
+        × (status ≡ refusal_status because)
+
+    -- A result for which `Finds` holds is printed or reported.
+    pub record ResultIsReported (Finds : Result V CompareRefused → Type 0) (before after : W)
+        (silent spoken : E) (status : ℕ) : Type 0 where
+      pub outcome : Result V CompareRefused
+      pub finds : Finds outcome
+      pub tells : ComparisonIsReported outcome before after silent spoken status
+
+module _ {R S W E : Type 0} (source_a : Source R) (source_b : Source S) (sink : Sink W)
+    (errors : Sink E) (limits : Limits) (mode : Mode) (old_a new_a : R) (old_b new_b : S) where
+  -- The result of `compare` for these readers is printed or reported.
+  abbrev pub CompareIsReported : W → W → E → E → ℕ → Type 0
+  CompareIsReported = ResultIsReported sink errors (verdict_text mode) verdict_status
+      (Compares source_a source_b limits mode old_a new_a old_b new_b)

@@ -3,16 +3,17 @@ ghost use Rattle.std.specs.Prelude.{◌≡◌, ◌+◌, ◌<◌, ◌≤◌, ◌^
 ghost use Rattle.std.specs.List.{flat_map};
 ghost use Rattle.dap_runs.specs.ComparingRun.{CompareIsReported, differ_line, first_line};
 ghost use Rattle.dap_runs.specs.ComparingRun.{pair_line};
-ghost use Rattle.dap_runs.specs.ComparingRun.{pairs_in, refusal_status, same_line, shows_stop};
+ghost use Rattle.dap_runs.specs.ComparingRun.{pairs_in, same_line, shows_stop};
 ghost use Rattle.dap_runs.specs.ComparingRun.{verdict_status, verdict_text};
 ghost use Rattle.dap_device.specs.Written.{HasSentAll, HasWrittenAll};
 ghost use Rattle.dap_input.specs.Limits.{AreSound};
 ghost use Rattle.dap_normalise.specs.NameTables.{AreReady};
 
-use crate::fault_line::{LINE, tell, tell_of_input};
-use crate::status::{DIFFERENT, DONE, FAULT, MEMORY, refused_status};
+use crate::fault_line::{LINE, tell};
+use crate::printing::report_refused;
+use crate::status::{DIFFERENT, DONE, FAULT};
 use arrayvec::ArrayString;
-use dap_compare::{CompareRefused, Verdict, compare_with};
+use dap_compare::{Verdict, compare_with};
 use dap_device::{DeviceFault, Sink, Source, write_all};
 use dap_input::{Limits, Refused};
 use dap_normalise::index_tables;
@@ -124,16 +125,6 @@ fn status(verdict: &Verdict) -> u8
     }
 }
 
-/// Returns the status of the program if the inputs were not compared to the end.
-pub fn refusal_status(refused: CompareRefused) -> u8
-    ensures { result ≡ refusal_status refused }
-{
-    match refused {
-        CompareRefused::Input(_, refused) => refused_status(refused),
-        CompareRefused::Memory => MEMORY,
-    }
-}
-
 /// Compares two recordings, and returns the status of the program. An error is reported on
 /// `errors`, in one line.
 ///
@@ -217,10 +208,7 @@ pub fn run_compare_with<A: Source, B: Source, W: Sink, E: Sink, T: NameTable + D
 {
     let verdict = match compare_with(alloc, reader_a, reader_b, limits, tables_a, tables_b, mode) {
         Ok(verdict) => verdict,
-        Err(refused) => {
-            tell_of_input(errors, refused);
-            return refusal_status(refused);
-        }
+        Err(refused) => return report_refused(errors, refused),
     };
     match print(writer, mode, &verdict) {
         Ok(()) => status(&verdict),

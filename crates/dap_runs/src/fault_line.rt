@@ -180,7 +180,7 @@ fn fault_line(refused: Refused) -> ArrayString<LINE>
 }
 
 /// Returns the word for one of two inputs.
-pub(crate) fn letter(which: Which) -> &'static str
+pub fn letter(which: Which) -> &'static str
     ensures letter { result.now ≡ which_text which }
     ensures short { length result.now ≤ 1 }
 {

@@ -9,6 +9,7 @@ mod files;
 mod mask_run;
 mod order_run;
 mod parts;
+mod printing;
 mod program_limits;
 mod rows_run;
 mod rules_files;
@@ -20,12 +21,15 @@ mod unopened_rules;
 mod whole_input;
 
 pub use apply_run::report_unapplied;
-pub use compare_run::{differ_line, refusal_status, run_compare, run_compare_with, same_line};
-pub use fault_line::{LINE, refused_text, send, send_line, tell, tell_answer, tell_of_input};
+pub use compare_run::{differ_line, run_compare, run_compare_with, same_line};
+pub use fault_line::{
+    LINE, letter, refused_text, send, send_line, tell, tell_answer, tell_of_input,
+};
 pub use files::{Files, OpenFault};
 pub use mask_run::{RulesRefused, read_rules, report_rules, run_mask};
 pub use order_run::run_order;
 pub use parts::{report_parts, send_parts};
+pub use printing::{print_found, report_refused};
 pub use program_limits::LIMITS;
 pub use rows_run::tell_rows;
 pub use rules_files::{RulesFiles, RulesOpenFault};
@@ -33,8 +37,8 @@ pub use rules_texts::{
     NoRules, RuledPairRun, RulesStop, TableMaker, TextsByRules, is_either_standard,
     report_no_rules, report_rules_stop, rules_of_name, texts_by_rules,
 };
-pub use saving::save;
-pub use status::{DIFFERENT, DONE, FAULT, MEMORY, REFUSED, USAGE, refused_status};
+pub use saving::{report_unsaved, save};
+pub use status::{DIFFERENT, DONE, FAULT, MEMORY, REFUSED, USAGE, refusal_status, refused_status};
 pub use two_inputs::{
     OpenStop, TwoFilesRun, are_both_standard, is_standard, open_both, report_open_stop,
 };

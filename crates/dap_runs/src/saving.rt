@@ -10,8 +10,9 @@ use crate::status::{DONE, FAULT};
 use dap_device::Sink;
 use dap_file::{Replaceable, replace};
 
-/// Reports that a file could not be written, in one line. A failure to write it is not reported.
-fn report_unsaved<E: Sink>(errors: &mut E, name: &str)
+/// Reports in one line that the file of a name could not be written. A failure to write the line is
+/// not reported.
+pub fn report_unsaved<E: Sink>(errors: &mut E, name: &str)
     requires { E.failures errors.old < 2 ^ 62 }
     ensures { HasSent E.Sink errors.old errors.new (unsaved_line name.now) }
 {

@@ -1,7 +1,9 @@
 //! The statuses that the program ends with.
 ghost use Rattle.std.specs.Prelude.{◌≡◌};
+ghost use Rattle.dap_runs.specs.ComparingRun.{refusal_status};
 ghost use Rattle.dap_runs.specs.Reporting.{refused_status, status_of};
 
+use dap_compare::CompareRefused;
 use dap_input::Refused;
 
 /// The job was done: written, accepted, or the same.
@@ -30,6 +32,16 @@ pub fn refused_status(refused: Refused) -> u8
         Refused::ReadFault | Refused::WriteFault => FAULT,
         Refused::Memory => MEMORY,
         _ => REFUSED,
+    }
+}
+
+/// Returns the status of the program if the inputs were not compared to the end.
+pub fn refusal_status(refused: CompareRefused) -> u8
+    ensures { result ≡ refusal_status refused }
+{
+    match refused {
+        CompareRefused::Input(_, refused) => refused_status(refused),
+        CompareRefused::Memory => MEMORY,
     }
 }
 

@@ -4,9 +4,9 @@ ghost use Rattle.dap_runs.specs.Reporting.{HasSent};
 ghost use Rattle.dap_runs.specs.TwoInputs.{OpensBoth, are_both_standard, is_standard, stop_line};
 ghost use Rattle.dap_runs.specs.TwoInputs.{stop_status, unopened_as};
 
-use crate::compare_run::refusal_status;
-use crate::fault_line::{send, tell_of_input};
+use crate::fault_line::send;
 use crate::files::{Files, OpenFault};
+use crate::printing::report_refused;
 use crate::status::USAGE;
 use dap_compare::{CompareRefused, Which};
 use dap_device::{Sink, Source};
@@ -105,10 +105,6 @@ pub fn report_open_stop<E: Sink>(errors: &mut E, stop: OpenStop) -> u8
             send(errors, TWO_STANDARD);
             USAGE
         }
-        OpenStop::Unopened(which, fault) => {
-            let refused = unopened_as(which, fault);
-            tell_of_input(errors, refused);
-            refusal_status(refused)
-        }
+        OpenStop::Unopened(which, fault) => report_refused(errors, unopened_as(which, fault)),
     }
 }

@@ -1,14 +1,11 @@
-use Rattle.std.proofs.Common.{Bool, Ok, refl, subst}
-use Rattle.dap_runs.specs.TextsByRules.{HasRules}
+use Rattle.std.proofs.Common.{refl}
 use Rattle.dap_runs.proofs.rules_texts.texts_by_rules.Goals as goal
 
 pub returns-in-Err-open_both : goal.returns-in-Err-open_both
 returns-in-Err-open_both g c = (
   (
     c.in-Ok.kept,
-    subst (λ (either : Bool). HasRules (g.G.RulesFiles.opened c.args.rules_files.now)
-        (g.G.RulesFiles.unopened c.args.rules_files.now) g.J.Source c.args.rules.now either
-        (Ok c.in-Ok.kept)) c.is_either_standard-is_input_standard.ensures c.in-Ok.ensures,
+    rw (c.is_either_standard-is_input_standard.ensures) at c.in-Ok.ensures,
   ),
   c.in-Err-open_both.ensures.opened,
 )
@@ -17,9 +14,7 @@ pub returns-in-Err-text_by_rules : goal.returns-in-Err-text_by_rules
 returns-in-Err-text_by_rules g c = record {
   from = record {
     kept = c.in-Ok.kept;
-    are_rules = subst (λ (either : Bool). HasRules (g.G.RulesFiles.opened c.args.rules_files.now)
-        (g.G.RulesFiles.unopened c.args.rules_files.now) g.J.Source c.args.rules.now either
-        (Ok c.in-Ok.kept)) c.is_either_standard-is_input_standard.ensures c.in-Ok.ensures;
+    are_rules = rw (c.is_either_standard-is_input_standard.ensures) at c.in-Ok.ensures;
     old_a = c.in-Ok-open_both.inputs.0;
     old_b = c.in-Ok-open_both.inputs.1;
     opens = c.in-Ok-open_both.ensures.opened;
@@ -34,9 +29,7 @@ pub returns-in-Ok-text_by_rules-2 : goal.returns-in-Ok-text_by_rules-2
 returns-in-Ok-text_by_rules-2 g c = record {
   from = record {
     kept = c.in-Ok.kept;
-    are_rules = subst (λ (either : Bool). HasRules (g.G.RulesFiles.opened c.args.rules_files.now)
-        (g.G.RulesFiles.unopened c.args.rules_files.now) g.J.Source c.args.rules.now either
-        (Ok c.in-Ok.kept)) c.is_either_standard-is_input_standard.ensures c.in-Ok.ensures;
+    are_rules = rw (c.is_either_standard-is_input_standard.ensures) at c.in-Ok.ensures;
     old_a = c.in-Ok-open_both.inputs.0;
     old_b = c.in-Ok-open_both.inputs.1;
     opens = c.in-Ok-open_both.ensures.opened;
@@ -52,9 +45,7 @@ pub returns-in-Err-text_by_rules-2 : goal.returns-in-Err-text_by_rules-2
 returns-in-Err-text_by_rules-2 g c = record {
   from = record {
     kept = c.in-Ok.kept;
-    are_rules = subst (λ (either : Bool). HasRules (g.G.RulesFiles.opened c.args.rules_files.now)
-        (g.G.RulesFiles.unopened c.args.rules_files.now) g.J.Source c.args.rules.now either
-        (Ok c.in-Ok.kept)) c.is_either_standard-is_input_standard.ensures c.in-Ok.ensures;
+    are_rules = rw (c.is_either_standard-is_input_standard.ensures) at c.in-Ok.ensures;
     old_a = c.in-Ok-open_both.inputs.0;
     old_b = c.in-Ok-open_both.inputs.1;
     opens = c.in-Ok-open_both.ensures.opened;
