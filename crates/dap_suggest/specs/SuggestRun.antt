@@ -1,13 +1,11 @@
 -- What the program prints of a suggestion. Source: own.
 use Rattle.std.specs.Prelude.{◌≡◌, ◌⊎◌, ℕ, List, [], ◌++◌, Result, Ok, Err}
-use Rattle.dap_device.specs.Written.{AllSent, PrefixWritten}
 use Rattle.dap_device.specs.declared.device.Sink.{Ghosts as Sink}
 use Rattle.dap_input.specs.declared.limits.Limits.{Limits}
-use Rattle.dap_input.specs.declared.refused.Refused.TheVariants.{WriteFault}
 use Rattle.dap_rules.specs.declared.fault.ApplyRefused.{ApplyRefused}
 use Rattle.dap_rules.specs.declared.fault.ApplyRefused.TheVariants as step
 use Rattle.dap_runs.specs.ApplyRun.{unapplied_line, unapplied_status}
-use Rattle.dap_runs.specs.FaultLine.{fault_line, refused_text}
+use Rattle.dap_runs.specs.ComparingRun.{IsPrinted}
 use Rattle.dap_runs.specs.MaskRun.{rules_refused_line}
 use Rattle.dap_runs.specs.Reporting.{HasSent}
 use Rattle.dap_runs.specs.declared.mask_run.RulesRefused.TheVariants.{Line}
@@ -27,14 +25,6 @@ Suggests limits given a b (Err refused) = IsNotSuggested limits given a b refuse
 abbrev pub reported_refusal : List ℕ → ApplyRefused → ApplyRefused
 reported_refusal [] (step.Order refused) = step.Mask refused
 reported_refusal given refused = refused
-
--- The text is printed and flushed, with status 0; or a prefix of it is, the writer fails, and that
--- is reported.
-abbrev pub IsPrinted : {W E : Type 0} → Sink W → Sink E → W → W → E → E → ℕ → List ℕ → Type 0
-IsPrinted sink errors before after silent spoken status text =
-    (AllSent sink before after text × (spoken ≡ silent) × (status ≡ 0))
-    ⊎ (PrefixWritten sink before after text
-    × HasSent errors silent spoken (fault_line (refused_text WriteFault)) × (status ≡ 4))
 
 -- Some line says why no rules were found, with status 1; or an allocation failed, and that is
 -- reported.
@@ -60,7 +50,7 @@ module _ {W E : Type 0} (sink : Sink W) (errors : Sink E) (given : List ℕ)
   -- Rules that were found are printed. An error is reported, and nothing is printed.
   abbrev pub ReportsSuggestion : Result Suggestion SuggestRefused → Type 0
   ReportsSuggestion (Ok found) =
-      IsPrinted sink errors before after silent spoken status found.rules.items
+      IsPrinted sink errors found.rules.items 0 before after silent spoken status
   ReportsSuggestion (Err refused) =
       (after ≡ before) × IsReported errors given silent spoken status refused
 

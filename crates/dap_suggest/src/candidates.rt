@@ -1,5 +1,5 @@
 //! The actions that are tried at a place.
-use crate::words::push_quoted;
+use crate::words::{push_parts, push_quoted};
 use dap_mask::{MaskRules, read_masked};
 use dap_tree::{Scratch, Tree};
 use std::alloc::{AllocError, Global};
@@ -7,37 +7,21 @@ use std::alloc::{AllocError, Global};
 /// How many candidates there are.
 const CANDIDATES: usize = 9;
 
-/// The verbs of a candidate, each for one rule.
-#[derive(Clone, Copy)]
-struct Verbs {
-    first: &'static str,
-    /// The verb after it; empty if there is none.
-    second: &'static str,
-}
-
-fn one(first: &'static str) -> Verbs {
-    Verbs { first, second: "" }
-}
-
-fn two(first: &'static str, second: &'static str) -> Verbs {
-    Verbs { first, second }
-}
-
-/// Returns the verbs that are tried at a text, by their place in the order in which they are tried.
-/// Two verbs are in an order that a file of rules may have. After the last ones the verb makes any
-/// two values of one sort equal.
-fn verbs_of(candidate: usize) -> Verbs {
+/// Returns the verbs that are tried at a text, by their place in the order in which they are tried,
+/// with spaces after them up to one length. Each verb is for one rule. Two verbs are in an order that
+/// a file of rules may have. After the last ones the verb makes any two values of one sort equal.
+fn verbs_of(candidate: usize) -> &'static [&'static str] {
     match candidate {
-        0 => one("uuid"),
-        1 => one("hex"),
-        2 => one("digits"),
-        3 => one("long"),
-        4 => two("uuid", "hex"),
-        5 => two("digits", "hex"),
-        6 => two("uuid", "long"),
-        7 => two("long", "hex"),
-        8 => two("long", "digits"),
-        _ => one("blank"),
+        0 => &["uuid   "],
+        1 => &["hex    "],
+        2 => &["digits "],
+        3 => &["long   "],
+        4 => &["uuid   ", "hex    "],
+        5 => &["digits ", "hex    "],
+        6 => &["uuid   ", "long   "],
+        7 => &["long   ", "hex    "],
+        8 => &["long   ", "digits "],
+        _ => &["blank  "],
     }
 }
 
@@ -46,25 +30,13 @@ const FIRST: &str = "event    x a";
 
 const SECOND: &str = "event    x b";
 
-/// Appends a rule: a verb, and the messages and the place that it is for.
-fn push_rule(verb: &str, target: &[u8], out: &mut Vec<u8>) -> Result<(), AllocError> {
-    out.extend_from_slice(verb.as_bytes())?;
-    for _ in verb.len()..7 {
-        out.push(b' ')?;
-    }
-    out.extend_from_slice(target)?;
-    out.push(b'\n')?;
-    Ok(())
-}
-
-/// Appends the rules of a candidate.
+/// Appends the rules of a candidate, for these messages and this place.
 fn push_verbs(candidate: usize, target: &[u8], out: &mut Vec<u8>) -> Result<(), AllocError> {
-    let verbs = verbs_of(candidate);
-    push_rule(verbs.first, target, out)?;
-    if verbs.second.is_empty() {
-        return Ok(());
+    for verb in verbs_of(candidate) {
+        out.extend_from_slice(verb.as_bytes())?;
+        push_parts(&[target, b"\n"], out)?;
     }
-    push_rule(verbs.second, target, out)
+    Ok(())
 }
 
 /// Appends the rules of a candidate, or the rule that blanks the value, after a comment.

@@ -4,7 +4,7 @@ ghost use Rattle.dap_input.specs.Limits.{AreSound};
 use crate::candidates::push_commented;
 use crate::inputs::Inputs;
 use crate::joined_rules::{fault_of, joined, missing_end};
-use crate::words::{push_member, push_named, push_record};
+use crate::words::{push_member, push_named, push_parts, push_record};
 use dap_input::Limits;
 use dap_mask::{MaskRules, read_masked};
 use dap_message::Kind;
@@ -136,8 +136,7 @@ struct Origin {
 fn comment_of(alloc: Global, origin: Origin, text: &str) -> Result<Vec<u8>, AllocError> {
     let mut comment = Vec::new(alloc);
     push_record(origin.side, origin.number, &mut comment)?;
-    comment.extend_from_slice(text.as_bytes())?;
-    comment.push(b'\n')?;
+    push_parts(&[text.as_bytes(), b"\n"], &mut comment)?;
     Ok(comment)
 }
 

@@ -30,29 +30,11 @@ pub fn missing_end(given: &[u8]) -> &'static str {
     }
 }
 
-/// Returns the text after the first line.
-fn after_line(text: &[u8]) -> &[u8] {
-    match text.iter().position(|byte| *byte == b'\n') {
-        Some(end) => &text[end + 1..],
-        None => &text[text.len()..],
-    }
-}
-
-/// Returns the first line of a text.
-fn first_line(text: &[u8]) -> &[u8] {
-    match text.iter().position(|byte| *byte == b'\n') {
-        Some(end) => &text[..end],
-        None => text,
-    }
-}
-
-/// Returns the line of this number, counted from 1.
+/// Returns the line of this number, counted from 1, without its LF.
 fn line_at(text: &[u8], number: usize) -> &[u8] {
-    let mut rest = text;
-    for _ in 1..number.max(1) {
-        rest = after_line(rest);
-    }
-    first_line(rest)
+    text.split(|byte| *byte == b'\n')
+        .nth(number.saturating_sub(1))
+        .unwrap_or(&[])
 }
 
 /// Returns why a text is not a rules file.

@@ -1,24 +1,17 @@
 //! The line that says why no rules make two recordings the same.
 use crate::obstacle::{Obstacle, Reason};
-use crate::words::push_count;
+use crate::words::{push_count, push_parts};
 use dap_compare::Which;
 use dap_input::Refused;
 use dap_rules::ApplyRefused;
-use dap_runs::refused_text;
+use dap_runs::{letter, refused_text};
 use std::alloc::{AllocError, Global};
 
 /// What a line begins with.
 const BEGIN: &[u8] = b"no rules can: ";
 
 /// What is reported if a file cannot have the rules.
-const UNREAD: &[u8] = b"a file cannot have the rules that would be needed";
-
-fn letter(which: Which) -> &'static str {
-    match which {
-        Which::A => "A",
-        Which::B => "B",
-    }
-}
+const UNREAD: &[u8] = b"a file cannot have the rules that would be needed\n";
 
 fn other_letter(which: Which) -> &'static str {
     match which {
@@ -52,12 +45,16 @@ fn push_record(
     out: &mut Vec<u8>,
 ) -> Result<(), AllocError> {
     push_count("record ", number, out)?;
-    out.extend_from_slice(b" of ")?;
-    out.extend_from_slice(letter(which).as_bytes())?;
-    out.extend_from_slice(b", ")?;
+    push_parts(&[b" of ", letter(which).as_bytes(), b", "], out)?;
     out.extend_from_slice(without_side(head.as_bytes()))?;
-    out.extend_from_slice(reason_words(reason).as_bytes())?;
-    out.extend_from_slice(other_letter(which).as_bytes())
+    push_parts(
+        &[
+            reason_words(reason).as_bytes(),
+            other_letter(which).as_bytes(),
+            b"\n",
+        ],
+        out,
+    )
 }
 
 fn push_unapplied(
@@ -71,30 +68,38 @@ fn push_unapplied(
         ApplyRefused::ReadFault => refused_text(Refused::ReadFault),
         ApplyRefused::Memory => refused_text(Refused::Memory),
     };
-    out.extend_from_slice(letter(which).as_bytes())?;
-    out.extend_from_slice(b": after the rules: ")?;
-    out.extend_from_slice(reason.as_bytes())
+    push_parts(
+        &[
+            letter(which).as_bytes(),
+            b": after the rules: ",
+            reason.as_bytes(),
+            b"\n",
+        ],
+        out,
+    )
 }
 
-fn push_difference(number: u64, out: &mut Vec<u8>) -> Result<(), AllocError> {
-    push_count("after the rules, record ", number, out)?;
-    out.extend_from_slice(b" still differs")
-}
-
-/// Returns the line that says why no rules make two recordings the same.
-pub fn obstacle_line(alloc: Global, obstacle: &Obstacle) -> Result<Vec<u8>, AllocError> {
-    let mut line = Vec::from_slice(alloc, BEGIN)?;
+/// Appends why no rules make two recordings the same, with the LF of the line.
+fn push_obstacle(obstacle: &Obstacle, out: &mut Vec<u8>) -> Result<(), AllocError> {
     match obstacle {
         Obstacle::Record {
             reason,
             which,
             number,
             head,
-        } => push_record(*reason, *which, *number, head.as_str(), &mut line)?,
-        Obstacle::Unapplied(which, refused) => push_unapplied(*which, *refused, &mut line)?,
-        Obstacle::Unread => line.extend_from_slice(UNREAD)?,
-        Obstacle::StillDiffers(number) => push_difference(*number, &mut line)?,
+        } => push_record(*reason, *which, *number, head.as_str(), out),
+        Obstacle::Unapplied(which, refused) => push_unapplied(*which, *refused, out),
+        Obstacle::Unread => out.extend_from_slice(UNREAD),
+        Obstacle::StillDiffers(number) => {
+            push_count("after the rules, record ", *number, out)?;
+            out.extend_from_slice(b" still differs\n")
+        }
     }
-    line.push(b'\n')?;
+}
+
+/// Returns the line that says why no rules make two recordings the same.
+pub fn obstacle_line(alloc: Global, obstacle: &Obstacle) -> Result<Vec<u8>, AllocError> {
+    let mut line = Vec::from_slice(alloc, BEGIN)?;
+    push_obstacle(obstacle, &mut line)?;
     Ok(line)
 }

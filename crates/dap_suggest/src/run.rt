@@ -1,18 +1,18 @@
 //! Suggests rules, and prints them: lines and a status.
 ghost use Rattle.std.specs.Prelude.{◌≡◌, ◌<◌, ◌^◌};
 ghost use Rattle.dap_input.specs.Limits.{AreSound};
-ghost use Rattle.dap_suggest.specs.SuggestRun.{IsPrinted, IsReported, SuggestionIsReported};
-ghost use Rattle.dap_suggest.specs.SuggestRun.{IsObstacleReported, reported_refusal};
+ghost use Rattle.dap_suggest.specs.SuggestRun.{IsObstacleReported, IsReported};
+ghost use Rattle.dap_suggest.specs.SuggestRun.{SuggestionIsReported, reported_refusal};
 
 use crate::obstacle::Obstacle;
 use crate::obstacle_line::obstacle_line;
 use crate::suggesting::suggest;
 use crate::suggestion::SuggestRefused;
-use dap_device::{Sink, write_and_flush};
-use dap_input::{Limits, Refused};
+use dap_device::Sink;
+use dap_input::Limits;
 use dap_rules::ApplyRefused;
 use dap_runs::{
-    DIFFERENT, DONE, FAULT, RulesRefused, report_parts, report_rules, report_unapplied, tell,
+    DIFFERENT, DONE, RulesRefused, print_found, report_parts, report_rules, report_unapplied,
 };
 use std::alloc::Global;
 
@@ -26,22 +26,6 @@ fn reported_refusal(given: &[u8], refused: ApplyRefused) -> ApplyRefused
             refused => refused,
         },
         _ => refused,
-    }
-}
-
-/// Prints rules that were found.
-fn print<W: Sink, E: Sink>(writer: &mut W, errors: &mut E, rules: &[u8]) -> u8
-    requires write_failures { W.failures writer.old < 2 ^ 62 }
-    requires error_failures { E.failures errors.old < 2 ^ 62 }
-    ensures { IsPrinted W.Sink E.Sink writer.old writer.new errors.old errors.new result
-        rules.now }
-{
-    match write_and_flush(writer, rules) {
-        Ok(()) => DONE,
-        Err(_) => {
-            tell(errors, Refused::WriteFault);
-            FAULT
-        }
     }
 }
 
@@ -99,7 +83,7 @@ pub fn run_suggest<W: Sink, E: Sink>(
         errors.old errors.new result }
 {
     match suggest(alloc, given, a, b, limits) {
-        Ok(found) => print(writer, errors, found.rules.as_slice()),
+        Ok(found) => print_found(writer, errors, &[found.rules.as_slice()], DONE),
         Err(refused) => report(alloc, errors, given, &refused),
     }
 }

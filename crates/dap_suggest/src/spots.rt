@@ -4,7 +4,7 @@ use crate::matched::Pair;
 use crate::obstacle::{Reason, Unsolved, unsolved_at, unsolved_entry};
 use crate::trial::Trial;
 use crate::walking::{Element, Found, Walk, compare_trees};
-use crate::words::{push_class, push_quoted};
+use crate::words::{push_class, push_parts, push_quoted};
 use dap_compare::Which;
 use dap_mask::MaskRules;
 use std::alloc::{AllocError, Global};
@@ -123,8 +123,7 @@ impl Spot {
 fn target_of(alloc: Global, pair: &Pair<'_>, place: &[u8]) -> Result<Vec<u8>, AllocError> {
     let mut out = Vec::new(alloc);
     push_class(alloc, &pair.a.message, &mut out)?;
-    out.push(b' ')?;
-    out.extend_from_slice(place)?;
+    push_parts(&[b" ", place], &mut out)?;
     Ok(out)
 }
 
@@ -139,9 +138,9 @@ fn part_target(
     let mut out = target_of(alloc, pair, place.get(..element.start).unwrap_or(&[]))?;
     out.push(b'[')?;
     push_quoted(alloc, element.name, &mut out)?;
-    out.push(b']')?;
     // Two bytes are the brackets of the place.
-    out.extend_from_slice(place.get(element.start.saturating_add(2)..).unwrap_or(&[]))?;
+    let after = place.get(element.start.saturating_add(2)..).unwrap_or(&[]);
+    push_parts(&[b"]", after], &mut out)?;
     Ok(out)
 }
 

@@ -12,8 +12,8 @@ use dap_device::{Sink, Source, Stop, read_all};
 use dap_input::Refused;
 use dap_runs::{
     Files, LIMITS, NoRules, OpenFault, OpenStop, RulesFiles, RulesRefused, UnreadInput, WholeInput,
-    are_both_standard, is_either_standard, read_whole, refusal_status, report_no_rules,
-    report_open_stop, tell_of_input,
+    are_both_standard, is_either_standard, read_whole, report_no_rules, report_open_stop,
+    report_refused,
 };
 use std::alloc::Global;
 
@@ -106,9 +106,7 @@ fn report_unread<I, E: Sink>(errors: &mut E, which: Which, why: &UnreadInput<I>)
         (fault_line (compare_refused_text (unread_as which why.now))) }
     ensures status { result ≡ refusal_status (unread_as which why.now) }
 {
-    let refused = unread_as(which, why);
-    tell_of_input(errors, refused);
-    refusal_status(refused)
+    report_refused(errors, unread_as(which, why))
 }
 
 /// Suggests rules that make the recordings that two names lead to the same, in addition to the

@@ -156,22 +156,6 @@ fn suggest_after(
     }
 }
 
-/// Suggests rules for two recordings and their sessions, which the rules that were given make.
-fn suggest_for(
-    alloc: Global,
-    inputs: &Inputs<'_>,
-    sessions: &Sessions,
-) -> Result<Suggestion, SuggestRefused>
-    requires { AreSound inputs.now.limits }
-    ensures ok { IfOk result (IsSuggestion inputs.now) }
-    ensures err { IfErr result (HasNoSuggestion inputs.now) }
-{
-    match find_confirmed(alloc, inputs, b"", sessions) {
-        Ok(suggestion) => Ok(suggestion),
-        Err(unsolved) => Err(search_refusal(unsolved)),
-    }
-}
-
 /// Suggests rules in addition to those that were given and read.
 fn suggest_by(
     alloc: Global,
@@ -184,7 +168,10 @@ fn suggest_by(
     ensures err { IfErr result (HasNoSuggestion inputs.now) }
 {
     match sessions_by(alloc, rules, inputs) {
-        Ok(sessions) => suggest_for(alloc, inputs, &sessions),
+        Ok(sessions) => match find_confirmed(alloc, inputs, b"", &sessions) {
+            Ok(suggestion) => Ok(suggestion),
+            Err(unsolved) => Err(search_refusal(unsolved)),
+        },
         Err(refused) => suggest_after(alloc, rules, inputs, refused),
     }
 }

@@ -1,7 +1,7 @@
 //! The pairs that come in another order in B, and the rules that let them change places.
 use crate::matched::Pair;
 use crate::obstacle::{Reason, Unsolved, unsolved_entry};
-use crate::words::{push_class, push_count};
+use crate::words::{push_class, push_count, push_parts};
 use dap_compare::Which;
 use dap_message::Message;
 use dap_swaps::{Half, SwapRule, is_free};
@@ -72,10 +72,10 @@ impl Swaps {
     /// Appends the rules, each after its comment.
     pub fn push(&self, out: &mut Vec<u8>) -> Result<(), AllocError> {
         for (halves, comment) in self.by_halves.iter() {
-            out.extend_from_slice(comment.as_slice())?;
-            out.extend_from_slice(b"swap   ")?;
-            out.extend_from_slice(halves.as_slice())?;
-            out.extend_from_slice(b"\n\n")?;
+            push_parts(
+                &[comment.as_slice(), b"swap   ", halves.as_slice(), b"\n\n"],
+                out,
+            )?;
         }
         Ok(())
     }

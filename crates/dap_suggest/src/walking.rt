@@ -76,15 +76,6 @@ fn is_kept(place: &[u8]) -> bool {
     place.is_empty() || place.ends_with(b"]")
 }
 
-/// What is known before two lists or objects are compared.
-#[derive(Clone, Copy)]
-struct Mark {
-    /// How many places were found before.
-    start: usize,
-    /// Whether rules for these make what is around the lists or objects equal.
-    is_enough: bool,
-}
-
 /// What a comparison of two messages has found.
 #[derive(Drop)]
 pub struct Walk<'t> {
@@ -140,32 +131,26 @@ impl<'t> Walk<'t> {
         Ok(())
     }
 
-    /// Returns what is known before the comparison of two lists or objects.
-    fn mark(&self) -> Mark {
-        Mark {
-            start: self.found.len(),
-            is_enough: self.is_enough,
-        }
-    }
-
     /// Ends the comparison of two lists or objects. Their place is added in place of those that were
-    /// found in it, unless rules for these are enough.
+    /// found in it, unless rules for these are enough. `start` places were found before it, and
+    /// `was_enough` says whether rules for these make what is around the lists or objects equal.
     fn settle(
         &mut self,
-        mark: Mark,
+        start: usize,
+        was_enough: bool,
         a: &'t Tree,
         b: &'t Tree,
         element: Option<Element<'t>>,
     ) -> Result<(), AllocError> {
         if self.is_enough {
-            self.is_enough = mark.is_enough;
+            self.is_enough = was_enough;
             return Ok(());
         }
         if is_kept(self.place.as_slice()) {
             return Ok(());
         }
-        self.is_enough = mark.is_enough;
-        self.found.truncate(mark.start);
+        self.is_enough = was_enough;
+        self.found.truncate(start);
         self.add(a, b, element)
     }
 }
@@ -179,7 +164,7 @@ pub fn compare_trees<'t>(
     element: Option<Element<'t>>,
     walk: &mut Walk<'t>,
 ) -> Result<(), AllocError> {
-    let mark = walk.mark();
+    let (start, was_enough) = (walk.found.len(), walk.is_enough);
     match (a, b) {
         (Tree::List(items), Tree::List(others)) => {
             compare_items(alloc, items, others, element, walk)?;
@@ -189,7 +174,7 @@ pub fn compare_trees<'t>(
         }
         _ => return walk.compare_scalars(a, b, element),
     }
-    walk.settle(mark, a, b, element)
+    walk.settle(start, was_enough, a, b, element)
 }
 
 #[cycle(compare_trees)]

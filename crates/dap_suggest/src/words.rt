@@ -19,6 +19,14 @@ fn kind_word(kind: Kind) -> &'static str {
     }
 }
 
+/// Appends all parts, one after the other.
+pub fn push_parts(parts: &[&[u8]], out: &mut Vec<u8>) -> Result<(), AllocError> {
+    for part in parts {
+        out.extend_from_slice(part)?;
+    }
+    Ok(())
+}
+
 /// Appends a name, as it is or as a JSON string.
 pub fn push_name(alloc: Global, name: &str, out: &mut Vec<u8>) -> Result<(), AllocError> {
     push_path(alloc, &[Step::Member(name)], out)
@@ -62,8 +70,7 @@ pub fn push_class(alloc: Global, message: &Message, out: &mut Vec<u8>) -> Result
 /// Appends a word and a number.
 pub fn push_count(word: &str, number: u64, out: &mut Vec<u8>) -> Result<(), AllocError> {
     let mut digits = Buffer::new();
-    out.extend_from_slice(word.as_bytes())?;
-    out.extend_from_slice(digits.format(number).as_bytes())
+    push_parts(&[word.as_bytes(), digits.format(number).as_bytes()], out)
 }
 
 /// Appends the words for a recording and the number of a record of it, as comments begin.
@@ -96,11 +103,8 @@ fn shown_length(text: &[u8]) -> usize
 /// Appends a text, cut if it is long.
 fn push_cut(text: &[u8], out: &mut Vec<u8>) -> Result<(), AllocError> {
     let shown = shown_length(text);
-    out.extend_from_slice(&text[..shown])?;
-    if shown < text.len() {
-        out.extend_from_slice(b"...")?;
-    }
-    Ok(())
+    let end: &[u8] = if shown < text.len() { b"..." } else { b"" };
+    push_parts(&[&text[..shown], end], out)
 }
 
 /// Appends a value as JSON, cut if it is long. An id is its number.

@@ -1,5 +1,6 @@
-use Rattle.std.proofs.Common.{Ok, Err, refl, subst}
-use Rattle.dap_suggest.specs.SuggestRun.{IsPrinted}
+use Rattle.std.proofs.Common.{◌∙◌, ℕ, List, Ok, Err, refl, subst}
+use Rattle.std.proofs.lemmas.List.{append-nil}
+use Rattle.dap_runs.specs.ComparingRun.{IsPrinted}
 use Rattle.dap_suggest.proofs.run.run_suggest.Goals as goal
 
 pub returns-in-Ok : goal.returns-in-Ok
@@ -7,9 +8,9 @@ returns-in-Ok g c = record {
   reported = record {
     outcome = Ok c.in-Ok.found;
     suggests = c.in-Ok.ensures.ok;
-    tells = subst (IsPrinted g.W.Sink g.E.Sink c.args.writer.now c.print.new.writer
-        c.args.errors.now c.print.new.errors c.print.result) c.as_slice.ensures.value
-        c.print.ensures;
+    tells = subst (λ (text : List ℕ). IsPrinted g.W.Sink g.E.Sink text 0 c.args.writer.now
+        c.print_found.new.writer c.args.errors.now c.print_found.new.errors c.print_found.result)
+        (append-nil _ ∙ c.as_slice.ensures.value) c.print_found.ensures;
   };
 }
 

@@ -5,6 +5,6 @@ use Rattle.dap_suggest.proofs.suggest_by_names.report_unread.Goals as goal
 
 pub returns-clause-line : goal.returns-clause-line
 returns-clause-line g c =
-    subst (λ refused. HasSent g.E.Sink c.args.errors.now c.tell_of_input.new.errors
-    (fault_line (compare_refused_text refused))) c.unread_as-refused.ensures
-    c.tell_of_input.ensures
+    subst (λ refused. HasSent g.E.Sink c.args.errors.now c.report_refused.new.errors
+    (fault_line (compare_refused_text refused))) c.unread_as.ensures
+    c.report_refused.ensures.line
