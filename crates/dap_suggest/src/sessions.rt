@@ -50,7 +50,10 @@ pub fn session_of(
         (λ s. MakesNormal limits mode (mask_of rules.now) recording.now s.normal.bytes) }
     ensures err { IfErr result (IsRejected limits mode (mask_of rules.now) recording.now) }
 {
-    let bytes = apply_rules(alloc, rules, recording, limits, mode)?;
+    let bytes = match apply_rules(alloc, rules, recording, limits, mode) {
+        Ok(bytes) => bytes,
+        Err(refused) => return Err(refused),
+    };
     match normalise_bytes(alloc, bytes.as_slice(), limits, mode) {
         Ok(normal) => Ok(Session { bytes, normal }),
         Err(refused) => Err(rejected(refused)),
