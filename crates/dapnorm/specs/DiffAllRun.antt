@@ -2,10 +2,9 @@
 use Rattle.std.specs.Prelude.{ℕ, List}
 use Rattle.dap_device.specs.declared.device.Source.{Ghosts as Source}
 use Rattle.dap_device.specs.declared.device.Sink.{Ghosts as Sink}
-use Rattle.dapnorm.specs.Printing.{ResultIsReported}
 use Rattle.dap_rename.specs.declared.mode.Mode.{Mode}
 use Rattle.dap_input.specs.declared.limits.Limits.{Limits}
-use Rattle.dap_runs.specs.ComparingRun.{same_line}
+use Rattle.dap_runs.specs.ComparingRun.{ResultIsReported, same_line}
 use Rattle.dap_diff.specs.Matching.{DiffersAll}
 use Rattle.dap_diff.specs.declared.all_differences.AllDifferences.{AllDifferences}
 use Rattle.dap_diff.specs.declared.all_differences.AllDifferences.TheVariants.{Same, Differ}

@@ -5,10 +5,9 @@ use Rattle.dap_device.specs.declared.device.Sink.{Ghosts as Sink}
 use Rattle.dap_diff.specs.Diffs.{DescribesDifference}
 use Rattle.dap_diff.specs.declared.outcome.Diff.{Diff}
 use Rattle.dap_diff.specs.declared.outcome.Diff.TheVariants.{Same, Differ}
-use Rattle.dapnorm.specs.Printing.{ResultIsReported}
 use Rattle.dap_rename.specs.declared.mode.Mode.{Mode}
 use Rattle.dap_input.specs.declared.limits.Limits.{Limits}
-use Rattle.dap_runs.specs.ComparingRun.{differ_line, same_line}
+use Rattle.dap_runs.specs.ComparingRun.{ResultIsReported, differ_line, same_line}
 
 -- the first line, as `compare` prints it, and the lines after it that show the differences
 abbrev pub first_line : Diff → List ℕ

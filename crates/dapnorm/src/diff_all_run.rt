@@ -4,13 +4,12 @@ ghost use Rattle.dap_input.specs.Limits.{AreSound};
 ghost use Rattle.dap_normalise.specs.NameTables.{AreReady};
 ghost use Rattle.dapnorm.specs.DiffAllRun.{AllIsReported};
 
-use crate::printing::{print_found, report_refused};
 use dap_device::{Sink, Source};
 use dap_diff::{AllDifferences, diff_all_with};
 use dap_input::Limits;
 use dap_normalise::index_tables;
 use dap_rename::{Mode, NameTable, Tables};
-use dap_runs::{DIFFERENT, DONE, same_line};
+use dap_runs::{DIFFERENT, DONE, print_found, report_refused, same_line};
 use std::alloc::Global;
 
 /// Compares all records of two recordings, prints all differences, and returns the status of the
@@ -92,9 +91,9 @@ pub fn run_diff_all_with<A: Source, B: Source, W: Sink, E: Sink, T: NameTable + 
     ensures taken_b { B.given reader_b.new ≤ B.given reader_b.old + limits.input + 1 }
 {
     match diff_all_with(alloc, reader_a, reader_b, limits, tables_a, tables_b, mode) {
-        Ok(AllDifferences::Same) => print_found(writer, errors, &[], same_line().as_bytes(), DONE),
+        Ok(AllDifferences::Same) => print_found(writer, errors, &[same_line().as_bytes()], DONE),
         Ok(AllDifferences::Differ { lines }) => {
-            print_found(writer, errors, &[], lines.as_slice(), DIFFERENT)
+            print_found(writer, errors, &[lines.as_slice()], DIFFERENT)
         }
         Err(refused) => report_refused(errors, refused),
     }

@@ -4,13 +4,12 @@ ghost use Rattle.dapnorm.specs.DiffRun.{DiffIsReported};
 ghost use Rattle.dap_input.specs.Limits.{AreSound};
 ghost use Rattle.dap_normalise.specs.NameTables.{AreReady};
 
-use crate::printing::{print_found, report_refused};
 use dap_device::{Sink, Source};
 use dap_diff::{Diff, diff_with};
 use dap_input::Limits;
 use dap_normalise::index_tables;
 use dap_rename::{Mode, NameTable, Tables};
-use dap_runs::{DIFFERENT, DONE, differ_line, same_line};
+use dap_runs::{DIFFERENT, DONE, differ_line, print_found, report_refused, same_line};
 use std::alloc::Global;
 
 /// Compares two recordings, prints what differs at the first record that differs, and returns the
@@ -92,12 +91,11 @@ pub fn run_diff_with<A: Source, B: Source, W: Sink, E: Sink, T: NameTable + Drop
     ensures taken_b { B.given reader_b.new ≤ B.given reader_b.old + limits.input + 1 }
 {
     match diff_with(alloc, reader_a, reader_b, limits, tables_a, tables_b, mode) {
-        Ok(Diff::Same) => print_found(writer, errors, same_line().as_bytes(), &[], DONE),
+        Ok(Diff::Same) => print_found(writer, errors, &[same_line().as_bytes()], DONE),
         Ok(Diff::Differ { record, lines }) => print_found(
             writer,
             errors,
-            differ_line(record).as_bytes(),
-            lines.as_slice(),
+            &[differ_line(record).as_bytes(), lines.as_slice()],
             DIFFERENT,
         ),
         Err(refused) => report_refused(errors, refused),

@@ -1,9 +1,7 @@
 //! Runs `golden` over files that are given by their names.
 ghost use Rattle.std.specs.Prelude.{◌≡◌, ◌+◌, ◌<◌, ◌≤◌, ◌^◌, [], option_map};
 ghost use Rattle.dap_golden.specs.Golden.{mask_given};
-ghost use Rattle.dap_input.specs.declared.refused.Refused.TheVariants.{Memory};
 ghost use Rattle.dap_mask.specs.KeptRules.{mask_of};
-ghost use Rattle.dap_runs.specs.FaultLine.{fault_line, refused_text};
 ghost use Rattle.dap_runs.specs.Reporting.{HasSent};
 ghost use Rattle.dapnorm.specs.GoldenByNames.{EndsOn, GoldenIsRun, GoldenTakes, HasNamedRules};
 ghost use Rattle.dapnorm.specs.GoldenByNames.{request_of, unfound_golden_line, unfound_words};
@@ -24,8 +22,8 @@ use dap_golden::{GoldenRequest, GoldenStop};
 use dap_input::Refused;
 use dap_mask::MaskRules;
 use dap_runs::{
-    FAULT, Files, LIMITS, MEMORY, NoRules, OpenFault, RulesFiles, UnreadInput, WholeInput,
-    is_standard, read_whole, report_no_rules, rules_of_name, tell,
+    FAULT, Files, LIMITS, NoRules, OpenFault, RulesFiles, UnreadInput, WholeInput, is_standard,
+    read_whole, report_no_rules, rules_of_name, tell_answer,
 };
 use std::alloc::Global;
 
@@ -109,16 +107,6 @@ fn report_failed<E: Sink>(errors: &mut E, name: &str, words: &str)
     report_line(errors, name, words, &ArrayString::new());
 }
 
-/// Reports in one line that an allocation failed, and returns the status of the program.
-fn report_memory<E: Sink>(errors: &mut E) -> u8
-    requires { E.failures errors.old < 2 ^ 62 }
-    ensures line { HasSent E.Sink errors.old errors.new (fault_line (refused_text Memory)) }
-    ensures status { result ≡ 5 }
-{
-    tell(errors, Refused::Memory);
-    MEMORY
-}
-
 /// Reports in one line that the input could not be read, and returns the status of the program.
 fn report_failed_input<E: Sink>(errors: &mut E) -> u8
     requires { E.failures errors.old < 2 ^ 62 }
@@ -136,7 +124,7 @@ fn report_unopened_input<E: Sink>(errors: &mut E, fault: OpenFault) -> u8
     ensures status { result ≡ unfound_status fault }
 {
     match fault {
-        OpenFault::Memory => report_memory(errors),
+        OpenFault::Memory => tell_answer(errors, Err(Refused::Memory)),
         OpenFault::Unread(_) => report_failed_input(errors),
     }
 }
@@ -150,7 +138,7 @@ fn report_unread<I, E: Sink>(errors: &mut E, why: &UnreadInput<I>) -> u8
     match why {
         UnreadInput::Unopened(fault) => report_unopened_input(errors, *fault),
         UnreadInput::Failed(_) => report_failed_input(errors),
-        UnreadInput::Memory(_) => report_memory(errors),
+        UnreadInput::Memory(_) => tell_answer(errors, Err(Refused::Memory)),
     }
 }
 
@@ -173,7 +161,7 @@ fn report_unfound<E: Sink>(errors: &mut E, update: bool, name: &str, fault: Open
     ensures status { result ≡ unfound_status fault }
 {
     match fault {
-        OpenFault::Memory => report_memory(errors),
+        OpenFault::Memory => tell_answer(errors, Err(Refused::Memory)),
         OpenFault::Unread(_) => {
             report_failed(errors, name, unfound_words(update));
             FAULT

@@ -10,7 +10,6 @@ mod golden_run;
 pub mod laws;
 mod memory_files;
 mod one_file;
-mod printing;
 mod ruled_file;
 mod ruled_pair;
 mod run_job;

@@ -4,7 +4,7 @@ ghost use Rattle.dap_file.specs.Crash.{LeavesOnly};
 ghost use Rattle.dap_file.specs.Replacing.{IsOldOrNew};
 ghost use Rattle.dap_normalise.specs.NameTables.{AreReady};
 ghost use Rattle.dap_runs.specs.Reporting.{HasSent};
-ghost use Rattle.dap_runs.specs.Saving.{Saves, unsaved_line};
+ghost use Rattle.dap_runs.specs.Saving.{Saves};
 ghost use Rattle.dapnorm.specs.OneFile.{input_name};
 ghost use Rattle.dapnorm.specs.SavedRun.{EndTakes, Finishes, IsHeld, RunIsSaved, unfound_line};
 ghost use Rattle.dapnorm.specs.SavedRun.{unfound_status};
@@ -14,14 +14,14 @@ use crate::ruled_file::RuledRun;
 use crate::targets::Targets;
 use crate::task::{Task, run_task};
 use dap_commands::Job;
-use dap_device::{Sink, Source, write_and_flush};
+use dap_device::{Sink, Source};
 use dap_file::Replaceable;
 use dap_input::Refused;
 use dap_rename::{NameTable, Tables};
 use dap_rules::TextSink;
 use dap_runs::{
     DONE, FAULT, Files, LIMITS, MEMORY, OpenFault, RulesFiles, RulesOpenFault, is_standard,
-    report_parts, save, tell,
+    report_parts, report_unsaved, save, tell,
 };
 use std::alloc::Global;
 
@@ -52,15 +52,6 @@ pub struct SavedRun<I, O> {
     pub end: SaveEnd<I, O>,
 }
 
-/// Reports in one line that a file could not be written. A failure to write the line is not
-/// reported.
-fn report_unwritten<E: Sink>(errors: &mut E, name: &str)
-    requires { E.failures errors.old < 2 ^ 62 }
-    ensures { HasSent E.Sink errors.old errors.new (unsaved_line name.now) }
-{
-    report_parts(errors, &[b"dapnorm: ", name.as_bytes(), b": write fault\n"]);
-}
-
 /// Reports in one line that no file that can be replaced was found, and returns the status of the
 /// program.
 pub(crate) fn report_unfound<E: Sink>(errors: &mut E, name: &str, fault: OpenFault) -> u8
@@ -74,18 +65,10 @@ pub(crate) fn report_unfound<E: Sink>(errors: &mut E, name: &str, fault: OpenFau
             MEMORY
         }
         OpenFault::Unread(_) => {
-            report_unwritten(errors, name);
+            report_unsaved(errors, name);
             FAULT
         }
     }
-}
-
-/// Sends bytes to the errors. A failure to write them is not reported.
-fn send_bytes<E: Sink>(errors: &mut E, bytes: &[u8])
-    requires { E.failures errors.old < 2 ^ 62 }
-    ensures { HasSent E.Sink errors.old errors.new bytes.now }
-{
-    let _ = write_and_flush(errors, bytes);
 }
 
 /// Reports what a run reported, which was held in memory.
@@ -94,7 +77,7 @@ fn report_held<E: Sink>(errors: &mut E, reported: TextSink)
     ensures { HasSent E.Sink errors.old errors.new reported.out }
 {
     let bytes = reported.into_bytes();
-    send_bytes(errors, bytes.as_slice());
+    report_parts(errors, &[bytes.as_slice()]);
 }
 
 /// Saves the output of a run, which was held in memory, and returns the status of the program.
