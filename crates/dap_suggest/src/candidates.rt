@@ -8,8 +8,8 @@ use std::alloc::{AllocError, Global};
 const CANDIDATES: usize = 9;
 
 /// Returns the verbs that are tried at a text, by their place in the order in which they are tried,
-/// with spaces after them up to one length. Each verb is for one rule. Two verbs are in an order that
-/// a file of rules may have. After the last ones the verb makes any two values of one sort equal.
+/// with spaces up to one length. Each verb is for one rule. Two verbs are in an order that a file of
+/// rules may have. After the last ones the verb makes any two values of one sort equal.
 fn verbs_of(candidate: usize) -> &'static [&'static str] {
     match candidate {
         0 => &["uuid   "],

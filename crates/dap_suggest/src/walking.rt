@@ -131,8 +131,8 @@ impl<'t> Walk<'t> {
         Ok(())
     }
 
-    /// Ends the comparison of two lists or objects. Their place is added in place of those that were
-    /// found in it, unless rules for these are enough. `start` places were found before it, and
+    /// Ends the comparison of two lists or objects. Their place is added in place of those found in
+    /// it, unless rules for these are enough. `start` places were found before it, and
     /// `was_enough` says whether rules for these make what is around the lists or objects equal.
     fn settle(
         &mut self,
