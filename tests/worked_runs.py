@@ -505,6 +505,7 @@ def of_options():
     )
     yield stream("another reason", ["diff", "--all", "a", "b"], b"", (1, other_reason, b""), {"a": STEP, "b": HIT})
     yield stream("one recording", ["diff", "--all", "a", "a"], b"", (0, b"same\n", b""), {"a": STEP})
+    yield stream("the first records", ["normalise", "--explain"], recording(BEGUN), (0, recording(NORMAL_BEGUN), b""))
     shown, given = b'1 < event "initialized" seq=2\n', recording([INITIALIZED])
     yield stream("an event", ["show", "--full"], given, (0, shown + b'  event "initialized"\n  seq 2\n  type "event"\n', b""))
     told = refusal("record 1: NotInitialized")

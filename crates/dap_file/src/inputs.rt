@@ -29,8 +29,8 @@ impl Read for Input {
     }
 }
 
-/// An input with the reason of the last read that failed. It also stores the bytes that were read,
-/// if they are required to explain a rejection.
+/// An input with the reason of the last read, if that failed. It also stores the bytes that were
+/// read, if they are required to explain a rejection.
 #[derive(Drop)]
 pub struct KeptInput {
     input: Input,
@@ -61,7 +61,8 @@ impl KeptInput {
         }
     }
 
-    /// Returns the reason of the last read that failed.
+    /// Returns the reason of the last read, if that failed. The next read that succeeds clears it,
+    /// such as the repetition of a read that a signal interrupted.
     pub fn failure(&self) -> Option<&Error> {
         self.failure.as_ref()
     }
@@ -80,6 +81,7 @@ impl Read for KeptInput {
     fn read(&mut self, buffer: &mut [u8]) -> io::Result<usize> {
         match self.input.read(buffer) {
             Ok(count) => {
+                self.failure = None;
                 self.keep(&buffer[..count]);
                 Ok(count)
             }
