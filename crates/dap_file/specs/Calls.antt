@@ -47,6 +47,11 @@ abbrev pub FitsIn : ℕ → Content → Type 0
 FitsIn limit None = ⊥
 FitsIn limit (Some bytes) = length bytes ≤ limit
 
+-- The file exists and is not empty.
+abbrev pub HasBytes : Content → Type 0
+HasBytes None = ⊥
+HasBytes (Some bytes) = 0 < length bytes
+
 module _ {F : Type 0} (target : F → Content) where
   -- The content under the name is unchanged, and a crash leaves only contents that it could leave
   -- before.

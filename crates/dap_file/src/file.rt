@@ -6,8 +6,8 @@ ghost use Rattle.std.specs.Option.{option_map};
 ghost use Rattle.dap_file.specs.declared.file.Step.{Step};
 ghost use Rattle.dap_file.specs.Crash.{Content, Elapses, Only};
 ghost use Rattle.dap_file.specs.Calls.{call_failures, content_of, read_failures, step_after};
-ghost use Rattle.dap_file.specs.Calls.{FitsIn, IsLonger, IsRenamed, IsUnchanged, KeepsTarget};
-ghost use Rattle.dap_file.specs.Calls.{MayBeRenamed};
+ghost use Rattle.dap_file.specs.Calls.{FitsIn, HasBytes, IsLonger, IsRenamed, IsUnchanged};
+ghost use Rattle.dap_file.specs.Calls.{KeepsTarget, MayBeRenamed};
 
 use std::alloc::Global;
 
@@ -81,7 +81,8 @@ pub trait Replaceable {
     ///
     /// - `Failed`: a call on the file system failed.
     /// - `TooLong`: the file has more than `limit` bytes.
-    /// - `Memory`: an allocation failed. The file exists and is not longer than the limit.
+    /// - `Memory`: an allocation failed. The file exists, is not empty and is not longer than the
+    ///   limit.
     fn read(&mut self, alloc: Global, limit: u64) -> Result<Option<Vec<u8>>, ReadFault>
         requires { failures self.old < 2 ^ 63 }
         ensures within { IfOk result (λ found. IfSome found (λ bytes. length bytes.items ≤ limit)) }
@@ -94,6 +95,8 @@ pub trait Replaceable {
             → IsErrOf result ReadFault.TooLong → IsLonger limit (target self.old) }
         ensures memory { is_known self.old
             → IsErrOf result ReadFault.Memory → FitsIn limit (target self.old) }
+        ensures memory_for_bytes { is_known self.old
+            → IsErrOf result ReadFault.Memory → HasBytes (target self.old) }
         ensures target { is_known self.old → KeepsTarget target may_leave self.old self.new }
         ensures temporary { is_known self.old → temporary self.new ≡ temporary self.old }
         ensures time { is_known self.old

@@ -178,6 +178,9 @@ impl Replaceable for MemoryFile {
         let Some(bytes) = &self.target else {
             return Ok(None);
         };
+        if bytes.is_empty() {
+            return Ok(Some(Vec::new(alloc)));
+        }
         if bytes.len() as u64 > limit {
             return Err(ReadFault::TooLong);
         }
