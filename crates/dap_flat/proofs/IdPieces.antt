@@ -6,10 +6,13 @@ use Rattle.std.proofs.lemmas.List.{drop-drop, take_more_set, drop-set-lt, map-ap
 use Rattle.std.proofs.Math.Seq.{drop-cons}
 use Rattle.std.proofs.Common.{◌<◌, map, take, set, get_or, arith}
 use Rattle.dap_flat.specs.declared.node.Node.{Node}
+use Rattle.dap_flat.specs.declared.node.Node.TheVariants.{Id}
 use Rattle.dap_tree.specs.Doc.{Doc, null, boolean, whole, text, list, object, id, Items, no_items}
 use Rattle.dap_tree.specs.Doc.{item, Members, no_members, member}
 use Rattle.dap_tree.specs.Ids.{ids, items_ids, members_ids, id_count, items_id_count}
 use Rattle.dap_tree.specs.Ids.{members_id_count, with_ids, items_with_ids, members_with_ids}
+use Rattle.dap_tree.specs.Ids.{Extends}
+use Rattle.dap_tree.specs.declared.sort.Sort.{Sort}
 use Rattle.dap_flat.specs.Pieces.{Piece, begin_list, end_list, begin_object, end_object, name}
 use Rattle.dap_flat.specs.Pieces.{piece_of, pieces, items_pieces, members_pieces}
 use Rattle.dap_flat.specs.Ids.{piece_ids, ids_in, with_number, after_piece, numbered}
@@ -152,3 +155,21 @@ one_numbered ns i d y rest after within put left =
     ∙ ap (λ p. map piece_of (take i ns) ++ (p ∷ numbered (map piece_of (drop (i + 1) ns))
     (after_piece (piece_of x) rest))) put
     ∙ ap (λ ks. map piece_of (take i ns) ++ numbered (map piece_of ks) rest) (sym now)
+
+-- a document with an id among the remaining nodes has an id
+pub some_id : (before found : List (Sort × ℤ)) (ns : List Node) (i : ℕ) (d : Node) (s : Sort)
+    (z : ℤ) → i < length ns → get_or ns i d ≡ Id s z → Extends before found
+    → found ++ ids_in (map piece_of (drop i ns)) ≡ before ++ ids_in (map piece_of ns)
+    → ids_in (map piece_of ns) ≡ [] → ⊥
+some_id before found ns i d s z within is more all none =
+    let rest = ids_in (map piece_of (drop (suc i) ns)) in
+    let next : ids_in (map piece_of (drop i ns)) ≡ (s, z) ∷ rest =
+    ap (λ ks. ids_in (map piece_of ks))
+    (drop-cons ns i d within ∙ ap (λ x. x ∷ drop (suc i) ns) is) in
+    let grown : length found ≡ length before + length more.0 =
+    ap length more.1 ∙ length-append before more.0 in
+    let counts : length found + suc (length rest) ≡ length before + 0 =
+    sym (length-append found ((s, z) ∷ rest)) ∙ ap (λ is. length (found ++ is)) (sym next)
+    ∙ ap length all ∙ length-append before (ids_in (map piece_of ns))
+    ∙ ap (λ is. length before + length is) none in
+    omega (arith, grown, counts)

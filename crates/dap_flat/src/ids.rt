@@ -1,5 +1,5 @@
 //! Lists the ids of a flat document, and replaces their numbers.
-ghost use Rattle.std.specs.Prelude.{◌≡◌, ◌++◌, map, OnOk, OnErr};
+ghost use Rattle.std.specs.Prelude.{◌≡◌, ◌++◌, [], map, IsOk, OnOk, OnErr};
 ghost use Rattle.dap_tree.specs.Doc.{Doc};
 ghost use Rattle.dap_tree.specs.Ids.{ids, with_ids, Extends};
 ghost use Rattle.dap_flat.specs.Pieces.{piece_of, Represents};
@@ -9,13 +9,15 @@ use crate::node::Node;
 use dap_tree::Sort;
 use std::alloc::AllocError;
 
-/// Appends the ids of a document, in the order of its text.
+/// Appends the ids of a document, in the order of its text. A document without ids does not
+/// allocate.
 ///
 /// After an error the items of `found` are unchanged; its capacity may have grown.
 pub fn add_ids(nodes: &[Node<'_>], found: &mut Vec<(Sort, i64)>) -> Result<(), AllocError>
     ensures ok { OnOk result ((d : Doc) → Represents nodes.now d
         → found.new.items ≡ found.old.items ++ ids d) }
     ensures err { OnErr result (found.new.items ≡ found.old.items) }
+    ensures none { (d : Doc) → Represents nodes.now d → ids d ≡ [] → IsOk result }
 {
     let before = found.len();
     let listed = list_ids(nodes, found);
@@ -29,6 +31,7 @@ fn list_ids(nodes: &[Node<'_>], found: &mut Vec<(Sort, i64)>) -> Result<(), Allo
     ensures ok { OnOk result
         (found.new.items ≡ found.old.items ++ ids_in (map piece_of nodes.now)) }
     ensures err { OnErr result (Extends found.old.items found.new.items) }
+    ensures none { ids_in (map piece_of nodes.now) ≡ [] → IsOk result }
 {
     for node in nodes {
         if let Node::Id(sort, n) = *node {
