@@ -19,3 +19,4 @@ pub mod Untold
 pub mod Told
 pub mod NodeLengths
 pub mod DigitCounts
+pub mod SomeContents

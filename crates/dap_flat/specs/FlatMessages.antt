@@ -7,6 +7,8 @@ use Rattle.dap_flat.specs.Document.{document_of}
 use Rattle.dap_flat.specs.declared.message.FlatMessage.{FlatMessage}
 use Rattle.dap_flat.specs.declared.reading.FlatFault.{FlatFault}
 use Rattle.dap_flat.specs.declared.reading.FlatFault.TheVariants.{Memory, Unclear, Message}
+use Rattle.dap_flat.specs.declared.unread.Unread.{Unread}
+use Rattle.dap_flat.specs.declared.unread.Unread.TheVariants as unread
 
 -- The side that sent it.
 abbrev pub flat_side : FlatMessage → Side
@@ -33,3 +35,7 @@ RefusesContent bytes Unclear = Unit {0}
 -- The cause is not a fault of the content.
 abbrev pub IsNoVerdict : FlatFault → Type 0
 IsNoVerdict f = (bytes : List ℕ) → RefusesContent bytes f
+
+-- The content was not read as a document for this cause, so it is not read as a message either.
+abbrev pub IsCausedBy : Unread → FlatFault → Type 0
+IsCausedBy cause f = IsNoVerdict f × (f ≡ Memory → cause ≡ unread.Memory)

@@ -1,6 +1,6 @@
 //! Writes the canonical text of a content. It is read as a flat document if possible, and as a tree
 //! otherwise.
-ghost use Rattle.std.specs.Prelude.{◌≡◌, ◌++◌, OnOk, OnErr, IfErr};
+ghost use Rattle.std.specs.Prelude.{◌≡◌, ◌<◌, ◌++◌, length, OnOk, OnErr, IfErr, IsErrOf};
 ghost use Rattle.dap_tree.specs.Json.{ExplainsText};
 ghost use Rattle.dap_flat.specs.Canonical.{AppendsCanonical};
 
@@ -19,7 +19,7 @@ use std::alloc::Global;
 /// # Errors
 ///
 /// Those of [`read_tree_with`]: the content is not JSON, it has a number that is not an integer, or
-/// an allocation failed.
+/// an allocation failed, which is possible only for a content that is not empty.
 pub fn append_canonical(
     alloc: Global,
     content: &[u8],
@@ -28,6 +28,7 @@ pub fn append_canonical(
 ) -> Result<(), TreeFault>
     ensures text { OnOk result (AppendsCanonical content.now out.old.items out.new.items) }
     ensures err { IfErr result (ExplainsText content.now) }
+    ensures memory { IsErrOf result TreeFault.Memory → 0 < length content.now }
     ensures kept { OnErr result (out.new.items ≡ out.old.items) }
 {
     match append_flat(alloc, content, scratch, out) {
@@ -44,14 +45,19 @@ fn append_flat(
     out: &mut Vec<u8>,
 ) -> Result<(), Unread>
     ensures text { OnOk result (AppendsCanonical content.now out.old.items out.new.items) }
+    ensures memory { IsErrOf result Unread.Memory → 0 < length content.now }
     ensures kept { OnErr result (out.new.items ≡ out.old.items) }
 {
+    if content.is_empty() {
+        return Err(Unread::Unclear);
+    }
     let room = Vec::with_capacity(alloc, content.len() / 8 + 8)?;
     let nodes = read_flat(content, scratch, room)?;
     write_flat(alloc, nodes.as_slice(), out)?;
     Ok(())
 }
 
+#[tactic(auto, using(crate::proofs::SomeContents::some_content))]
 fn append_tree(
     alloc: Global,
     content: &[u8],
@@ -60,6 +66,7 @@ fn append_tree(
 ) -> Result<(), TreeFault>
     ensures text { OnOk result (AppendsCanonical content.now out.old.items out.new.items) }
     ensures err { IfErr result (ExplainsText content.now) }
+    ensures memory { IsErrOf result TreeFault.Memory → 0 < length content.now }
     ensures kept { OnErr result (out.new.items ≡ out.old.items) }
 {
     let tree = read_tree_with(alloc, content, scratch)?;

@@ -11,19 +11,19 @@ ghost use Rattle.dap_flat.specs.Places.{IsEnvelope};
 
 use crate::members::{Envelope, kind_of_tree, name_of_tree};
 use crate::rows::{Broken, broken_by, is_object};
-use crate::{Node, Unread};
+use crate::{Node, Unclear};
 use dap_message::MessageFault;
 use dap_profile::{Kind, Row, rows_of};
 
 /// Returns the message's fault, as `typed` does, or `None` if it has none.
 ///
 /// Returns `Unclear` if the nodes do not represent a document.
-pub fn message_fault(nodes: &[Node<'_>], found: &Envelope) -> Result<Option<MessageFault>, Unread>
+pub fn message_fault(nodes: &[Node<'_>], found: &Envelope) -> Result<Option<MessageFault>, Unclear>
     requires { IsEnvelope nodes.now found.now }
     ensures { IfOk result (IsFault nodes.now) }
 {
     if nodes.is_empty() {
-        return Err(Unread::Unclear);
+        return Err(Unclear);
     }
     if !is_object(&nodes[0]) {
         return Ok(Some(MessageFault::NotObject));
@@ -40,7 +40,7 @@ pub fn first_broken(
     found: &Envelope,
     kind: Kind,
     name: Option<&str>,
-) -> Result<Option<MessageFault>, Unread>
+) -> Result<Option<MessageFault>, Unclear>
     requires named { IsNamed nodes.now kind (text_in name) }
     requires places { IsEnvelope nodes.now found.now }
     ensures { IfOk result (IsFault nodes.now) }
@@ -53,7 +53,7 @@ pub fn first_asked(
     nodes: &[Node<'_>],
     found: &Envelope,
     stretches: &[&[Row]],
-) -> Result<Option<MessageFault>, Unread>
+) -> Result<Option<MessageFault>, Unclear>
     requires asked { AreAsked nodes.now (rows_in stretches.now) }
     requires places { IsEnvelope nodes.now found.now }
     ensures { IfOk result (IsFault nodes.now) }
@@ -65,7 +65,7 @@ fn first_in(
     stretches: &[&[Row]],
     nodes: &[Node<'_>],
     found: &Envelope,
-) -> Result<Option<MessageFault>, Unread>
+) -> Result<Option<MessageFault>, Unclear>
     ensures { IfOk result (IsFirst nodes.now found.now (rows_in stretches.now)) }
 {
     for rows in stretches {
@@ -81,7 +81,7 @@ fn first_of(
     rows: &[Row],
     nodes: &[Node<'_>],
     found: &Envelope,
-) -> Result<Option<MessageFault>, Unread>
+) -> Result<Option<MessageFault>, Unclear>
     ensures { IfOk result (IsFirst nodes.now found.now (map row_of rows.now)) }
 {
     for row in rows {
@@ -93,7 +93,11 @@ fn first_of(
     Ok(None)
 }
 
-fn fault_by(row: &Row, nodes: &[Node<'_>], found: &Envelope) -> Result<Option<MessageFault>, Unread>
+fn fault_by(
+    row: &Row,
+    nodes: &[Node<'_>],
+    found: &Envelope,
+) -> Result<Option<MessageFault>, Unclear>
     ensures { IfOk result (IsTold nodes.now found.now (fault_by (row_of row.now))) }
 {
     match broken_by(row, nodes, found)? {

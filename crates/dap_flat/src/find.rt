@@ -4,17 +4,17 @@ ghost use Rattle.dap_flat.specs.Finding.{FindsChild, FindsMember};
 
 use crate::node::Node;
 use crate::place::value_end;
-use crate::unread::Unread;
+use crate::unread::Unclear;
 
 /// Returns the place of a member's value in the document that starts at `at`, or `None` if there is
 /// no such member or the document is not an object.
 ///
 /// Returns `Unclear` if no document starts there.
-pub fn child(nodes: &[Node<'_>], at: usize, name: &str) -> Result<Option<usize>, Unread>
+pub fn child(nodes: &[Node<'_>], at: usize, name: &str) -> Result<Option<usize>, Unclear>
     ensures { IfOk result (FindsChild nodes.now at name.now) }
 {
     if at >= nodes.len() {
-        return Err(Unread::Unclear);
+        return Err(Unclear);
     }
     match nodes[at] {
         Node::Object(_) => member(nodes, at + 1, name),
@@ -22,7 +22,7 @@ pub fn child(nodes: &[Node<'_>], at: usize, name: &str) -> Result<Option<usize>,
     }
 }
 
-fn member(nodes: &[Node<'_>], from: usize, name: &str) -> Result<Option<usize>, Unread>
+fn member(nodes: &[Node<'_>], from: usize, name: &str) -> Result<Option<usize>, Unclear>
     ensures { IfOk result (FindsMember nodes.now from name.now) }
 {
     let mut p = from;
@@ -32,13 +32,13 @@ fn member(nodes: &[Node<'_>], from: usize, name: &str) -> Result<Option<usize>, 
                 if same_text(name, other) {
                     return Ok(Some(p + 1));
                 }
-                p = value_end(nodes, p + 1).ok_or(Unread::Unclear)?;
+                p = value_end(nodes, p + 1).ok_or(Unclear)?;
             }
             Node::EndObject => return Ok(None),
-            _ => return Err(Unread::Unclear),
+            _ => return Err(Unclear),
         }
     }
-    Err(Unread::Unclear)
+    Err(Unclear)
 }
 
 /// Returns whether two texts are equal. Most names that are compared differ in their lengths, so it

@@ -36,5 +36,5 @@ pub use node::Node;
 pub use parse::read_flat;
 pub use place::value_end;
 pub use reading::{FlatFault, read_flat_message};
-pub use unread::Unread;
+pub use unread::{Unclear, Unread};
 pub use write::write_flat;

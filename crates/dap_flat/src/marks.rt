@@ -7,7 +7,7 @@ ghost use Rattle.std.specs.Bool.{MatchBool};
 ghost use Rattle.dap_flat.specs.Pieces.{piece_of, end_list};
 ghost use Rattle.dap_flat.specs.Marking.{Edits, EditsItems, steps, marked_piece};
 
-use crate::{Node, Unread, child, value_end};
+use crate::{Node, Unclear, child, value_end};
 use dap_tree::Sort;
 
 /// One step of a path: to a member, or to each element.
@@ -24,7 +24,7 @@ pub fn mark_path(
     at: usize,
     path: &[Step<'_>],
     sort: Sort,
-) -> Result<(), Unread>
+) -> Result<(), Unclear>
     ensures { OnOk result (Edits nodes.old nodes.new at (edit (steps path.now) (marked sort))) }
 {
     match path {
@@ -43,7 +43,7 @@ fn mark_below(
     name: &str,
     path: &[Step<'_>],
     sort: Sort,
-) -> Result<(), Unread>
+) -> Result<(), Unclear>
     ensures { OnOk result (Edits nodes.old nodes.new at
         (change_child name.now (edit (steps path.now) (marked sort)))) }
 {
@@ -55,12 +55,17 @@ fn mark_below(
 
 /// Marks the numbers at a path in each item of a list.
 #[cycle(mark_path)]
-fn mark_each(nodes: &mut [Node<'_>], at: usize, path: &[Step<'_>], sort: Sort) -> Result<(), Unread>
+fn mark_each(
+    nodes: &mut [Node<'_>],
+    at: usize,
+    path: &[Step<'_>],
+    sort: Sort,
+) -> Result<(), Unclear>
     ensures { OnOk result (Edits nodes.old nodes.new at
         (change_items (edit (steps path.now) (marked sort)))) }
 {
     if at >= nodes.len() {
-        return Err(Unread::Unclear);
+        return Err(Unclear);
     }
     match nodes[at] {
         Node::List(_) => mark_items(nodes, at + 1, path, sort),
@@ -74,7 +79,7 @@ fn mark_items(
     from: usize,
     path: &[Step<'_>],
     sort: Sort,
-) -> Result<(), Unread>
+) -> Result<(), Unclear>
     ensures { OnOk result (EditsItems nodes.old nodes.new from
         (edit (steps path.now) (marked sort))) }
 {
@@ -83,11 +88,11 @@ fn mark_items(
         if is_end(nodes[p]) {
             return Ok(());
         }
-        let end = value_end(nodes, p).ok_or(Unread::Unclear)?;
+        let end = value_end(nodes, p).ok_or(Unclear)?;
         mark_path(nodes, p, path, sort)?;
         p = end;
     }
-    Err(Unread::Unclear)
+    Err(Unclear)
 }
 
 fn is_end(node: Node<'_>) -> bool
@@ -100,11 +105,11 @@ fn is_end(node: Node<'_>) -> bool
     }
 }
 
-fn make_id(nodes: &mut [Node<'_>], at: usize, sort: Sort) -> Result<(), Unread>
+fn make_id(nodes: &mut [Node<'_>], at: usize, sort: Sort) -> Result<(), Unclear>
     ensures { OnOk result (Edits nodes.old nodes.new at (marked sort)) }
 {
     if at >= nodes.len() {
-        return Err(Unread::Unclear);
+        return Err(Unclear);
     }
     nodes[at] = as_id(nodes[at], sort);
     Ok(())

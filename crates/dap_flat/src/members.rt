@@ -12,7 +12,7 @@ ghost use Rattle.dap_flat.specs.Places.{IsEnvelope, FindsTop, word, place_at, pu
 ghost use Rattle.dap_flat.specs.declared.members.Key.{Key};
 
 use crate::rows::is_object;
-use crate::{Node, Unread, child, same_text, value_end};
+use crate::{Node, Unclear, child, same_text, value_end};
 use dap_profile::Kind;
 
 /// A member at the top of a message that rows look at.
@@ -140,12 +140,12 @@ fn first(found: Option<usize>, place: usize) -> Option<usize>
 /// them. If it is not an object, it has none.
 ///
 /// Returns `Unclear` if the nodes do not represent a document.
-pub fn find_envelope(nodes: &[Node<'_>]) -> Result<Envelope, Unread>
+pub fn find_envelope(nodes: &[Node<'_>]) -> Result<Envelope, Unclear>
     ensures { IfOk result (IsEnvelope nodes.now) }
 {
     let mut found = Envelope::new();
     if nodes.is_empty() {
-        return Err(Unread::Unclear);
+        return Err(Unclear);
     }
     if !is_object(&nodes[0]) {
         return Ok(found);
@@ -155,13 +155,13 @@ pub fn find_envelope(nodes: &[Node<'_>]) -> Result<Envelope, Unread>
         match nodes[p] {
             Node::Name(name) => {
                 found = noted(found, name, p + 1);
-                p = value_end(nodes, p + 1).ok_or(Unread::Unclear)?;
+                p = value_end(nodes, p + 1).ok_or(Unclear)?;
             }
             Node::EndObject => return Ok(found),
-            _ => return Err(Unread::Unclear),
+            _ => return Err(Unclear),
         }
     }
-    Err(Unread::Unclear)
+    Err(Unclear)
 }
 
 #[inline(always)]
@@ -205,7 +205,7 @@ fn key_named(name: &str) -> Option<Key>
 /// Returns the place of a member's value, as [`child`] does at the top of the document. It looks
 /// into the nodes only if the envelope does not note the name.
 #[inline(always)]
-pub fn top_child(nodes: &[Node<'_>], found: &Envelope, name: &str) -> Result<Option<usize>, Unread>
+pub fn top_child(nodes: &[Node<'_>], found: &Envelope, name: &str) -> Result<Option<usize>, Unclear>
     ensures { IfOk result (FindsTop nodes.now found.now name.now) }
 {
     match key_named(name) {
@@ -215,14 +215,14 @@ pub fn top_child(nodes: &[Node<'_>], found: &Envelope, name: &str) -> Result<Opt
 }
 
 /// Returns the string that starts at the place, if one does.
-pub fn text_at<'a>(nodes: &[Node<'a>], place: Option<usize>) -> Result<Option<&'a str>, Unread>
+pub fn text_at<'a>(nodes: &[Node<'a>], place: Option<usize>) -> Result<Option<&'a str>, Unclear>
     ensures { IfOk result (λ s. IsValue nodes.now place text_value (text_in s)) }
 {
     let Some(at) = place else {
         return Ok(None);
     };
     if at >= nodes.len() {
-        return Err(Unread::Unclear);
+        return Err(Unclear);
     }
     Ok(text_of(&nodes[at]))
 }
@@ -237,14 +237,14 @@ fn text_of<'a>(node: &Node<'a>) -> Option<&'a str>
 }
 
 /// Returns the boolean that starts at the place, if one does.
-pub fn boolean_at(nodes: &[Node<'_>], place: Option<usize>) -> Result<Option<bool>, Unread>
+pub fn boolean_at(nodes: &[Node<'_>], place: Option<usize>) -> Result<Option<bool>, Unclear>
     ensures { IfOk result (IsValue nodes.now place boolean_value) }
 {
     let Some(at) = place else {
         return Ok(None);
     };
     if at >= nodes.len() {
-        return Err(Unread::Unclear);
+        return Err(Unclear);
     }
     Ok(boolean_of(&nodes[at]))
 }
@@ -259,14 +259,14 @@ fn boolean_of(node: &Node<'_>) -> Option<bool>
 }
 
 /// Returns the number of the id that starts at the place, if one does.
-pub fn number_at(nodes: &[Node<'_>], place: Option<usize>) -> Result<Option<i64>, Unread>
+pub fn number_at(nodes: &[Node<'_>], place: Option<usize>) -> Result<Option<i64>, Unclear>
     ensures { IfOk result (IsValue nodes.now place id_number) }
 {
     let Some(at) = place else {
         return Ok(None);
     };
     if at >= nodes.len() {
-        return Err(Unread::Unclear);
+        return Err(Unclear);
     }
     Ok(number_of(&nodes[at]))
 }
@@ -281,7 +281,7 @@ fn number_of(node: &Node<'_>) -> Option<i64>
 }
 
 /// Returns the kind of a document with this envelope, if it has one.
-pub fn kind_of_tree(nodes: &[Node<'_>], envelope: &Envelope) -> Result<Option<Kind>, Unread>
+pub fn kind_of_tree(nodes: &[Node<'_>], envelope: &Envelope) -> Result<Option<Kind>, Unclear>
     ensures { IfOk result
         (λ k. (d : Doc) → Tells nodes.now d envelope.now → k ≡ kind_of_tree d) }
 {
@@ -311,7 +311,7 @@ pub fn name_of_tree<'a>(
     nodes: &[Node<'a>],
     envelope: &Envelope,
     kind: Kind,
-) -> Result<Option<&'a str>, Unread>
+) -> Result<Option<&'a str>, Unclear>
     ensures { IfOk result
         (λ n. (d : Doc) → Tells nodes.now d envelope.now → text_in n ≡ name_of_tree kind d) }
 {
@@ -322,7 +322,7 @@ pub fn name_of_tree<'a>(
     }
 }
 
-fn body_name<'a>(nodes: &[Node<'a>], envelope: &Envelope) -> Result<Option<&'a str>, Unread>
+fn body_name<'a>(nodes: &[Node<'a>], envelope: &Envelope) -> Result<Option<&'a str>, Unclear>
     ensures { IfOk result
         (λ n. (d : Doc) → Tells nodes.now d envelope.now → text_in n
         ≡ name_of_tree Kind.Response d) }
@@ -334,14 +334,14 @@ fn body_name<'a>(nodes: &[Node<'a>], envelope: &Envelope) -> Result<Option<&'a s
     }
 }
 
-fn has_succeeded(nodes: &[Node<'_>], place: Option<usize>) -> Result<bool, Unread>
+fn has_succeeded(nodes: &[Node<'_>], place: Option<usize>) -> Result<bool, Unclear>
     ensures { IfOk result (IsValue nodes.now place is_true) }
 {
     let Some(at) = place else {
         return Ok(false);
     };
     if at >= nodes.len() {
-        return Err(Unread::Unclear);
+        return Err(Unclear);
     }
     Ok(tells_true(&nodes[at]))
 }

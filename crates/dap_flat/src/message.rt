@@ -16,7 +16,7 @@ ghost use Rattle.dap_flat.specs.Heads.{Tells, text_in};
 ghost use Rattle.dap_flat.specs.Lengths.{IsLengthWithin};
 
 use crate::members::{Envelope, boolean_at, kind_of_tree, number_at, text_at};
-use crate::{Node, Unread, add_ids, length_within, replace_ids, write_flat};
+use crate::{Node, Unclear, add_ids, length_within, replace_ids, write_flat};
 use dap_message::AnyMessage;
 use dap_profile::Kind;
 use dap_tree::{Side, Sort};
@@ -61,14 +61,14 @@ impl<'a> FlatMessage<'a> {
         side: Side,
         nodes: Vec<Node<'a>>,
         found: &Envelope,
-    ) -> Result<FlatMessage<'a>, Unread>
+    ) -> Result<FlatMessage<'a>, Unclear>
         requires { IsMadeOf side nodes.items found.now }
         ensures side { IfOk result (λ m. flat_side m ≡ side) }
         ensures doc { IfOk result (λ m. flat_doc m ≡ document_of nodes.entry.items) }
     {
-        let kind = kind_of_tree(&nodes, found)?.ok_or(Unread::Unclear)?;
-        let name = name_at(&nodes, found, kind)?.ok_or(Unread::Unclear)?;
-        let seq = number_at(&nodes, found.seq)?.ok_or(Unread::Unclear)?;
+        let kind = kind_of_tree(&nodes, found)?.ok_or(Unclear)?;
+        let name = name_at(&nodes, found, kind)?.ok_or(Unclear)?;
+        let seq = number_at(&nodes, found.seq)?.ok_or(Unclear)?;
         let (request_seq, success) = answer_at(&nodes, found, kind)?;
         Ok(FlatMessage {
             side,
@@ -149,7 +149,7 @@ fn write_numbered(
     write_flat(alloc, nodes, out)
 }
 
-fn name_at<'a>(nodes: &[Node<'a>], found: &Envelope, kind: Kind) -> Result<Option<&'a str>, Unread>
+fn name_at<'a>(nodes: &[Node<'a>], found: &Envelope, kind: Kind) -> Result<Option<&'a str>, Unclear>
     ensures { IfOk result (λ n. (d : Doc) → Tells nodes.now d found.now
         → text_in n ≡ text_value (get (name_key kind) d)) }
 {
@@ -164,14 +164,14 @@ fn answer_at(
     nodes: &[Node<'_>],
     found: &Envelope,
     kind: Kind,
-) -> Result<(Option<i64>, Option<bool>), Unread>
+) -> Result<(Option<i64>, Option<bool>), Unclear>
     ensures { IfOk result (λ a. (d : Doc) → Tells nodes.now d found.now
         → kind_of_tree d ≡ Some kind → Answers a d) }
 {
     if kind != Kind::Response {
         return Ok((None, None));
     }
-    let number = number_at(nodes, found.request_seq)?.ok_or(Unread::Unclear)?;
-    let success = boolean_at(nodes, found.success)?.ok_or(Unread::Unclear)?;
+    let number = number_at(nodes, found.request_seq)?.ok_or(Unclear)?;
+    let success = boolean_at(nodes, found.success)?.ok_or(Unclear)?;
     Ok((Some(number), Some(success)))
 }

@@ -1,6 +1,6 @@
 //! Reads the nodes of a content in one pass over the tokens of its text.
 ghost use Rattle.std.specs.Prelude.{◌≡◌, ◌<◌, ◌==◌, true, false, length, slice_index, IsTrue, IfOk};
-ghost use Rattle.std.specs.Prelude.{OnOk, slice_set};
+ghost use Rattle.std.specs.Prelude.{OnOk, IsErrOf, IsUtf8, slice_set};
 ghost use Rattle.json.specs.Json.{value, items, members};
 ghost use Rattle.serde_json.specs.Data.{no_members};
 ghost use Rattle.serde_json.specs.Read.{of_json, of_items, of_members, converted, number_of};
@@ -10,7 +10,7 @@ ghost use Rattle.dap_flat.specs.Reading.{ReadsItems, ReadsMembers};
 
 use crate::node::Node;
 use crate::place::place_member;
-use crate::unread::Unread;
+use crate::unread::{Unclear, Unread};
 use fast_float::Numeral;
 use json::{Reader, Scratch, Token};
 
@@ -23,15 +23,20 @@ const MAX_DEPTH: usize = 127;
 ///
 /// # Errors
 ///
-/// - `Memory`: an allocation failed.
+/// - `Memory`: an allocation failed. The content is UTF-8, and is not empty.
 /// - `Unclear`: the content has to be read as a tree.
 pub fn read_flat<'a>(
     content: &'a [u8],
     scratch: &'a mut Scratch,
     nodes: Vec<Node<'a>>,
 ) -> Result<Vec<Node<'a>>, Unread>
-    ensures { IfOk result (λ ns. ReadsDocument content.now ns.items) }
+    ensures ok { IfOk result (λ ns. ReadsDocument content.now ns.items) }
+    ensures memory { IsErrOf result Unread.Memory
+        → (0 < length content.now) × IsUtf8 content.now }
 {
+    if content.is_empty() {
+        return Err(Unread::Unclear);
+    }
     match std::str::from_utf8(content) {
         Ok(text) => parse_text(text, scratch, nodes),
         Err(_) => Err(Unread::Unclear),
@@ -168,7 +173,7 @@ fn set_node<'a>(nodes: &mut Vec<Node<'a>>, at: usize, node: Node<'a>)
 
 /// Returns the node of a number, if it is an integer that fits 64 bits.
 #[inline(always)]
-fn whole<'a>(text: &str) -> Result<Node<'a>, Unread>
+fn whole<'a>(text: &str) -> Result<Node<'a>, Unclear>
     ensures { IfOk result (ReadsNumber (number_of text.now)) }
 {
     let bytes = text.as_bytes();
@@ -188,18 +193,18 @@ fn has_minus(bytes: &[u8]) -> bool
 }
 
 #[inline(always)]
-fn unsigned<'a>(numeral: &Numeral<'_>) -> Result<Node<'a>, Unread>
+fn unsigned<'a>(numeral: &Numeral<'_>) -> Result<Node<'a>, Unclear>
     ensures { IfOk result (ReadsNumber (number_from false numeral.now)) }
 {
     match numeral.to_u64() {
         Some(n) => Ok(Node::Unsigned(n)),
-        None => Err(Unread::Unclear),
+        None => Err(Unclear),
     }
 }
 
 /// Returns the node of a negative number. `-0` is not an integer.
 #[inline(always)]
-fn negative<'a>(numeral: &Numeral<'_>) -> Result<Node<'a>, Unread>
+fn negative<'a>(numeral: &Numeral<'_>) -> Result<Node<'a>, Unclear>
     ensures { IfOk result (ReadsNumber (number_from true numeral.now)) }
 {
     if let Some(n) = numeral.to_i64(true) {
@@ -207,5 +212,5 @@ fn negative<'a>(numeral: &Numeral<'_>) -> Result<Node<'a>, Unread>
             return Ok(Node::Negative(n));
         }
     }
-    Err(Unread::Unclear)
+    Err(Unclear)
 }

@@ -9,7 +9,7 @@ ghost use Rattle.dap_flat.specs.Placing.{InsertsAt, Places, PlacesMember, size};
 
 use crate::node::Node;
 use crate::order::name_order;
-use crate::unread::Unread;
+use crate::unread::Unclear;
 use std::cmp::Ordering;
 
 /// The number of nodes that are moved by way of a buffer, at most. The members of a message before
@@ -26,11 +26,11 @@ pub(crate) fn insert_member(
     at: usize,
     name: &str,
     moves: &mut usize,
-) -> Result<(), Unread>
+) -> Result<(), Unclear>
     requires { (start ≤ at) × (at ≤ length nodes.old.items) }
     ensures { OnOk result (Places start at name.now nodes.old.items nodes.new.items) }
 {
-    let p = position(&nodes[start..at], name).ok_or(Unread::Unclear)?;
+    let p = position(&nodes[start..at], name).ok_or(Unclear)?;
     spend(moves, nodes.len() - start)?;
     rotate(nodes, start + p, at);
     Ok(())
@@ -45,7 +45,7 @@ pub(crate) fn place_member<'a>(
     last: Option<&'a str>,
     name: &'a str,
     moves: &mut usize,
-) -> Result<Option<&'a str>, Unread>
+) -> Result<Option<&'a str>, Unclear>
     requires { (start ≤ at) × (at ≤ length nodes.old.items) }
     ensures { IfOk result (λ now. PlacesMember start at (option_map (λ s. s.now) last.entry)
         name.now nodes.old.items nodes.new.items (option_map (λ s. s.now) now)) }
@@ -60,13 +60,13 @@ pub(crate) fn place_member<'a>(
 /// Subtracts the cost of a move from the remaining budget of the content. Without the budget, a
 /// content whose members are in falling order would take quadratic time.
 #[inline(always)]
-fn spend(moves: &mut usize, cost: usize) -> Result<(), Unread> {
+fn spend(moves: &mut usize, cost: usize) -> Result<(), Unclear> {
     match moves.checked_sub(cost) {
         Some(left) => {
             *moves = left;
             Ok(())
         }
-        None => Err(Unread::Unclear),
+        None => Err(Unclear),
     }
 }
 

@@ -11,7 +11,7 @@ ghost use Rattle.dap_flat.specs.Marking.{steps};
 
 use crate::marks::{Step, mark_path};
 use crate::members::{Envelope, top_child};
-use crate::{Node, Unread};
+use crate::{Node, Unclear};
 use dap_profile::{Place, Row, Want};
 use dap_tree::{Side, Sort};
 
@@ -21,7 +21,7 @@ pub fn mark_message(
     found: &Envelope,
     stretches: &[&[Row]],
     side: Side,
-) -> Result<(), Unread>
+) -> Result<(), Unclear>
     requires { AreAsked nodes.old (rows_in stretches.now) }
     ensures { OnOk result (Makes found.now nodes.old nodes.new (mark side)) }
 {
@@ -33,7 +33,7 @@ fn mark_stretches(
     found: &Envelope,
     stretches: &[&[Row]],
     side: Side,
-) -> Result<(), Unread>
+) -> Result<(), Unclear>
     ensures { OnOk result
         (Makes found.now nodes.old nodes.new (marks_by (rows_in stretches.now) side)) }
 {
@@ -48,7 +48,7 @@ fn mark_rows(
     found: &Envelope,
     rows: &[Row],
     side: Side,
-) -> Result<(), Unread>
+) -> Result<(), Unclear>
     ensures { OnOk result
         (Makes found.now nodes.old nodes.new (marks_by (map row_of rows.now) side)) }
 {
@@ -58,7 +58,7 @@ fn mark_rows(
     Ok(())
 }
 
-fn mark_row(nodes: &mut [Node<'_>], found: &Envelope, row: &Row, side: Side) -> Result<(), Unread>
+fn mark_row(nodes: &mut [Node<'_>], found: &Envelope, row: &Row, side: Side) -> Result<(), Unclear>
     ensures { OnOk result (Makes found.now nodes.old nodes.new (mark_by (row_of row.now) side)) }
 {
     match sort_of(side, row.want) {
@@ -86,7 +86,7 @@ fn mark_place(
     found: &Envelope,
     place: Place,
     sort: Sort,
-) -> Result<(), Unread>
+) -> Result<(), Unclear>
     ensures { OnOk result
         (Makes found.now nodes.old nodes.new (edit (steps_of place) (marked sort))) }
 {
@@ -114,7 +114,7 @@ fn mark_top(
     name: &str,
     path: &[Step<'_>],
     sort: Sort,
-) -> Result<(), Unread>
+) -> Result<(), Unclear>
     ensures { OnOk result (Makes found.now nodes.old nodes.new
         (edit (named name.now ∷ steps path.now) (marked sort))) }
 {

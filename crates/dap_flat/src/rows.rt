@@ -9,7 +9,7 @@ ghost use Rattle.dap_flat.specs.Judging.{top_of, reported, Judges, JudgesTop, Ju
 ghost use Rattle.dap_flat.specs.Judging.{part_steps, is_list};
 
 use crate::members::{Envelope, top_child};
-use crate::{Node, Unread, child, value_end};
+use crate::{Node, Unclear, child, value_end};
 use dap_profile::{Place, Row, Want};
 
 /// How a row is violated.
@@ -25,7 +25,7 @@ pub(crate) fn broken_by(
     row: &Row,
     nodes: &[Node<'_>],
     found: &Envelope,
-) -> Result<Option<Broken>, Unread>
+) -> Result<Option<Broken>, Unclear>
     ensures { IfOk result
         (JudgesTop nodes.now found.now (steps_of row.now.place) row.now.want row.now.needed) }
 {
@@ -119,11 +119,11 @@ fn judge_value(
     at: usize,
     want: Want,
     needed: bool,
-) -> Result<Option<Broken>, Unread>
+) -> Result<Option<Broken>, Unclear>
     ensures { IfOk result (Judges nodes.now at [] want needed) }
 {
     if at >= nodes.len() {
-        return Err(Unread::Unclear);
+        return Err(Unclear);
     }
     Ok(judge_node(&nodes[at], want, needed))
 }
@@ -135,11 +135,11 @@ fn judge_member(
     name: &str,
     want: Want,
     needed: bool,
-) -> Result<Option<Broken>, Unread>
+) -> Result<Option<Broken>, Unclear>
     ensures { IfOk result (Judges nodes.now at (named name.now ∷ []) want needed) }
 {
     if at >= nodes.len() {
-        return Err(Unread::Unclear);
+        return Err(Unclear);
     }
     if !is_object(&nodes[at]) {
         return Ok(None);
@@ -158,7 +158,7 @@ fn judge_below(
     inner: &str,
     want: Want,
     needed: bool,
-) -> Result<Option<Broken>, Unread>
+) -> Result<Option<Broken>, Unclear>
     ensures { IfOk result
         (Judges nodes.now at (named outer.now ∷ named inner.now ∷ []) want needed) }
 {
@@ -174,11 +174,11 @@ fn judge_top(
     name: &str,
     want: Want,
     needed: bool,
-) -> Result<Option<Broken>, Unread>
+) -> Result<Option<Broken>, Unclear>
     ensures { IfOk result (JudgesTop nodes.now found.now (named name.now ∷ []) want needed) }
 {
     if nodes.is_empty() {
-        return Err(Unread::Unclear);
+        return Err(Unclear);
     }
     if !is_object(&nodes[0]) {
         return Ok(None);
@@ -196,7 +196,7 @@ fn judge_inner(
     inner: &str,
     want: Want,
     needed: bool,
-) -> Result<Option<Broken>, Unread>
+) -> Result<Option<Broken>, Unclear>
     ensures { IfOk result
         (JudgesTop nodes.now found.now (named outer.now ∷ named inner.now ∷ []) want needed) }
 {
@@ -214,7 +214,7 @@ fn judge_deep(
     inner: &str,
     want: Want,
     needed: bool,
-) -> Result<Option<Broken>, Unread>
+) -> Result<Option<Broken>, Unclear>
     ensures { IfOk result
         (JudgesTop nodes.now found.now
         (named outer.now ∷ named middle.now ∷ named inner.now ∷ []) want needed) }
@@ -232,7 +232,7 @@ fn judge_elements(
     inner: &str,
     want: Want,
     needed: bool,
-) -> Result<Option<Broken>, Unread>
+) -> Result<Option<Broken>, Unclear>
     ensures { IfOk result
         (JudgesTop nodes.now found.now (named outer.now ∷ named inner.now ∷ each ∷ [])
         want needed) }
@@ -251,7 +251,7 @@ fn judge_parts(
     part: &str,
     want: Want,
     needed: bool,
-) -> Result<Option<Broken>, Unread>
+) -> Result<Option<Broken>, Unclear>
     ensures { IfOk result
         (JudgesTop nodes.now found.now
         (named outer.now ∷ named inner.now ∷ each ∷ named part.now ∷ []) want needed) }
@@ -269,7 +269,7 @@ fn judge_list_in(
     part: Option<&str>,
     want: Want,
     needed: bool,
-) -> Result<Option<Broken>, Unread>
+) -> Result<Option<Broken>, Unclear>
     ensures { IfOk result
         (Judges nodes.now at
         (named name.now ∷ each ∷ part_steps (option_map (λ s. s.now) part.entry)) want needed) }
@@ -286,13 +286,13 @@ fn judge_list(
     part: Option<&str>,
     want: Want,
     needed: bool,
-) -> Result<Option<Broken>, Unread>
+) -> Result<Option<Broken>, Unclear>
     ensures { IfOk result
         (Judges nodes.now at (each ∷ part_steps (option_map (λ s. s.now) part.entry))
         want needed) }
 {
     if at >= nodes.len() {
-        return Err(Unread::Unclear);
+        return Err(Unclear);
     }
     if !is_list(&nodes[at]) {
         return Ok(None);
@@ -306,7 +306,7 @@ fn judge_items(
     part: Option<&str>,
     want: Want,
     needed: bool,
-) -> Result<Option<Broken>, Unread>
+) -> Result<Option<Broken>, Unclear>
     ensures { IfOk result
         (JudgesItems nodes.now from (part_steps (option_map (λ s. s.now) part.entry))
         want needed) }
@@ -316,14 +316,14 @@ fn judge_items(
         if is_end(nodes[p]) {
             return Ok(None);
         }
-        let end = value_end(nodes, p).ok_or(Unread::Unclear)?;
+        let end = value_end(nodes, p).ok_or(Unclear)?;
         let cause = judge_item(nodes, p, part, want, needed)?;
         if cause.is_some() {
             return Ok(cause);
         }
         p = end;
     }
-    Err(Unread::Unclear)
+    Err(Unclear)
 }
 
 fn judge_item(
@@ -332,7 +332,7 @@ fn judge_item(
     part: Option<&str>,
     want: Want,
     needed: bool,
-) -> Result<Option<Broken>, Unread>
+) -> Result<Option<Broken>, Unclear>
     ensures { IfOk result
         (Judges nodes.now at (part_steps (option_map (λ s. s.now) part.entry)) want needed) }
 {

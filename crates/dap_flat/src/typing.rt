@@ -7,7 +7,7 @@ ghost use Rattle.dap_flat.specs.Typed.{IsTypedFlat, KeepsPlaces, HasFault, may_t
 use crate::faults::{first_asked, message_fault};
 use crate::members::{Envelope, kind_of_tree, name_of_tree};
 use crate::row_marks::mark_message;
-use crate::{Node, Unread};
+use crate::{Node, Unclear};
 use dap_message::MessageFault;
 use dap_profile::{Kind, rows_of};
 use dap_tree::Side;
@@ -21,7 +21,7 @@ pub fn typed_flat(
     nodes: &mut [Node<'_>],
     found: &Envelope,
     side: Side,
-) -> Result<Option<MessageFault>, Unread>
+) -> Result<Option<MessageFault>, Unclear>
     requires { IsEnvelope nodes.old found.now }
     ensures typed { IfOk result (IsTypedFlat side nodes.old nodes.new) }
     ensures places { IfOk result (KeepsPlaces side nodes.old found.now) }
@@ -41,7 +41,7 @@ fn typed_as(
     kind: Kind,
     name: Option<&str>,
     side: Side,
-) -> Result<Option<MessageFault>, Unread>
+) -> Result<Option<MessageFault>, Unclear>
     requires named { IsNamed nodes.old kind (text_in name) }
     requires places { IsEnvelope nodes.old found.now }
     ensures typed { IfOk result (IsTypedFlat side nodes.old nodes.new) }
@@ -52,19 +52,19 @@ fn typed_as(
         return Ok(Some(fault));
     }
     if may_tell_capabilities(side, kind, name) {
-        return Err(Unread::Unclear);
+        return Err(Unclear);
     }
     mark_message(nodes, found, &rows, side)?;
     Ok(None)
 }
 
-fn kindless_fault(nodes: &[Node<'_>], found: &Envelope) -> Result<MessageFault, Unread>
+fn kindless_fault(nodes: &[Node<'_>], found: &Envelope) -> Result<MessageFault, Unclear>
     requires { IsEnvelope nodes.now found.now }
     ensures { IfOk result (HasFault nodes.now) }
 {
     match message_fault(nodes, found)? {
         Some(fault) => Ok(fault),
-        None => Err(Unread::Unclear),
+        None => Err(Unclear),
     }
 }
 

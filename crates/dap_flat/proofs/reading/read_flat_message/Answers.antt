@@ -22,7 +22,7 @@ new-requires c =
     let e = c.in_ok-found.found in
     let side = c.args.side in
     let was = c.deref_mut.result.now in
-    let read = c.in_ok-nodes.ensures in
+    let read = c.in_ok-nodes.ensures.ok in
     let d = read.0 in
     let whole : take old.len (new ++ drop (length new) old.items) ≡ new =
     ap (λ k. take k (new ++ drop (length new) old.items))
@@ -48,7 +48,7 @@ pub returns-clause-ok : goal.returns-clause-ok
 returns-clause-ok c =
     let old = c.in_ok-nodes.nodes in
     let new = c.typed_flat.new.nodes in
-    let read = c.in_ok-nodes.ensures in
+    let read = c.in_ok-nodes.ensures.ok in
     let d = read.0 in
     let e = message_of c.args.side d in
     let whole : take old.len (new ++ drop (length new) old.items) ≡ new =
