@@ -1,5 +1,5 @@
 //! Puts places in order by a plan of their dependences.
-ghost use Rattle.std.specs.Prelude.{◌≡◌, ℕ, IfOk};
+ghost use Rattle.std.specs.Prelude.{◌≡◌, ℕ, IfOk, IsOk};
 ghost use Rattle.std.specs.List.{range_with_len};
 ghost use Rattle.dap_order.specs.Swaps.{Swaps, AreSwaps};
 ghost use Rattle.dap_order.specs.Order.{order};
@@ -16,12 +16,16 @@ use std::alloc::{AllocError, Global};
 ///
 /// # Errors
 ///
-/// `AllocError`: an allocation failed.
+/// `AllocError`: an allocation failed. The plan has a place.
 pub fn order_of_places(alloc: Global, plan: &Plan) -> Result<Vec<usize>, AllocError>
     requires { IsWellFormed plan.now }
     ensures ordered { (s : Swaps ℕ) → AreSwaps s → IsPlan s plan.now
         → IfOk result (λ places. places.items ≡ order s (range_with_len 0 (place_count plan.now))) }
+    ensures empty { place_count plan.now ≡ 0 → IsOk result }
 {
+    if plan.groups.is_empty() {
+        return Ok(Vec::new(alloc));
+    }
     let links = links_of(alloc, plan)?;
     let mut progress = Progress::new(alloc, plan)?;
     let mut places = Vec::new(alloc);

@@ -60,12 +60,9 @@ loop-place-preserved c =
           wrote));
     }
 
-pub returns : goal.returns
-returns c =
+pub returns-clause-ordered : goal.returns-clause-ordered
+returns-clause-ordered c s are is =
     let so_far = c.loop-place.invariant in
-    record {
-      ordered = λ s are is. goes_all c.args.plan.now c.requires s are is c.in_ok-links.links
-          c.loop-place.progress c.loop-place.places.items
-          (so_far.goes s are is) so_far.represents.written_len so_far.released so_far.listed
-          c.in_default.ensures;
-    }
+    goes_all c.args.plan.now c.requires s are is c.in_ok-links.links c.loop-place.progress
+    c.loop-place.places.items (so_far.goes s are is) so_far.represents.written_len so_far.released
+    so_far.listed c.in_default.ensures
