@@ -1,5 +1,6 @@
 //! Puts the messages of a recording in order.
-ghost use Rattle.std.specs.Prelude.{◌≡◌, IfOk, Some, length, map, slice_get, IsPermutation};
+ghost use Rattle.std.specs.Prelude.{◌≡◌, [], IfOk, IsOk, Some, length, map, slice_get};
+ghost use Rattle.std.specs.Prelude.{IsPermutation};
 ghost use Rattle.std.specs.List.{range_with_len};
 ghost use Rattle.dap_message.specs.SwapRules.{swaps_of};
 ghost use Rattle.dap_message.specs.Message.{sent};
@@ -23,7 +24,7 @@ use std::alloc::{AllocError, Global};
 ///
 /// # Errors
 ///
-/// `AllocError`: an allocation failed.
+/// `AllocError`: an allocation failed. There is a message.
 pub fn put_in_order(
     alloc: Global,
     rules: &[SwapRule],
@@ -34,7 +35,11 @@ pub fn put_in_order(
         (λ places. IsPermutation (range_with_len 0 (length messages.now)) places.items) }
     ensures order { IfOk result (λ places. map (slice_get (map sent messages.now)) places.items
         ≡ map Some (ordered (swaps_of rules.now) (map sent messages.now))) }
+    ensures empty { messages.now ≡ [] → IsOk result }
 {
+    if messages.is_empty() {
+        return Ok(Vec::new(alloc));
+    }
     let entries = entries_of(alloc, messages)?;
     let table = Table { rules, entries };
     let plan = plan_of(alloc, &table)?;

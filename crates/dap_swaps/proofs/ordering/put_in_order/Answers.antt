@@ -1,7 +1,9 @@
-use Rattle.std.proofs.Common.{◌≡◌, ℕ, List, map, length, sym, ap, ◌∙◌, subst, Vec, Global}
+use Rattle.std.proofs.Common.{◌≡◌, ◌==◌, ℕ, true, List, [], map, length, sym, ap, ◌∙◌, subst, Vec}
+use Rattle.std.proofs.Common.{Global, arith}
 use Rattle.std.specs.Prelude.{slice_get, IsPermutation, Some}
 use Rattle.std.specs.List.{range_with_len}
 use Rattle.std.proofs.lemmas.List.{length-map}
+use Rattle.std.proofs.lemmas.List.Sorted.{IsPermutation-refl}
 use Rattle.std.proofs.lemmas.Result.{IfOk-weaker}
 use Rattle.dap_message.specs.SwapRules.{SwapRule, swaps_of}
 use Rattle.dap_message.specs.Message.{Sent, sent}
@@ -20,6 +22,24 @@ use Rattle.dap_swaps.proofs.ordering.put_in_order.Goals as goal
 -- The order of the places of these messages.
 abbrev order_of : List SwapRule → List Sent → Swaps ℕ
 order_of rules ms = by_place (by_label (message_labels rules)) (label (message_labels rules) ms)
+
+no_item : {A : Type 0} (xs : List A) → true ≡ (length xs == 0) → length xs ≡ 0
+no_item xs h = grind arith
+
+pub returns-then-is_empty-clause-once : goal.returns-then-is_empty-clause-once
+returns-then-is_empty-clause-once c =
+    subst (λ (n : ℕ). IsPermutation (range_with_len 0 n) c.new.result.items)
+    (sym (no_item c.args.messages.now c.if-is_empty.ensures))
+    (subst (IsPermutation []) (sym c.new.ensures.items) (IsPermutation-refl []))
+
+pub returns-then-is_empty-clause-order : goal.returns-then-is_empty-clause-order
+returns-then-is_empty-clause-order c =
+    let rules = swaps_of c.args.rules.now in
+    let ns = map sent c.args.messages.now in
+    let none : length ns ≡ 0 =
+    length-map c.args.messages.now sent ∙ no_item c.args.messages.now c.if-is_empty.ensures in
+    places_in_order rules ns c.new.result.items
+    (c.new.ensures.items ∙ ap (λ n. order (order_of rules ns) (range_with_len 0 n)) (sym none))
 
 pub returns-clause-once : goal.returns-clause-once
 returns-clause-once c =
