@@ -91,12 +91,6 @@ mutants: need-rt need-python
 try: need-python $(if $(wildcard $(PROGRAM)),,need-rt)
 	@python3 scripts/first_look.py $(wildcard $(PROGRAM))
 
-# This program only reads its input: make bench prints its speed as an upper bound.
-bin/reading_alone: $(wildcard crates/reading_alone/src/*) bin/dapnorm
-	@echo "Proves and builds bin/reading_alone, which the figures are compared with: about a minute."
-	@cd crates/reading_alone && rt run < stdin > /dev/null
-	@cp crates/reading_alone/out/reading_alone bin/reading_alone
-
 SIZE ?= full
 MEASURE = python3 scripts/$(1).py --size "$(SIZE)" --program "$(PROGRAM)" $(if $(FIGURES),--json "$(FIGURES)/$(1).json")
 
@@ -107,7 +101,7 @@ documents: need-python
 	@echo "Writes the generated parts of the documents: a second."
 	@for it in $(GENERATORS) profile; do python3 "tests/$$it.py" write > /dev/null || exit; done
 
-bench: need-python $(PROGRAM) bin/reading_alone
+bench: need-python $(PROGRAM)
 	@echo "Measures each command on generated inputs, and compares it with short Python scripts: $(if $(filter small,$(SIZE)),seconds,some minutes)."
 	@$(call MEASURE,bench)
 	@$(call MEASURE,costs)

@@ -31,7 +31,6 @@ class Benchmark:
 
     def __init__(self, chosen, folder):
         self.program = chosen.program
-        self.reading_alone = chosen.reading_alone
         self.size = chosen.size
         self.sizes = SIZES[chosen.size]
         self.figures = Figures(chosen.size)
@@ -75,18 +74,10 @@ class Benchmark:
         messages, each = given.records / found.seconds, found.seconds / given.requests * 1e6
         print(f"{messages:.0f} messages checked per second, {each:.2f} us per request")
 
-    def read_alone(self, given):
-        """Measures a program that only splits a recording into records, or also reads each content as JSON: an upper bound of the speed."""
-        for name, words in (("records", []), ("records and JSON", ["json"])):
-            found = self.measured("reading", name, [self.reading_alone, *words], given)
-            if found.output != digest(f"{given.records}\n".encode()):
-                sys.exit(f"reading_alone did not read {given.records} records")
-
     def normalise(self):
         for wanted in self.sizes.sessions:
             given = session(self.path("session"), wanted)
             self.heading(f"a session of {given.size / 1e6:.1f} MB in {given.records} records")
-            self.read_alone(given)
             self.check(given)
             self.beside_script("normalise", given)
             if wanted == self.sizes.large[0]:
@@ -123,7 +114,7 @@ class Benchmark:
 
 
 def main():
-    chosen = options(__doc__, program="bin/dapnorm", reading_alone="bin/reading_alone")
+    chosen = options(__doc__, program="bin/dapnorm")
     with tempfile.TemporaryDirectory() as folder:
         benchmark = Benchmark(chosen, folder)
         benchmark.all()

@@ -10,7 +10,7 @@ from report import TOP, Report
 
 CRATES = os.path.join(TOP, "docs", "crates.svg")
 SESSION = os.path.join(TOP, "docs", "session.svg")
-TESTS = {"layer_tests", "conformance", "driver", "fault_injection", "first_look", "reading_alone", "callers"}
+TESTS = {"layer_tests", "conformance", "driver", "fault_injection", "first_look", "callers"}
 WIDTH, HEIGHT, GAP, LAYER = 122, 26, 14, 74
 STYLE = "text{font-family:ui-sans-serif,Helvetica,Arial,sans-serif;font-size:12px;fill:#1f2328}.m{font-family:ui-monospace,Menlo,Consolas,monospace}"
 

@@ -7,7 +7,7 @@ from typing import Dict, Iterator, List, Optional, Set, Tuple
 from report import TOP
 
 # Crates that are tests, or programs that no other crate can name.
-NOT_LIBRARIES = {"conformance", "dapnorm_main", "driver", "fault_injection", "first_look", "layer_tests", "reading_alone"}
+NOT_LIBRARIES = {"conformance", "dapnorm_main", "driver", "fault_injection", "first_look", "layer_tests"}
 
 CALL = re.compile(r"^( *)(pub (?:const )?)?fn (\w+)")
 OWNER = re.compile(r"^(pub trait|impl)(?:<[^>]*>)? (\w+)[^{]*\{$")

@@ -1,7 +1,7 @@
 """Runs each script of scripts/ at small sizes and each target of the Makefile, over the programs that the gate built.
 
 The targets run in a scratch copy of the repository, with the built program as bin/dapnorm. A stand-in replaces `rt` there: it proves
-nothing, and its `rt run` and `rt try` run programs that are already built. SCRIPTS and TARGETS name, for each script and each target, the
+nothing, and its `rt try` runs the program that is already built. SCRIPTS and TARGETS name, for each script and each target, the
 function below or the other test that runs it. A script or a target without a test is a failure."""
 import glob
 import json
@@ -16,7 +16,6 @@ from typing import NamedTuple
 
 from report import PROGRAM, TOP, Report
 
-READING_ALONE = os.path.join(TOP, "crates", "reading_alone", "out", "reading_alone")
 CAPTURE = os.path.join(TOP, "examples", "captures", "debugpy-l-stopentry.1.rec")
 FRAMES = os.path.join(TOP, "examples", "debugpy-adapter.frames")
 
@@ -24,8 +23,6 @@ FRAMES = os.path.join(TOP, "examples", "debugpy-adapter.frames")
 RT = """#!/bin/sh
 echo "$*" >> "$CALLS"
 case "$1" in
-run)
-    mkdir -p out && cp "$BUILT/$(basename "$PWD")" out/ && shift && exec "out/$(basename "$PWD")" "$@" ;;
 try)
     for file in "$3"/*; do
         echo "== $(basename "$file")"
@@ -98,7 +95,6 @@ def scratch_copy(folder):
     for path in (built, tools, figures, os.path.join(tree, "bin")):
         os.mkdir(path)
     shutil.copy(PROGRAM, os.path.join(built, "dapnorm"))
-    shutil.copy(READING_ALONE, built)
     shutil.copy(PROGRAM, os.path.join(tree, "bin", "dapnorm"))
     write(os.path.join(tools, "rt"), RT, 0o755)
     dropped = ("MAKEFLAGS", "MFLAGS", "MAKELEVEL", "PROGRAM", "PROOFS", "PACK", "SIZE", "FIGURES")
@@ -156,7 +152,7 @@ def bench(report, scratch):
     ran = scratch.make("bench", "SIZE=small", f"FIGURES={scratch.figures}")
     report.check("make bench ends well", ran.returncode == 0, output_of(ran))
     calls = scratch.calls_of_rt()
-    report.check("it builds reading_alone", calls == ["run"], repr(calls))
+    report.check("it proves nothing", calls == [], repr(calls))
     for name, commands in MEASURED.items():
         rows = figures_of(scratch, name)
         found = {row["command"].split()[0] for row in rows if row["program"] == "dapnorm"}
@@ -326,7 +322,7 @@ SCRIPTS = {
 }
 # The function that runs a target, or the test that does.
 TARGETS = {
-    "all": build, "bin/dapnorm": build, "bin/reading_alone": bench, "bench": bench, "try": first_look, "clean": clean,
+    "all": build, "bin/dapnorm": build, "bench": bench, "try": first_look, "clean": clean,
     "documents": documents,
     "install": "manual.py", "uninstall": "manual.py",
     "dist": "package.py", "proofs": "package.py", "bin/dapnorm.proofs": "package.py",
@@ -385,9 +381,8 @@ def tables(report):
 def main():
     report = Report()
     tables(report)
-    for path in (PROGRAM, READING_ALONE):
-        if not report.check(f"the gate has built {os.path.relpath(path, TOP)}", os.access(path, os.X_OK)):
-            return report.close()
+    if not report.check(f"the gate has built {os.path.relpath(PROGRAM, TOP)}", os.access(PROGRAM, os.X_OK)):
+        return report.close()
     with tempfile.TemporaryDirectory() as folder:
         scratch = scratch_copy(folder)
         # `clean` comes last, since it removes the program.
