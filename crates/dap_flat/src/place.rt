@@ -191,21 +191,19 @@ pub fn value_end(nodes: &[Node<'_>], at: usize) -> Option<usize>
     if at >= nodes.len() {
         return None;
     }
-    let end = at.checked_add(node_size(&nodes[at])?)?;
-    if nodes.len() < end {
-        return None;
+    match nodes[at] {
+        Node::List(inside) | Node::Object(inside) => parts_end(nodes.len(), at, inside),
+        _ => Some(at + 1),
     }
-    Some(end)
 }
 
+/// Returns the place after the list or object that starts at `at`, if it ends within the nodes.
 #[inline(always)]
-fn node_size(node: &Node<'_>) -> Option<usize>
-    ensures { IfSome result (λ n. n ≡ size (piece_of node.now)) }
+fn parts_end(len: usize, at: usize, inside: usize) -> Option<usize>
+    ensures { IfSome result (λ end. (end ≡ at + (inside + 2)) × (end ≤ len)) }
 {
-    match *node {
-        Node::List(inside) | Node::Object(inside) => inside.checked_add(2),
-        _ => Some(1),
-    }
+    let end = at.checked_add(inside.checked_add(2)?)?;
+    if len < end { None } else { Some(end) }
 }
 
 /// Returns whether the name is greater than the greatest one so far.
