@@ -112,8 +112,33 @@ fn spend_escaped(left: usize, text: &[u8]) -> Option<usize>
     spend_escapes(left, text)
 }
 
+/// Subtracts the length of a text with escapes, eight bytes at a time: most of them have none.
 #[inline(never)]
 fn spend_escapes(left: usize, text: &[u8]) -> Option<usize>
+    ensures { Spends left (length (escape text.now)) result }
+{
+    let mut left = left;
+    let mut rest = text;
+    while rest.len() > 8 {
+        let (chunk, after) = rest.split_at(8);
+        left = spend_chunk(left, chunk)?;
+        rest = after;
+    }
+    spend_bytes(left, rest)
+}
+
+#[inline(always)]
+fn spend_chunk(left: usize, chunk: &[u8]) -> Option<usize>
+    ensures { Spends left (length (escape chunk.now)) result }
+{
+    if is_plain(chunk) {
+        return left.checked_sub(chunk.len());
+    }
+    spend_bytes(left, chunk)
+}
+
+#[inline(always)]
+fn spend_bytes(left: usize, text: &[u8]) -> Option<usize>
     ensures { Spends left (length (escape text.now)) result }
 {
     let mut left = left;
