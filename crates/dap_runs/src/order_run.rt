@@ -35,7 +35,8 @@ pub fn run_order<F: Source, R: Source, W: Sink, E: Sink>(
     requires error_failures { E.failures errors.old < 2 ^ 62 }
 
     // The output is what `order` writes by the rules of the file. An error is reported, and the
-    // status is that of the result.
+    // status is that of the result. After a failed allocation, a prefix of the recording was read,
+    // or all of it.
     ensures reported { OrderIsReported F.Source R.Source W.Sink E.Sink limits rules.old rules.new
         reader.old reader.new writer.old writer.new errors.old errors.new result }
 
