@@ -449,19 +449,30 @@ pub fn words_given<'a>(alloc: Global, words: &'a [&'a str]) -> Result<Vec<&'a st
     // The words are those that the model of clap finds in the arguments.
     ensures ok { IfOk result (λ v. map (λ text. text.now) v.items
         ≡ words_named (subcommand_of program (texts words.entry.now))) }
+    ensures taken { IfOk result (λ _. faults_of program (texts words.entry.now) ≡ []) }
 
     // If the model of clap accepts the arguments, the only possible error is `Memory`.
     ensures err { IfErr result (λ fault. takes program (texts words.entry.now) ≡ true
         → fault ≡ Memory) }
+
+    // `Help` is returned only if that model finds a request for help or the version. `Usage` is
+    // returned only if it finds another error.
+    ensures reported { IfErr result (IsFaultFor (faults_of program (texts words.entry.now))) }
+
+    // If some leading arguments request help or contain an error, the first of these decides the
+    // result, as for `command`.
+    ensures first { IfErr result (λ fault. FirstDecides program (texts words.entry.now)
+        (λ kinds. IsFaultFor kinds fault)) }
 {
     let Ok(program) = definition::program(alloc) else {
         return Err(UsageFault::Memory);
     };
-    match program.try_get_matches_from(words) {
-        Ok(matches) => match words_in(alloc, &matches) {
-            Ok(values) => Ok(values),
-            Err(_) => Err(UsageFault::Memory),
-        },
-        Err(error) => Err(fault_of(alloc, &error)),
+    let matches = match program.try_get_matches_from(words) {
+        Ok(matches) => matches,
+        Err(error) => return Err(fault_of(alloc, &error)),
+    };
+    match words_in(alloc, &matches) {
+        Ok(values) => Ok(values),
+        Err(_) => Err(UsageFault::Memory),
     }
 }

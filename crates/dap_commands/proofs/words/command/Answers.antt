@@ -1,31 +1,14 @@
-use Rattle.std.proofs.Common.{ap, is_some, option_map, inl, inr, refl, subst, sym, true≢false, ◌≡◌}
-use Rattle.std.proofs.Common.{◌∙◌}
+use Rattle.std.proofs.Common.{ap, is_some, option_map, refl, subst, sym, true≢false, ◌∙◌}
 use Rattle.clap.specs.Simple.{is_simple}
-use Rattle.clap.specs.Values.{kind_of}
 use Rattle.clap.specs.Walk.{texts}
-use Rattle.clap.specs.Words.{HasKind, Kinds, fault_of as faults_of, is_simple_and_free}
+use Rattle.clap.specs.Words.{HasKind, fault_of as faults_of, is_simple_and_free}
 use Rattle.clap.specs.Words.{subcommand_of, takes}
-use Rattle.clap.specs.declared.error.Error.{Error}
-use Rattle.clap.specs.declared.error.kind.ErrorKind.TheVariants as kind
-use Rattle.dap_commands.specs.CommandLine.{IsUsageErrorOf}
-use Rattle.dap_commands.specs.declared.jobs.UsageFault.{UsageFault}
-use Rattle.dap_commands.specs.declared.jobs.UsageFault.TheVariants as usage
 use Rattle.dap_commands.proofs.FirstWords.{first_decides}
 use Rattle.dap_commands.specs.Commands.{IsFaultFor, command_named, program, reported}
 use Rattle.dap_commands.proofs.FirstArguments.{program_splits}
 use Rattle.dap_commands.proofs.TakenCommands.{accepted_command}
+use Rattle.dap_commands.proofs.ToldWords.{fault_for}
 use Rattle.dap_commands.proofs.words.command.Goals as goal
-
--- The `UsageFault` returned for an error matches the kinds that the parser finds.
-fault_for : (kinds : Kinds) (error : Error) (fault : UsageFault) → HasKind kinds error
-    → (kind_of error ≡ kind.OutOfMemory → fault ≡ usage.Memory)
-    → IsUsageErrorOf (kind_of error) fault
-    → IsFaultFor kinds fault
-fault_for kinds error (usage.Help text) (inl memory) is one = absurd (let wrong = is memory in cc)
-fault_for kinds error (usage.Help text) (inr among) is one = (kind_of error, among, one)
-fault_for kinds error (usage.Usage text) (inl memory) is one = absurd (let wrong = is memory in cc)
-fault_for kinds error (usage.Usage text) (inr among) is one = (kind_of error, among, one)
-fault_for kinds error usage.Memory has is one = tt
 
 pub returns-in-Err-clause-err : goal.returns-in-Err-clause-err
 returns-in-Err-clause-err c = λ taken.
