@@ -4,25 +4,20 @@ use Rattle.std.specs.Borrow.{Bor}
 use Rattle.dap_commands.specs.Jobs.{mode_for}
 use Rattle.dap_commands.specs.declared.jobs.Job.{Job}
 use Rattle.dap_commands.specs.declared.jobs.Job.TheVariants as job
-use Rattle.dap_compact.specs.Compacting.{Compacts, compacting}
 use Rattle.dap_device.specs.declared.device.Sink.{Ghosts as Sink}
 use Rattle.dap_device.specs.declared.device.Source.{Ghosts as Source}
-use Rattle.dap_input.specs.Engine.{Answers}
-use Rattle.dap_input.specs.Refusals.{IsRefused}
 use Rattle.dap_input.specs.declared.limits.Limits.{Limits}
 use Rattle.dap_input.specs.declared.refused.Refused.{Refused}
 use Rattle.dap_input.specs.declared.refused.Refused.TheVariants.{Memory, ReadFault}
-use Rattle.dap_normalise.specs.Streaming.{Streams}
 use Rattle.dap_profile.specs.RowLines.{lines_of}
 use Rattle.dap_runs.specs.FaultLine.{fault_line, refused_text}
 use Rattle.dap_runs.specs.Reporting.{Answered, HasSent, IsReported, refused_status}
 use Rattle.dap_runs.specs.RowsRun.{ReportsRows}
-use Rattle.dap_show.specs.Showing.{IsShownBy, showing}
 use Rattle.dap_show.specs.Viewing.{ShowsInput}
 use Rattle.dap_show.specs.declared.detail.ShowRequest.{ShowRequest}
 use Rattle.dap_show.specs.declared.detail.ShowRequest.TheVariants as request
 use Rattle.dap_record.specs.TracingRun.{RecordsTrace}
-use Rattle.dapnorm.specs.Run.{CheckIsReported}
+use Rattle.dapnorm.specs.Run.{CheckIsReported, HasCompacted, HasNormalised, HasShown}
 use Rattle.dapnorm.specs.ViewRun.{FaultyIsReported, RecordIsReported}
 use Rattle.dap_runs.specs.declared.files.OpenFault.{OpenFault}
 use Rattle.dap_runs.specs.declared.files.OpenFault.TheVariants as fault
@@ -42,16 +37,16 @@ module _ {R W E : Type 0} (source : Source R) (sink : Sink W) (errors : Sink E) 
     (old new : R) (before after : W) (silent spoken : E) (status : ℕ) where
   -- The job is done over the reader: what it prints, what it reports, and its status.
   abbrev pub JobIsDone : Job → Type 0
-  JobIsDone job.Compact = Answered (Answers source sink limits.input (Compacts limits)
-      (IsRefused (compacting limits)) old new before after) (IsReported errors silent spoken) status
+  JobIsDone job.Compact = Answered (HasCompacted source sink limits old new before after)
+      (IsReported errors silent spoken) status
   JobIsDone job.Record = Answered (RecordsTrace source sink limits old new before after)
       (IsReported errors silent spoken) status
-  JobIsDone (job.Normalise per_stop) = Answered (Streams source sink limits (mode_for per_stop)
-      old new before after) (IsReported errors silent spoken) status
+  JobIsDone (job.Normalise per_stop) = Answered (HasNormalised source sink limits
+      (mode_for per_stop) old new before after) (IsReported errors silent spoken) status
   JobIsDone (job.Check complete per_stop) = CheckIsReported source sink errors limits
       (mode_for per_stop) complete old new before after silent spoken status
-  JobIsDone job.Show = Answered (Answers source sink limits.input (IsShownBy limits)
-      (IsRefused (showing limits)) old new before after) (IsReported errors silent spoken) status
+  JobIsDone job.Show = Answered (HasShown source sink limits old new before after)
+      (IsReported errors silent spoken) status
   JobIsDone (job.Rows number) = (new ≡ old) × ReportsRows sink errors
       (lines_of (option_map (λ s. s.now) number)) before after silent spoken status
   JobIsDone (job.Mask rules) = ⊥

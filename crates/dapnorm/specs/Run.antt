@@ -1,19 +1,51 @@
 -- What the program prints and reports for a job. Source: own.
-use Rattle.std.specs.Prelude.{◌≡◌, ℕ, ◌++◌, Bool, List, Result, Ok, Err, codes}
+use Rattle.std.specs.Prelude.{◌≡◌, ℕ, ◌++◌, Bool, IsErrOf, List, Result, Ok, Err, codes}
 use Rattle.std.specs.Prelude.{decimal, string_bytes}
 use Rattle.dap_commands.specs.declared.jobs.UsageFault.{UsageFault}
 use Rattle.dap_commands.specs.declared.jobs.UsageFault.TheVariants as usage
+use Rattle.dap_compact.specs.Compacting.{Compacts, compacting}
 use Rattle.dap_device.specs.declared.device.Source.{Ghosts as Source}
 use Rattle.dap_device.specs.declared.device.Sink.{Ghosts as Sink}
 use Rattle.dap_normalise.specs.declared.checked.Checked.{Checked}
 use Rattle.dap_rename.specs.declared.mode.Mode.{Mode}
 use Rattle.dap_runs.specs.FaultLine.{fault_line, refused_text}
 use Rattle.dap_runs.specs.Reporting.{HasSent, IsSent, IsReported, status_of}
+use Rattle.dap_input.specs.Engine.{Answers, ReadsNoneOrAll}
+use Rattle.dap_input.specs.Refusals.{IsRefused}
 use Rattle.dap_input.specs.declared.limits.Limits.{Limits}
 use Rattle.dap_input.specs.declared.refused.Refused.{Refused}
 use Rattle.dap_input.specs.declared.refused.Refused.TheVariants.{WriteFault, Memory}
 use Rattle.dap_normalise.specs.Checking.{Checks}
+use Rattle.dap_normalise.specs.Streaming.{Streams}
+use Rattle.dap_show.specs.Showing.{IsShownBy, showing}
 use Rattle.dap_device.specs.Written.{AllSent, PrefixWritten}
+
+-- ---- the results of the command functions, and what was read if an allocation failed
+
+module _ {R W : Type 0} (source : Source R) (sink : Sink W) (limits : Limits) where
+  -- The result of `compact`. If an allocation failed, either nothing of the input was read, or all
+  -- of it.
+  pub record HasCompacted (old new : R) (before after : W) (outcome : Result (Unit {0}) Refused)
+      : Type 0 where
+    pub answers : Answers source sink limits.input (Compacts limits)
+        (IsRefused (compacting limits)) old new before after outcome
+    pub memory : IsErrOf outcome Memory → ReadsNoneOrAll source limits.input old new
+
+  -- The result of `show`. If an allocation failed, either nothing of the input was read, or all of
+  -- it.
+  pub record HasShown (old new : R) (before after : W) (outcome : Result (Unit {0}) Refused)
+      : Type 0 where
+    pub answers : Answers source sink limits.input (IsShownBy limits)
+        (IsRefused (showing limits)) old new before after outcome
+    pub memory : IsErrOf outcome Memory → ReadsNoneOrAll source limits.input old new
+
+  -- The result of `normalise`. If an allocation failed, the reader did not fail.
+  pub record HasNormalised (mode : Mode) (old new : R) (before after : W)
+      (outcome : Result (Unit {0}) Refused) : Type 0 where
+    pub streams : Streams source sink limits mode old new before after outcome
+    pub memory : IsErrOf outcome Memory → source.failures new ≡ source.failures old
+
+-- ---- what is printed and reported
 
 -- the line with the numbers of an accepted recording
 abbrev pub accepted_line : Checked → List ℕ

@@ -2,19 +2,15 @@
 ghost use Rattle.std.specs.Prelude.{◌≡◌, ℕ, ◌+◌, ◌<◌, ◌≤◌, ◌^◌, Bool, List, Option, option_map};
 ghost use Rattle.std.specs.Borrow.{Bor};
 ghost use Rattle.dap_commands.specs.Jobs.{mode_for};
-ghost use Rattle.dap_compact.specs.Compacting.{Compacts, compacting};
-ghost use Rattle.dap_input.specs.Engine.{Answers};
 ghost use Rattle.dap_input.specs.Limits.{AreSound};
-ghost use Rattle.dap_input.specs.Refusals.{IsRefused};
 ghost use Rattle.dap_normalise.specs.NameTables.{AreReady};
-ghost use Rattle.dap_normalise.specs.Streaming.{Streams};
 ghost use Rattle.dap_profile.specs.RowLines.{lines_of};
 ghost use Rattle.dap_runs.specs.RowsRun.{ReportsRows};
 ghost use Rattle.dap_runs.specs.Reporting.{Answered, IsReported};
 ghost use Rattle.dapnorm.specs.Run.{CheckIsPrinted, CheckIsReported};
+ghost use Rattle.dapnorm.specs.Run.{HasCompacted, HasNormalised, HasShown};
 ghost use Rattle.dap_runs.specs.Reporting.{status_of};
 ghost use Rattle.dapnorm.specs.Run.{ReportsUsage, accepted_line};
-ghost use Rattle.dap_show.specs.Showing.{IsShownBy, showing};
 ghost use Rattle.dap_record.specs.TracingRun.{RecordsTrace};
 
 use arrayvec::ArrayString;
@@ -84,10 +80,9 @@ pub fn run_stream<R: Source, W: Sink, E: Sink>(
     requires error_failures { E.failures errors.old < 2 ^ 62 }
 
     // The output is what the command function writes. An error is reported, and the status is that
-    // of the result.
+    // of the result. After a failed allocation, either nothing of the input was read, or all of it.
     ensures compact { job.now ≡ Job.Compact
-        → Answered (Answers R.Source W.Sink limits.input (Compacts limits)
-        (IsRefused (compacting limits)) reader.old reader.new writer.old writer.new)
+        → Answered (HasCompacted R.Source W.Sink limits reader.old reader.new writer.old writer.new)
         (IsReported E.Sink errors.old errors.new) result }
 
     // The output is the records that `record` writes, and the status that of its result.
@@ -96,8 +91,9 @@ pub fn run_stream<R: Source, W: Sink, E: Sink>(
         (IsReported E.Sink errors.old errors.new) result }
 
     // The output is the normal form that `normalise` writes, and the status that of its result.
+    // After a failed allocation, no read has failed.
     ensures normalise { (per_stop : Bool) → job.now ≡ Job.Normalise per_stop
-        → Answered (Streams R.Source W.Sink limits (mode_for per_stop) reader.old reader.new
+        → Answered (HasNormalised R.Source W.Sink limits (mode_for per_stop) reader.old reader.new
         writer.old writer.new) (IsReported E.Sink errors.old errors.new) result }
 
     // The output is the line of a recording that `check` accepts, and the status that of its result
@@ -106,10 +102,10 @@ pub fn run_stream<R: Source, W: Sink, E: Sink>(
         → CheckIsReported R.Source W.Sink E.Sink limits (mode_for per_stop) complete reader.old
         reader.new writer.old writer.new errors.old errors.new result }
 
-    // The output is the lines that `show` writes, and the status that of its result.
+    // The output is the lines that `show` writes, and the status that of its result. After a failed
+    // allocation, either nothing of the input was read, or all of it.
     ensures show { job.now ≡ Job.Show
-        → Answered (Answers R.Source W.Sink limits.input (IsShownBy limits)
-        (IsRefused (showing limits)) reader.old reader.new writer.old writer.new)
+        → Answered (HasShown R.Source W.Sink limits reader.old reader.new writer.old writer.new)
         (IsReported E.Sink errors.old errors.new) result }
 
     // The output is the lines of the rows that are asked for, and nothing is read.
@@ -155,21 +151,19 @@ pub fn run_stream_with<R: Source, W: Sink, E: Sink, T: NameTable + Drop>(
 
     // What `run_stream` promises, whatever the tables are.
     ensures compact { job.now ≡ Job.Compact
-        → Answered (Answers R.Source W.Sink limits.input (Compacts limits)
-        (IsRefused (compacting limits)) reader.old reader.new writer.old writer.new)
+        → Answered (HasCompacted R.Source W.Sink limits reader.old reader.new writer.old writer.new)
         (IsReported E.Sink errors.old errors.new) result }
     ensures record_trace { job.now ≡ Job.Record
         → Answered (RecordsTrace R.Source W.Sink limits reader.old reader.new writer.old writer.new)
         (IsReported E.Sink errors.old errors.new) result }
     ensures normalise { (per_stop : Bool) → job.now ≡ Job.Normalise per_stop
-        → Answered (Streams R.Source W.Sink limits (mode_for per_stop) reader.old reader.new
+        → Answered (HasNormalised R.Source W.Sink limits (mode_for per_stop) reader.old reader.new
         writer.old writer.new) (IsReported E.Sink errors.old errors.new) result }
     ensures check { (complete per_stop : Bool) → job.now ≡ Job.Check complete per_stop
         → CheckIsReported R.Source W.Sink E.Sink limits (mode_for per_stop) complete reader.old
         reader.new writer.old writer.new errors.old errors.new result }
     ensures show { job.now ≡ Job.Show
-        → Answered (Answers R.Source W.Sink limits.input (IsShownBy limits)
-        (IsRefused (showing limits)) reader.old reader.new writer.old writer.new)
+        → Answered (HasShown R.Source W.Sink limits reader.old reader.new writer.old writer.new)
         (IsReported E.Sink errors.old errors.new) result }
     ensures rows { (number : Option (Bor (List ℕ))) → job.now ≡ Job.Rows number
         → (reader.new ≡ reader.old) × ReportsRows W.Sink E.Sink
