@@ -15,10 +15,11 @@ FROM_THE_START = {
     "mask rules of a configuration", "compare a b of frames exchanged", "diff a b of a stale frame",
     "check --complete of a configuration", "normalise --per-stop of a new frame", "compare --per-stop a b of a stale frame",
     "mask --word mock=<m> rules of a word", "compare --word x=<w> --word mock=mo a a of a wrong word",
+    "compare --rules rules a b of stops", "golden g of a configuration", "golden --rules rules g of a stop",
 }
 WORDS = [[], ["--help"], ["--version"], ["check", "--all"], ["rows"], ["rows", "62"], ["rows", "0"]]
 WRITE_RECORDS = ("normalise", "mask")
-MEMORY = b"dapnorm: out of memory\n"
+MEMORY, GOLDEN_MEMORY = b"dapnorm: out of memory\n", b"dapnorm: golden: out of memory\n"
 
 
 def run_tests(report, shim):
@@ -49,9 +50,14 @@ def fronts(run):
     return [text[:end] for end in ends]
 
 
+def memory_lines(run):
+    """The lines that may report a failed allocation. `golden` has one of its own, from when its input is read."""
+    return [MEMORY, GOLDEN_MEMORY] if run.arguments[:1] == ["golden"] else [MEMORY]
+
+
 def each_turn(faulty, run, **asked):
     """A run with its first growth refused, then its second, and so on until it meets none: how many were, and what was answered wrongly."""
-    wanted, wrong = [(5, front, MEMORY) for front in fronts(run)], []
+    wanted, wrong = [(5, front, line) for front in fronts(run) for line in memory_lines(run)], []
     for turn in range(1, 10_000):
         answer, is_refused = faulty.run_refused(run, turn, **asked)
         if answer != run.answer and not (is_refused and answer in wanted):

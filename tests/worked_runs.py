@@ -525,8 +525,55 @@ def of_order():
     yield stream("a stop", ["order", "rules"], recording(lines), (0, recording([*lines[:3], lines[4], lines[3]]), b""), rules)
 
 
+# A file of rules by which the two sessions that stop for different reasons are the same.
+BLANK_REASON = b"blank event stopped body.reason\n"
+STOP_WITHOUT_REASON = recording([*NORMAL_BEGUN, STOPPED.replace("step", "")])
+
+
+def of_applied_rules():
+    """The option `--rules` of the commands that compare."""
+    pairs = b"same\nclient-seq 1 1\nadapter-seq 1 1\nadapter-seq 2 2\n"
+    other = recording([*BEGUN, STOPPED.replace("step", "pause"), THREADS])
+    files = {"rules": BLANK_REASON, "none": b"# no rule\n", "bad": b"blank event\n", "a": STEP, "b": HIT, "c": other, "d": TWICE}
+    differ = b'differ 4\nA ends\nB > request "threads"\n'
+    all_differ = b'differ: 0 paired, 0 only in A, 1 only in B\n-/4 > request "threads"\n'
+    refused = (2, b"", refusal("B: after the rules: record 3: AnsweredTwice"))
+    for command, rules, names, answer in (
+        (["compare"], "rules", "ab", (0, pairs, b"")), (["diff"], "rules", "ab", (0, b"same\n", b"")),
+        (["diff", "--all"], "rules", "ab", (0, b"same\n", b"")), (["compare", "--per-stop"], "rules", "ab", (0, pairs, b"")),
+        (["suggest"], "rules", "ab", (0, b"# with these rules: same\n", b"")), (["compare"], "none", "ab", (1, b"differ 3\n", b"")),
+        (["diff"], "none", "ab", (1, OTHER_REASON, b"")), (["diff"], "rules", "ac", (1, differ, b"")),
+        (["diff", "--all"], "rules", "ac", (1, all_differ, b"")), (["compare"], "rules", "ad", refused),
+        (["compare"], "bad", "ab", (2, b"", refusal("rules: line 1: BadRule"))),
+    ):
+        yield stream("stops", [*command, "--rules", rules, *names], b"", answer, files)
+
+
+def of_golden():
+    """A golden file that is the same, differs, is not in normal form, or is up to date."""
+    normal, configuration = recording(NORMAL_CONFIGURED), recording(CONFIGURED)
+    same, open_request = (0, b"same\n", b""), SESSIONS["an open request"]
+    trace = b"".join(b"%s%d\n%s" % (line[:1].encode(), len(frame(line[1:])), frame(line[1:])) for line in BEGUN)
+    other_form = b"the session is the same, but the golden file is not in normal form: --update rewrites it\n"
+    for name, options, given, golden, answer in (
+        ("a configuration", [], configuration, normal, same), ("a trace", [], trace, recording(NORMAL_BEGUN), same),
+        ("an open request", ["--open"], recording(open_request[0]), recording(open_request[1]), same),
+        ("two stops", ["--per-stop"], recording(TWO_STOPS), recording(NORMAL_PER_STOP), same),
+        ("another reason", [], HIT, recording([*NORMAL_BEGUN, STOPPED]), (1, OTHER_REASON, b"")),
+        ("another form", [], configuration, configuration, (1, other_form, b"")),
+        ("no change", ["--update"], configuration, normal, (0, b"unchanged\n", b"")),
+        ("nothing", [], b"", normal, (2, b"", refusal("golden: no records"))),
+        ("a stop", ["--rules", "rules"], HIT, STOP_WITHOUT_REASON, same),
+        ("a stop that is up to date", ["--rules", "rules", "--update"], STEP, STOP_WITHOUT_REASON, (0, b"unchanged\n", b"")),
+    ):
+        yield stream(name, ["golden", *options, "g"], given, answer, {"g": golden, "rules": BLANK_REASON})
+
+
 def all_runs():
     """Each run, by its name."""
-    runs = [*of_sessions(), *of_refusals(), *of_others(), *of_stops(), *of_rules(), *of_suggestions(), *of_options(), *of_order()]
+    runs = [
+        *of_sessions(), *of_refusals(), *of_others(), *of_stops(), *of_rules(), *of_suggestions(), *of_options(), *of_order(),
+        *of_applied_rules(), *of_golden(),
+    ]
     assert len({run.name for run in runs}) == len(runs)
     return runs
