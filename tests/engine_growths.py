@@ -177,10 +177,30 @@ DIFFERENCES = [
 ]
 
 
+# The status and the output of all differences of two recordings in a mode of names.
+STEPPED = '3/3 < event "stopped"\nA body.reason "step"\nB body.reason "breakpoint"\n'
+ALL_DIFFERENCES = [
+    (STEP, DIFFERENCES[0][0], "whole", "1", f"differ: 1 paired, 0 only in A, 0 only in B\n{STEPPED}".encode()),
+    (
+        STEP, [], "whole", "1",
+        b'differ: 0 paired, 3 only in A, 0 only in B\n1/- > request "initialize"\n2/- < response "initialize"\n3/- < event "stopped"\n',
+    ),
+    (FRAMES_LINES, EXCHANGED_LINES, "whole", "0", b"same\n"), (STALE_FRAME, NEW_FRAME, "per-stop", "0", b"same\n"),
+]
+
+
 def run_diff_is_refused_in_turn(report, shim):
     for lines, printed in DIFFERENCES:
         call = Call("run-diff", Input(recording(STEP)), Input(recording(lines)))
         each_turn(report, shim, f"run_diff with {len(lines)} lines", call, "1", printed)
+
+
+def run_diff_all_is_refused_in_turn(report, shim):
+    """`run_diff_all` and `run_diff_all_with`, with both kinds of tables."""
+    for tables in ("own", *HANDED):
+        for a, b, mode, status, printed in ALL_DIFFERENCES:
+            call = Call("run-diff-all", Input(recording(a)), Input(recording(b)), mode=mode, tables=tables)
+            each_turn(report, shim, f"run_diff_all of {len(a)} and {len(b)} lines, {mode}, tables {tables}", call, status, printed)
 
 
 def normalise_with_tables_is_refused_in_turn(report, shim):
@@ -243,7 +263,7 @@ TESTS = [
     compact_is_refused_in_turn, record_is_refused_in_turn, show_is_refused_in_turn, want_of_memory_is_told_without_memory,
     normalise_is_refused_in_turn, normalise_per_stop_is_refused_in_turn, normalise_past_a_limit_is_refused_in_turn,
     normalise_bytes_is_refused_in_turn, check_is_refused_in_turn, check_prints_its_line_or_wants_memory, compare_is_refused_in_turn,
-    compare_per_stop_is_refused_in_turn, run_compare_is_refused_in_turn, run_diff_is_refused_in_turn,
+    compare_per_stop_is_refused_in_turn, run_compare_is_refused_in_turn, run_diff_is_refused_in_turn, run_diff_all_is_refused_in_turn,
     normalise_with_tables_is_refused_in_turn, check_with_tables_is_refused_in_turn, compare_with_tables_is_refused_in_turn,
     run_stream_with_tables_is_refused_in_turn, run_compare_and_run_diff_with_tables_are_refused_in_turn,
 ]

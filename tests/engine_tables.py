@@ -51,7 +51,7 @@ def two_recordings_per_stop_with_handed_tables(report):
     """The first two are the same by stops alone."""
     texts = [recording(lines) for lines in (STALE_FRAME, NEW_FRAME, FRAMES_LINES, [])]
     pairs = [(a, b) for a in texts for b in texts]
-    names = ("compare", "run-compare", "run-diff")
+    names = ("compare", "run-compare", "run-diff", "run-diff-all")
     own = agree(report, "two recordings by stops", (Call(name, Input(a), Input(b), mode="per-stop") for name in names for a, b in pairs))
     report.check("two stops are the same by stops", own[1].result == "Ok(Same(11))", repr(own[1]))
 
@@ -62,7 +62,7 @@ def two_recordings_with_handed_tables(report):
     for text in worked():
         pairs += [(before, text), (SESSION, text), (text, SESSION)]
         before = text
-    names = ("compare", "run-compare", "run-diff")
+    names = ("compare", "run-compare", "run-diff", "run-diff-all")
     own = agree(report, "two recordings", (Call(name, Input(a), Input(b)) for a, b in pairs for name in names))
     report.check("some pairs are the same", sum(each.result.startswith("Ok(Same") for each in own) > 3)
 

@@ -23,6 +23,7 @@ pub enum Function {
     RunStream(Job<'static>),
     RunCompare,
     RunDiff,
+    RunDiffAll,
 }
 
 /// The name tables that are passed to the command function.
@@ -70,6 +71,7 @@ fn function_of(word: &str, complete: bool, mode: Mode) -> Result<Function> {
         "run-check" => Function::RunStream(Job::Check { complete, per_stop }),
         "run-compare" => Function::RunCompare,
         "run-diff" => Function::RunDiff,
+        "run-diff-all" => Function::RunDiffAll,
         _ => bail!("no function has this name: {word}"),
     })
 }

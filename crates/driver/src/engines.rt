@@ -13,7 +13,8 @@ use dap_rename::{IndexNames, PlainNames};
 use dapnorm::{
     Checked, CompareRefused, Job, Limits, NameTable, Normalised, Refused, Tables, Verdict, check,
     check_with, compact, compare, compare_with, normalise, normalise_bytes, normalise_with, record,
-    run_compare, run_compare_with, run_diff, run_diff_with, run_stream, run_stream_with, show,
+    run_compare, run_compare_with, run_diff, run_diff_all, run_diff_all_with, run_diff_with,
+    run_stream, run_stream_with, show,
 };
 use std::alloc::Global;
 use std::hash::RandomState;
@@ -305,6 +306,46 @@ fn diff_printed_with<T: NameTable + Drop>(
     ))
 }
 
+fn diff_all_printed(alloc: Global, call: &Call<'_>, devices: &mut Devices<'_>) -> Outcome
+    requires limits { AreSound call.now.limits }
+    requires new { AreNew devices.old }
+{
+    Outcome::Status(run_diff_all(
+        alloc,
+        &mut devices.a,
+        &mut devices.b,
+        &mut devices.output,
+        &mut devices.errors,
+        call.limits,
+        call.mode,
+    ))
+}
+
+fn diff_all_printed_with<T: NameTable + Drop>(
+    alloc: Global,
+    call: &Call<'_>,
+    devices: &mut Devices<'_>,
+    tables_a: Tables<T>,
+    tables_b: Tables<T>,
+) -> Outcome
+    requires limits { AreSound call.now.limits }
+    requires new { AreNew devices.old }
+    requires tables_a { AreReady T.numbers T.limit call.now.limits tables_a }
+    requires tables_b { AreReady T.numbers T.limit call.now.limits tables_b }
+{
+    Outcome::Status(run_diff_all_with(
+        alloc,
+        &mut devices.a,
+        &mut devices.b,
+        &mut devices.output,
+        &mut devices.errors,
+        call.limits,
+        tables_a,
+        tables_b,
+        call.mode,
+    ))
+}
+
 /// Calls a command function that creates its own name tables.
 fn outcome_own(alloc: Global, call: &Call<'_>, devices: &mut Devices<'_>) -> Outcome
     requires limits { AreSound call.now.limits }
@@ -317,6 +358,7 @@ fn outcome_own(alloc: Global, call: &Call<'_>, devices: &mut Devices<'_>) -> Out
         Function::RunStream(job) => streamed(alloc, call, job, devices),
         Function::RunCompare => compare_printed(alloc, call, devices),
         Function::RunDiff => diff_printed(alloc, call, devices),
+        Function::RunDiffAll => diff_all_printed(alloc, call, devices),
         _ => Outcome::Refused,
     }
 }
@@ -343,6 +385,7 @@ fn outcome_with<T: NameTable + Drop>(
         Function::RunStream(job) => streamed_with(alloc, call, job, devices, tables_a),
         Function::RunCompare => compare_printed_with(alloc, call, devices, tables_a, tables_b),
         Function::RunDiff => diff_printed_with(alloc, call, devices, tables_a, tables_b),
+        Function::RunDiffAll => diff_all_printed_with(alloc, call, devices, tables_a, tables_b),
         _ => Outcome::Refused,
     }
 }
