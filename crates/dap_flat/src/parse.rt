@@ -73,7 +73,9 @@ fn parse_value<'a>(
         nodes.old.items nodes.new.items reader.new) }
     ensures shorter { OnOk result (length reader.new < length reader.old) }
 {
-    let token = reader.next().ok_or(Unread::Unclear)?;
+    let Some(token) = reader.next() else {
+        return Err(Unread::Unclear);
+    };
     match token {
         Token::String(text) => {
             nodes.push(Node::Text(text))?;

@@ -26,7 +26,7 @@ pub parse_value-returns-in_ok-push-in-String-clause-ok
     : goal.parse_value-returns-in_ok-push-in-String-clause-ok
 parse_value-returns-in_ok-push-in-String-clause-ok t c =
     let left = c.next.new.self in
-    let first : c.args.reader.now ≡ token_of c.in_ok-token.token ∷ left = grind arith in
+    let first : c.args.reader.now ≡ token_of c.in-Some.token ∷ left = grind arith in
     let is : c.args.reader.now ≡ Token.string c.in-String.text.now ∷ left =
     grind (arith, first) in (
       text c.in-String.text.now,
@@ -41,7 +41,7 @@ pub parse_value-returns-in_ok-push-in-Bool-clause-ok
     : goal.parse_value-returns-in_ok-push-in-Bool-clause-ok
 parse_value-returns-in_ok-push-in-Bool-clause-ok t c =
     let left = c.next.new.self in
-    let first : c.args.reader.now ≡ token_of c.in_ok-token.token ∷ left = grind arith in
+    let first : c.args.reader.now ≡ token_of c.in-Some.token ∷ left = grind arith in
     let is : c.args.reader.now ≡ Token.boolean c.in-Bool.b ∷ left = grind (arith, first) in (
       boolean c.in-Bool.b,
       (
@@ -55,7 +55,7 @@ pub parse_value-returns-in_ok-push-in-Null-clause-ok
     : goal.parse_value-returns-in_ok-push-in-Null-clause-ok
 parse_value-returns-in_ok-push-in-Null-clause-ok t c =
     let left = c.next.new.self in
-    let first : c.args.reader.now ≡ token_of c.in_ok-token.token ∷ left = grind arith in
+    let first : c.args.reader.now ≡ token_of c.in-Some.token ∷ left = grind arith in
     let is : c.args.reader.now ≡ Token.null ∷ left = grind (arith, first) in (
       null,
       (
@@ -69,7 +69,7 @@ pub parse_value-returns-in_ok-push-in-Number-clause-ok
     : goal.parse_value-returns-in_ok-push-in-Number-clause-ok
 parse_value-returns-in_ok-push-in-Number-clause-ok t c =
     let left = c.next.new.self in
-    let first : c.args.reader.now ≡ token_of c.in_ok-token.token ∷ left = grind arith in
+    let first : c.args.reader.now ≡ token_of c.in-Some.token ∷ left = grind arith in
     let is : c.args.reader.now ≡ Token.number c.in-Number.text.now ∷ left =
     grind (arith, first) in
     let n = number_of c.in-Number.text.now in
@@ -87,7 +87,7 @@ pub parse_value-returns-in_ok-push-in-BeginArray-2-clause-ok
     : goal.parse_value-returns-in_ok-push-in-BeginArray-2-clause-ok
 parse_value-returns-in_ok-push-in-BeginArray-2-clause-ok t c =
     let left = c.next.new.self in
-    let first : c.args.reader.now ≡ token_of c.in_ok-token.token ∷ left = grind arith in
+    let first : c.args.reader.now ≡ token_of c.in-Some.token ∷ left = grind arith in
     let opened =
     ap (converted of_json) (ap (value c.args.depth)
     (first ∙ ap (λ k. token_of k ∷ left) c.in-BeginArray.is)
@@ -110,7 +110,7 @@ pub parse_value-returns-in_ok-push-in-BeginObject-2-clause-ok
     : goal.parse_value-returns-in_ok-push-in-BeginObject-2-clause-ok
 parse_value-returns-in_ok-push-in-BeginObject-2-clause-ok t c =
     let left = c.next.new.self in
-    let first : c.args.reader.now ≡ token_of c.in_ok-token.token ∷ left = grind arith in
+    let first : c.args.reader.now ≡ token_of c.in-Some.token ∷ left = grind arith in
     let opened =
     ap (converted of_json) (ap (value c.args.depth)
     (first ∙ ap (λ k. token_of k ∷ left) c.in-BeginObject.is)
