@@ -1,5 +1,6 @@
 pub mod Members
 pub mod Scalars
+pub mod Empty
 pub mod Paths
 pub mod Told
 pub mod EveryOne

@@ -23,6 +23,12 @@ same_scalar (text s) (text t) = bytes_eq s t
 same_scalar (id s y) (id t z) = same_sort s t && int_eq y z
 same_scalar _ _ = false
 
+-- Both are arrays without items, or both are objects without members.
+abbrev pub are_empty : Doc → Doc → Bool
+are_empty (list no_items) (list no_items) = true
+are_empty (object no_members) (object no_members) = true
+are_empty _ _ = false
+
 -- Only one document has a value after the step.
 abbrev pub only_a : Step → Doc → Difference
 only_a s d = record { path = s ∷ []; of_a = Some d; of_b = None }

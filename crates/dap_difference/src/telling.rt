@@ -3,7 +3,7 @@ ghost use Rattle.std.specs.Prelude.{◌≡◌, ◌∷◌, ◌++◌, [], drop, If
 ghost use Rattle.dap_tree.specs.Doc.{is_ordered};
 ghost use Rattle.dap_tree.specs.View.{view, items_view, members_view};
 ghost use Rattle.dap_difference.specs.Differences.{AreDifferences, PutInIsB};
-ghost use Rattle.dap_difference.specs.Telling.{both, differences, items_differences};
+ghost use Rattle.dap_difference.specs.Telling.{are_empty, both, differences, items_differences};
 ghost use Rattle.dap_difference.specs.Telling.{items_of_b, members_differences, members_of_b};
 ghost use Rattle.dap_difference.specs.Telling.{same_scalar};
 ghost use Rattle.dap_difference.specs.Shown.{at_path, shown_differences};
@@ -21,7 +21,8 @@ use std::collections::btree_map::Iter;
 ///
 /// Two arrays or two objects at the same path are compared part by part. Any other two values that
 /// differ are one difference, and so is a value that exists in only one of the trees. An id and an
-/// integer differ, even if their text is the same. Does not allocate for two equal scalars.
+/// integer differ, even if their text is the same. Does not allocate for two equal scalars, two
+/// empty arrays or two empty objects.
 ///
 /// # Errors
 ///
@@ -45,8 +46,10 @@ pub fn differences<'t>(
         → is_ordered (view b.now) ≡ true
         → PutInIsB (shown_differences found.items) (view a.now) (view b.now)) }
 
-    // Two equal scalars have no differences, and this is found without allocating.
+    // Two equal scalars, two empty arrays and two empty objects have no differences, and this is
+    // found without allocating.
     ensures scalars { same_scalar (view a.now) (view b.now) ≡ true → IsOk result }
+    ensures empty { are_empty (view a.now) (view b.now) ≡ true → IsOk result }
 {
     let mut path = Vec::new(alloc);
     let mut found = Vec::new(alloc);
@@ -134,6 +137,7 @@ fn add<'t>(
         (differences (view a.now) (view b.now))) }
     ensures path { OnOk result (path.new.items ≡ path.old.items) }
     ensures scalars { same_scalar (view a.now) (view b.now) ≡ true → IsOk result }
+    ensures empty { are_empty (view a.now) (view b.now) ≡ true → IsOk result }
 {
     match a {
         Tree::List(items) => match b {
@@ -159,6 +163,7 @@ fn add_items<'t>(
     ensures found { OnOk result (Appends path.old.items found.old.items found.new.items
         (items_differences 0 (items_view items.now.items) (items_view others.now.items))) }
     ensures path { OnOk result (path.new.items ≡ path.old.items) }
+    ensures empty { items.now.items ≡ [] → others.now.items ≡ [] → IsOk result }
 {
     for (place, item) in items.iter().enumerate() {
         match others.get(place) {
@@ -184,6 +189,7 @@ fn add_items_of_b<'t>(
     ensures found { OnOk result (Appends path.old.items found.old.items found.new.items
         (items_of_b first (items_view (drop first items.now.items)))) }
     ensures path { OnOk result (path.new.items ≡ path.old.items) }
+    ensures empty { items.now.items ≡ [] → IsOk result }
 {
     for place in first..items.len() {
         let value = Values::OnlyB(&items[place]);
@@ -204,6 +210,7 @@ fn add_members<'t>(
         (members_differences (members_view members.now.entries)
         (members_view others.now.entries))) }
     ensures path { OnOk result (path.new.items ≡ path.old.items) }
+    ensures empty { members.now.entries ≡ [] → others.now.entries ≡ [] → IsOk result }
 {
     let mut left = others.iter();
     for (name, member) in members.iter() {
@@ -283,6 +290,7 @@ fn add_members_of_b<'t>(
     ensures found { OnOk result (Appends path.old.items found.old.items found.new.items
         (members_of_b (members_view left.entry))) }
     ensures path { OnOk result (path.new.items ≡ path.old.items) }
+    ensures empty { left.entry ≡ [] → IsOk result }
 {
     for (name, member) in left {
         let step = Step::Member(name.as_str());

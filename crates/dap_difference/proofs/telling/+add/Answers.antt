@@ -1,16 +1,23 @@
-use Rattle.std.proofs.Common.{◌≡◌, ◌∷◌, ◌++◌, ◌+◌, ◌-◌, ◌<◌, map, length, get_or, take, drop}
-use Rattle.std.proofs.Common.{sym, ap, ◌∙◌}
+use Rattle.std.proofs.Common.{◌≡◌, List, [], ◌∷◌, ◌++◌, ◌+◌, ◌-◌, ◌<◌, map, length, get_or, take}
+use Rattle.std.proofs.Common.{drop, sym, ap, ap₂, ◌∙◌}
 use Rattle.std.proofs.Common.{Some, None, ◌≤◌, subst, arith, add-one}
 use Rattle.dap_tree.specs.Path.{name}
 use Rattle.dap_tree.specs.View.{view, items_view, members_view}
+use Rattle.dap_tree.proofs.Views.{view-List, view-Object}
 use Rattle.dap_difference.specs.Shown.{path_of, shown_differences}
-use Rattle.dap_difference.specs.Telling.{below, behind, only_a, differences, items_differences}
-use Rattle.dap_difference.specs.Telling.{members_differences}
+use Rattle.dap_difference.specs.Telling.{are_empty, below, behind, only_a, differences}
+use Rattle.dap_difference.specs.Telling.{items_differences, members_differences}
 use Rattle.dap_difference.specs.TellingSteps.{PassesLower, HasNoLower, TakesNamed}
 use Rattle.dap_difference.specs.declared.difference.Step.TheVariants.{Member, Item}
 use Rattle.dap_difference.proofs.TreeSteps.{appended_behind, appended_one, popped, tree_at}
 use Rattle.dap_difference.proofs.TreeSteps.{items_both, items_only_a, members_both, members_only_a}
+use Rattle.dap_difference.proofs.Empty.{empty_items, empty_members}
 use Rattle.dap_difference.proofs.telling.+add.Goals as goal
+
+-- the iteration has an entry, so there are entries
+one_next : {A : Type 0} {P : Type 0} (left : List A) (x : A) (xs : List A) → left ≡ []
+    → left ≡ x ∷ xs → P
+one_next left x xs none next = absurd cc
 
 pub add_items-loop-place-preserved : goal.add_items-loop-place-preserved
 add_items-loop-place-preserved t c =
@@ -100,6 +107,9 @@ add_members-loop-name-preserved-in-Some-2 t c =
           (c.pop.ensures.rest
           ∙ ap (λ n. take (n - 1) c.add.new.path.items) c.add.new.path.ok.0)
           ∙ at_root;
+      none = λ gone. one_next l.name-iterator _ _ (l.invariant.none gone) c.in-Some.ensures.steps;
+      all_left = λ gone.
+          one_next l.name-iterator _ _ (l.invariant.none gone) c.in-Some.ensures.steps;
     }
 
 pub add_members-loop-name-preserved : goal.add_members-loop-name-preserved
@@ -133,4 +143,21 @@ add_members-loop-name-preserved t c =
           (only_a (name k) (view tree) ∷ rest)) c.as_str-in-None-2.ensures.value)
           ∙ l.invariant.told_so_far;
       path = added.path ∙ at_root;
+      none = λ gone. one_next l.name-iterator _ _ (l.invariant.none gone) c.in-Some.ensures.steps;
+      all_left = λ gone.
+          one_next l.name-iterator _ _ (l.invariant.none gone) c.in-Some.ensures.steps;
     }
+
+pub add-returns-in-List-b-clause-empty : goal.add-returns-in-List-b-clause-empty
+add-returns-in-List-b-clause-empty t c empty =
+    let none = empty_items c.in-List.items.items c.in-List-b.others.items
+    (ap₂ are_empty (sym (ap view c.in-List.is ∙ view-List c.in-List.items))
+    (sym (ap view c.in-List-b.is ∙ view-List c.in-List-b.others)) ∙ empty) in
+    c.add_items.ensures.empty none.0 none.1
+
+pub add-returns-in-Object-b-clause-empty : goal.add-returns-in-Object-b-clause-empty
+add-returns-in-Object-b-clause-empty t c empty =
+    let none = empty_members c.in-Object.members.entries c.in-Object-b.others.entries
+    (ap₂ are_empty (sym (ap view c.in-Object.is ∙ view-Object c.in-Object.members))
+    (sym (ap view c.in-Object-b.is ∙ view-Object c.in-Object-b.others)) ∙ empty) in
+    c.add_members.ensures.empty none.0 none.1

@@ -1,4 +1,4 @@
-use Rattle.std.proofs.Common.{◌≡◌, ◌++◌, drop, map}
+use Rattle.std.proofs.Common.{◌≡◌, [], ◌++◌, drop, map}
 use Rattle.dap_tree.specs.View.{items_view, members_view}
 use Rattle.dap_difference.specs.Shown.{path_of, shown_differences}
 use Rattle.dap_difference.specs.Telling.{below, items_differences, members_differences}
@@ -22,4 +22,6 @@ invariant-add_members-loop-name l = record {
       ≡ shown_differences l.initial.found.items ++ map (below (path_of l.initial.path.items))
       (members_differences (members_view l.members.entries) (members_view l.others.entries));
   path : l.path.items ≡ l.initial.path.items;
+  none : l.members.entries ≡ [] → l.name-iterator ≡ [];
+  all_left : l.members.entries ≡ [] → l.left ≡ l.others.entries;
 }
