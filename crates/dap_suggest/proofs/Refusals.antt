@@ -1,7 +1,10 @@
 -- Why no rules are suggested, from the steps that fail.
-use Rattle.std.proofs.Common.{◌≡◌, ◌≢◌, ℕ, List, Ok, Err, inl, inr, sym, subst}
-use Rattle.dap_mask.specs.Mask.{Mask}
-use Rattle.dap_mask.specs.RulesFile.{rules_said}
+use Rattle.std.proofs.Common.{◌≡◌, ◌≢◌, ℕ, ◌≤◌, Bool, true, false, cond, List, Ok, Err, arith}
+use Rattle.std.proofs.Common.{inl, inr, length, nat_lt, refl, sym, subst, take}
+use Rattle.dap_device.specs.declared.device.Sink.{Ghosts as Sink}
+use Rattle.dap_mask.specs.Mask.{Mask, no_rules}
+use Rattle.dap_mask.specs.RulesFile.{last_line, rules_from, rules_said}
+use Rattle.dap_mask.specs.Runs.{lines_of}
 use Rattle.dap_mask.specs.declared.fault.RulesCause.TheVariants as cause
 use Rattle.dap_mask.specs.declared.fault.RulesFault.{RulesFault}
 use Rattle.dap_rename.specs.declared.mode.Mode.TheVariants.{Whole}
@@ -11,31 +14,52 @@ use Rattle.dap_rules.specs.declared.fault.ApplyRefused.{ApplyRefused}
 use Rattle.dap_rules.specs.declared.fault.ApplyRefused.TheVariants.{Memory}
 use Rattle.dap_suggest.specs.NotSuggested.{AreRejected, IsNotSuggested, IsRulesRefusal}
 use Rattle.dap_suggest.specs.NotSuggested.{IsSearchRefusal, IsSessionRefusal, input_refusal}
+use Rattle.dap_runs.specs.ComparingRun.{IsPrinted}
+use Rattle.dap_suggest.specs.SuggestRun.{IsReported}
 use Rattle.dap_suggest.specs.Suggested.{IsRejected, MakesNormal}
 use Rattle.dap_suggest.specs.declared.suggestion.SuggestRefused.{SuggestRefused}
 use Rattle.dap_suggest.specs.declared.suggestion.SuggestRefused.TheVariants as because
 
+-- Rules that are accepted are not too long.
+unless_too_long : (given : List ℕ) (mask : Mask) (too_long : Bool)
+    → nat_lt 65536 (length given) ≡ too_long
+    → cond too_long (Err (record {
+      line = last_line (take 65536 given);
+      cause = cause.TooLong;
+    }))
+    (rules_from no_rules 1 (lines_of given)) ≡ Ok mask
+    → length given ≤ 65536
+unless_too_long given mask true is said = absurd (let wrong : ⊥ = cc in wrong)
+unless_too_long given mask false is said = grind (arith, is)
+
+pub accepted_are_short : (given : List ℕ) (mask : Mask) → rules_said given ≡ Ok mask
+    → length given ≤ 65536
+unfolding rules_said
+accepted_are_short given mask said =
+    unless_too_long given mask (nat_lt 65536 (length given)) refl said
+
 module _ (limits : Limits) (given a b : List ℕ) where
   pub rules_rejected : (fault : RulesFault) → (result : SuggestRefused)
       → IsRulesRefusal fault result → (fault.cause ≢ cause.Memory → rules_said given ≡ Err fault)
+      → (fault.cause ≡ cause.Memory → length given ≤ 65536)
       → IsNotSuggested limits given a b result
-  rules_rejected fault (because.Rules reported) (is, named) said = subst
+  rules_rejected fault (because.Rules reported) (is, named) said short = subst
       (λ f. rules_said given ≡ Err f) (sym is) (said named)
-  rules_rejected fault (because.Input which refused) is said = absurd is
-  rules_rejected fault (because.NoRules obstacle) is said = absurd is
-  rules_rejected fault because.Memory is said = tt
-
-  pub search_failed : (result : SuggestRefused) → IsSearchRefusal result
-      → IsNotSuggested limits given a b result
-  search_failed (because.Rules fault) is = absurd is
-  search_failed (because.Input which refused) is = absurd is
-  search_failed (because.NoRules obstacle) is = tt
-  search_failed because.Memory is = tt
+  rules_rejected fault (because.Input which refused) is said short = absurd is
+  rules_rejected fault (because.NoRules obstacle) is said short = absurd is
+  rules_rejected fault because.Memory is said short = short is
 
   module _ (mask : Mask) (said : rules_said given ≡ Ok mask) where
+    pub search_failed : (result : SuggestRefused) → IsSearchRefusal result
+        → IsNotSuggested limits given a b result
+    search_failed (because.Rules fault) is = absurd is
+    search_failed (because.Input which refused) is = absurd is
+    search_failed (because.NoRules obstacle) is = (mask, said)
+    search_failed because.Memory is = accepted_are_short given mask said
+
     a_rejected : (refused : ApplyRefused) → IsRejected limits Whole mask a refused
         → IsNotSuggested limits given a b (input_refusal A refused)
-    a_rejected Memory is = tt
+    a_rejected Memory is = accepted_are_short given mask said
     a_rejected refused is = (mask, said, is)
 
     no_session_of_a : (result : SuggestRefused) → IsSessionRefusal limits mask A a result
@@ -46,7 +70,7 @@ module _ (limits : Limits) (given a b : List ℕ) where
     module _ (text : List ℕ) (of_a : MakesNormal limits Whole mask a text) where
       b_rejected : (refused : ApplyRefused) → IsRejected limits Whole mask b refused
           → IsNotSuggested limits given a b (input_refusal B refused)
-      b_rejected Memory is = tt
+      b_rejected Memory is = accepted_are_short given mask said
       b_rejected refused is = (mask, said, (text, of_a), is)
 
       no_session_of_b : (result : SuggestRefused) → IsSessionRefusal limits mask B b result
@@ -58,3 +82,26 @@ module _ (limits : Limits) (given a b : List ℕ) where
         → IsNotSuggested limits given a b result
     no_sessions result (inl is) = no_session_of_a result is
     no_sessions result (inr (of_a, is)) = no_session_of_b of_a.0 of_a.1 result is
+
+-- ---- the status of a failed allocation
+
+module _ {E : Type 0} (errors : Sink E) (silent spoken : E) (status : ℕ) (memory : status ≡ 5) where
+  -- It is not that of rules that are printed.
+  pub not_printed : {W : Type 0} (sink : Sink W) (text : List ℕ) (before after : W)
+      → IsPrinted sink errors text 0 before after silent spoken status → ⊥
+  not_printed sink text before after (inl (sent, kept, done)) = omega arith
+  not_printed sink text before after (inr (prefix, told, failed)) = omega arith
+
+  -- The rules that were given are not too long.
+  pub short_at_memory : (limits : Limits) (given a b : List ℕ) (refused : SuggestRefused)
+      → IsNotSuggested limits given a b refused
+      → IsReported errors given silent spoken status refused → length given ≤ 65536
+  short_at_memory limits given a b (because.Rules fault) is (sent, rejected) =
+      absurd (omega arith)
+  short_at_memory limits given a b (because.Input A refused) (mask, said, is) tells =
+      accepted_are_short given mask said
+  short_at_memory limits given a b (because.Input B refused) (mask, said, of_a, is) tells =
+      accepted_are_short given mask said
+  short_at_memory limits given a b (because.NoRules obstacle) (mask, said) tells =
+      accepted_are_short given mask said
+  short_at_memory limits given a b because.Memory short tells = short

@@ -1,5 +1,5 @@
 -- Why no rules are suggested for two recordings. Source: own.
-use Rattle.std.specs.Prelude.{◌≡◌, ◌≢◌, ◌⊎◌, ℕ, List, Ok, Err}
+use Rattle.std.specs.Prelude.{◌≡◌, ◌≢◌, ◌⊎◌, ℕ, ◌≤◌, List, length, Ok, Err}
 use Rattle.dap_mask.specs.Mask.{Mask}
 use Rattle.dap_mask.specs.RulesFile.{rules_said}
 use Rattle.dap_mask.specs.declared.fault.RulesCause.TheVariants as cause
@@ -15,6 +15,10 @@ use Rattle.dap_suggest.specs.declared.inputs.Inputs.{Inputs}
 use Rattle.dap_suggest.specs.declared.suggestion.SuggestRefused.{SuggestRefused}
 use Rattle.dap_suggest.specs.declared.suggestion.SuggestRefused.TheVariants as because
 
+-- The rules that were given are accepted.
+abbrev pub AreAccepted : List ℕ → Type 0
+AreAccepted given = (mask : Mask) × (rules_said given ≡ Ok mask)
+
 -- The rules that were given are accepted, and A, or B if A is not rejected, is rejected by them.
 abbrev pub IsInputRejected : Limits → List ℕ → List ℕ → List ℕ → Which → ApplyRefused → Type 0
 IsInputRejected limits given a b A refused =
@@ -24,13 +28,14 @@ IsInputRejected limits given a b B refused =
     × ((text : List ℕ) × MakesNormal limits Whole mask a text)
     × IsRejected limits Whole mask b refused
 
--- Why no rules are suggested. A search without a result proves nothing about the recordings.
+-- Why no rules are suggested. A search without a result proves nothing about the recordings. Rules
+-- that are too long are rejected before any allocation.
 abbrev pub IsNotSuggested : Limits → List ℕ → List ℕ → List ℕ → SuggestRefused → Type 0
 IsNotSuggested limits given a b (because.Rules fault) = rules_said given ≡ Err fault
 IsNotSuggested limits given a b (because.Input which refused) =
     IsInputRejected limits given a b which refused
-IsNotSuggested limits given a b (because.NoRules obstacle) = Unit {0}
-IsNotSuggested limits given a b because.Memory = Unit {0}
+IsNotSuggested limits given a b (because.NoRules obstacle) = AreAccepted given
+IsNotSuggested limits given a b because.Memory = length given ≤ 65536
 
 -- The same, of the inputs of a suggestion.
 abbrev pub HasNoSuggestion : Inputs → SuggestRefused → Type 0
@@ -57,12 +62,12 @@ AreRejected limits mask a b result =
     ⊎ (((text : List ℕ) × MakesNormal limits Whole mask a text)
     × IsSessionRefusal limits mask B b result)
 
--- The error for rules that are rejected. A failed allocation says nothing about them.
+-- The error for rules that are rejected, or that were not read because an allocation failed.
 abbrev pub IsRulesRefusal : RulesFault → SuggestRefused → Type 0
 IsRulesRefusal fault (because.Rules reported) = (reported ≡ fault) × (fault.cause ≢ cause.Memory)
 IsRulesRefusal fault (because.Input which refused) = ⊥
 IsRulesRefusal fault (because.NoRules obstacle) = ⊥
-IsRulesRefusal fault because.Memory = Unit {0}
+IsRulesRefusal fault because.Memory = fault.cause ≡ cause.Memory
 
 -- The error of a search: it found no rules, or an allocation failed.
 abbrev pub IsSearchRefusal : SuggestRefused → Type 0

@@ -1,5 +1,5 @@
 //! Suggests rules, and prints them: lines and a status.
-ghost use Rattle.std.specs.Prelude.{◌≡◌, ◌<◌, ◌^◌};
+ghost use Rattle.std.specs.Prelude.{◌≡◌, ◌<◌, ◌≤◌, ◌^◌, length};
 ghost use Rattle.dap_input.specs.Limits.{AreSound};
 ghost use Rattle.dap_suggest.specs.SuggestRun.{IsObstacleReported, IsReported};
 ghost use Rattle.dap_suggest.specs.SuggestRun.{SuggestionIsReported, reported_refusal};
@@ -81,6 +81,9 @@ pub fn run_suggest<W: Sink, E: Sink>(
     ensures reported { SuggestionIsReported W.Sink E.Sink limits given.now a.now b.now writer.old
         writer.new
         errors.old errors.new result }
+
+    // A failed allocation is reported only if the rules that were given are not too long.
+    ensures memory { result ≡ 5 → length given.now ≤ 65536 }
 {
     match suggest(alloc, given, a, b, limits) {
         Ok(found) => print_found(writer, errors, &[found.rules.as_slice()], DONE),

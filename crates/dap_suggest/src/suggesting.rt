@@ -142,6 +142,7 @@ fn suggest_after(
     refused: SuggestRefused,
 ) -> Result<Suggestion, SuggestRefused>
     requires limits { AreSound inputs.now.limits }
+    requires read { rules_said inputs.now.given.now ≡ Ok (mask_of rules.now) }
     requires rejected { HasNoSuggestion inputs.now refused }
     ensures ok { IfOk result (IsSuggestion inputs.now) }
     ensures err { IfErr result (HasNoSuggestion inputs.now) }
@@ -195,7 +196,7 @@ fn suggest_by(
 /// - `Rules`: the rules that were given are rejected.
 /// - `Input`: A is rejected by the rules that were given, or B is, and A is not.
 /// - `NoRules`: no rules were found.
-/// - `Memory`: an allocation failed.
+/// - `Memory`: an allocation failed. Rules that are too long are rejected before any allocation.
 pub fn suggest(
     alloc: Global,
     given: &[u8],
@@ -211,7 +212,7 @@ pub fn suggest(
         (λ s. AreSameBy limits s.mode (given.now ++ s.rules.items) a.now b.now) }
 
     // The rules that were given are rejected, or the first recording that they reject is, or no
-    // rules were found.
+    // rules were found. `Memory` is returned only if the rules that were given are not too long.
     ensures err { IfErr result (IsNotSuggested limits given.now a.now b.now) }
 {
     match MaskRules::read(alloc, given) {

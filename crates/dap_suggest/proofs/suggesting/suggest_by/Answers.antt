@@ -1,5 +1,5 @@
 use Rattle.dap_mask.specs.KeptRules.{mask_of}
-use Rattle.dap_suggest.proofs.Refusals.{no_sessions}
+use Rattle.dap_suggest.proofs.Refusals.{no_sessions, search_failed}
 use Rattle.dap_suggest.proofs.suggesting.suggest_by.Goals as goal
 
 pub suggest_after-requires-clause-rejected : goal.suggest_after-requires-clause-rejected
@@ -7,3 +7,9 @@ suggest_after-requires-clause-rejected c =
     no_sessions c.args.inputs.now.limits c.args.inputs.now.given.now c.args.inputs.now.a.now
     c.args.inputs.now.b.now (mask_of c.args.rules.now) c.requires.read c.in-Err.refused
     c.in-Err.ensures
+
+pub returns-in-Ok-clause-err : goal.returns-in-Ok-clause-err
+returns-in-Ok-clause-err c =
+    search_failed c.args.inputs.now.limits c.args.inputs.now.given.now c.args.inputs.now.a.now
+    c.args.inputs.now.b.now (mask_of c.args.rules.now) c.requires.read c.search_refusal.result
+    c.search_refusal.ensures
