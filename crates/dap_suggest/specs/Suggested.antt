@@ -6,7 +6,6 @@ use Rattle.dap_mask.specs.RulesFile.{rules_said}
 use Rattle.dap_rename.specs.declared.mode.Mode.{Mode}
 use Rattle.dap_rename.specs.declared.mode.Mode.TheVariants.{Whole}
 use Rattle.dap_input.specs.declared.limits.Limits.{Limits}
-use Rattle.dap_input.specs.declared.refused.Refused.{Refused}
 use Rattle.dap_input.specs.Refusals.{IsRefused}
 use Rattle.dap_normalise.specs.Accepting.{accepting}
 use Rattle.dap_normalise.specs.Normalising.{Normalises}
