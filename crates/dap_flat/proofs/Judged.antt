@@ -65,7 +65,7 @@ list_there ns at x d h =
 
 -- ---- a member
 
-found_there : (ns : List Node) (at i : ℕ) (k : List ℕ) (r : Option ℕ) (d : Doc)
+pub found_there : (ns : List Node) (at i : ℕ) (k : List ℕ) (r : Option ℕ) (d : Doc)
     → FindsChild ns at k r → r ≡ Some i → Holds ns at d
     → Found ns at i (pieces d) (λ g. pieces (change_child k g d)) (get k d)
 found_there ns at i k r d finds is h =
@@ -217,7 +217,7 @@ item_then n ps w needed e rest =
     (first_cause (map (cause_against w needed) (flat_map (parts_at ps) (elements rest))))
 
 -- no value starts with the end of a list
-no_value_ends : (ns : List Node) (p : ℕ) (d : Doc) (qs : List Piece) (x : Node)
+pub no_value_ends : (ns : List Node) (p : ℕ) (d : Doc) (qs : List Piece) (x : Node)
     → Stand ns p (pieces d ++ qs) → piece_of (get_or ns p x) ≡ end_list → ⊥
 no_value_ends ns p null qs x s e = let first = stands_first ns p _ x _ _ s refl in cc
 no_value_ends ns p (boolean b) qs x s e = let first = stands_first ns p _ x _ _ s refl in cc
@@ -227,7 +227,7 @@ no_value_ends ns p (list ds) qs x s e = let first = stands_first ns p _ x _ _ s 
 no_value_ends ns p (object ms) qs x s e = let first = stands_first ns p _ x _ _ s refl in cc
 no_value_ends ns p (id t z) qs x s e = let first = stands_first ns p _ x _ _ s refl in cc
 
-value_then : (ns : List Node) (p : ℕ) (e : Doc) (rest : Items)
+pub value_then : (ns : List Node) (p : ℕ) (e : Doc) (rest : Items)
     → Stand ns p (items_pieces (item e rest) ++ end_list ∷ [])
     → Stand ns p (pieces e ++ (items_pieces rest ++ end_list ∷ []))
 value_then ns p e rest s =
@@ -318,7 +318,7 @@ item_breaks ns p x ps w needed c n ds l not_end judged has =
 
 -- ---- a list
 
-list_inside : (ns : List Node) (at : ℕ) (d : Doc) → Holds ns at d → is_list d ≡ true
+pub list_inside : (ns : List Node) (at : ℕ) (d : Doc) → Holds ns at d → is_list d ≡ true
     → (ds : Items) × (d ≡ list ds) × Stand ns (at + 1) (items_pieces ds ++ end_list ∷ [])
 list_inside ns at null h is = absurd (cc)
 list_inside ns at (boolean b) h is = absurd (cc)

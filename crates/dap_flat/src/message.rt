@@ -81,6 +81,13 @@ impl<'a> FlatMessage<'a> {
         })
     }
 
+    /// Returns the nodes of the message, with its ids marked. Does not allocate.
+    pub fn nodes(&self) -> &[Node<'a>]
+        ensures { ∥ Represents result.now (flat_doc self.now) ∥₁ }
+    {
+        &self.nodes
+    }
+
     /// Returns the length of the canonical content in which the i-th id has the i-th number, or
     /// `None` if it is above the limit. It is the length of what
     /// [`write_with_ids`](AnyMessage::write_with_ids) appends. Does not allocate.
