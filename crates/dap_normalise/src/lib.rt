@@ -15,7 +15,7 @@ mod same_recordings;
 pub use checked::Checked;
 pub use checking::{check, check_with};
 pub use default_tables::index_tables;
-pub use messages::read_message;
+pub use messages::{read_flat, read_message};
 pub use normal_records::NormalRecords;
 pub use normalised::Normalised;
 pub use normalising::{PIECE, finish_output, normalise, normalise_bytes, normalise_with};

@@ -76,6 +76,8 @@ pub fn read_flat<'a>(
         (λ found. IfSome found (λ message. IsMessage (side, content.now) (flat_sent message))) }
     ensures err { IfErr result (λ because. (limits : Limits) (mode : Mode) (messages : List Sent)
         → RejectsPayload (Rejects limits mode messages (side, content.now)) number because) }
+    ensures only { IfErr result
+        (λ because. RejectsPayload (HoldsNoMessage (side, content.now)) number because) }
 {
     let Ok(nodes) = Vec::with_capacity(alloc, content.len() / BYTES_A_NODE + 8) else {
         return Err(Refused::Memory);
