@@ -1,5 +1,6 @@
 pub mod AppendedLines
 pub mod EntryLines
+pub mod FlatElements
 pub mod Framing
 pub mod RecordAnswers
 pub mod ShowingFacts

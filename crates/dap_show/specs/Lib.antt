@@ -1,3 +1,4 @@
+pub mod FlatElements
 pub mod Indented
 pub mod Leaves
 pub mod OneRecord

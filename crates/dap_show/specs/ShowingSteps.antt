@@ -1,6 +1,7 @@
 -- What the steps of `show` do.
-use Rattle.std.specs.Prelude.{◌≡◌, ℕ, List, ◌++◌, Result, Ok, Err, String, string_bytes}
+use Rattle.std.specs.Prelude.{◌≡◌, ℕ, List, ◌++◌, Result, Ok, Err}
 use Rattle.std.specs.declared.alloc.Global.{Global}
+use Rattle.std.specs.declared.vec.Vec.{Vec}
 use Rattle.dap_device.specs.declared.device.Source.{Ghosts as Source}
 use Rattle.dap_message.specs.Message.{Sent}
 use Rattle.dap_recording.specs.RecordReading.{RecordReading}
@@ -37,7 +38,5 @@ AreReady records = (limits : Limits) × AreSound limits
 
 -- The lines of all records are returned, or a record is rejected.
 module _ {R : Type 0} (limits : Limits) (source : Source R) where
-  abbrev pub JudgesInput : R → R → Records RecordReading → Result (String Global) Refused → Type 0
-  JudgesInput =
-      JudgesAll (showing limits) source (lines_from 1)
-      (λ (out : String Global). string_bytes out)
+  abbrev pub JudgesInput : R → R → Records RecordReading → Result (Vec ℕ Global) Refused → Type 0
+  JudgesInput = JudgesAll (showing limits) source (lines_from 1) (λ (out : Vec ℕ Global). out.items)

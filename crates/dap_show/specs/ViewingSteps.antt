@@ -12,11 +12,13 @@ use Rattle.dap_normalise.specs.Accepting.{Payload}
 use Rattle.dap_session.specs.SessionState.{SessionState}
 use Rattle.dap_session.specs.Representation.{Represents}
 use Rattle.dap_session.specs.declared.rule.Rule.{Rule}
+use Rattle.dap_show.specs.Showing.{listed_lines}
 use Rattle.dap_show.specs.Stopping.{StopsAt}
 use Rattle.dap_show.specs.Viewing.{Entry, IsFraming, IsNext, Rejects, first_refusal, kept}
 use Rattle.dap_show.specs.Viewing.{kept_if, lines_of, or_else, refusal_at, broken_rule, stop_line}
 use Rattle.dap_show.specs.Viewing.{viewing}
 use Rattle.dap_show.specs.declared.detail.Detail.{Detail}
+use Rattle.dap_show.specs.declared.detail.Detail.TheVariants.{Lists, Leaves}
 
 -- If rules are checked, the session represents these messages.
 abbrev pub StandsIf : Bool → SessionState → List Sent → Type 0
@@ -27,6 +29,11 @@ StandsIf marks_faults session messages = marks_faults ≡ true → Represents se
 abbrev pub IsJudged : Bool → List Sent → Sent → Option Rule → SessionState → Type 0
 IsJudged marks_faults before message rule session = (rule ≡ broken_rule marks_faults before message)
     × StandsIf marks_faults session (before ++ kept_if rule message)
+
+-- With `Lists`, these are the lines of what the message lists.
+abbrev pub AreListed : Detail → Sent → List ℕ → Type 0
+AreListed Lists message lines = lines ≡ listed_lines message.doc
+AreListed Leaves message lines = Unit {0}
 
 module _ (marks_faults : Bool) (detail : Detail) (limits : Limits) where
   -- Record n has this entry, whose lines were appended.

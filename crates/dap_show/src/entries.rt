@@ -1,45 +1,48 @@
 //! Formats one record, and returns the error that it is marked with.
 ghost use Rattle.std.specs.Prelude.{◌≡◌, ◌≢◌, ◌+◌, ◌<◌, ◌++◌, List, [], true, false};
-ghost use Rattle.std.specs.Prelude.{IfOk, IsErrOf, OnOk, length};
+ghost use Rattle.std.specs.Prelude.{IfOk, IfSome, IsErrOf, None, OnOk, length};
 ghost use Rattle.dap_input.specs.Refusals.{RejectsPayload};
-ghost use Rattle.dap_message.specs.Message.{Sent, doc_of, sent};
+ghost use Rattle.dap_flat.specs.FlatMessages.{flat_sent};
+ghost use Rattle.dap_message.specs.Message.{Sent, sent};
 ghost use Rattle.dap_normalise.specs.Accepting.{HoldsNoMessage, IsMessage};
 ghost use Rattle.dap_show.specs.ShowingSteps.{payload_of};
 ghost use Rattle.dap_show.specs.Viewing.{Entry, detail_lines, fits_in, head_lines, kept};
-ghost use Rattle.dap_show.specs.Viewing.{fault_words, lines_of, refused_words, rule_refusal};
+ghost use Rattle.dap_show.specs.Viewing.{lines_of, rule_refusal};
 ghost use Rattle.dap_session.specs.SessionState.{SessionState};
-ghost use Rattle.dap_show.specs.Showing.{listed_lines, start_words};
-ghost use Rattle.dap_show.specs.ViewingSteps.{Enters, IsJudged, StandsIf};
+ghost use Rattle.dap_show.specs.ViewingSteps.{AreListed, Enters, IsJudged, StandsIf};
 ghost use Rattle.dap_show.specs.Leaves.{leaf_lines};
 ghost use Rattle.dap_tree.specs.Doc.{Doc};
 ghost use Rattle.dap_tree.specs.Json.{IsRead};
 
 use crate::detail::{Detail, View};
 use crate::fault_words::{push_fault, push_untyped};
+use crate::flat_lines::flat_lines;
 use crate::leaves::{LeafFault, push_leaves};
-use crate::message_lines::{push_listed, push_message};
+use crate::message_lines::{push_message, tree_lines};
+use dap_flat::{FlatMessage, Unread};
 use dap_input::{Limits, Refused};
-use dap_message::{Message, Side};
-use dap_normalise::read_message;
+use dap_message::{AnyMessage, Message};
+use dap_normalise::{read_flat, read_message};
 use dap_recording::Record;
 use dap_session::{Rule, Session, SessionFault};
-use dap_tree::{Scratch, TreeFault, read_tree_with};
+use dap_tree::{Scratch, TreeFault, read_tree};
 use std::alloc::{AllocError, Global};
 
 /// Returns the rule that a message violates, if rules are checked. A message that violates no rule
 /// is added to the session.
-fn judge(
+fn judge<M: AnyMessage>(
     marks_faults: bool,
     session: &mut Session,
-    message: &Message,
+    message: &M,
 ) -> Result<Option<Rule>, AllocError>
     ensures { (before : List Sent) → StandsIf marks_faults session.old before
-        → IfOk result (λ rule. IsJudged marks_faults before (sent message.now) rule session.new) }
+        → IfOk result
+        (λ rule. IsJudged marks_faults before (M.sent message.now) rule session.new) }
 {
     if !marks_faults {
         return Ok(None);
     }
-    match session.accept(message) {
+    match session.accept_any(message) {
         Ok(()) => Ok(None),
         Err(SessionFault::Broken(rule)) => Ok(Some(rule)),
         Err(SessionFault::Memory) => Err(AllocError),
@@ -47,23 +50,22 @@ fn judge(
 }
 
 /// Appends the line of a message, and the line of the rule that it violates.
-fn push_head(
+fn push_head<M: AnyMessage>(
     alloc: Global,
     number: u64,
-    message: &Message,
+    message: &M,
     rule: Option<Rule>,
     lines: &mut Vec<u8>,
 ) -> Result<(), AllocError>
     ensures { OnOk result
-        (lines.new.items ≡ lines.old.items ++ head_lines number (sent message.now) rule) }
+        (lines.new.items ≡ lines.old.items ++ head_lines number (M.sent message.now) rule) }
 {
-    let mut text = String::new(alloc);
-    push_message(alloc, &mut text, number, message)?;
+    push_message(alloc, lines, number, message)?;
     if let Some(rule) = rule {
-        text.push_str("  ")?;
-        push_fault(&mut text, Refused::Rule(number, rule))?;
+        lines.extend_from_slice(b"  ")?;
+        push_fault(lines, Refused::Rule(number, rule))?;
     }
-    lines.extend_from_slice(text.as_bytes())
+    Ok(())
 }
 
 /// Appends the lines of the leaves of a content that is JSON.
@@ -71,7 +73,6 @@ fn push_content(
     alloc: Global,
     content: &[u8],
     limit: u64,
-    scratch: &mut Scratch,
     lines: &mut Vec<u8>,
 ) -> Result<(), LeafFault>
     requires { (d : Doc) × IsRead content.now d }
@@ -80,7 +81,7 @@ fn push_content(
     ensures full { (d : Doc) → IsRead content.now d → IsErrOf result LeafFault.Full → limit
         < length lines.old.items + length (leaf_lines [] d) }
 {
-    match read_tree_with(alloc, content, scratch) {
+    match read_tree(alloc, content) {
         Ok(tree) => {
             let mut path = Vec::new(alloc);
             push_leaves(alloc, &tree, &mut path, limit, lines)
@@ -91,40 +92,30 @@ fn push_content(
     }
 }
 
-/// Appends the lines of the frames, scopes and variables that a message lists.
-fn push_lists(alloc: Global, message: &Message, lines: &mut Vec<u8>) -> Result<(), AllocError>
-    ensures { OnOk result
-        (lines.new.items ≡ lines.old.items ++ listed_lines (doc_of message.now)) }
-{
-    let mut text = String::new(alloc);
-    push_listed(alloc, &mut text, message)?;
-    lines.extend_from_slice(text.as_bytes())
-}
-
-/// Appends the detail lines of a record. With `Detail::Leaves`, returns `Full` if the output
-/// exceeds the limit.
+/// Appends the detail lines of a record. With `Detail::Lists` these are the lines `listed`. With
+/// `Detail::Leaves`, returns `Full` if the output exceeds the limit.
 fn push_detail(
     alloc: Global,
     detail: Detail,
     content: &[u8],
-    message: &Message,
+    listed: &[u8],
     limit: u64,
-    scratch: &mut Scratch,
     lines: &mut Vec<u8>,
 ) -> Result<(), LeafFault>
     requires { (d : Doc) × IsRead content.now d }
-    ensures lines { (d : Doc) → IsRead content.now d → OnOk result
-        (lines.new.items ≡ lines.old.items ++ detail_lines detail (sent message.now) d) }
-    ensures full { (d : Doc) → IsRead content.now d → IsErrOf result LeafFault.Full
-        → fits_in detail limit
-        (length lines.old.items + length (detail_lines detail (sent message.now) d)) ≡ false }
+    ensures lines { (d : Doc) (message : Sent) → IsRead content.now d
+        → AreListed detail message listed.now
+        → OnOk result (lines.new.items ≡ lines.old.items ++ detail_lines detail message d) }
+    ensures full { (d : Doc) (message : Sent) → IsRead content.now d
+        → IsErrOf result LeafFault.Full → fits_in detail limit
+        (length lines.old.items + length (detail_lines detail message d)) ≡ false }
 {
     match detail {
-        Detail::Lists => match push_lists(alloc, message, lines) {
+        Detail::Lists => match lines.extend_from_slice(listed) {
             Ok(()) => Ok(()),
             Err(_) => Err(LeafFault::Memory),
         },
-        Detail::Leaves => push_content(alloc, content, limit, scratch, lines),
+        Detail::Leaves => push_content(alloc, content, limit, lines),
     }
 }
 
@@ -150,18 +141,19 @@ fn rule_refusal(number: u64, rule: Option<Rule>) -> Option<Refused>
 }
 
 /// Appends the lines of a record that contains this message.
-fn append_message(
+fn append_message<M: AnyMessage>(
     alloc: Global,
     view: View,
     limits: Limits,
     number: u64,
     whole: &Record,
-    message: &Message,
+    message: &M,
+    listed: &[u8],
     session: &mut Session,
-    scratch: &mut Scratch,
     lines: &mut Vec<u8>,
 ) -> Result<Option<Refused>, Refused>
-    requires { IsMessage (payload_of whole.now) (sent message.now) }
+    requires message { IsMessage (payload_of whole.now) (M.sent message.now) }
+    requires listed { AreListed view.detail (M.sent message.now) listed.now }
     ensures { (before : List Entry) → StandsIf view.marks_faults session.old (kept before)
         → lines.old.items ≡ lines_of view.detail 1 before → number ≡ length before + 1
         → Enters view.marks_faults view.detail limits before number (payload_of whole.now)
@@ -176,15 +168,7 @@ fn append_message(
         Err(_) => return Err(Refused::Memory),
     }
     let content = whole.content.as_slice();
-    match push_detail(
-        alloc,
-        view.detail,
-        content,
-        message,
-        limits.input,
-        scratch,
-        lines,
-    ) {
+    match push_detail(alloc, view.detail, content, listed, limits.input, lines) {
         Ok(()) => {}
         Err(LeafFault::Full) => return Err(Refused::Grew(number)),
         Err(LeafFault::Memory) => return Err(Refused::Memory),
@@ -195,25 +179,8 @@ fn append_message(
     Ok(rule_refusal(number, rule))
 }
 
-/// Appends the line of a record that does not contain a message.
-fn push_no_message(
-    alloc: Global,
-    number: u64,
-    side: Side,
-    refused: Refused,
-    lines: &mut Vec<u8>,
-) -> Result<(), AllocError>
-    ensures { OnOk result (lines.new.items ≡ lines.old.items
-        ++ (start_words number side ++ fault_words (refused_words refused))) }
-{
-    let mut text = String::new(alloc);
-    push_untyped(&mut text, number, side, refused)?;
-    lines.extend_from_slice(text.as_bytes())
-}
-
 /// Appends the line of a record that does not contain a message, for the reason `refused`.
 fn append_no_message(
-    alloc: Global,
     detail: Detail,
     limits: Limits,
     number: u64,
@@ -228,7 +195,7 @@ fn append_no_message(
         → Enters true detail limits before number (payload_of whole.now) session lines.new.items
         result }
 {
-    match push_no_message(alloc, number, whole.side, refused, lines) {
+    match push_untyped(lines, number, whole.side, refused) {
         Ok(()) => {}
         Err(_) => return Err(Refused::Memory),
     }
@@ -236,6 +203,125 @@ fn append_no_message(
         return Err(Refused::Grew(number));
     }
     Ok(Some(refused))
+}
+
+/// Marks a record that does not contain a message, for the reason `refused`, if errors are marked.
+/// Otherwise returns that reason.
+fn append_refused(
+    view: View,
+    limits: Limits,
+    number: u64,
+    whole: &Record,
+    refused: Refused,
+    lines: &mut Vec<u8>,
+) -> Result<Option<Refused>, Refused>
+    requires { RejectsPayload (HoldsNoMessage (payload_of whole.now)) number refused }
+    ensures { (before : List Entry) (session : SessionState)
+        → StandsIf view.marks_faults session (kept before)
+        → lines.old.items ≡ lines_of view.detail 1 before → number ≡ length before + 1
+        → Enters view.marks_faults view.detail limits before number (payload_of whole.now) session
+        lines.new.items result }
+{
+    match refused {
+        Refused::Memory => Err(Refused::Memory),
+        refused => {
+            if !view.marks_faults {
+                return Err(refused);
+            }
+            append_no_message(view.detail, limits, number, whole, refused, lines)
+        }
+    }
+}
+
+/// Returns the lines of what a flat message lists, if the detail requires them.
+fn flat_listed(alloc: Global, detail: Detail, message: &FlatMessage<'_>) -> Result<Vec<u8>, Unread>
+    ensures { IfOk result (λ lines. AreListed detail (flat_sent message.now) lines.items) }
+{
+    match detail {
+        Detail::Lists => flat_lines(alloc, message),
+        Detail::Leaves => Ok(Vec::new(alloc)),
+    }
+}
+
+/// Appends the lines of a record whose content is read as a flat document. Returns `None`, and
+/// changes nothing, if the content must be read as a tree.
+fn append_flat(
+    alloc: Global,
+    view: View,
+    limits: Limits,
+    number: u64,
+    whole: &Record,
+    session: &mut Session,
+    scratch: &mut Scratch,
+    lines: &mut Vec<u8>,
+) -> Option<Result<Option<Refused>, Refused>>
+    ensures appended { (before : List Entry)
+        → StandsIf view.marks_faults session.old (kept before)
+        → lines.old.items ≡ lines_of view.detail 1 before → number ≡ length before + 1
+        → IfSome result (Enters view.marks_faults view.detail limits before number
+        (payload_of whole.now) session.new lines.new.items) }
+    ensures unchanged { result ≡ None
+        → (session.new ≡ session.old) × (lines.new.items ≡ lines.old.items) }
+{
+    let content = whole.content.as_slice();
+    let message = match read_flat(alloc, number, whole.side, content, scratch) {
+        Ok(Some(message)) => message,
+        Ok(None) => return None,
+        Err(refused) => return Some(append_refused(view, limits, number, whole, refused, lines)),
+    };
+    match flat_listed(alloc, view.detail, &message) {
+        Ok(listed) => {
+            let listed = listed.as_slice();
+            Some(append_message(
+                alloc, view, limits, number, whole, &message, listed, session, lines,
+            ))
+        }
+        Err(Unread::Unclear) => None,
+        Err(Unread::Memory) => Some(Err(Refused::Memory)),
+    }
+}
+
+/// Returns the lines of what a message lists, if the detail requires them.
+fn tree_listed(alloc: Global, detail: Detail, message: &Message) -> Result<Vec<u8>, AllocError>
+    ensures { IfOk result (λ lines. AreListed detail (sent message.now) lines.items) }
+{
+    match detail {
+        Detail::Lists => tree_lines(alloc, message),
+        Detail::Leaves => Ok(Vec::new(alloc)),
+    }
+}
+
+/// Appends the lines of a record whose content is read as a tree.
+fn append_tree(
+    alloc: Global,
+    view: View,
+    limits: Limits,
+    number: u64,
+    whole: &Record,
+    session: &mut Session,
+    scratch: &mut Scratch,
+    lines: &mut Vec<u8>,
+) -> Result<Option<Refused>, Refused>
+    ensures { (before : List Entry) → StandsIf view.marks_faults session.old (kept before)
+        → lines.old.items ≡ lines_of view.detail 1 before → number ≡ length before + 1
+        → Enters view.marks_faults view.detail limits before number (payload_of whole.now)
+        session.new
+        lines.new.items result }
+{
+    let content = whole.content.as_slice();
+    let message = match read_message(alloc, number, whole.side, content, scratch) {
+        Ok(message) => message,
+        Err(refused) => return append_refused(view, limits, number, whole, refused, lines),
+    };
+    match tree_listed(alloc, view.detail, &message) {
+        Ok(listed) => {
+            let listed = listed.as_slice();
+            append_message(
+                alloc, view, limits, number, whole, &message, listed, session, lines,
+            )
+        }
+        Err(_) => Err(Refused::Memory),
+    }
 }
 
 /// Appends the lines of a record to those of the records before it. Returns the error that the
@@ -263,16 +349,8 @@ pub fn append_entry(
         session.new
         lines.new.items result }
 {
-    match read_message(alloc, number, whole.side, whole.content.as_slice(), scratch) {
-        Ok(message) => append_message(
-            alloc, view, limits, number, whole, &message, session, scratch, lines,
-        ),
-        Err(Refused::Memory) => Err(Refused::Memory),
-        Err(refused) => {
-            if !view.marks_faults {
-                return Err(refused);
-            }
-            append_no_message(alloc, view.detail, limits, number, whole, refused, lines)
-        }
+    match append_flat(alloc, view, limits, number, whole, session, scratch, lines) {
+        Some(outcome) => outcome,
+        None => append_tree(alloc, view, limits, number, whole, session, scratch, lines),
     }
 }

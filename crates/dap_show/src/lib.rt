@@ -7,6 +7,7 @@
 mod detail;
 mod entries;
 mod fault_words;
+mod flat_lines;
 mod indented;
 pub mod laws;
 mod leaves;

@@ -1,10 +1,10 @@
 //! Prints recordings with the leaves of their contents, and with their errors.
-ghost use Rattle.std.specs.Prelude.{◌≡◌, ◌+◌, ◌<◌, ◌≤◌, ◌^◌, ◌++◌, ◌↔◌, [], None, true};
-ghost use Rattle.std.specs.Prelude.{IsTrue, OnOk};
+ghost use Rattle.std.specs.Prelude.{◌≡◌, ◌+◌, ◌<◌, ◌≤◌, ◌^◌, ◌↔◌, [], None, true};
+ghost use Rattle.std.specs.Prelude.{IsTrue};
 ghost use Rattle.dap_input.specs.ItemReading.{RepresentsRecord};
 ghost use Rattle.dap_input.specs.Limits.{AreSound};
 ghost use Rattle.dap_input.specs.RecordSteps.{IsAtStart};
-ghost use Rattle.dap_show.specs.Viewing.{IsFraming, ShowsInput, ViewsInput, or_else, stop_line};
+ghost use Rattle.dap_show.specs.Viewing.{IsFraming, ShowsInput, ViewsInput, or_else};
 ghost use Rattle.dap_show.specs.ViewingSteps.{Finishes, ShowsRecords};
 
 use crate::detail::{Detail, View};
@@ -15,7 +15,7 @@ use dap_input::{Limits, Records, Refused};
 use dap_recording::RecordReader;
 use dap_session::Session;
 use dap_tree::Scratch;
-use std::alloc::{AllocError, Global};
+use std::alloc::Global;
 
 /// Stores a rejection in `first`, unless `first` already has one.
 fn note(first: &mut Option<Refused>, refusal: Option<Refused>)
@@ -74,18 +74,8 @@ fn is_framing(refused: Refused) -> bool
     matches!(refused, Refused::Record(..) | Refused::InputTooLong(_))
 }
 
-/// Appends the line of an error of the framing.
-fn append_stop(alloc: Global, refused: Refused, lines: &mut Vec<u8>) -> Result<(), AllocError>
-    ensures { OnOk result (lines.new.items ≡ lines.old.items ++ stop_line refused) }
-{
-    let mut text = String::new(alloc);
-    push_stop(&mut text, refused)?;
-    lines.extend_from_slice(text.as_bytes())
-}
-
 /// Appends the line of an error of the framing, if errors are marked. Returns any other rejection.
 fn finish(
-    alloc: Global,
     marks_faults: bool,
     stopped: Result<(), Refused>,
     lines: &mut Vec<u8>,
@@ -100,7 +90,7 @@ fn finish(
     if !marks_faults || !is_framing(refused) {
         return Err(refused);
     }
-    if append_stop(alloc, refused, lines).is_err() {
+    if push_stop(lines, refused).is_err() {
         return Err(Refused::Memory);
     }
     note(first, Some(refused));
@@ -138,7 +128,7 @@ fn view_input<R: Source, W: Sink>(
         &mut lines,
         &mut first,
     );
-    if let Err(refused) = finish(alloc, view.marks_faults, stopped, &mut lines, &mut first) {
+    if let Err(refused) = finish(view.marks_faults, stopped, &mut lines, &mut first) {
         return Err(refused);
     }
     match write_and_flush(writer, lines.as_slice()) {

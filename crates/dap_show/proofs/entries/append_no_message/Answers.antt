@@ -7,12 +7,12 @@ pub returns-then-not-fits : goal.returns-then-not-fits
 returns-then-not-fits c = λ before session represents lines_are number_is.
     grown_untyped c.args.detail c.args.limits before c.args.number number_is c.args.lines.now.items
     lines_are (payload_of c.args.whole.now) c.args.refused c.requires.reported c.requires.memory
-    c.push_no_message.new.lines.items c.in-Ok.ensures (sym c.fits.ensures ∙ c.if-not-fits.true)
+    c.push_untyped.new.out.items c.in-Ok.ensures (sym c.fits.ensures ∙ c.if-not-fits.true)
 
 pub returns : goal.returns
 returns c = λ before session represents lines_are number_is.
     entered_untyped c.args.detail c.args.limits before c.args.number number_is
     c.args.lines.now.items lines_are (payload_of c.args.whole.now) c.args.refused
     c.requires.reported
-    c.requires.memory c.push_no_message.new.lines.items c.in-Ok.ensures session represents
+    c.requires.memory c.push_untyped.new.out.items c.in-Ok.ensures session represents
     (sym c.fits.ensures ∙ c.if-not-fits.false)

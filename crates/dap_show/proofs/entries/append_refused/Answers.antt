@@ -1,18 +1,16 @@
 use Rattle.std.proofs.Common.{◌≡◌, Bool, false, rules, sym, subst}
 use Rattle.dap_input.specs.Refusals.{RejectsPayload}
-use Rattle.dap_normalise.specs.Accepting.{HoldsNoMessage}
 use Rattle.dap_show.specs.ShowingSteps.{payload_of}
 use Rattle.dap_show.specs.Viewing.{Rejects}
 use Rattle.dap_show.proofs.EntryLines.{refused_strictly}
-use Rattle.dap_show.proofs.entries.append_entry.Goals as goal
+use Rattle.dap_show.proofs.entries.append_refused.Goals as goal
 
 pub returns-then-not-view : goal.returns-then-not-view
-returns-then-not-view c = λ before represents lines_are number_is.
+returns-then-not-view c = λ before session represents lines_are number_is.
     let view = c.args.view in
     let held = payload_of c.args.whole.now in
-    let reported : RejectsPayload (HoldsNoMessage held) c.args.number c.in-Err.refused =
-    rw c.as_slice.ensures at c.in-Err.ensures.only in
     let off : view.marks_faults ≡ false = search rules in
     subst (λ (b : Bool). RejectsPayload (Rejects b view.detail c.args.limits before held)
-    c.args.number c.in-Err.refused) (sym off)
-    (refused_strictly view.detail c.args.limits before held c.args.number c.in-Err.refused reported)
+    c.args.number c.args.refused) (sym off)
+    (refused_strictly view.detail c.args.limits before held c.args.number c.args.refused
+    c.requires)

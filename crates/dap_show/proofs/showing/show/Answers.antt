@@ -23,7 +23,7 @@ returns-in-Ok-write_and_flush-clause-outcome g c =
     (c.new-record_reader.ensures.limits, (1, c.new-record_reader.ensures.represents))) in
     finished c.args.limits g.R.Source c.args.reader.now
     c.show_records.new.reader shown.0 shown.1 g.W.Sink c.args.writer.now
-    c.write_and_flush.new.writer _ (c.as_bytes.ensures.value ∙ shown.2)
+    c.write_and_flush.new.writer _ (c.as_slice.ensures.value ∙ shown.2)
     c.in-Ok-write_and_flush.ensures
 
 pub returns-in-Ok-write_and_flush-clause-taken : goal.returns-in-Ok-write_and_flush-clause-taken
@@ -41,7 +41,7 @@ returns-in-Ok-show_records-clause-outcome g c =
     (c.new-record_reader.ensures.limits, (1, c.new-record_reader.ensures.represents))) in
     not_written c.args.limits g.R.Source
     c.args.reader.now c.show_records.new.reader shown.0 shown.1 g.W.Sink
-    c.args.writer.now c.write_and_flush.new.writer _ (c.as_bytes.ensures.value ∙ shown.2)
+    c.args.writer.now c.write_and_flush.new.writer _ (c.as_slice.ensures.value ∙ shown.2)
     c.in-Err-write_and_flush.ensures
 
 pub returns-in-Ok-show_records-clause-taken : goal.returns-in-Ok-show_records-clause-taken

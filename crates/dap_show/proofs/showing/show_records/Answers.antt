@@ -1,4 +1,4 @@
-use Rattle.std.proofs.Common.{Ok, rules, string_bytes, subst}
+use Rattle.std.proofs.Common.{Ok, rules, subst}
 use Rattle.std.proofs.lemmas.Result.{err_from_is_err_and}
 use Rattle.dap_input.specs.ItemReading.{RepresentsRecord, record_items}
 use Rattle.dap_input.specs.RecordSteps.{ReadsNext}
@@ -9,27 +9,27 @@ use Rattle.dap_show.proofs.showing.show_records.Goals as goal
 pub loop-out-init : goal.loop-out-init
 loop-out-init g c = λ limits start.
     none_read limits g.R.Source c.args.reader.now
-    c.args.records.now (string_bytes c.new-out.result) (search rules) start
+    c.args.records.now c.new-out.result.items (search rules) start
 
 pub next-requires-clause-number : goal.next-requires-clause-number
 next-requires-clause-number g c =
     let ready = c.requires.start in
     few_records ready.0 g.R.Source c.args.reader.now
-    c.loop-out.reader c.loop-out.records (string_bytes c.loop-out.out)
+    c.loop-out.reader c.loop-out.records c.loop-out.out.items
     (c.loop-out.invariant ready.0 ready.2) ready.1.input
 
 pub next-requires-clause-given : goal.next-requires-clause-given
 next-requires-clause-given g c =
     let ready = c.requires.start in
     few_given ready.0 g.R.Source c.args.reader.now
-    c.loop-out.reader c.loop-out.records (string_bytes c.loop-out.out)
+    c.loop-out.reader c.loop-out.records c.loop-out.out.items
     (c.loop-out.invariant ready.0 ready.2) ready.1.input c.requires.given
 
 pub next-requires-clause-failures : goal.next-requires-clause-failures
 next-requires-clause-failures g c =
     let ready = c.requires.start in
     few_failed ready.0 g.R.Source c.args.reader.now
-    c.loop-out.reader c.loop-out.records (string_bytes c.loop-out.out)
+    c.loop-out.reader c.loop-out.records c.loop-out.out.items
     (c.loop-out.invariant ready.0 ready.2) c.requires.failures
 
 pub returns-in_err-whole : goal.returns-in_err-whole
@@ -38,7 +38,7 @@ returns-in_err-whole g c = λ limits start.
     let was = c.loop-out.invariant limits start in
     rw (because.1, because.2)
     (not_read limits g.R.Source c.args.reader.now
-    c.loop-out.reader c.loop-out.records (string_bytes c.loop-out.out) was
+    c.loop-out.reader c.loop-out.records c.loop-out.out.items was
     c.next.new.self c.next.new.reader _
     (c.in_err-whole.ensures limits.frame was.going.behind.between))
 
@@ -46,7 +46,7 @@ pub returns-in_default : goal.returns-in_default
 returns-in_default g c = λ limits start.
     let was = c.loop-out.invariant limits start in
     all_shown limits g.R.Source c.args.reader.now
-    c.loop-out.reader c.loop-out.records (string_bytes c.loop-out.out) was
+    c.loop-out.reader c.loop-out.records c.loop-out.out.items was
     c.next.new.self c.next.new.reader
     (subst (λ o. ReadsNext (record_items limits.frame) (RepresentsRecord limits.frame)
     g.R.Source c.loop-out.records c.next.new.self
@@ -65,8 +65,8 @@ returns-in_err-append_lines g c = λ limits start.
     (c.in_ok-whole.ensures limits.frame was.going.behind.between) in
     rw (because.1, because.2)
     (not_appended limits g.R.Source c.args.reader.now
-    c.loop-out.reader c.loop-out.records (string_bytes c.loop-out.out) was
-    c.next.new.self c.next.new.reader c.in-Some.whole (string_bytes c.append_lines.new.out) _
+    c.loop-out.reader c.loop-out.records c.loop-out.out.items was
+    c.next.new.self c.next.new.reader c.in-Some.whole c.append_lines.new.out.items _
     read (rw c.number-number.ensures at c.in_err-append_lines.ensures))
 
 pub loop-out-preserved : goal.loop-out-preserved
@@ -79,9 +79,9 @@ loop-out-preserved g c = λ limits start.
     (c.in_ok-whole.ensures limits.frame was.going.behind.between) in
     rw c.recycle.ensures
     (one_more limits g.R.Source c.args.reader.now
-    c.loop-out.reader c.loop-out.records (string_bytes c.loop-out.out) was
+    c.loop-out.reader c.loop-out.records c.loop-out.out.items was
     c.next.new.self c.next.new.reader (tt {0}) c.in-Some.whole
-    (string_bytes c.append_lines.new.out) read (rw c.number-number.ensures at
+    c.append_lines.new.out.items read (rw c.number-number.ensures at
     c.in_ok-append_lines.ensures))
 
 pub loop-out-smaller : goal.loop-out-smaller
@@ -90,7 +90,7 @@ loop-out-smaller g c =
     let was = c.loop-out.invariant ready.0 ready.2 in
     rw c.recycle.ensures
     (fewer ready.0 g.R.Source c.args.reader.now
-    c.loop-out.reader c.loop-out.records (string_bytes c.loop-out.out) was
+    c.loop-out.reader c.loop-out.records c.loop-out.out.items was
     c.next.new.self c.next.new.reader c.in-Some.whole
     (subst (λ o. ReadsNext (record_items ready.0.frame) (RepresentsRecord ready.0.frame)
     g.R.Source c.loop-out.records c.next.new.self

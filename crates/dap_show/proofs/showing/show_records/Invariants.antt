@@ -1,4 +1,4 @@
-use Rattle.std.proofs.Common.{◌+◌, ◌-◌, length, string_bytes}
+use Rattle.std.proofs.Common.{◌+◌, ◌-◌, length}
 use Rattle.dap_input.specs.ItemReading.{RepresentsRecord}
 use Rattle.dap_input.specs.RecordSteps.{IsAtStart}
 use Rattle.dap_input.specs.declared.limits.Limits.{Limits}
@@ -9,7 +9,7 @@ abbrev pub invariant-loop-out : goal.invariant-loop-out
 invariant-loop-out g l =
     (limits : Limits) → IsAtStart (RepresentsRecord limits.frame) limits.input l.fn.records
     → Showing limits g.R.Source l.fn.reader l.reader
-    l.records (string_bytes l.out)
+    l.records l.out.items
 
 abbrev pub decreases-loop-out : goal.decreases-loop-out
 decreases-loop-out g l =
