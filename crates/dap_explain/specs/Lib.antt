@@ -1,1 +1,3 @@
 pub mod Lines
+pub mod NoLines
+pub mod Unexplained

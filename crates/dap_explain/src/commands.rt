@@ -1,4 +1,9 @@
 //! Explains why a command rejected its inputs: does its work again to find the error.
+ghost use Rattle.std.specs.Prelude.{◌≡◌, false, IfOk, None, string_bytes};
+ghost use Rattle.dap_explain.specs.Lines.{AreLines};
+ghost use Rattle.dap_explain.specs.Unexplained.{IsApplyFailure, IsDoneByFile, IsEmpty};
+ghost use Rattle.dap_explain.specs.Unexplained.{IsGoldenFailure, IsMaskedByFile, IsOrderedByFile};
+ghost use Rattle.dap_explain.specs.Unexplained.{reads_input_alone};
 ghost use Rattle.dap_input.specs.Limits.{AreSound};
 ghost use Rattle.dap_normalise.specs.NameTables.{AreReady};
 ghost use Rattle.dap_rename.specs.IndexNames.{index_limit, index_numbers};
@@ -28,6 +33,8 @@ fn explain_found(
     limits: Limits,
 ) -> Result<String, AllocError>
     requires { AreSound limits }
+    ensures lines { IfOk result (λ text. ∥ AreLines (string_bytes text) ∥₁) }
+    ensures nothing { found ≡ None → IsEmpty result }
 {
     match found {
         Some(refused) => explain(alloc, input, refused, limits),
@@ -53,6 +60,10 @@ pub fn explain_job(
     hasher: RandomState,
 ) -> Result<String, AllocError>
     requires { AreSound limits }
+    ensures lines { IfOk result (λ text. ∥ AreLines (string_bytes text) ∥₁) }
+
+    // The result is empty for any other job.
+    ensures nothing { reads_input_alone job.now ≡ false → IsEmpty result }
 {
     let found = refused_by_job(alloc, job, input, limits, hasher);
     explain_found(alloc, input, found, limits)
@@ -67,6 +78,7 @@ fn refused_by_job(
     hasher: RandomState,
 ) -> Option<Refused>
     requires { AreSound limits }
+    ensures { reads_input_alone job.now ≡ false → result ≡ None }
 {
     let mode = job.mode();
     let mut reader = MemorySource::new(input);
@@ -106,6 +118,7 @@ pub fn explain_view(
     limits: Limits,
 ) -> Result<String, AllocError>
     requires { AreSound limits }
+    ensures { IfOk result (λ text. ∥ AreLines (string_bytes text) ∥₁) }
 {
     let found = refused_by_view(alloc, request, input, limits);
     explain_found(alloc, input, found, limits)
@@ -148,8 +161,9 @@ pub fn explain_comparison(
     hasher: RandomState,
 ) -> Result<String, AllocError>
     requires { AreSound limits }
+    ensures { IfOk result (λ text. ∥ AreLines (string_bytes text) ∥₁) }
 {
-    let compared = compare_with(
+    let refused = compare_with(
         alloc,
         &mut MemorySource::new(a),
         &mut MemorySource::new(b),
@@ -157,10 +171,11 @@ pub fn explain_comparison(
         tables(alloc, limits, hasher),
         tables(alloc, limits, hasher),
         mode,
-    );
-    match compared {
-        Err(CompareRefused::Input(Which::A, refused)) => explain(alloc, a, refused, limits),
-        Err(CompareRefused::Input(Which::B, refused)) => explain(alloc, b, refused, limits),
+    )
+    .err();
+    match refused {
+        Some(CompareRefused::Input(Which::A, why)) => explain(alloc, a, why, limits),
+        Some(CompareRefused::Input(Which::B, why)) => explain(alloc, b, why, limits),
         _ => Ok(String::new(alloc)),
     }
 }
@@ -180,6 +195,10 @@ pub fn explain_mask(
     limits: Limits,
 ) -> Result<String, AllocError>
     requires { AreSound limits }
+    ensures lines { IfOk result (λ text. ∥ AreLines (string_bytes text) ∥₁) }
+
+    // If the rules are accepted and mask the input, there is nothing to explain.
+    ensures accepted { IsMaskedByFile limits rules.now input.now → IsEmpty result }
 {
     explain_ruled(alloc, Ruled::Mask, rules, input, limits)
 }
@@ -192,6 +211,10 @@ pub fn explain_order(
     limits: Limits,
 ) -> Result<String, AllocError>
     requires { AreSound limits }
+    ensures lines { IfOk result (λ text. ∥ AreLines (string_bytes text) ∥₁) }
+
+    // If the rules are accepted and put the input in order, there is nothing to explain.
+    ensures accepted { IsOrderedByFile limits rules.now input.now → IsEmpty result }
 {
     explain_ruled(alloc, Ruled::Order, rules, input, limits)
 }
@@ -207,6 +230,8 @@ fn explain_ruled(
     limits: Limits,
 ) -> Result<String, AllocError>
     requires { AreSound limits }
+    ensures lines { IfOk result (λ text. ∥ AreLines (string_bytes text) ∥₁) }
+    ensures accepted { IsDoneByFile ruled limits rules.now input.now → IsEmpty result }
 {
     let rules = match MaskRules::read(alloc, rules) {
         Ok(rules) => rules,
@@ -236,6 +261,10 @@ pub fn explain_applying(
     limits: Limits,
 ) -> Result<String, AllocError>
     requires { AreSound limits }
+    ensures lines { IfOk result (λ text. ∥ AreLines (string_bytes text) ∥₁) }
+
+    // If a reader, a writer or an allocation failed, there is nothing to explain.
+    ensures nothing { IsApplyFailure refused → IsEmpty result }
 {
     match refused {
         ApplyRefused::Mask(why) => explain_masked(alloc, recording, rules, why, limits),
@@ -259,6 +288,11 @@ pub fn explain_golden(
     limits: Limits,
 ) -> Result<String, AllocError>
     requires { AreSound limits }
+    ensures lines { IfOk result (λ text. ∥ AreLines (string_bytes text) ∥₁) }
+
+    // If a reader, a writer or an allocation failed, or if the session has no records, there is
+    // nothing to explain.
+    ensures nothing { IsGoldenFailure refused → IsEmpty result }
 {
     let why = match refused {
         GoldenRefused::Trace(why) => return explain(alloc, input, why, limits),

@@ -1,8 +1,9 @@
 //! Explains rejections.
-ghost use Rattle.std.specs.Prelude.{IfOk, string_bytes};
+ghost use Rattle.std.specs.Prelude.{◌≡◌, IfOk, string_bytes};
 ghost use Rattle.dap_frame.specs.Limits.{IsSound};
 ghost use Rattle.dap_input.specs.declared.limits.Limits.{Limits};
 ghost use Rattle.dap_explain.specs.Lines.{AreLines};
+ghost use Rattle.dap_explain.specs.Unexplained.{IsEmpty, IsFailure};
 
 use crate::fractions::explain_fraction;
 use crate::head::{Head, add_head, read_value};
@@ -63,6 +64,7 @@ fn add_refusal(
     limits: Limits,
 )
     requires { IsSound limits.frame }
+    ensures { IsFailure refused → lines.new ≡ lines.old }
 {
     match refused {
         Refused::InputTooLong(_) | Refused::TraceTooLong(_) => lines.write(format_args!(
@@ -102,7 +104,8 @@ fn explanation(
     limits: Limits,
 ) -> Result<String, AllocError>
     requires { IsSound limits.frame }
-    ensures { IfOk result (λ text. ∥ AreLines (string_bytes text) ∥₁) }
+    ensures lines { IfOk result (λ text. ∥ AreLines (string_bytes text) ∥₁) }
+    ensures nothing { IsFailure refused → IsEmpty result }
 {
     let mut lines = Lines::new(alloc);
     add_refusal(&mut lines, input, refused, rules, limits);
@@ -129,7 +132,10 @@ pub fn explain(
     limits: Limits,
 ) -> Result<String, AllocError>
     requires { IsSound limits.frame }
-    ensures { IfOk result (λ text. ∥ AreLines (string_bytes text) ∥₁) }
+    ensures lines { IfOk result (λ text. ∥ AreLines (string_bytes text) ∥₁) }
+
+    // If a reader, a writer or an allocation failed, there is nothing to explain.
+    ensures nothing { IsFailure refused → IsEmpty result }
 {
     explanation(alloc, input, &[], refused, limits)
 }
@@ -148,7 +154,10 @@ pub fn explain_masked(
     limits: Limits,
 ) -> Result<String, AllocError>
     requires { IsSound limits.frame }
-    ensures { IfOk result (λ text. ∥ AreLines (string_bytes text) ∥₁) }
+    ensures lines { IfOk result (λ text. ∥ AreLines (string_bytes text) ∥₁) }
+
+    // If a reader, a writer or an allocation failed, there is nothing to explain.
+    ensures nothing { IsFailure refused → IsEmpty result }
 {
     explanation(alloc, input, rules.changes(), refused, limits)
 }

@@ -11,8 +11,8 @@
 //!
 //! Each explanation consists of lines that start with two spaces and end with LF, and no byte of a
 //! line is an ASCII control character (`AreLines`). Therefore no part of an input can look like the
-//! line of a rejection, or control a terminal. Each call returns for every input, and does not
-//! panic.
+//! line of a rejection, or control a terminal. If a reader, a writer or an allocation failed, the
+//! explanation of that is empty (`IsEmpty`). Each call returns for every input, and does not panic.
 //!
 //! # What is only tested
 //!

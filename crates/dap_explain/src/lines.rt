@@ -23,8 +23,13 @@ pub(crate) struct Lines {
 }
 
 impl Lines {
+    ghost use Rattle.dap_explain.specs.NoLines.{AreNone};
+    ghost use Rattle.dap_explain.specs.Unexplained.{IsEmpty};
+
     /// Returns an explanation without lines. Does not allocate.
-    pub(crate) fn new(alloc: Global) -> Lines {
+    pub(crate) fn new(alloc: Global) -> Lines
+        ensures { AreNone result }
+    {
         Lines {
             alloc,
             text: String::new(alloc),
@@ -84,7 +89,8 @@ impl Lines {
 
     /// Returns the text of the lines.
     pub(crate) fn into_text(self) -> Result<String, AllocError>
-        ensures { IfOk result (λ text. ∥ AreLines (string_bytes text) ∥₁) }
+        ensures lines { IfOk result (λ text. ∥ AreLines (string_bytes text) ∥₁) }
+        ensures nothing { AreNone self → IsEmpty result }
     {
         if self.has_failed {
             Err(AllocError)

@@ -1,6 +1,7 @@
 //! Explains rejected files of rules.
-ghost use Rattle.std.specs.Prelude.{IfOk, string_bytes};
+ghost use Rattle.std.specs.Prelude.{◌≡◌, IfOk, string_bytes};
 ghost use Rattle.dap_explain.specs.Lines.{AreLines};
+ghost use Rattle.dap_explain.specs.Unexplained.{IsEmpty};
 
 use crate::lines::Lines;
 use crate::rules_line::{is_end, place_of, split_verb};
@@ -214,7 +215,9 @@ fn add_cause(lines: &mut Lines, rules: &[u8], fault: RulesFault) {
 }
 
 /// Adds the lines about a rejected file of rules.
-fn add_fault(lines: &mut Lines, rules: &[u8], fault: RulesFault) {
+fn add_fault(lines: &mut Lines, rules: &[u8], fault: RulesFault)
+    ensures { fault.cause ≡ RulesCause.Memory → lines.new ≡ lines.old }
+{
     match fault.cause {
         RulesCause::Memory => {}
         RulesCause::TooLong => lines.write(format_args!(
@@ -237,7 +240,10 @@ fn add_fault(lines: &mut Lines, rules: &[u8], fault: RulesFault) {
 ///
 /// `AllocError`: an allocation failed.
 pub fn explain_rules(alloc: Global, rules: &[u8], fault: RulesFault) -> Result<String, AllocError>
-    ensures { IfOk result (λ text. ∥ AreLines (string_bytes text) ∥₁) }
+    ensures lines { IfOk result (λ text. ∥ AreLines (string_bytes text) ∥₁) }
+
+    // If an allocation failed, there is nothing to explain.
+    ensures nothing { fault.cause ≡ RulesCause.Memory → IsEmpty result }
 {
     let mut lines = Lines::new(alloc);
     add_fault(&mut lines, rules, fault);
