@@ -1,1 +1,2 @@
+pub mod Usage
 pub mod WordOption

@@ -5,6 +5,7 @@ ghost use Rattle.std.specs.Prelude.{◌≡◌};
 ghost use Rattle.dap_rename.specs.IndexNames.{index_limit, index_numbers};
 ghost use Rattle.dapnorm.specs.Limits.{AreSound};
 ghost use Rattle.dapnorm.specs.NameTables.{AreReady};
+ghost use Rattle.dapnorm_main.specs.Usage.{IsUsageStatus};
 
 mod comparing;
 mod explaining;
@@ -93,7 +94,9 @@ fn tables(alloc: Global, limits: Limits, hasher: RandomState) -> Tables<IndexNam
 }
 
 /// Reports why the arguments request nothing that can be done.
-fn report_usage(rt: &HostRuntime, fault: &UsageFault) -> u8 {
+fn report_usage(rt: &HostRuntime, fault: &UsageFault) -> u8
+    ensures { IsUsageStatus fault.now result }
+{
     let mut writer = StdSink::new(rt.stdout());
     let mut errors = StdSink::new(rt.stderr());
     run_usage(fault, &mut writer, &mut errors)

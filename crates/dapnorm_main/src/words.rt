@@ -1,8 +1,19 @@
 //! The option `--word`, which adds words in the place of texts to the rules of a command.
-ghost use Rattle.std.specs.Prelude.{◌≡◌, ◌++◌, ◌∷◌, [], IfOk, OnOk};
+ghost use Rattle.std.specs.Prelude.{◌≡◌, ◌≢◌, ◌<◌, ◌+◌, ◌++◌, ◌∷◌, [], true, IfErr, IfOk, OnErr};
+ghost use Rattle.std.specs.Prelude.{Ok, OnOk, count_by, is_ok, length};
+ghost use Rattle.clap.specs.Walk.{texts};
+ghost use Rattle.clap.specs.Words.{subcommand_of, takes};
+ghost use Rattle.dap_commands.specs.CommandLine.{text_in};
+ghost use Rattle.dap_commands.specs.Commands.{program, words_named};
+ghost use Rattle.dap_mask.specs.Mask.{no_rules};
+ghost use Rattle.dap_mask.specs.RulesFile.{is_line_feed, rules_said};
 ghost use Rattle.dap_mask.specs.WordLines.{word_line};
 ghost use Rattle.dap_texts.specs.Words.{pair_of, pairs_of};
-ghost use Rattle.dapnorm_main.specs.WordOption.{IsNamedBy, line_end, with_word_lines};
+ghost use Rattle.dapnorm_main.specs.WordOption.{AreNamedBy, AreRulesOf, AreRulesWith, HasLinesOf};
+ghost use Rattle.dapnorm_main.specs.WordOption.{HasNoLines, HaveNoPairs, IsNamedBy, IsReportOf};
+ghost use Rattle.dapnorm_main.specs.WordOption.{IsValueOf, ReportsLine, line_end, reason_of};
+ghost use Rattle.dapnorm_main.specs.WordOption.{rules_name, takes_words, texts_of};
+ghost use Rattle.dapnorm_main.specs.WordOption.{with_word_lines};
 
 use crate::explaining::explain_no_rules;
 use crate::report_usage;
@@ -59,7 +70,8 @@ fn word_of(alloc: Global, value: &str) -> Result<Option<Word>, AllocError>
 
 /// Ends the last line of a text, if it does not end in a line feed.
 fn end_line(text: &mut Vec<u8>) -> Result<(), AllocError>
-    ensures { OnOk result (text.new.items ≡ text.old.items ++ line_end text.old.items) }
+    ensures ok { OnOk result (text.new.items ≡ text.old.items ++ line_end text.old.items) }
+    ensures err { OnErr result (0 < length text.old.items) }
 {
     match text.as_slice().last().copied() {
         None | Some(b'\n') => {}
@@ -83,8 +95,9 @@ fn push_line(alloc: Global, word: Word, text: &mut Vec<u8>) -> Result<(), AllocE
 
 /// Returns the text of a rules file with a line for each word after it.
 fn with_word_lines(alloc: Global, text: Vec<u8>, words: Vec<Word>) -> Result<Vec<u8>, AllocError>
-    ensures { IfOk result
+    ensures ok { IfOk result
         (λ joined. joined.items ≡ with_word_lines text.items (pairs_of words.items)) }
+    ensures err { OnErr result (0 < length text.items + length words.items) }
 {
     let mut joined = text;
     end_line(&mut joined)?;
@@ -95,7 +108,9 @@ fn with_word_lines(alloc: Global, text: Vec<u8>, words: Vec<Word>) -> Result<Vec
 }
 
 /// Returns what is reported of a value of the option.
-fn bad_value(alloc: Global, value: &str, why: &str) -> UsageFault {
+fn bad_value(alloc: Global, value: &str, why: &str) -> UsageFault
+    ensures { IsReportOf value.now why.now result }
+{
     match format!(in alloc; "error: --word {value}: {why}\n") {
         Ok(text) => UsageFault::Usage(text),
         Err(_) => UsageFault::Memory,
@@ -108,7 +123,10 @@ fn bad_value(alloc: Global, value: &str, why: &str) -> UsageFault {
 ///
 /// - `Usage`: a value does not contain `=`.
 /// - `Memory`: an allocation failed.
-fn words_of(alloc: Global, values: &[&str]) -> Result<Vec<Word>, UsageFault> {
+fn words_of(alloc: Global, values: &[&str]) -> Result<Vec<Word>, UsageFault>
+    ensures ok { IfOk result (λ words. AreNamedBy (texts_of values.now) (pairs_of words.items)) }
+    ensures err { IfErr result (HaveNoPairs (texts_of values.now)) }
+{
     let mut words = Vec::new(alloc);
     for value in values {
         match word_of(alloc, value) {
@@ -125,7 +143,9 @@ fn words_of(alloc: Global, values: &[&str]) -> Result<Vec<Word>, UsageFault> {
 }
 
 /// Returns why the rules do not accept a value of the option.
-fn reason_of(value: &str, cause: RulesCause) -> &'static str {
+fn reason_of(value: &str, cause: RulesCause) -> &'static str
+    ensures { (p : _) → IsValueOf p value.now → result.now ≡ reason_of p cause }
+{
     match cause {
         RulesCause::Repeated => REPEATED,
         RulesCause::TooMany => TOO_MANY,
@@ -139,13 +159,19 @@ fn reason_of(value: &str, cause: RulesCause) -> &'static str {
 }
 
 /// Returns the number of line feeds.
-fn line_count(text: &[u8]) -> usize {
+fn line_count(text: &[u8]) -> usize
+    ensures { result ≡ count_by is_line_feed text.now }
+{
     text.iter().filter(|byte| **byte == b'\n').count()
 }
 
 /// Returns what is reported of the value whose line is rejected. The last lines of the rules are
 /// those of the values.
-fn refused_value(alloc: Global, rules: &[u8], values: &[&str], fault: RulesFault) -> UsageFault {
+fn refused_value(alloc: Global, rules: &[u8], values: &[&str], fault: RulesFault) -> UsageFault
+    ensures memory { fault.cause ≡ RulesCause.Memory → result ≡ UsageFault.Memory }
+    ensures line { ReportsLine (texts_of values.now) rules.now fault result }
+    ensures help { (said : _) → result ≢ UsageFault.Help said }
+{
     if fault.cause == RulesCause::Memory {
         return UsageFault::Memory;
     }
@@ -155,6 +181,20 @@ fn refused_value(alloc: Global, rules: &[u8], values: &[&str], fault: RulesFault
     bad_value(alloc, value, reason_of(value, fault.cause))
 }
 
+/// Returns whether a rules file of this text is accepted.
+fn is_accepted(alloc: Global, text: &[u8]) -> Result<bool, AllocError>
+    ensures ok { IfOk result (λ accepted. accepted ≡ is_ok (rules_said text.now)) }
+    ensures err { OnErr result (rules_said text.now ≢ Ok no_rules) }
+{
+    match MaskRules::read(alloc, text) {
+        Ok(_) => Ok(true),
+        Err(fault) => match fault.cause {
+            RulesCause::Memory => Err(AllocError),
+            _ => Ok(false),
+        },
+    }
+}
+
 /// Returns the text of the rules with a line for each value of the option. If the text alone is
 /// rejected, the command reports it.
 ///
@@ -162,17 +202,19 @@ fn refused_value(alloc: Global, rules: &[u8], values: &[&str], fault: RulesFault
 ///
 /// - `Usage`: a value does not contain `=`, or the rules do not accept its word.
 /// - `Memory`: an allocation failed.
-fn with_values(alloc: Global, text: Vec<u8>, values: &[&str]) -> Result<Vec<u8>, UsageFault> {
+fn with_values(alloc: Global, text: Vec<u8>, values: &[&str]) -> Result<Vec<u8>, UsageFault>
+    ensures ok { IfOk result
+        (λ rules. HasLinesOf (texts_of values.now) text.items rules.items) }
+    ensures err { IfErr result (HasNoLines (texts_of values.now) text.items) }
+{
     let words = words_of(alloc, values)?;
-    let is_refused = match MaskRules::read(alloc, text.as_slice()) {
-        Ok(_) => false,
-        Err(fault) if fault.cause == RulesCause::Memory => return Err(UsageFault::Memory),
-        Err(_) => true,
+    let Ok(is_accepted) = is_accepted(alloc, text.as_slice()) else {
+        return Err(UsageFault::Memory);
     };
     let Ok(rules) = with_word_lines(alloc, text, words) else {
         return Err(UsageFault::Memory);
     };
-    if is_refused {
+    if !is_accepted {
         return Ok(rules);
     }
     match MaskRules::read(alloc, rules.as_slice()) {
@@ -200,7 +242,9 @@ fn text_of(rt: &HostRuntime, name: &str) -> Result<Vec<u8>, NoRules> {
 }
 
 /// Returns whether an action takes the option.
-fn takes_words(action: &Action<'_>) -> bool {
+fn takes_words(action: &Action<'_>) -> bool
+    ensures { result ≡ takes_words action.now }
+{
     matches!(
         action,
         Action::Job(Job::Mask { .. }) | Action::Compare(_) | Action::Suggest(_) | Action::Golden(_)
@@ -208,7 +252,9 @@ fn takes_words(action: &Action<'_>) -> bool {
 }
 
 /// Returns the name of the rules file of an action, if it has one.
-fn rules_name<'a>(action: &Action<'a>) -> Option<&'a str> {
+fn rules_name<'a>(action: &Action<'a>) -> Option<&'a str>
+    ensures { text_in result ≡ rules_name action.now }
+{
     match action {
         Action::Job(Job::Mask { rules }) => Some(*rules),
         Action::Compare(comparison) => comparison.rules,
@@ -225,7 +271,11 @@ fn rules_with(
     name: Option<&str>,
     values: &[&str],
     explain: bool,
-) -> Result<Vec<u8>, u8> {
+) -> Result<Vec<u8>, u8>
+    ensures ok { IfOk result
+        (λ rules. AreRulesWith (text_in name.entry) (texts_of values.now) rules.items) }
+    ensures err { IfErr result (λ status. 0 < status) }
+{
     let alone = match with_values(rt.alloc(), Vec::new(rt.alloc()), values) {
         Ok(rules) => rules,
         Err(fault) => return Err(report_usage(rt, &fault)),
@@ -255,7 +305,14 @@ pub fn rules_given(
     action: &Action<'_>,
     arguments: &[&str],
     explain: bool,
-) -> Result<Option<Vec<u8>>, u8> {
+) -> Result<Option<Vec<u8>>, u8>
+    // The values are those that the model of clap finds in the arguments.
+    ensures ok { IfOk result
+        (AreRulesOf action.now (words_named (subcommand_of program (texts arguments.now)))) }
+    // If the model of clap accepts the arguments, a failure is not a success of the program.
+    ensures err { IfErr result
+        (λ status. takes program (texts arguments.now) ≡ true → 0 < status) }
+{
     if !takes_words(action) {
         return Ok(None);
     }

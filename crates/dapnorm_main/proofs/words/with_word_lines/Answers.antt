@@ -21,8 +21,8 @@ loop-word-preserved c =
           ∙ sym (ap (with_word_lines s) (map-append pair_of so_far (word ∷ [])));
     }
 
-pub returns : goal.returns
-returns c =
+pub returns-clause-ok : goal.returns-clause-ok
+returns-clause-ok c =
     let none = nothing_left (into_iter_items c.loop-word.word-iterator)
     (search (rules, c.in-None.ensures.steps.0)) in
     let all : c.args.words.items ≡ c.loop-word.yielded =
