@@ -494,6 +494,10 @@ def of_suggestions():
     suggested = comment + b"blank  event    process body.systemProcessId\n\n# with these rules: same\n"
     files = {"a": recording([*BEGUN, process % 17]), "b": recording([*BEGUN, process % 4])}
     yield stream("a process id", ["suggest", "a", "b"], b"", (0, suggested, b""), files)
+    start = '<{"body":{"name":"p","startTime":%s},"event":"process","seq":2,"type":"event"}'
+    blanked = b"# A record 3: 1.5\nblank  event    process body.startTime\n\n# with these rules: same\n"
+    files = {"a": recording([*BEGUN, start % "1.5"]), "b": recording([*BEGUN, start % "3"])}
+    yield stream("a fraction", ["suggest", "a", "b"], b"", (0, blanked, b""), files)
     told = b'no rules can: record 3 of B, request "threads", has no counterpart in A\n'
     yield stream("a request more", ["suggest", "a", "b"], b"", (1, b"", told), {"a": recording(BEGUN), "b": recording([*BEGUN, THREADS])})
 

@@ -104,6 +104,7 @@ fn sessions_after(
     let rules = read_rules(alloc, known.as_slice())?;
     match sessions_by(alloc, &rules, inputs) {
         Ok(sessions) => Ok(Some(sessions)),
+        Err(SuggestRefused::Memory) => Err(Unsolved::Memory),
         Err(_) => Ok(None),
     }
 }
