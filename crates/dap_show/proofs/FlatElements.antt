@@ -190,7 +190,7 @@ starts_member ns at i k n x found finds is there d e h leaf_is =
     let f = found_there ns at i k found d finds is h in
     f.is ∙ ap Some (leaf_there ns i f.part e n x f.holds there leaf_is)
 
--- A function that has no value for a document with parts, or for null.
+-- A function that is undefined for a document with parts, and for null.
 module _ {X : Type 0} (value : Option Doc → Option X) (nulls : value (Some null) ≡ None)
     (lists : value (Some (list no_items)) ≡ None)
     (objects : value (Some (object no_members)) ≡ None) where

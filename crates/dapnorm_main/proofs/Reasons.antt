@@ -13,7 +13,7 @@ use Rattle.dapnorm_main.specs.WordOption.{HasNoEquals, IsValueOf, bad_word, reas
 
 -- ---- the reason
 
--- The reason is that of a line that is no rule.
+-- The reason is that of a line that is not a rule.
 pub other_reason : (p : Pair) (c : RulesCause) → c ≢ cause.Repeated → c ≢ cause.TooMany
     → c ≢ cause.TooLong → reason_of p c ≡ bad_word p
 other_reason p cause.Repeated repeated many long = absurd (repeated refl)

@@ -19,7 +19,7 @@ use Rattle.dapnorm_main.specs.WordOption.{AreNamedBy, AreRulesWith, HasLinesOf, 
 use Rattle.dapnorm_main.specs.WordOption.{HaveNoPairs, IsAccepted, ReportsLine}
 use Rattle.dapnorm_main.specs.WordOption.{with_word_lines}
 
--- A rules file without bytes has no rules.
+-- An empty rules file contains no rule.
 nothing_said : rules_said [] ≡ Ok no_rules
 unfolding rules_said
 nothing_said =
@@ -90,9 +90,9 @@ rules_of_file name file values text rules alone is lines lines_alone = record {
   accepted_alone = lines_alone.accepted nothing_accepted;
 }
 
--- ---- why there are no lines
+-- ---- why no line is added
 
--- The values have no pairs.
+-- Some value lacks a pair.
 pub no_pairs : (values : List (List ℕ)) (text : List ℕ) (report : UsageFault)
     → HaveNoPairs values report → HasNoLines values text report
 no_pairs values text (usage.Usage said) blames = inl blames

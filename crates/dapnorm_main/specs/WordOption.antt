@@ -69,7 +69,7 @@ pub record BlamesFirst (values : List (List ℕ)) (said : List ℕ) : Type 0 whe
   pub values_are : values ≡ before ++ value ∷ after
   pub said_is : said ≡ report_of value (codes "write TEXT=WORD")
 
--- Why the values have no pairs: one does not contain `=`, or an allocation failed for one.
+-- Why the values lack pairs: one does not contain `=`, or an allocation failed for one.
 abbrev pub HaveNoPairs : List (List ℕ) → UsageFault → Type 0
 HaveNoPairs values (usage.Usage said) = BlamesFirst values (string_bytes said)
 HaveNoPairs values (usage.Help said) = ⊥
@@ -107,9 +107,9 @@ pub record HasLinesOf (values : List (List ℕ)) (text rules : List ℕ) : Type 
   pub rules_are : rules ≡ with_word_lines text pairs
   pub accepted : IsAccepted text → IsAccepted rules
 
--- ---- why the text has no lines for the values
+-- ---- why the values have not been added to the text
 
--- Why the rules reject the line of a pair that is no rule: TEXT or WORD is empty, or they overlap.
+-- Why the rules reject a line as no rule: TEXT or WORD is empty, or they overlap.
 abbrev pub bad_word : Pair → List ℕ
 bad_word p =
     cond (length p.text == 0) (codes "TEXT is empty")
@@ -141,7 +141,7 @@ pub record RejectsLines (values : List (List ℕ)) (text : List ℕ) (report : U
   pub rejected : rules_said (with_word_lines text pairs) ≡ Err fault
   pub reported : ReportsLine values (with_word_lines text pairs) fault report
 
--- Why the text has no lines for the values: a value does not contain `=`, the rules reject a line,
+-- Why the text lacks lines for the values: a value does not contain `=`, the rules reject a line,
 -- or an allocation failed. Without values an empty text does not need memory.
 abbrev pub HasNoLines : List (List ℕ) → List ℕ → UsageFault → Type 0
 HasNoLines values text (usage.Usage said) =
@@ -179,7 +179,7 @@ pub record AreRulesWith (name : Option (List ℕ)) (values : List (List ℕ)) (r
   pub accepted_alone : IsAccepted alone
 
 -- The rules of an action with these values of the option. `None`: the action does not take it, or
--- there are no values.
+-- no value was given.
 abbrev pub AreRulesOf : Action → List (List ℕ) → Option (Vec ℕ Global) → Type 0
 AreRulesOf a values None = (takes_words a ≡ false) ⊎ (values ≡ [])
 AreRulesOf a values (Some rules) =
