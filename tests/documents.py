@@ -5,23 +5,32 @@ import os
 import re
 import sys
 
+from public_calls import exported
 from report import TOP, Report
 
 NAMED = re.compile(r"`(\w+)::([\w:]+)`(?:: ((?:`\w+`(?:, )?)+))?")
 LINK = re.compile(r"\]\(([^)#:]+)(?:#([^)]+))?\)")
 
 
-def sources(crate):
-    for path in sorted(glob.glob(os.path.join(TOP, "crates", crate, "src", "**", "*.rt"), recursive=True)):
+def sources(crate, module="*"):
+    for path in sorted(glob.glob(os.path.join(TOP, "crates", crate, "src", "**", f"{module}.rt"), recursive=True)):
         with open(path, encoding="utf-8") as file:
             yield file.read()
+
+
+def home(crate, path):
+    """The module of a public function, or `*` if neither its path nor the root of the crate names one, as for a method."""
+    modules = [it for it in path.split("::")[:-1] if it[0].islower()]
+    if not modules and os.path.exists(os.path.join(TOP, "crates", crate, "src", "lib.rt")):
+        modules = [module for module, name in exported(crate)[0] if name == path and "dap_" not in module]
+    return modules[0] if modules else "*"
 
 
 def contract(crate, path):
     """The text of a public function from its name to its body, in the trait or the impl block of its type where the path has one; also of one
     that the crate shows of another."""
     *owners, name = path.split("::")
-    for text in sources(crate):
+    for text in sources(crate, home(crate, path)):
         function = rf"pub fn {name}\b.*?^ *\{{"
         for owner in owners:
             if owner[0].isupper():
@@ -36,7 +45,7 @@ def contract(crate, path):
     for text in sources(crate):
         for other, names in re.findall(r"^pub use (dap_\w+)::([^;]*);", text, re.MULTILINE):
             if re.search(rf"\b{item}\b", names):
-                return contract(other, path)
+                return contract(other, "::".join(it for it in (*owners, name) if it[0].isupper() or it == name))
     return None
 
 

@@ -32,9 +32,11 @@ class Call:
     documentation: str
     clauses: List[Clause]
 
+    is_exported: bool = False
+
     def path(self) -> str:
         """Returns the path by which a user names the call in its crate."""
-        module = f"{self.module}::" if self.module == "laws" else ""
+        module = "" if self.is_exported else f"{self.module}::"
         return f"{module}{self.owner}::{self.name}" if self.owner else f"{module}{self.name}"
 
 
@@ -49,10 +51,10 @@ def read(*path: str) -> str:
         return file.read()
 
 
-def exported(crate: str) -> Tuple[Set[str], Set[str]]:
-    """Returns the names that the crate exports of its own modules, and its public modules."""
+def exported(crate: str) -> Tuple[Set[Tuple[str, str]], Set[str]]:
+    """Returns the names that the crate exports of its own modules, each with its module, and its public modules."""
     text = read(crate, "src", "lib.rt")
-    names = {name.strip() for _, several, one in REEXPORT.findall(text) for name in (several or one).split(",")}
+    names = {(module, name.strip()) for module, several, one in REEXPORT.findall(text) for name in (several or one).split(",")}
     return names, set(re.findall(r"^pub mod (\w+);", text, re.MULTILINE))
 
 
@@ -131,6 +133,7 @@ def calls_of(module: str, text: str) -> Iterator[Call]:
 def calls(crate: str) -> List[Call]:
     """Returns the calls that the crate exports of its own modules and that have a contract."""
     names, modules = exported(crate)
+    owners = {name for _, name in names}
     found: List[Call] = []
     folder = os.path.join(TOP, "crates", crate, "src")
     for name in sorted(os.listdir(folder)):
@@ -138,8 +141,8 @@ def calls(crate: str) -> List[Call]:
         if not name.endswith(".rt"):
             continue
         for call in calls_of(module, read(crate, "src", name)):
-            public = call.owner in names if call.owner else call.name in names
-            if call.clauses and (public or (module in modules and not call.owner)):
+            call.is_exported = call.owner in owners if call.owner else (module, call.name) in names
+            if call.clauses and (call.is_exported or (module in modules and not call.owner)):
                 found.append(call)
     return found
 

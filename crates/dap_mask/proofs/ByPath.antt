@@ -30,8 +30,8 @@ use Rattle.dap_mask.specs.Rules.{is_dropped, is_telling, is_telling_place, are_s
 use Rattle.dap_mask.specs.Masked.{is_below, left_at, left_by, left, IsMasked, AgreeBut, is_apart}
 use Rattle.dap_mask.specs.Masked.{mask_by, masked}
 use Rattle.dap_mask.specs.Texts.{digits, hex}
-use Rattle.dap_texts.specs.Long.{long}
-use Rattle.dap_texts.specs.Uuids.{uuid}
+use Rattle.dap_words.specs.Long.{long}
+use Rattle.dap_words.specs.Uuids.{uuid}
 use Rattle.dap_mask.specs.declared.rules.Verb.{Verb}
 use Rattle.dap_mask.specs.declared.rules.Verb.TheVariants.{Blank, Digits, Hex, Long, Uuid}
 use Rattle.dap_mask.proofs.Edited.{top-verb, at-edit, left-none, left_here}

@@ -18,9 +18,9 @@ use Rattle.dap_mask.specs.RuleSteps.{change_at_place}
 use Rattle.dap_mask.specs.Rules.{Rule, change_text, of_verb, rule_applies}
 use Rattle.dap_mask.specs.Masked.{mask_by, masked}
 use Rattle.dap_mask.specs.Texts.{digits, hex}
-use Rattle.dap_texts.specs.Long.{long}
-use Rattle.dap_texts.specs.Uuids.{uuid}
-use Rattle.dap_texts.proofs.Utf8.{long_utf8, uuid_utf8}
+use Rattle.dap_words.specs.Long.{long}
+use Rattle.dap_words.specs.Uuids.{uuid}
+use Rattle.dap_words.proofs.Utf8.{long_utf8, uuid_utf8}
 use Rattle.dap_mask.specs.declared.rules.Verb.{Verb}
 use Rattle.dap_mask.specs.declared.rules.Verb.TheVariants.{Blank, Digits, Hex, Long, Uuid}
 use Rattle.dap_mask.proofs.Utf8.{digits_utf8, hex_utf8}

@@ -17,7 +17,7 @@ use Rattle.dap_mask.specs.RulesFile.{line_outcome, outcome_then, rules_from}
 use Rattle.dap_mask.specs.declared.fault.RulesCause.{RulesCause}
 use Rattle.dap_message.proofs.Edits.{by_bool}
 use Rattle.dap_mask.specs.RuleSteps.{RuleStep}
-use Rattle.dap_texts.proofs.Utf8.{ascii_one}
+use Rattle.dap_words.proofs.Utf8.{ascii_one}
 use Rattle.dap_mask.specs.RuleText.{text_in, string_of, next_step, steps_from, step_then}
 use Rattle.dap_mask.specs.Rules.{step_of, place_of}
 use Rattle.dap_mask.specs.declared.rules.Step.{Step}

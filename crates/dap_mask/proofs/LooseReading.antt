@@ -21,7 +21,7 @@ use Rattle.dap_tree.proofs.Outcomes.{some_outcome}
 use Rattle.dap_tree.proofs.Texts.{text_is_read}
 use Rattle.dap_tree.proofs.Utf8.{data_utf8, items_data_utf8, members_data_utf8, read-utf8}
 use Rattle.dap_tree.proofs.WithoutIds.{without_no_id}
-use Rattle.dap_texts.specs.Words.{Pair, AreUtf8}
+use Rattle.dap_words.specs.Words.{Pair, AreUtf8}
 use Rattle.dap_words.specs.Worded.{worded_message}
 use Rattle.dap_words.proofs.WordedDocs.{ordered_worded, utf8_worded, id_worded}
 use Rattle.dap_mask.specs.Loose.{loose, loose_items, loose_members, IsReadLoosely, IsReadWith}

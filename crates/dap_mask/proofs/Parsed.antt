@@ -26,7 +26,7 @@ use Rattle.dap_mask.specs.RuleText.{with_category, category_behind, dropped_at, 
 use Rattle.dap_mask.specs.RuleText.{half_at}
 use Rattle.dap_mask.specs.RuleText.{swap_with, swap_at, restart_at, part_at, word_with, put_at}
 use Rattle.dap_mask.specs.RuleText.{statement_at, reported}
-use Rattle.dap_texts.specs.Words.{Pair}
+use Rattle.dap_words.specs.Words.{Pair}
 use Rattle.dap_mask.specs.RuleText.{line_said}
 use Rattle.dap_mask.specs.Rules.{Rule, same_kind}
 use Rattle.dap_mask.specs.Runs.{is_blank, is_plain, front, behind, gap, is_end}

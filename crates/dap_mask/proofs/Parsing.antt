@@ -25,7 +25,7 @@ use Rattle.dap_mask.specs.RuleText.{change_at, category_at, with_category, categ
 use Rattle.dap_mask.specs.RuleText.{dropped_at, leave_out_at, half_at, swap_with, swap_at}
 use Rattle.dap_mask.specs.RuleText.{restart_at, part_at, word_with, put_at, statement_at}
 use Rattle.dap_mask.specs.RuleText.{reported, line_said}
-use Rattle.dap_texts.specs.Words.{Pair}
+use Rattle.dap_words.specs.Words.{Pair}
 use Rattle.dap_mask.specs.Rules.{Rule, same_kind}
 use Rattle.dap_mask.specs.Runs.{is_blank, is_plain, behind, gap, is_over, is_end}
 use Rattle.dap_message.specs.SwapRules.{Half, SwapRule}

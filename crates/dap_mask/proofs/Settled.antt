@@ -14,13 +14,13 @@ use Rattle.dap_mask.specs.Rules.{rule_applies, applies_at, unsettles, renames, r
 use Rattle.dap_mask.specs.Rules.{clash, clashes_with, are_safe, are_idempotent}
 use Rattle.dap_mask.specs.Masked.{is_below, left_by, left, mask_by, masked}
 use Rattle.dap_mask.specs.Texts.{digits, hex}
-use Rattle.dap_texts.specs.Long.{long}
-use Rattle.dap_texts.specs.Uuids.{uuid}
-use Rattle.dap_texts.proofs.ClearedUuids.{uuid_twice}
-use Rattle.dap_texts.proofs.HexPairs.{long_after_hex, uuid_after_hex}
-use Rattle.dap_texts.proofs.LongPairs.{uuid_after_long}
-use Rattle.dap_texts.proofs.LongRuns.{long_twice}
-use Rattle.dap_texts.proofs.Settled.{digits_after_long, long_after_digits}
+use Rattle.dap_words.specs.Long.{long}
+use Rattle.dap_words.specs.Uuids.{uuid}
+use Rattle.dap_words.proofs.ClearedUuids.{uuid_twice}
+use Rattle.dap_words.proofs.HexPairs.{long_after_hex, uuid_after_hex}
+use Rattle.dap_words.proofs.LongPairs.{uuid_after_long}
+use Rattle.dap_words.proofs.LongRuns.{long_twice}
+use Rattle.dap_words.proofs.Settled.{digits_after_long, long_after_digits}
 use Rattle.dap_mask.specs.declared.rules.Verb.{Verb}
 use Rattle.dap_mask.specs.declared.rules.Verb.TheVariants.{Blank, Digits, Hex, Long, Uuid}
 use Rattle.dap_mask.proofs.Squeezed.{digits_twice, hex_twice, digits_behind_hex}

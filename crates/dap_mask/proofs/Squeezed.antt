@@ -5,7 +5,7 @@ use Rattle.std.proofs.lemmas.Bool.{eqb-true}
 use Rattle.std.specs.Char.{is_ascii_digit, is_ascii_hexdigit}
 use Rattle.dap_message.proofs.Edits.{by_bool}
 use Rattle.dap_tree.proofs.Booleans.{and_left, and_right, and_both}
-use Rattle.dap_texts.proofs.Settled.{done, done_digits, left_done, no_digit}
+use Rattle.dap_words.proofs.Settled.{done, done_digits, left_done, no_digit}
 use Rattle.dap_mask.specs.Texts.{digits_from, digits, is_x, goes_on_as_hex, begins_hex, hex}
 use Rattle.dap_mask.specs.Texts.{behind_zero, in_number}
 

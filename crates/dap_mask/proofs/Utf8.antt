@@ -7,7 +7,7 @@ use Rattle.std.proofs.lemmas.Str.{IsUtf8-nil}
 use Rattle.std.specs.Char.{is_ascii_digit, is_ascii_hexdigit}
 use Rattle.dap_tree.proofs.Booleans.{and_left, and_right}
 use Rattle.dap_message.proofs.Edits.{by_bool}
-use Rattle.dap_texts.proofs.Utf8.{Edited, utf8_edited, ascii_one, hexdigit_low}
+use Rattle.dap_words.proofs.Utf8.{Edited, utf8_edited, ascii_one, hexdigit_low}
 use Rattle.dap_mask.specs.Texts.{digits_from, digits, is_x, goes_on_as_hex, begins_hex, hex}
 use Rattle.dap_mask.specs.Texts.{behind_zero, in_number}
 use Rattle.dap_mask.proofs.Squeezed.{begins_zero}

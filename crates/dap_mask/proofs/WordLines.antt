@@ -14,7 +14,7 @@ use Rattle.dap_tree.specs.Doc.{text as text_doc}
 use Rattle.dap_tree.specs.Json.{Reads, text_of}
 use Rattle.dap_tree.proofs.Booleans.{and_left, and_right, and_both}
 use Rattle.dap_message.proofs.Edits.{by_bool}
-use Rattle.dap_texts.specs.Words.{Pair}
+use Rattle.dap_words.specs.Words.{Pair}
 use Rattle.dap_mask.specs.Grammar.{IsInside, at_end, escaped, other, IsName, quoted, SaysRule}
 use Rattle.dap_mask.specs.Mask.{put}
 use Rattle.dap_mask.specs.Runs.{has_class, onto, lines_of}

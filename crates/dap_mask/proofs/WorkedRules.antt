@@ -18,7 +18,7 @@ use Rattle.dap_mask.specs.Mask.{nothing, rule, bad}
 use Rattle.dap_mask.specs.RuleText.{line_said, string_of}
 use Rattle.dap_mask.specs.declared.rules.Verb.TheVariants.{Digits, Hex}
 use Rattle.dap_mask.proofs.Lines.{string_is}
-use Rattle.dap_texts.proofs.Utf8.{ascii_one}
+use Rattle.dap_words.proofs.Utf8.{ascii_one}
 
 -- ---- only a comment
 

@@ -7,7 +7,7 @@ use Rattle.dap_mask.specs.Mask.{Mask}
 use Rattle.dap_mask.specs.Rules.{Rule}
 use Rattle.dap_message.specs.SwapRules.{SwapRule}
 use Rattle.dap_mask.specs.declared.mask_rules.MaskRules.{MaskRules}
-use Rattle.dap_texts.specs.Words.{Pair}
+use Rattle.dap_words.specs.Words.{Pair}
 
 abbrev pub changes_of : MaskRules → List Rule
 changes_of r = listed_changes r.list

@@ -5,7 +5,7 @@ use Rattle.dap_mask.specs.Mask.{Mask}
 use Rattle.dap_mask.specs.Rules.{Rule, rules_of}
 use Rattle.dap_message.specs.SwapRules.{SwapRule, swaps_of}
 use Rattle.dap_mask.specs.declared.rule_list.RuleList.{RuleList}
-use Rattle.dap_texts.specs.Words.{Pair}
+use Rattle.dap_words.specs.Words.{Pair}
 use Rattle.dap_words.specs.Kept.{pairs_in}
 
 abbrev pub listed_changes : RuleList → List Rule

@@ -9,7 +9,7 @@ use Rattle.dap_tree.specs.declared.fault.TreeFault.{TreeFault}
 use Rattle.dap_tree.specs.declared.fault.TreeFault.TheVariants.{Json, Fraction, Memory}
 use Rattle.dap_mask.specs.Mask.{Mask, no_rules, leaves_out}
 use Rattle.dap_mask.specs.Masked.{masked}
-use Rattle.dap_texts.specs.Words.{Pair, AreUtf8}
+use Rattle.dap_words.specs.Words.{Pair, AreUtf8}
 use Rattle.dap_words.specs.Worded.{worded_message}
 
 -- An integer that is out of range and represents each number that is not an integer of 64 bits.

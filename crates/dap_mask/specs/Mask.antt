@@ -2,7 +2,7 @@
 use Rattle.std.specs.Prelude.{ℕ, ◌+◌, Bool, true, false, cond, ◌&&◌, ◌||◌, List, [], ◌∷◌, ◌++◌}
 use Rattle.std.specs.Prelude.{Option, length, option_map, string_bytes}
 use Rattle.dap_tree.specs.Doc.{Doc}
-use Rattle.dap_texts.specs.Words.{Pair, pair_of}
+use Rattle.dap_words.specs.Words.{Pair, pair_of}
 use Rattle.dap_message.specs.Rows.{is_of_kind}
 use Rattle.dap_profile.specs.declared.profile.Kind.TheVariants.{Event}
 use Rattle.dap_mask.specs.Categories.{CategoryRule, category_of, is_dropped_by}

@@ -6,7 +6,7 @@ use Rattle.dap_mask.specs.Loose.{IsReadWith}
 use Rattle.dap_mask.specs.Mask.{Mask}
 use Rattle.dap_mask.specs.Masked.{IsMasked, AgreeBut, KeepsElsewhere, HasNoNewPath, masked}
 use Rattle.dap_mask.specs.Rules.{Rule}
-use Rattle.dap_texts.specs.Words.{Pair}
+use Rattle.dap_words.specs.Words.{Pair}
 
 -- The document e is d masked by the rules of a rules file.
 pub record IsMaskedAs (rules : List Rule) (d e : Doc) : Type 0 where

@@ -9,8 +9,8 @@ use Rattle.dap_profile.specs.PlaceSteps.{PlaceStep, named as member, each}
 use Rattle.dap_message.specs.Rows.{is_text, is_of_kind, name_key}
 use Rattle.dap_profile.specs.declared.profile.Kind.{Kind}
 use Rattle.dap_profile.specs.declared.profile.Kind.TheVariants.{Request, Response, Event}
-use Rattle.dap_texts.specs.Long.{long}
-use Rattle.dap_texts.specs.Uuids.{uuid}
+use Rattle.dap_words.specs.Long.{long}
+use Rattle.dap_words.specs.Uuids.{uuid}
 use Rattle.dap_mask.specs.RuleSteps.{RuleStep, named, elements, plain_step, plain_place}
 use Rattle.dap_mask.specs.RuleSteps.{has_names}
 use Rattle.dap_mask.specs.Texts.{digits, hex}

@@ -21,8 +21,8 @@ use Rattle.dap_mask.specs.declared.fault.RulesFault.{RulesFault}
 use Rattle.dap_mask.specs.declared.rules.Verb.{Verb}
 use Rattle.dap_mask.specs.declared.rules.Verb.TheVariants.{Digits, Hex}
 use Rattle.dap_words.specs.Kept.{cause_against as word_cause}
-use Rattle.dap_words.specs.declared.words.WordCause.{WordCause}
-use Rattle.dap_words.specs.declared.words.WordCause.TheVariants as of_word
+use Rattle.dap_words.specs.declared.word_list.WordCause.{WordCause}
+use Rattle.dap_words.specs.declared.word_list.WordCause.TheVariants as of_word
 
 -- The name, or `None` for any name, is one of these.
 abbrev pub is_name_among : Option (List ℕ) → List (Option (List ℕ)) → Bool

@@ -2,9 +2,9 @@
 -- functions.
 use Rattle.std.specs.Prelude.{◌≡◌, ℕ, Bool, true, false, List, [], ◌∷◌, ◌++◌}
 use Rattle.std.specs.Char.{is_ascii_digit, is_ascii_hexdigit}
-pub use Rattle.dap_texts.specs.Runs.{all_of, begins_with, IsRun}
-pub use Rattle.dap_texts.specs.Digits.{digits_from, digits, is_x, goes_on_as_hex, begins_hex, hex}
-pub use Rattle.dap_texts.specs.Digits.{behind_zero, behind_x, in_number}
+pub use Rattle.dap_words.specs.Runs.{all_of, begins_with, IsRun}
+pub use Rattle.dap_words.specs.Digits.{digits_from, digits, is_x, goes_on_as_hex, begins_hex, hex}
+pub use Rattle.dap_words.specs.Digits.{behind_zero, behind_x, in_number}
 
 -- t is s with each run of digits replaced by one 0, and every other byte unchanged (own).
 pub data AreDigitsOf : List ℕ → List ℕ → Type 0 where

@@ -3,7 +3,7 @@ use Rattle.std.specs.Prelude.{◌≡◌, ℕ, true, List, [], ◌∷◌, ◌++�
 use Rattle.std.specs.Str.{is_utf8}
 use Rattle.dap_tree.specs.Doc.{text as text_doc}
 use Rattle.dap_tree.specs.Json.{text_of}
-use Rattle.dap_texts.specs.Words.{Pair}
+use Rattle.dap_words.specs.Words.{Pair}
 use Rattle.dap_mask.specs.Mask.{put, rule}
 use Rattle.dap_mask.specs.RuleText.{line_said}
 use Rattle.dap_mask.specs.Runs.{has_class, lines_of}

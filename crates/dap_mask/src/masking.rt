@@ -25,8 +25,8 @@ use crate::meets::text_of;
 use crate::rules::{MaskRule, Step, Verb};
 use crate::texts::{digits, hex};
 use dap_message::Kind;
-use dap_texts::{long, uuid};
 use dap_tree::Tree;
+use dap_words::{long, uuid};
 use std::mem;
 
 /// Masks a message in place. Does not allocate.

@@ -7,7 +7,7 @@ ghost use Rattle.dap_mask.specs.Ids.{leave_ids};
 ghost use Rattle.dap_mask.specs.Rules.{rule_of, rules_of, are_safe, are_idempotent};
 ghost use Rattle.dap_mask.specs.RulesFile.{is_name_among, change_cause, or_clash, last_line};
 ghost use Rattle.dap_mask.specs.RulesFile.{cause_of_word};
-ghost use Rattle.dap_texts.specs.Words.{pair_of};
+ghost use Rattle.dap_words.specs.Words.{pair_of};
 ghost use Rattle.dap_words.specs.Kept.{pairs_in};
 
 use crate::categories::{CategoryRule, is_category_among, is_moved_by, moves_one_of};
@@ -20,8 +20,7 @@ use crate::runs::{ByteClass, split_run};
 use crate::statement::{Line, Statement, read_line};
 use crate::swaps::is_swap_among;
 use dap_message::SwapRule;
-use dap_texts::Word;
-use dap_words::{WordCause, Words};
+use dap_words::{Word, WordCause, Words};
 use std::alloc::{AllocError, Global};
 use std::str;
 

@@ -14,7 +14,7 @@ use crate::places::place_at;
 use crate::rules::{MaskRule, Verb};
 use crate::runs::{ByteClass, gap, is_end, split_run};
 use dap_message::{Half, Kind, SwapRule};
-use dap_texts::Word;
+use dap_words::Word;
 use std::alloc::{AllocError, Global};
 
 /// A rule, as written in a line.

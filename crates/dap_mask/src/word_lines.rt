@@ -3,11 +3,11 @@ ghost use Rattle.std.specs.Prelude.{◌≡◌, ◌++◌, ◌∷◌, OnOk, string
 ghost use Rattle.serde_json.specs.Data as json;
 ghost use Rattle.dap_tree.specs.Doc.{text as text_doc};
 ghost use Rattle.dap_tree.specs.Json.{Reads, text_of};
-ghost use Rattle.dap_texts.specs.Words.{pair_of};
+ghost use Rattle.dap_words.specs.Words.{pair_of};
 ghost use Rattle.dap_mask.specs.WordLines.{IsLineOf, word_line};
 
-use dap_texts::Word;
 use dap_tree::{Tree, write_tree_to};
+use dap_words::Word;
 use std::alloc::{AllocError, Global};
 
 /// Appends a line feed and the line `word TEXT WORD`. A rules file that ends in this line puts the

@@ -1,8 +1,8 @@
 -- Recordings of two machines that differ only in texts of each machine are masked to equal bytes.
 use Rattle.std.proofs.Common.{◌≡◌, ℕ, true, List, [], ◌∷◌, refl, sym, ap, ap₂, ◌∙◌}
 use Rattle.dap_message.specs.Message.{Sent}
-use Rattle.dap_texts.specs.Machines.{words_of}
-use Rattle.dap_texts.specs.Words.{Pair, have_own_texts}
+use Rattle.dap_words.specs.Machines.{words_of}
+use Rattle.dap_words.specs.Words.{Pair, have_own_texts}
 use Rattle.dap_words.proofs.Alike.{worded_alike}
 use Rattle.dap_input.specs.declared.limits.Limits.{Limits}
 use Rattle.dap_normalise.specs.Accepting.{Payload}

@@ -27,7 +27,7 @@ use Rattle.dap_mask.specs.Rules.{are_safe, are_idempotent}
 use Rattle.dap_mask.proofs.ByPath.{agree_from_equal, equal_from_agree}
 use Rattle.dap_mask.proofs.Dropping.{stays_in}
 use Rattle.dap_mask.proofs.LooseReading.{content_masked, left_is_read, ordered_with}
-use Rattle.dap_texts.specs.Words.{AreUtf8}
+use Rattle.dap_words.specs.Words.{AreUtf8}
 use Rattle.dap_words.specs.Worded.{worded_message}
 use Rattle.dap_words.proofs.WordedDocs.{worded_none}
 use Rattle.dap_mask.proofs.LooseReading.{one_loose_reading}

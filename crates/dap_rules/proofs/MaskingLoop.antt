@@ -34,7 +34,7 @@ use Rattle.dap_mask.specs.declared.mask_rules.MaskRules.{MaskRules}
 use Rattle.dap_rules.specs.Masking.{IsAccepted, left_of, masked_text, masking}
 use Rattle.dap_rules.specs.MaskedRecordings.{IsMaskedTo, Masks}
 use Rattle.dap_rules.specs.MaskingSteps.{Masked}
-use Rattle.dap_texts.proofs.WordsUtf8.{strings_utf8}
+use Rattle.dap_words.proofs.WordsUtf8.{strings_utf8}
 use Rattle.dap_rules.proofs.MaskedTexts.{masked_to}
 use Rattle.dap_rules.proofs.MaskingFacts.{fits_none, reads_records}
 use Rattle.dap_rules.proofs.PendingTexts.{IsAtHand, Waiting, failed_inside, longer_is}

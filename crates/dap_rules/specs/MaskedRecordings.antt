@@ -9,7 +9,7 @@ use Rattle.dap_mask.specs.Mask.{Mask}
 use Rattle.dap_mask.specs.Masked.{AgreeBut}
 use Rattle.dap_mask.specs.Promises.{IsMaskedAs}
 use Rattle.dap_mask.specs.Rules.{Rule}
-use Rattle.dap_texts.specs.Words.{Pair}
+use Rattle.dap_words.specs.Words.{Pair}
 use Rattle.dap_words.specs.Worded.{worded_message}
 use Rattle.dap_input.specs.declared.limits.Limits.{Limits}
 use Rattle.dap_normalise.specs.Normalising.{Normalises}

@@ -1,8 +1,8 @@
 -- The statements of the functions in `laws`.
 use Rattle.std.specs.Prelude.{◌≡◌, ℕ, true, List, [], ◌∷◌}
 use Rattle.dap_tree.specs.Doc.{Doc}
-use Rattle.dap_texts.specs.Machines.{words_of}
-use Rattle.dap_texts.specs.Words.{Pair, have_own_texts}
+use Rattle.dap_words.specs.Machines.{words_of}
+use Rattle.dap_words.specs.Words.{Pair, have_own_texts}
 use Rattle.dap_words.specs.Worded.{AreAlike}
 use Rattle.dap_mask.specs.Loose.{IsReadLoosely}
 use Rattle.dap_normalise.specs.Accepting.{Payload}

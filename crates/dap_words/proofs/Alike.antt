@@ -3,10 +3,10 @@ use Rattle.std.proofs.Common.{◌≡◌, ℕ, Bool, true, false, cond, ◌&&◌,
 use Rattle.std.proofs.Common.{◌∙◌, subst}
 use Rattle.dap_tree.specs.Doc.{Doc, null, boolean, whole, text, list, object, id, Items, no_items}
 use Rattle.dap_tree.specs.Doc.{item, Members, no_members, member}
-use Rattle.dap_texts.specs.Words.{Pair, have_own_texts, replaced}
-use Rattle.dap_texts.specs.Machines.{words_of, written_by}
-use Rattle.dap_texts.proofs.ReplacedTexts.{replaced_is}
-use Rattle.dap_texts.proofs.WordLists.{two_word_lists}
+use Rattle.dap_words.specs.Words.{Pair, have_own_texts, replaced}
+use Rattle.dap_words.specs.Machines.{words_of, written_by}
+use Rattle.dap_words.proofs.ReplacedTexts.{replaced_is}
+use Rattle.dap_words.proofs.WordLists.{two_word_lists}
 use Rattle.dap_words.specs.Worded.{worded, items_worded, members_worded, names_its_kind, AreAlike}
 use Rattle.dap_words.specs.Worded.{AreItemsAlike, AreMembersAlike, SameButTexts}
 

@@ -13,7 +13,7 @@ use Rattle.dap_tree.specs.Doc.{Doc, Items, no_items, item, Members, no_members, 
 use Rattle.dap_tree.specs.View.{view, items_view, members_view}
 use Rattle.dap_tree.specs.declared.tree.Tree.{Tree}
 use Rattle.dap_tree.proofs.Views.{Entry, members_view-insert_entry, put_last}
-use Rattle.dap_texts.specs.Words.{Pair}
+use Rattle.dap_words.specs.Words.{Pair}
 use Rattle.dap_words.specs.Worded.{worded, items_worded, members_worded, names_its_kind}
 
 abbrev snoc : Items → Doc → Items

@@ -1,9 +1,9 @@
 -- One text: without words, and a second time.
 use Rattle.std.proofs.Common.{◌≡◌, ℕ, true, List, [], ◌∷◌, refl, ap}
-use Rattle.dap_texts.specs.Words.{Pair, replaced}
-use Rattle.dap_texts.specs.Apart.{are_apart}
-use Rattle.dap_texts.proofs.ReplacedTexts.{replaced_is}
-use Rattle.dap_texts.proofs.KeptApart.{replaced_twice}
+use Rattle.dap_words.specs.Words.{Pair, replaced}
+use Rattle.dap_words.specs.Apart.{are_apart}
+use Rattle.dap_words.proofs.ReplacedTexts.{replaced_is}
+use Rattle.dap_words.proofs.KeptApart.{replaced_twice}
 
 pub replaced_none : (s : List ℕ) → replaced [] s ≡ s
 replaced_none [] = refl

@@ -11,10 +11,10 @@ use Rattle.dap_tree.specs.Doc.{all_in_range, items_in_range, members_in_range, i
 use Rattle.dap_tree.specs.Doc.{items_utf8, members_utf8, has_id, items_have_id, members_have_id}
 use Rattle.dap_tree.specs.Doc.{is_below_all, is_ordered, items_ordered, members_ordered}
 use Rattle.dap_tree.proofs.Booleans.{and_left, and_right, and_both}
-use Rattle.dap_texts.specs.Words.{Pair, replaced, AreUtf8}
-use Rattle.dap_texts.specs.Apart.{are_apart}
-use Rattle.dap_texts.proofs.ReplacedTexts.{replaced_is}
-use Rattle.dap_texts.proofs.WordsUtf8.{replaced_utf8}
+use Rattle.dap_words.specs.Words.{Pair, replaced, AreUtf8}
+use Rattle.dap_words.specs.Apart.{are_apart}
+use Rattle.dap_words.proofs.ReplacedTexts.{replaced_is}
+use Rattle.dap_words.proofs.WordsUtf8.{replaced_utf8}
 use Rattle.dap_words.specs.Worded.{worded, items_worded, members_worded, names_its_kind}
 use Rattle.dap_words.proofs.Texts.{replaced_none, text_twice}
 

@@ -10,9 +10,9 @@ use Rattle.dap_tree.specs.Doc.{Doc, null, boolean, whole, text, list, object, id
 use Rattle.dap_tree.specs.Doc.{item, Members, no_members, member, get, get_member}
 use Rattle.dap_tree.specs.Path.{Step, name, place, step, at, get_item}
 use Rattle.dap_message.specs.Marks.{top, items_top, members_top}
-use Rattle.dap_texts.specs.Words.{Pair}
-use Rattle.dap_words.specs.Worded.{worded, items_worded, members_worded, names_its_kind, is_in_kind, leaf}
-use Rattle.dap_words.specs.Worded.{IsWorded}
+use Rattle.dap_words.specs.Words.{Pair}
+use Rattle.dap_words.specs.Worded.{worded, items_worded, members_worded, names_its_kind, is_in_kind}
+use Rattle.dap_words.specs.Worded.{leaf, IsWorded}
 
 module _ (pairs : List Pair) where
   -- ---- the first level

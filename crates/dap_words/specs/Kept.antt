@@ -1,11 +1,11 @@
 -- The words that a `Words` represents, and what holds for them.
 use Rattle.std.specs.Prelude.{◌≡◌, ◌==◌, true, false, cond, List, [], ◌∷◌, ◌++◌, length, Option}
 use Rattle.std.specs.Prelude.{Some, None}
-use Rattle.dap_texts.specs.Words.{Pair, pairs_of, have_own_texts, is_text_among}
-use Rattle.dap_texts.specs.Apart.{are_apart, stays_apart}
-use Rattle.dap_words.specs.declared.words.Words.{Words}
-use Rattle.dap_words.specs.declared.words.WordCause.{WordCause}
-use Rattle.dap_words.specs.declared.words.WordCause.TheVariants as cause
+use Rattle.dap_words.specs.Words.{Pair, pairs_of, have_own_texts, is_text_among}
+use Rattle.dap_words.specs.Apart.{are_apart, stays_apart}
+use Rattle.dap_words.specs.declared.word_list.Words.{Words}
+use Rattle.dap_words.specs.declared.word_list.WordCause.{WordCause}
+use Rattle.dap_words.specs.declared.word_list.WordCause.TheVariants as cause
 
 abbrev pub pairs_in : Words → List Pair
 pairs_in w = pairs_of w.list.items

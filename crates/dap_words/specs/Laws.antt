@@ -1,9 +1,9 @@
 -- The laws that the functions of `laws` state.
 use Rattle.std.specs.Prelude.{◌≡◌, true, ℕ, List, []}
 use Rattle.dap_tree.specs.Doc.{Doc, is_sound, is_ordered, all_utf8, has_id, get}
-use Rattle.dap_texts.specs.Words.{Pair, have_own_texts, AreUtf8}
-use Rattle.dap_texts.specs.Apart.{are_apart}
-use Rattle.dap_texts.specs.Machines.{words_of}
+use Rattle.dap_words.specs.Words.{Pair, have_own_texts, AreUtf8}
+use Rattle.dap_words.specs.Apart.{are_apart}
+use Rattle.dap_words.specs.Machines.{words_of}
 use Rattle.dap_words.specs.Worded.{worded_message, names_its_kind, IsWorded, AreAlike}
 
 -- At each path, the result has the value that `IsWorded` says.

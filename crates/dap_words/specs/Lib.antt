@@ -1,3 +1,12 @@
+pub mod Runs
+pub mod Digits
+pub mod Long
+pub mod Uuids
+pub mod Placed
+pub mod Words
+pub mod Apart
+pub mod Machines
+pub mod TextLaws
 pub mod Worded
 pub mod Kept
 pub mod Laws

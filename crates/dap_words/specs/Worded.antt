@@ -5,8 +5,8 @@ use Rattle.dap_tree.specs.Doc.{Doc, null, boolean, whole, text, list, object, id
 use Rattle.dap_tree.specs.Doc.{item, Members, no_members, member}
 use Rattle.dap_tree.specs.Path.{Step, name, place, at}
 use Rattle.dap_message.specs.Marks.{top}
-use Rattle.dap_texts.specs.Words.{Pair, replaced}
-use Rattle.dap_texts.specs.Machines.{Piece, written_by, AreFoundAtPlaces}
+use Rattle.dap_words.specs.Words.{Pair, replaced}
+use Rattle.dap_words.specs.Machines.{Piece, written_by, AreFoundAtPlaces}
 
 -- The member names the kind of the message (DAP specification, ProtocolMessage, Request, Event): it
 -- is `type`, `command` or `event`. No word is put into it.

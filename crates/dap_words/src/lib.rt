@@ -1,13 +1,23 @@
-//! Words in the place of texts in whole messages.
+//! Actions on one text, and words in the place of texts in whole messages.
 //!
-//! [`Words`] is a list of texts and their words, and [`put_words`] applies it to a message.
-//! `specs/` defines the result, and [`laws`] states the theorems.
+//! [`long`] and [`uuid`] replace numbers that change from run to run, and do not allocate.
+//! [`with_words`] puts words in the place of texts in one text. [`Words`] is a list of texts and
+//! their words, and [`put_words`] applies it to a message. `specs/` defines the results.
+//! [`text_laws`] states the theorems about one text, and [`laws`] those about messages.
 #![tactic(auto)]
 
+mod apart;
 pub mod laws;
+mod long_runs;
 mod putting;
+pub mod text_laws;
+mod uuids;
+mod word_list;
 mod words;
 
-pub use dap_texts::Word;
+pub use apart::{are_apart, have_own_texts, is_text_among, stays_apart};
+pub use long_runs::long;
 pub use putting::put_words;
-pub use words::{WordCause, Words};
+pub use uuids::uuid;
+pub use word_list::{WordCause, Words};
+pub use words::{Word, replace_words, with_words};

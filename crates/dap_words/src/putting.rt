@@ -1,13 +1,13 @@
 //! Puts words in the place of texts in a message.
 ghost use Rattle.std.specs.Prelude.{◌≡◌, ◌≢◌, ◌&&◌, cond, IfOk, IfErr, [], true, false};
 ghost use Rattle.dap_tree.specs.View.{view, items_view, members_view};
-ghost use Rattle.dap_texts.specs.Words.{pairs_of};
+ghost use Rattle.dap_words.specs.Words.{pairs_of};
 ghost use Rattle.dap_words.specs.Kept.{pairs_in};
 ghost use Rattle.dap_words.specs.Worded.{worded, items_worded, members_worded, worded_message};
 ghost use Rattle.dap_words.specs.Worded.{names_its_kind};
 
-use crate::words::Words;
-use dap_texts::{Word, with_words};
+use crate::word_list::Words;
+use crate::words::{Word, with_words};
 use dap_tree::Tree;
 use std::alloc::{AllocError, Global};
 use std::collections::BTreeMap;

@@ -1,145 +1,115 @@
-//! A list of texts and their words.
-ghost use Rattle.std.specs.Prelude.{◌≡◌, ◌<◌, ◌++◌, ◌∷◌, [], IfOk, IfErr, OnErr, OnOk, IsTrue};
-ghost use Rattle.std.specs.Prelude.{length, true, None, IsErrOf};
-ghost use Rattle.dap_texts.specs.Apart.{are_apart};
-ghost use Rattle.dap_texts.specs.Words.{pair_of, pairs_of, have_own_texts};
+//! Words in the place of texts.
+ghost use Rattle.std.specs.Prelude.{◌≡◌, ◌++◌, [], option_map, OnOk, OnErr, IfOk, IsOk};
+ghost use Rattle.std.specs.Prelude.{string_bytes};
+ghost use Rattle.std.specs.Io.{StartsWith};
+ghost use Rattle.dap_words.specs.Words.{pair_of, pairs_of, begins_here, is_longer_than, found};
+ghost use Rattle.dap_words.specs.Words.{replaced};
 
-use dap_texts::{Word, are_apart, have_own_texts, is_text_among, stays_apart};
-use std::alloc::{AllocError, AllocFailed, Global};
-use thiserror::Error;
+use std::alloc::{AllocError, Global};
 
-/// Why a list of words may not get one more.
-#[derive(Clone, Copy, Debug, PartialEq, Eq, Error)]
-pub enum WordCause {
-    /// The text is empty.
-    ///
-    /// - Cause: a variable of the shell that is not set.
-    /// - Fix: name the text.
-    #[error("the text is empty")]
-    Empty,
-    /// An earlier word replaces the same text.
-    ///
-    /// - Cause: an option that is given twice.
-    /// - Fix: leave one out.
-    #[error("the text has a word already")]
-    Repeated,
-    /// A word of the list can overlap a text of the list: one contains the other, or the end of one
-    /// is the start of the other. The word could then make a text, and a second pass would replace
-    /// that too.
-    ///
-    /// - Cause: a word that is part of a path, or an empty word.
-    /// - Fix: choose a word that no text contains, such as one in angle brackets.
-    #[error("a word overlaps a text")]
-    Meets,
-    /// An allocation failed.
-    #[error("out of memory")]
-    Memory,
-}
-
-/// Texts and their words. No two replace the same text. No word overlaps a text, so a second pass
-/// changes nothing.
+/// A text and the word that replaces it.
 #[derive(Drop)]
-pub struct Words {
-    list: Vec<Word>,
-    ghost own_texts: { have_own_texts (pairs_of list.items) ≡ true },
-    ghost apart: { are_apart (pairs_of list.items) ≡ true },
+pub struct Word {
+    pub text: String,
+    pub word: String,
 }
 
-impl Words {
-    ghost use Rattle.dap_words.specs.Kept.{pairs_in, AreSettled, Explains, cause_against};
-    ghost use Rattle.std.specs.Prelude.{◌↔◌};
-
-    /// Returns a list without words. Does not allocate.
-    pub fn new(alloc: Global) -> Words
-        ensures { pairs_in result ≡ [] }
-    {
-        Words {
-            list: Vec::new(alloc),
+/// Appends `text` with words in the place of texts. From left to right, the longest text that
+/// starts at a byte is replaced by its word, and reading continues after that text. Does not
+/// allocate for an empty text.
+///
+/// # Errors
+/// `AllocError`: an allocation failed. The bytes of `out` are then unchanged.
+pub fn replace_words(text: &str, words: &[Word], out: &mut Vec<u8>) -> Result<(), AllocError>
+    ensures ok { OnOk result
+        (out.new.items ≡ out.old.items ++ replaced (pairs_of words.now) text.now) }
+    ensures err { OnErr result (out.new.items ≡ out.old.items) }
+    ensures empty { text.now ≡ [] → IsOk result }
+{
+    let len = out.len();
+    match write_words(text, words, out) {
+        Ok(()) => Ok(()),
+        Err(fault) => {
+            out.truncate(len);
+            Err(fault)
         }
     }
+}
 
-    /// Returns the list with one more word, after the others.
-    ///
-    /// # Errors
-    ///
-    /// The first of these that holds:
-    ///
-    /// - `Empty`: the text is empty. Does not allocate.
-    /// - `Memory`: an allocation failed.
-    /// - `Repeated`: a word of the list replaces the same text.
-    /// - `Meets`: a word overlaps a text.
-    pub fn with(self, word: Word) -> Result<Words, WordCause>
-        ensures ok { IfOk result (λ w. pairs_in w ≡ pairs_in self ++ pair_of word ∷ []) }
-        ensures some { IfOk result (λ _. 0 < length (pair_of word).text) }
-        ensures settled { IfOk result (λ w. AreSettled (pairs_in w)) }
-        ensures err { IfErr result (Explains (pairs_in self) (pair_of word)) }
-        ensures memory { IsErrOf result WordCause.Memory → 0 < length (pair_of word).text }
-    {
-        if word.text.is_empty() {
-            return Err(WordCause::Empty);
-        }
-        let mut list = self.list;
-        match list.push(word) {
-            Ok(()) => {}
-            Err(_) => return Err(WordCause::Memory),
-        }
-        if !have_own_texts(list.as_slice()) {
-            return Err(WordCause::Repeated);
-        }
-        if !are_apart(list.as_slice()) {
-            return Err(WordCause::Meets);
-        }
-        Ok(Words { list })
-    }
-
-    /// Returns why the word may not be the next one of the list; `None` if it may. Does not
-    /// allocate.
-    pub fn cause_against(&self, word: &Word) -> Option<WordCause>
-        ensures { result ≡ cause_against (pairs_in self.now) (pair_of word.now) }
-    {
-        if word.text.is_empty() {
-            Some(WordCause::Empty)
-        } else if is_text_among(word.text.as_str(), self.list.as_slice()) {
-            Some(WordCause::Repeated)
-        } else if stays_apart(self.list.as_slice(), word) {
-            None
-        } else {
-            Some(WordCause::Meets)
+// Does the same, except that after an error a part of the result may follow the bytes of `out`.
+fn write_words(text: &str, words: &[Word], out: &mut Vec<u8>) -> Result<(), AllocError>
+    ensures ok { OnOk result
+        (out.new.items ≡ out.old.items ++ replaced (pairs_of words.now) text.now) }
+    ensures err { OnErr result (StartsWith out.new.items out.old.items) }
+    ensures empty { text.now ≡ [] → IsOk result }
+{
+    let bytes = text.as_bytes();
+    let mut i = 0;
+    while i < bytes.len() {
+        match found(words, &bytes[i..]) {
+            Some(word) => {
+                out.extend_from_slice(word.word.as_bytes())?;
+                i += word.text.len();
+            }
+            None => {
+                out.push(bytes[i])?;
+                i += 1;
+            }
         }
     }
+    Ok(())
+}
 
-    /// Appends a word that may be the next one.
-    ///
-    /// # Errors
-    ///
-    /// `AllocError`: an allocation failed. The list is unchanged.
-    pub fn push(&mut self, word: Word) -> Result<(), AllocError>
-        requires { cause_against (pairs_in self.old) (pair_of word) ≡ None }
-        ensures ok { OnOk result (pairs_in self.new ≡ pairs_in self.old ++ pair_of word ∷ []) }
-        ensures err { OnErr result (pairs_in self.new ≡ pairs_in self.old) }
-    {
-        self.list.push(word)?;
-        Ok(())
-    }
+/// Returns `text` with words in the place of texts, as [`replace_words`] appends it. Does not
+/// allocate for an empty text.
+///
+/// # Errors
+/// `AllocError`: an allocation failed.
+pub fn with_words(alloc: Global, text: &str, words: &[Word]) -> Result<String, AllocError>
+    ensures worded { IfOk result (λ t. string_bytes t ≡ replaced (pairs_of words.now) text.now) }
+    ensures empty { text.now ≡ [] → IsOk result }
+{
+    let mut out = Vec::new(alloc);
+    replace_words(text, words, &mut out)?;
+    Ok(String::from_utf8(out).unwrap())
+}
 
-    /// Returns the number of words.
-    pub fn len(&self) -> usize
-        ensures { result ≡ length (pairs_in self.now) }
-    {
-        self.list.len()
+// Returns the word of the longest text that starts here; the first one, if there are several.
+fn found<'a>(words: &'a [Word], bytes: &[u8]) -> Option<&'a Word>
+    ensures { option_map (λ w. pair_of w.now) result ≡ found (pairs_of words.now) bytes.now }
+{
+    let mut best = None;
+    for word in words {
+        if begins_here(word.text.as_bytes(), bytes) && is_longer_than(best, word) {
+            best = Some(word);
+        }
     }
+    best
+}
 
-    /// Returns whether the list is empty.
-    pub fn is_empty(&self) -> bool
-        ensures { IsTrue result ↔ (pairs_in self.now ≡ []) }
-    {
-        self.list.is_empty()
+fn is_longer_than(best: Option<&Word>, word: &Word) -> bool
+    ensures { result
+        ≡ is_longer_than (option_map (λ w. pair_of w.now) best.entry) (pair_of word.now) }
+{
+    match best {
+        Some(best) => best.text.len() < word.text.len(),
+        None => true,
     }
+}
 
-    /// Returns the texts and their words.
-    pub(crate) fn list(&self) -> &[Word]
-        ensures { pairs_of result.now ≡ pairs_in self.now }
-    {
-        self.list.as_slice()
+fn begins_here(text: &[u8], bytes: &[u8]) -> bool
+    ensures { result ≡ begins_here text.now bytes.now }
+{
+    if text.is_empty() {
+        return false;
     }
+    if text.len() > bytes.len() {
+        return false;
+    }
+    for (i, byte) in text.iter().enumerate() {
+        if *byte != bytes[i] {
+            return false;
+        }
+    }
+    true
 }

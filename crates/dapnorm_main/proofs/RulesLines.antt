@@ -14,7 +14,7 @@ use Rattle.dap_mask.specs.RuleText.{line_said}
 use Rattle.dap_mask.specs.RulesFile.{outcome_of, outcome_then, rules_said}
 use Rattle.dap_mask.specs.declared.fault.RulesCause.TheVariants as cause
 use Rattle.dap_mask.specs.declared.fault.RulesFault.{RulesFault}
-use Rattle.dap_texts.specs.Words.{Pair}
+use Rattle.dap_words.specs.Words.{Pair}
 use Rattle.dapnorm_main.specs.WordOption.{AreNamedBy, AreRulesWith, HasLinesOf, HasNoLines}
 use Rattle.dapnorm_main.specs.WordOption.{HaveNoPairs, IsAccepted, ReportsLine}
 use Rattle.dapnorm_main.specs.WordOption.{with_word_lines}

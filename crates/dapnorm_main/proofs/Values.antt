@@ -4,8 +4,8 @@ use Rattle.std.proofs.Common.{drop, get_or, length, codes, subst, sym, take}
 use Rattle.std.proofs.lemmas.List.{drop_more, length-map, map-append, map_more}
 use Rattle.std.proofs.lemmas.List.{map_push, take-append-drop, take_all}
 use Rattle.std.specs.Borrow.{Bor}
-use Rattle.dap_texts.specs.Words.{Pair, pair_of, pairs_of}
-use Rattle.dap_texts.specs.declared.words.Word.{Word}
+use Rattle.dap_words.specs.Words.{Pair, pair_of, pairs_of}
+use Rattle.dap_words.specs.declared.words.Word.{Word}
 use Rattle.dap_commands.specs.declared.jobs.UsageFault.{UsageFault}
 use Rattle.dap_commands.specs.declared.jobs.UsageFault.TheVariants as usage
 use Rattle.dapnorm_main.specs.WordOption.{AreNamedBy, HasNoEquals, HaveNoPairs, IsReportOf}

@@ -1,7 +1,7 @@
 -- One more word of the option `--word`.
 use Rattle.std.proofs.Common.{◌≡◌, ◌∙◌, ◌++◌, ℕ, List, [], ◌∷◌, ap, append_assoc, arith, length, refl}
 use Rattle.dap_mask.specs.WordLines.{word_line}
-use Rattle.dap_texts.specs.Words.{Pair}
+use Rattle.dap_words.specs.Words.{Pair}
 use Rattle.dapnorm_main.specs.WordOption.{line_end, with_word_lines, word_lines}
 
 -- The lines of one more pair.

@@ -16,8 +16,8 @@ use Rattle.dap_mask.specs.WordLines.{word_line}
 use Rattle.dap_mask.specs.declared.fault.RulesCause.{RulesCause}
 use Rattle.dap_mask.specs.declared.fault.RulesCause.TheVariants as cause
 use Rattle.dap_mask.specs.declared.fault.RulesFault.{RulesFault}
-use Rattle.dap_texts.specs.Words.{Pair, pair_of}
-use Rattle.dap_texts.specs.declared.words.Word.{Word}
+use Rattle.dap_words.specs.Words.{Pair, pair_of}
+use Rattle.dap_words.specs.declared.words.Word.{Word}
 
 -- ---- a value TEXT=WORD
 

@@ -8,7 +8,7 @@ ghost use Rattle.dap_commands.specs.Commands.{program, words_named};
 ghost use Rattle.dap_mask.specs.Mask.{no_rules};
 ghost use Rattle.dap_mask.specs.RulesFile.{is_line_feed, rules_said};
 ghost use Rattle.dap_mask.specs.WordLines.{word_line};
-ghost use Rattle.dap_texts.specs.Words.{pair_of, pairs_of};
+ghost use Rattle.dap_words.specs.Words.{pair_of, pairs_of};
 ghost use Rattle.dapnorm_main.specs.WordOption.{AreNamedBy, AreRulesOf, AreRulesWith, HasLinesOf};
 ghost use Rattle.dapnorm_main.specs.WordOption.{HasNoLines, HaveNoPairs, IsNamedBy, IsReportOf};
 ghost use Rattle.dapnorm_main.specs.WordOption.{IsValueOf, ReportsLine, line_end, reason_of};
@@ -21,7 +21,7 @@ use crate::reports::is_out_of_memory;
 use dap_commands::words_given;
 use dap_mask::write_word;
 use dap_runs::report_no_rules;
-use dap_texts::Word;
+use dap_words::Word;
 use dapnorm::{
     Action, Job, MaskRules, NoRules, RulesCause, RulesFault, RulesOpenFault, RulesRefused, StdSink,
     StdSource, Stop, UsageFault, read_all,

@@ -1,4 +1,4 @@
-use Rattle.dap_texts.specs.Words.{pair_of}
+use Rattle.dap_words.specs.Words.{pair_of}
 use Rattle.dap_mask.proofs.WordLines.{line_is_word, ok_then}
 use Rattle.dap_mask.proofs.word_lines.write_word.Goals as goal
 

@@ -3,7 +3,7 @@ use Rattle.std.proofs.Common.{string_cmp, rules}
 use Rattle.std.specs.Map.{keys_of}
 use Rattle.std.specs.Vec.Iter.{into_iter_items}
 use Rattle.std.specs.List.Sorted.{IsStrictlySortedBy}
-use Rattle.dap_texts.specs.Words.{pairs_of}
+use Rattle.dap_words.specs.Words.{pairs_of}
 use Rattle.dap_tree.proofs.ReadTrees.{nil_from}
 use Rattle.dap_tree.proofs.Views.{Entry}
 use Rattle.dap_tree.specs.View.{view}

@@ -2,7 +2,7 @@ use Rattle.std.proofs.Common.{◌≡◌, ◌++◌, string_cmp}
 use Rattle.std.specs.Map.{keys_of}
 use Rattle.std.specs.List.Sorted.{IsStrictlySortedBy}
 use Rattle.std.specs.Vec.Iter.{into_iter_items}
-use Rattle.dap_texts.specs.Words.{pairs_of}
+use Rattle.dap_words.specs.Words.{pairs_of}
 use Rattle.dap_tree.specs.View.{items_view, members_view}
 use Rattle.dap_words.specs.Worded.{items_worded, members_worded}
 use Rattle.dap_words.proofs.putting.+word_tree.Given as goal

@@ -4,7 +4,7 @@ use Rattle.dap_mask.specs.KeptRules.{mask_of}
 use Rattle.dap_mask.specs.Mask.{no_rules}
 use Rattle.dap_mask.specs.RulesFile.{rules_said}
 use Rattle.dap_mask.specs.declared.fault.RulesCause.TheVariants as cause
-use Rattle.dap_texts.specs.Words.{pairs_of}
+use Rattle.dap_words.specs.Words.{pairs_of}
 use Rattle.dapnorm_main.specs.WordOption.{ReportsLine, texts_of}
 use Rattle.dapnorm_main.proofs.RulesLines.{accepted_text, not_read, text_needed}
 use Rattle.dapnorm_main.proofs.words.with_values.Goals as goal

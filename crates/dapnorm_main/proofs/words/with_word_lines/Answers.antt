@@ -2,7 +2,7 @@ use Rattle.std.proofs.Common.{◌≡◌, ◌∙◌, ◌++◌, [], ◌∷◌, ap,
 use Rattle.std.proofs.lemmas.List.{map-append}
 use Rattle.std.specs.Vec.Iter.{into_iter_items}
 use Rattle.dap_mask.specs.WordLines.{word_line}
-use Rattle.dap_texts.specs.Words.{pair_of, pairs_of}
+use Rattle.dap_words.specs.Words.{pair_of, pairs_of}
 use Rattle.dapnorm_main.specs.WordOption.{with_word_lines}
 use Rattle.dapnorm_main.proofs.WordLines.{line_pushed, nothing_left}
 use Rattle.dapnorm_main.proofs.words.with_word_lines.Goals as goal

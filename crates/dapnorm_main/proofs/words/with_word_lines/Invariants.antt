@@ -1,6 +1,6 @@
 use Rattle.std.proofs.Common.{◌≡◌, ◌++◌}
 use Rattle.std.specs.Vec.Iter.{into_iter_items}
-use Rattle.dap_texts.specs.Words.{pairs_of}
+use Rattle.dap_words.specs.Words.{pairs_of}
 use Rattle.dapnorm_main.specs.WordOption.{with_word_lines}
 use Rattle.dapnorm_main.proofs.words.with_word_lines.Given as goal
 

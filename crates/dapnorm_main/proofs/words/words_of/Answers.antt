@@ -1,6 +1,6 @@
 use Rattle.std.proofs.Common.{◌≡◌, ◌++◌, [], ◌∷◌, arith, rules}
 use Rattle.std.proofs.lemmas.Grind.{common_steps}
-use Rattle.dap_texts.specs.Words.{pairs_of}
+use Rattle.dap_words.specs.Words.{pairs_of}
 use Rattle.dapnorm_main.proofs.Values.{named_more, none_named}
 use Rattle.dapnorm_main.proofs.words.words_of.Goals as goal
 

@@ -1,5 +1,5 @@
 use Rattle.std.proofs.Common.{take}
-use Rattle.dap_texts.specs.Words.{pairs_of}
+use Rattle.dap_words.specs.Words.{pairs_of}
 use Rattle.dapnorm_main.specs.WordOption.{AreNamedBy, texts_of}
 use Rattle.dapnorm_main.proofs.words.words_of.Given as goal
 

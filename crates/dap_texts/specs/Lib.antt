@@ -1,9 +1,0 @@
-pub mod Runs
-pub mod Digits
-pub mod Long
-pub mod Uuids
-pub mod Placed
-pub mod Words
-pub mod Apart
-pub mod Machines
-pub mod Laws
