@@ -1,7 +1,7 @@
 """The order of messages by its definition, as a second opinion: which neighbours are free, the keys, and the list in order.
 
 A message is a pair: its side, "client" or "adapter", and its JSON value. A rule is a pair of halves, and a half is a kind and a name, or
-None for any name. The definitions are those of crates/dap_swaps/specs/Free.antt and Order.antt."""
+None for any name. The definitions are those of crates/dap_order/specs/Free.antt and MessageOrder.antt."""
 import json
 import os
 import sys

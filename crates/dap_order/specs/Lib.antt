@@ -1,3 +1,16 @@
+pub mod Free
+pub mod Words
+pub mod MessageOrder
+pub mod SameButOrder
+pub mod Requests
+pub mod Entries
+pub mod Table
+pub mod MessageLaws
+pub mod Keys
+pub mod Waits
+pub mod Looks
+pub mod PlacesByKey
+pub mod SortKeys
 pub mod Swaps
 pub mod Order
 pub mod Least

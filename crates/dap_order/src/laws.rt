@@ -5,7 +5,7 @@ ghost use Rattle.dap_order.specs.Laws.{OrderIsReordered, OrderIsOrdered, OneOrde
 ghost use Rattle.dap_order.specs.Laws.{OrderIsItsOwn, OneOrdered, ItemsStay, PlacesStay};
 ghost use Rattle.dap_order.specs.Laws.{OrderOfMap, OrderBegins, OrderParts};
 
-use crate::order::SwapOrder;
+use crate::list_order::SwapOrder;
 
 /// States that the order of a list is in order, and that it is the only list in order that swaps
 /// lead to.

@@ -15,7 +15,7 @@ use Rattle.dap_input.proofs.OneOutcome.{has_one_outcome}
 use Rattle.dap_normalise.specs.Accepting.{Fits, accepting, text}
 use Rattle.dap_normalise.proofs.AcceptingFacts.{accepted_facts, value_facts}
 use Rattle.dap_normalise.proofs.NormalTexts.{fits_front}
-use Rattle.dap_swaps.specs.Order.{ordered}
+use Rattle.dap_order.specs.MessageOrder.{ordered}
 use Rattle.dap_rules.specs.OrderLaws.{OneOrderError, OrderedHasNoError}
 use Rattle.dap_rules.specs.Ordering.{IsTextRefused, PassesLimit}
 use Rattle.dap_rules.proofs.OrderedTexts.{one_accepted}

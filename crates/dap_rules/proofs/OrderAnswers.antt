@@ -20,7 +20,7 @@ use Rattle.dap_input.specs.declared.refused.Refused.TheVariants.{Grew, Memory, R
 use Rattle.dap_input.specs.declared.refused.Refused.TheVariants.{WriteFault}
 use Rattle.dap_normalise.specs.Accepting.{Fits, IsAccepted, accepting, text}
 use Rattle.dap_normalise.specs.Normalising.{RefusesBytes}
-use Rattle.dap_swaps.specs.Order.{ordered}
+use Rattle.dap_order.specs.MessageOrder.{ordered}
 use Rattle.dap_rules.specs.Ordering.{IsNotOrdered, IsTextError, Orders, RefusesToOrder}
 use Rattle.dap_rules.specs.OrderingSteps.{Writes, result_of_input}
 

@@ -16,11 +16,11 @@ use Rattle.dap_input.proofs.Outcomes.{one_list}
 use Rattle.dap_normalise.specs.Accepting.{Payload, AreMessages, Fits, IsAccepted, accepting, text}
 use Rattle.dap_normalise.proofs.AcceptingFacts.{accepted_facts, value_laws}
 use Rattle.dap_normalise.proofs.NormalFormLaws.{equal_texts_tell}
-use Rattle.dap_swaps.specs.Order.{ordered}
-use Rattle.dap_swaps.proofs.MessageOrder.{to_ordered}
-use Rattle.dap_swaps.proofs.SameMessages.{same_orders, from_same_orders}
-use Rattle.dap_swaps.proofs.SwapsKeepRules.{reordered_open}
-use Rattle.dap_swaps.proofs.Unnamed.{ordered_again}
+use Rattle.dap_order.specs.MessageOrder.{ordered}
+use Rattle.dap_order.proofs.MessageOrder.{to_ordered}
+use Rattle.dap_order.proofs.SameMessages.{same_orders, from_same_orders}
+use Rattle.dap_order.proofs.SwapsKeepRules.{reordered_open}
+use Rattle.dap_order.proofs.Unnamed.{ordered_again}
 use Rattle.dap_rules.specs.OrderLaws.{EqualOrderedTexts, EqualTextsInOrder, OneOrderedText}
 use Rattle.dap_rules.specs.OrderLaws.{OrderedIsAccepted, OrderedKeepsOpen, OrderedStandsStill}
 

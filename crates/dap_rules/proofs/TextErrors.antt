@@ -37,10 +37,10 @@ use Rattle.dap_normalise.specs.Accepting.{accepting, id_limit, text}
 use Rattle.dap_normalise.proofs.AcceptingFacts.{accepted_facts, message_once}
 use Rattle.dap_normalise.proofs.NormalFormLaws.{contents_of, recording_of}
 use Rattle.dap_normalise.proofs.NormalTexts.{few_not_many}
-use Rattle.dap_swaps.specs.Free.{free}
-use Rattle.dap_swaps.specs.Order.{ordered}
-use Rattle.dap_swaps.proofs.MessageOrder.{to_ordered}
-use Rattle.dap_swaps.proofs.SwapsKeepRules.{reordered_keeps}
+use Rattle.dap_order.specs.Free.{free}
+use Rattle.dap_order.specs.MessageOrder.{ordered}
+use Rattle.dap_order.proofs.MessageOrder.{to_ordered}
+use Rattle.dap_order.proofs.SwapsKeepRules.{reordered_keeps}
 use Rattle.dap_rules.specs.Ordering.{IsTextError}
 use Rattle.dap_rules.specs.OrderingSteps.{IsTextOf}
 use Rattle.dap_rules.proofs.DistinctCounts.{reordered_few}

@@ -30,9 +30,9 @@ use Rattle.dap_normalise.proofs.AcceptingFacts.{message_once}
 use Rattle.dap_normalise.proofs.JudgedRecords.{text_push}
 use Rattle.dap_normalise.proofs.NormalFormLaws.{contents_of, recording_of}
 use Rattle.dap_order.proofs.Kept.{reordered_permutation}
-use Rattle.dap_swaps.specs.Free.{free}
-use Rattle.dap_swaps.specs.Order.{ordered}
-use Rattle.dap_swaps.proofs.MessageOrder.{to_ordered}
+use Rattle.dap_order.specs.Free.{free}
+use Rattle.dap_order.specs.MessageOrder.{ordered}
+use Rattle.dap_order.proofs.MessageOrder.{to_ordered}
 use Rattle.dap_rules.specs.OrderingSteps.{Appends, AreAt, IsAppended, IsReadBack, IsTextOf}
 use Rattle.dap_rules.specs.OrderingSteps.{Writes}
 

@@ -14,9 +14,9 @@ use Rattle.dap_input.specs.declared.refused.Refused.{Refused}
 use Rattle.dap_normalise.specs.Accepting.{IsAccepted}
 use Rattle.dap_normalise.specs.Normalising.{Normalises}
 use Rattle.dap_order.specs.Swaps.{Reordered}
-use Rattle.dap_swaps.specs.Free.{free}
-use Rattle.dap_swaps.specs.Order.{ordered}
-use Rattle.dap_swaps.specs.SameButOrder.{AreSameButOrder}
+use Rattle.dap_order.specs.Free.{free}
+use Rattle.dap_order.specs.MessageOrder.{ordered}
+use Rattle.dap_order.specs.SameButOrder.{AreSameButOrder}
 use Rattle.dap_rules.specs.Ordering.{IsNotOrdered, Orders}
 
 -- A recording is ordered to at most one text.

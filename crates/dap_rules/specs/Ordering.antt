@@ -15,7 +15,7 @@ use Rattle.dap_input.specs.declared.refused.Refused.{Refused}
 use Rattle.dap_input.specs.declared.refused.Refused.TheVariants.{Grew, Memory, TooManyIds}
 use Rattle.dap_input.specs.Refusals.{IsRefused}
 use Rattle.dap_normalise.specs.Accepting.{Fits, IsAccepted, accepting, text}
-use Rattle.dap_swaps.specs.Order.{ordered}
+use Rattle.dap_order.specs.MessageOrder.{ordered}
 
 -- A prefix of the input was read, and the reader did not fail. Or the input was read up to its end,
 -- to a byte beyond the limit, or to a failure of the reader.

@@ -17,7 +17,7 @@ use Rattle.dap_input.specs.declared.refused.Refused.TheVariants.{Grew, Memory, R
 use Rattle.dap_input.specs.declared.refused.Refused.TheVariants.{Record}
 use Rattle.dap_normalise.specs.Accepting.{Fits, IsAccepted, text}
 use Rattle.dap_normalise.specs.JudgingSteps.{record_of}
-use Rattle.dap_swaps.specs.Order.{ordered}
+use Rattle.dap_order.specs.MessageOrder.{ordered}
 use Rattle.dap_rules.specs.Ordering.{PassesLimit}
 
 -- The recording is accepted.

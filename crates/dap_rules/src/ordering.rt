@@ -13,9 +13,9 @@ use crate::writing::text_of_places;
 use dap_device::{Sink, Source, Stop, read_all, write_and_flush};
 use dap_input::{Limits, Refused};
 use dap_message::SwapRule;
+use dap_order::put_in_order;
 use dap_recording::RecordCause;
 use dap_rename::Mode;
-use dap_swaps::put_in_order;
 use std::alloc::Global;
 
 /// Returns the text of the records of a recording in order.

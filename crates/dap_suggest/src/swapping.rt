@@ -4,7 +4,7 @@ use crate::obstacle::{Reason, Unsolved, unsolved_entry};
 use crate::words::{push_class, push_count, push_parts};
 use dap_compare::Which;
 use dap_message::Message;
-use dap_swaps::{Half, SwapRule, is_free};
+use dap_order::{Half, SwapRule, is_free};
 use std::alloc::{AllocError, Global};
 use std::collections::BTreeMap;
 

@@ -1,7 +1,7 @@
 use Rattle.std.proofs.Common.{◌≡◌, map, sym, subst}
 use Rattle.dap_message.specs.Message.{sent}
 use Rattle.dap_message.specs.SwapRules.{swaps_of}
-use Rattle.dap_swaps.specs.Order.{ordered}
+use Rattle.dap_order.specs.MessageOrder.{ordered}
 use Rattle.dap_rules.specs.OrderingSteps.{AreAt, Writes}
 use Rattle.dap_rules.proofs.OrderedTexts.{one_accepted}
 use Rattle.dap_rules.proofs.ordering.text_in_order.Goals as goal

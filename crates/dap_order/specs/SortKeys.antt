@@ -1,0 +1,29 @@
+-- The keys by which places are sorted, for private clauses.
+use Rattle.std.specs.Prelude.{ℕ, Bool, is_none, unwrap_or}
+use Rattle.dap_order.specs.Keys.{Key, key_of, class_key}
+use Rattle.dap_order.specs.Entries.{sent_by, request_by}
+use Rattle.dap_order.specs.declared.entries.Entry.{Entry}
+use Rattle.dap_order.specs.declared.by_key.SortKey.{SortKey as ReadSortKey}
+
+pub record SortKey : Type 0 where
+  pub answers_none : Bool
+  pub request : ℕ
+  pub class : Key
+  pub place : ℕ
+
+abbrev pub sort_key_of : ReadSortKey → SortKey
+sort_key_of k = record {
+  answers_none = k.answers_none;
+  request = k.request;
+  class = key_of k.class;
+  place = k.place;
+}
+
+-- The sort key of the entry at this place.
+abbrev pub entry_key : Entry → ℕ → SortKey
+entry_key e place = record {
+  answers_none = is_none (request_by e);
+  request = unwrap_or (request_by e) 0;
+  class = class_key (sent_by e);
+  place = place;
+}

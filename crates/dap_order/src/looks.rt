@@ -1,0 +1,94 @@
+//! Groups messages by their looks, and computes which groups block each other.
+ghost use Rattle.std.specs.Prelude.{◌≡◌, IfOk, map, length};
+ghost use Rattle.dap_message.specs.SwapRules.{swaps_of};
+ghost use Rattle.dap_order.specs.Entries.{sent_by};
+ghost use Rattle.dap_order.specs.Keys.{look_key};
+ghost use Rattle.dap_order.specs.Looks as words;
+
+use crate::entries::Entry;
+use crate::keys::By;
+use crate::previous::previous_of;
+use crate::rules::may_swap;
+use dap_message::SwapRule;
+use std::alloc::{AllocError, Global};
+
+/// The groups of the places of a list, and the first place of each group.
+#[derive(Drop)]
+pub struct Groups {
+    pub groups: Vec<usize>,
+    pub firsts: Vec<usize>,
+}
+
+/// Returns the groups of entries with the same look.
+pub fn groups_of(
+    alloc: Global,
+    rules: &[SwapRule],
+    entries: &[Entry<'_>],
+) -> Result<Groups, AllocError>
+    ensures { IfOk result (λ g. words.AreGroups
+        (map (look_key (swaps_of rules.now)) (map sent_by entries.now))
+        (length entries.now) g.groups.items g.firsts.items) }
+{
+    let previous = previous_of(alloc, entries, By::Look(rules))?;
+    let mut groups: Vec<usize> = Vec::new(alloc);
+    let mut firsts = Vec::new(alloc);
+    for place in 0..entries.len() {
+        let group = match previous[place] {
+            Some(earlier) => groups[earlier],
+            None => {
+                firsts.push(place)?;
+                firsts.len() - 1
+            }
+        };
+        groups.push(group)?;
+    }
+    Ok(Groups { groups, firsts })
+}
+
+/// Returns whether the looks of the messages at the two places block each other.
+fn is_blocked(rules: &[SwapRule], entries: &[Entry<'_>], place: usize, other: usize) -> bool
+    ensures { result ≡ words.blocks_at (swaps_of rules.now) (map sent_by entries.now) place other }
+{
+    let Some(x) = entries.get(place) else {
+        return true;
+    };
+    let Some(y) = entries.get(other) else {
+        return true;
+    };
+    !may_swap(rules, &x.message, &y.message)
+}
+
+/// Returns for each of the places `firsts` whether its group blocks that of `place`.
+fn row_of(
+    alloc: Global,
+    rules: &[SwapRule],
+    entries: &[Entry<'_>],
+    firsts: &[usize],
+    place: usize,
+) -> Result<Vec<bool>, AllocError>
+    ensures { IfOk result (λ row. row.items ≡ map
+        (words.blocks_at (swaps_of rules.now) (map sent_by entries.now) place) firsts.now) }
+{
+    let mut row = Vec::new(alloc);
+    for other in firsts {
+        row.push(is_blocked(rules, entries, place, *other))?;
+    }
+    Ok(row)
+}
+
+/// Returns which groups block each other. `firsts` has one place of each group.
+pub fn blocks_of(
+    alloc: Global,
+    rules: &[SwapRule],
+    entries: &[Entry<'_>],
+    firsts: &[usize],
+) -> Result<Vec<Vec<bool>>, AllocError>
+    ensures { IfOk result (λ blocks. map (λ row. row.items) blocks.items
+        ≡ words.block_table (swaps_of rules.now) (map sent_by entries.now) firsts.now) }
+{
+    let mut blocks = Vec::new(alloc);
+    for place in firsts {
+        blocks.push(row_of(alloc, rules, entries, firsts, *place)?)?;
+    }
+    Ok(blocks)
+}

@@ -1,0 +1,79 @@
+//! Stores the requests of the client by their sequence numbers.
+ghost use Rattle.std.specs.Prelude.{◌≡◌, ◌&&◌, ◌++◌, ◌∷◌, [], List, length, OnOk};
+ghost use Rattle.dap_message.specs.Message.{Sent};
+ghost use Rattle.dap_session.specs.EnvelopeView.{message_of};
+ghost use Rattle.dap_session.specs.Messages as tests;
+ghost use Rattle.dap_order.specs.ByPlace.{place_answered};
+ghost use Rattle.dap_order.specs.MessageOrder.{message_answers};
+ghost use Rattle.dap_order.specs.Requests.{places_found, Finds};
+
+use dap_message::Side;
+use dap_session::envelope::Envelope;
+use dap_session::message::{is_from, is_request, is_response, request_seq_of, seq_of};
+use std::alloc::{AllocError, Global};
+use std::collections::BTreeMap;
+
+/// The places of the client's requests by their sequence numbers. If several requests have the same
+/// number, the place of the first one is stored.
+#[derive(Drop)]
+pub struct FirstRequests {
+    places: BTreeMap<i64, usize>,
+}
+
+impl FirstRequests {
+    pub fn new(alloc: Global) -> FirstRequests
+        ensures { Finds result [] }
+    {
+        FirstRequests {
+            places: BTreeMap::new(alloc),
+        }
+    }
+
+    fn find(&self, number: i64) -> Option<usize>
+        ensures { result ≡ places_found self.now number }
+    {
+        self.places.get(&number).copied()
+    }
+
+    /// Returns the place of the request that the message answers, if any.
+    pub fn answered(&self, message: &Envelope<'_>) -> Option<usize>
+        ensures { (ms : List Sent) → Finds self.now ms
+            → result ≡ place_answered (message_answers []) ms (message_of message.now) }
+    {
+        if !is_adapter_response(message) {
+            return None;
+        }
+        match request_seq_of(message) {
+            Some(number) => self.find(number),
+            None => None,
+        }
+    }
+
+    /// Adds the message at `place`, which is the number of messages before it.
+    pub fn add(&mut self, message: &Envelope<'_>, place: usize) -> Result<(), AllocError>
+        ensures { OnOk result ((ms : List Sent) → Finds self.old ms → length ms ≡ place
+            → Finds self.new (ms ++ message_of message.now ∷ [])) }
+    {
+        if is_client_request(message) {
+            let number = seq_of(message);
+            if self.find(number).is_none() {
+                self.places.insert(number, place)?;
+            }
+        }
+        Ok(())
+    }
+}
+
+fn is_client_request(message: &Envelope<'_>) -> bool
+    ensures { result ≡ tests.is_request (message_of message.now)
+        && tests.is_from Side.Client (message_of message.now) }
+{
+    is_request(message) && is_from(message, Side::Client)
+}
+
+fn is_adapter_response(message: &Envelope<'_>) -> bool
+    ensures { result ≡ tests.is_response (message_of message.now)
+        && tests.is_from Side.Adapter (message_of message.now) }
+{
+    is_response(message) && is_from(message, Side::Adapter)
+}
