@@ -1,2 +1,4 @@
+pub mod Past
+pub mod Runs
 pub mod Sending
 pub mod Windows

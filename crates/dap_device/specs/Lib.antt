@@ -1,3 +1,7 @@
+pub mod Calls
+pub mod Crash
+pub mod MemoryFile
+pub mod Replacing
 pub mod Counts
 pub mod Device
 pub mod Memory

@@ -5,10 +5,10 @@ use Rattle.dap_device.specs.declared.device.Source.{Ghosts as Source}
 use Rattle.dap_device.specs.declared.reading.Stop.{Stop}
 use Rattle.dap_device.specs.declared.reading.Stop.TheVariants.{Failed}
 use Rattle.dap_device.specs.Reading.{HasReadInput, HasReadPartly}
-use Rattle.dap_file.specs.Calls.{IsLonger, KeepsTarget}
-use Rattle.dap_file.specs.Crash.{Content}
-use Rattle.dap_file.specs.Replacing.{HasFailedAt, HasReplaced}
-use Rattle.dap_file.specs.declared.file.Replaceable.{Ghosts as Replaceable}
+use Rattle.dap_device.specs.Calls.{IsLonger, KeepsTarget}
+use Rattle.dap_device.specs.Crash.{Content}
+use Rattle.dap_device.specs.Replacing.{HasFailedAt, HasReplaced}
+use Rattle.dap_device.specs.declared.file.Replaceable.{Ghosts as Replaceable}
 use Rattle.dap_input.specs.declared.limits.Limits.{Limits}
 use Rattle.dap_mask.specs.Mask.{Mask}
 use Rattle.dap_rename.specs.declared.mode.Mode.{Mode}

@@ -1,7 +1,7 @@
 //! Compares a session with its golden file, or creates or updates the golden file.
 ghost use Rattle.std.specs.Prelude.{◌≡◌, ◌↔◌, ◌+◌, ◌<◌, ◌≤◌, ◌^◌, None, IfOk, length};
-ghost use Rattle.dap_file.specs.Crash.{LeavesOnly};
-ghost use Rattle.dap_file.specs.Replacing.{IsOldOrNew};
+ghost use Rattle.dap_device.specs.Crash.{LeavesOnly};
+ghost use Rattle.dap_device.specs.Replacing.{IsOldOrNew};
 ghost use Rattle.dap_input.specs.Limits.{AreSound};
 ghost use Rattle.dap_golden.specs.Golden.{mask_given};
 ghost use Rattle.dap_golden.specs.GoldenFiles.{IsNormalText};
@@ -11,8 +11,7 @@ ghost use Rattle.dap_golden.specs.GoldenUpdates.{Updates, request_by};
 use crate::comparing::{GoldenVerdict, compare_golden};
 use crate::fault::{GoldenFault, GoldenRefused};
 use crate::golden::{GoldenText, golden_text_in, mode_given};
-use dap_device::{Source, Stop, read_all};
-use dap_file::{ReadFault, ReplaceFault, Replaceable, replace};
+use dap_device::{ReadFault, ReplaceFault, Replaceable, Source, Stop, read_all, replace};
 use dap_input::{Limits, Refused};
 use dap_mask::MaskRules;
 use dap_rename::Mode;

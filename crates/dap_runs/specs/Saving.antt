@@ -1,9 +1,9 @@
 -- What the program does with an output that goes to a file. Source: own.
 use Rattle.std.specs.Prelude.{◌≡◌, ◌⊎◌, ℕ, ◌++◌, List, codes}
 use Rattle.dap_device.specs.declared.device.Sink.{Ghosts as Sink}
-use Rattle.dap_file.specs.Replacing.{HasFailedAt, HasReplaced}
-use Rattle.dap_file.specs.declared.file.Replaceable.{Ghosts as Replaceable}
-use Rattle.dap_file.specs.declared.replacing.ReplaceFault.{ReplaceFault}
+use Rattle.dap_device.specs.Replacing.{HasFailedAt, HasReplaced}
+use Rattle.dap_device.specs.declared.file.Replaceable.{Ghosts as Replaceable}
+use Rattle.dap_device.specs.declared.replacing.ReplaceFault.{ReplaceFault}
 use Rattle.dap_runs.specs.FaultLine.{fault_line}
 use Rattle.dap_runs.specs.Reporting.{HasSent}
 

@@ -1,14 +1,13 @@
 //! Saves an output in a file.
 ghost use Rattle.std.specs.Prelude.{◌≡◌, ◌<◌, ◌^◌, None};
-ghost use Rattle.dap_file.specs.Crash.{LeavesOnly};
-ghost use Rattle.dap_file.specs.Replacing.{IsOldOrNew};
+ghost use Rattle.dap_device.specs.Crash.{LeavesOnly};
+ghost use Rattle.dap_device.specs.Replacing.{IsOldOrNew};
 ghost use Rattle.dap_runs.specs.Reporting.{HasSent};
 ghost use Rattle.dap_runs.specs.Saving.{Saves, unsaved_line};
 
 use crate::parts::report_parts;
 use crate::status::{DONE, FAULT};
-use dap_device::Sink;
-use dap_file::{Replaceable, replace};
+use dap_device::{Replaceable, Sink, replace};
 
 /// Reports in one line that the file of a name could not be written. A failure to write the line is
 /// not reported.

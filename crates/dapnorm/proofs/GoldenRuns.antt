@@ -5,8 +5,8 @@ use Rattle.dap_commands.specs.declared.commands.Golden.{Golden}
 use Rattle.dap_device.specs.Memory.{GivenBytes}
 use Rattle.dap_device.specs.declared.device.Sink.{Ghosts as Sink}
 use Rattle.dap_device.specs.declared.device.Source.{Ghosts as Source}
-use Rattle.dap_file.specs.Crash.{LeavesOnly}
-use Rattle.dap_file.specs.declared.file.Replaceable.{Ghosts as Replaceable}
+use Rattle.dap_device.specs.Crash.{LeavesOnly}
+use Rattle.dap_device.specs.declared.file.Replaceable.{Ghosts as Replaceable}
 use Rattle.dap_golden.specs.GoldenUpdates.{MayBeLeft, request_by}
 use Rattle.dap_golden.specs.declared.updates.GoldenRequest.{GoldenRequest}
 use Rattle.dap_input.specs.declared.limits.Limits.{Limits}

@@ -4,7 +4,7 @@ use Rattle.std.specs.Prelude.{Result, Ok, Err, cond, codes, decimal, is_some}
 use Rattle.dap_device.specs.Written.{AllSent, PrefixWritten}
 use Rattle.dap_device.specs.declared.device.Sink.{Ghosts as Sink}
 use Rattle.dap_device.specs.declared.device.Source.{Ghosts as Source}
-use Rattle.dap_file.specs.declared.file.Replaceable.{Ghosts as Replaceable}
+use Rattle.dap_device.specs.declared.file.Replaceable.{Ghosts as Replaceable}
 use Rattle.dap_golden.specs.GoldenUpdates.{Answers, request_by}
 use Rattle.dap_golden.specs.declared.comparing.GoldenVerdict.{GoldenVerdict}
 use Rattle.dap_golden.specs.declared.comparing.GoldenVerdict.TheVariants as verdict

@@ -20,9 +20,9 @@ pub use Rattle.dap_compare.specs.Comparing
 pub use Rattle.dap_compare.specs.Verdicts
 pub use Rattle.dap_diff.specs.Diffs
 pub use Rattle.dap_commands.specs.Commands
-pub use Rattle.dap_file.specs.Calls
-pub use Rattle.dap_file.specs.Crash
-pub use Rattle.dap_file.specs.Replacing
+pub use Rattle.dap_device.specs.Calls
+pub use Rattle.dap_device.specs.Crash
+pub use Rattle.dap_device.specs.Replacing
 pub use Rattle.dap_golden.specs.Golden
 pub use Rattle.dap_golden.specs.GoldenFiles
 pub use Rattle.dap_golden.specs.GoldenUpdates

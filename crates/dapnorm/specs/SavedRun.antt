@@ -2,9 +2,9 @@
 use Rattle.std.specs.Prelude.{◌≡◌, ◌⊎◌, ℕ, ◌+◌, ◌<◌, ◌≤◌, Bool, false, List, [], Some}
 use Rattle.dap_device.specs.declared.device.Sink.{Ghosts as Sink}
 use Rattle.dap_device.specs.declared.device.Source.{Ghosts as Source}
-use Rattle.dap_file.specs.Crash.{LeavesOnly}
-use Rattle.dap_file.specs.Replacing.{IsOldOrNew}
-use Rattle.dap_file.specs.declared.file.Replaceable.{Ghosts as Replaceable}
+use Rattle.dap_device.specs.Crash.{LeavesOnly}
+use Rattle.dap_device.specs.Replacing.{IsOldOrNew}
+use Rattle.dap_device.specs.declared.file.Replaceable.{Ghosts as Replaceable}
 use Rattle.dap_input.specs.declared.limits.Limits.{Limits}
 use Rattle.dap_input.specs.declared.refused.Refused.TheVariants.{Memory}
 use Rattle.dap_rules.specs.Memory.{WrittenBytes}

@@ -1,7 +1,7 @@
 //! Runs `golden`, and prints what it did or why it stopped.
 ghost use Rattle.std.specs.Prelude.{◌≡◌, ◌+◌, ◌<◌, ◌≤◌, ◌^◌, None, length};
 ghost use Rattle.dap_device.specs.Written.{HasSentAll};
-ghost use Rattle.dap_file.specs.Crash.{LeavesOnly};
+ghost use Rattle.dap_device.specs.Crash.{LeavesOnly};
 ghost use Rattle.dap_golden.specs.Golden.{mask_given};
 ghost use Rattle.dap_golden.specs.GoldenUpdates.{MayBeLeft, request_by};
 ghost use Rattle.dap_input.specs.Limits.{AreSound};
@@ -11,8 +11,7 @@ ghost use Rattle.dapnorm.specs.GoldenRun.{stop_words, verdict_text};
 ghost use Rattle.dap_runs.specs.Reporting.{HasSent};
 
 use arrayvec::ArrayString;
-use dap_device::{DeviceFault, Sink, Source, write_and_flush};
-use dap_file::Replaceable;
+use dap_device::{DeviceFault, Replaceable, Sink, Source, write_and_flush};
 use dap_golden::{
     GoldenDone, GoldenRefused, GoldenRequest, GoldenStop, GoldenVerdict, golden_file,
 };

@@ -1,7 +1,7 @@
 //! Does a task over one file, and saves its output in another one.
 ghost use Rattle.std.specs.Prelude.{◌≡◌, ◌+◌, ◌<◌, ◌≤◌, ◌^◌, None};
-ghost use Rattle.dap_file.specs.Crash.{LeavesOnly};
-ghost use Rattle.dap_file.specs.Replacing.{IsOldOrNew};
+ghost use Rattle.dap_device.specs.Crash.{LeavesOnly};
+ghost use Rattle.dap_device.specs.Replacing.{IsOldOrNew};
 ghost use Rattle.dap_normalise.specs.NameTables.{AreReady};
 ghost use Rattle.dap_runs.specs.Reporting.{HasSent};
 ghost use Rattle.dap_runs.specs.Saving.{Saves};
@@ -14,8 +14,7 @@ use crate::ruled_file::RuledRun;
 use crate::targets::Targets;
 use crate::task::{Task, run_task};
 use dap_commands::Job;
-use dap_device::{Sink, Source};
-use dap_file::Replaceable;
+use dap_device::{Replaceable, Sink, Source};
 use dap_input::Refused;
 use dap_rename::{NameTable, Tables};
 use dap_rules::TextSink;

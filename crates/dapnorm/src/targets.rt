@@ -2,7 +2,7 @@
 ghost use Rattle.std.specs.Prelude.{◌≡◌, ℕ, List, None, IfErr, IfOk};
 ghost use Rattle.dap_runs.specs.declared.files.OpenFault.{OpenFault};
 
-use dap_file::Replaceable;
+use dap_device::Replaceable;
 use dap_runs::OpenFault;
 
 /// The files that names lead to and that are replaced as a whole.

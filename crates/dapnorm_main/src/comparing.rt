@@ -3,8 +3,8 @@ use crate::explaining::{explain_no_rules, print};
 use crate::files::{OpenedInput, SystemFiles};
 use crate::reports::{report_failure, report_reason};
 use crate::{REFUSED, Setting, tables};
+use dap_device::KeptInput;
 use dap_explain::{explain_applying, explain_comparison};
-use dap_file::KeptInput;
 use dapnorm::{
     Comparison, IndexNames, LIMITS, Mode, OpenFault, OpenStop, Printed, RuledPairRun, RulesStop,
     StdSink, TableMaker, Tables, TwoFilesRun, Which, compare_by_rules, compare_files,

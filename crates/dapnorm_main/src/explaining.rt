@@ -1,7 +1,7 @@
 //! Prints explanations on standard error, after the line of a refusal.
 use crate::reports::report_reason;
+use dap_device::find_file;
 use dap_explain::{explain, explain_mask, explain_order, explain_rules};
-use dap_file::find_file;
 use dap_runs::send;
 use dapnorm::{
     LIMITS, NoRules, Refused, Replaceable, RulesFault, RulesOpenFault, RulesRefused, StdSink,

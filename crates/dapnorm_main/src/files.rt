@@ -1,6 +1,6 @@
 //! The files and the standard input of the operating system.
 use crate::reports::is_out_of_memory;
-use dap_file::{
+use dap_device::{
     FileAt, FileFault, KeptInput, ReadFault, Replaceable, find_file, open_input, shows_closed_input,
 };
 use dapnorm::{

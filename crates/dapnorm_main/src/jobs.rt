@@ -6,8 +6,8 @@ use crate::explaining::{explain_mask_of, explain_order_of, print};
 use crate::files::{OpenedInput, SystemDevices, SystemFile, SystemFiles, SystemTargets};
 use crate::reports::{explain_unopened, report_failure, report_reason};
 use crate::{REFUSED, Setting, tables};
+use dap_device::{KeptInput, is_standard};
 use dap_explain::{explain_job, explain_view};
-use dap_file::{KeptInput, is_standard};
 use dapnorm::{
     Job, LIMITS, OneFileRun, OpenFault, Printed, RuledFileRun, RulesOpenFault, SaveEnd, SavedRun,
     ShowRequest, StdSink, Task, mask_file, order_file, run_file, save_run, view_file, write_run,

@@ -1,8 +1,8 @@
 //! What is reported of files that fail.
 use crate::explaining::print;
 use crate::files::OpenedInput;
+use dap_device::{KeptInput, is_standard};
 use dap_explain::explain_unreadable;
-use dap_file::{KeptInput, is_standard};
 use dapnorm::{OpenFault, UnreadInput};
 use std::io::{Error, ErrorKind};
 

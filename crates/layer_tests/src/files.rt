@@ -2,7 +2,7 @@
 ghost use Rattle.std.specs.Prelude.{◌≡◌, None, IfOk};
 
 use crate::texts::is_printed;
-use dap_file::{FileAt, MemoryFile, ReadFault, ReplaceFault, Replaceable, Step, replace};
+use dap_device::{FileAt, MemoryFile, ReadFault, ReplaceFault, Replaceable, Step, replace};
 use std::alloc::{AllocError, Global};
 use std::ops::Range;
 use std::os::unix::fs::{PermissionsExt, symlink};
@@ -124,7 +124,7 @@ fn replaces(rt: &HostRuntime, path: &str, bytes: &[u8]) -> io::Result<bool> {
 /// Returns the path of a folder for a test.
 fn folder_path(rt: &HostRuntime) -> io::Result<PathBuf> {
     let number = process::id(rt.process());
-    let name = format!(in rt.alloc(); "dap_file-{number}")?;
+    let name = format!(in rt.alloc(); "dap_device-{number}")?;
     let mut folder = env::temp_dir(rt)?;
     folder.push(name.as_str())?;
     Ok(folder)

@@ -1,5 +1,5 @@
 use Rattle.std.proofs.Common.{⊎_elim, inl, inr, sym, subst, ℕ}
-use Rattle.dap_file.specs.Crash.{Content, LeavesOnly}
+use Rattle.dap_device.specs.Crash.{Content, LeavesOnly}
 use Rattle.dap_golden.specs.Golden.{mask_given}
 use Rattle.dap_golden.specs.GoldenUpdates.{RunsOn}
 use Rattle.dap_golden.proofs.updates.golden_file_in.Goals as goal

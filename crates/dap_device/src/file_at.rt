@@ -1,0 +1,148 @@
+//! Replaces a file of the operating system.
+ghost use Rattle.std.specs.Prelude.{◌≡◌, ◌↔◌, ◌<◌, None, IfOk, IsSome};
+
+use crate::failures::Failures;
+use crate::file::{FileFault, ReadFault, Replaceable, Step};
+use crate::place::Place;
+use crate::system::{
+    create_temporary, read_at, remove_temporary, rename_temporary, sync_folder, sync_temporary,
+    write_temporary,
+};
+use std::alloc::Global;
+use std::io::{self, Error};
+use std::marker::Model;
+use std::rt::Files;
+
+/// A file of the operating system, found by its path. No clause describes its content.
+///
+/// A replacement creates a new file: it belongs to the user and group of the process. It has the
+/// access permissions of the old file, but no extended attributes. Other hard links to the old file
+/// retain the old content.
+pub struct FileAt<'a, R: Files> {
+    rt: &'a R,
+    place: Place,
+    /// The temporary file, if there is one.
+    temporary: Option<R::File>,
+    failures: Failures,
+}
+
+impl<'a, R: Files> Drop for FileAt<'a, R> {
+    fn drop(self) {
+        let FileAt {
+            rt: _,
+            place: _,
+            temporary: _,
+            failures: _,
+        } = self;
+    }
+}
+
+impl<'a, R: Files> Model for FileAt<'a, R> {
+    ghost use Rattle.dap_device.specs.Calls.{FileCounts};
+
+    ghost Value = { FileCounts };
+
+    ghost view = { λ f. f.failures };
+}
+
+impl<'a, R: Files> FileAt<'a, R> {
+    /// Finds the file at a path. The file need not exist, but its folder must.
+    ///
+    /// Follows symbolic links, even to a file that does not exist: a replacement replaces the
+    /// target of the link and leaves the link. Creates nothing.
+    ///
+    /// The temporary file is in the folder of the file. Its name is a dot, the name of the file,
+    /// `.dapnorm-` and the 16 hexadecimal digits of `tag`. On file systems that limit a name to 255
+    /// bytes, the name of the file is therefore limited to 229 bytes.
+    ///
+    /// # Errors
+    ///
+    /// - `IsADirectory`: the path is that of a folder, or ends in a slash.
+    /// - `InvalidInput`: the file is a device, a pipe or a socket, or the path has no file name.
+    /// - `FilesystemLoop`: the path leads through more than 40 symbolic links.
+    /// - `OutOfMemory`: an allocation failed.
+    /// - Any other: reported by the operating system.
+    pub fn new(alloc: Global, rt: &'a R, path: &str, tag: u64) -> io::Result<FileAt<'a, R>>
+        ensures { IfOk result (λ file. file ≡ record { failures = 0; failed_at = None }) }
+    {
+        Ok(FileAt {
+            rt,
+            place: Place::find(alloc, rt, path, tag)?,
+            temporary: None,
+            failures: Failures::none(),
+        })
+    }
+
+    /// Returns the reason of the last failure, or `None` before the first one. A failed removal
+    /// does not change the reason of an earlier failure.
+    pub fn reason(&self) -> Option<&Error>
+        ensures { IsSome result ↔ (0 < self.now.failures) }
+    {
+        self.failures.reason()
+    }
+}
+
+impl<'a, R: Files> Replaceable for FileAt<'a, R> {
+    ghost is_known = { λ f. ⊥ };
+
+    ghost target = { λ f. None };
+
+    ghost temporary = { λ f. None };
+
+    ghost may_leave = { λ f c. ⊥ };
+
+    ghost may_hold = { λ f c. ⊥ };
+
+    ghost moment = { λ f. 0 };
+
+    ghost left_since = { λ f t c. ⊥ };
+
+    ghost failures = { λ f. f.failures };
+
+    ghost failed_at = { λ f. f.failed_at };
+
+    ghost counts_now = { λ f t c le left. left };
+
+    ghost only_now = { λ f c left. left };
+
+    ghost stays = { λ f known. known };
+
+    fn read(&mut self, alloc: Global, limit: u64) -> Result<Option<Vec<u8>>, ReadFault> {
+        let found = read_at(alloc, self.rt, self.place.target.as_str(), limit);
+        self.failures.note_read(found)
+    }
+
+    fn create(&mut self) -> Result<(), FileFault> {
+        let created = create_temporary(self.rt, &self.place, &mut self.temporary);
+        self.failures.note(Step::Create, created)
+    }
+
+    fn write(&mut self, bytes: &[u8]) -> Result<usize, FileFault> {
+        let written = write_temporary(&mut self.temporary, bytes);
+        self.failures.note(Step::Write, written)
+    }
+
+    fn sync(&mut self) -> Result<(), FileFault> {
+        let synced = sync_temporary(&self.temporary, self.place.mode);
+        self.failures.note(Step::Sync, synced)
+    }
+
+    fn rename(&mut self) -> Result<(), FileFault> {
+        let renamed = rename_temporary(self.rt, &self.place, &mut self.temporary);
+        self.failures.note(Step::Rename, renamed)
+    }
+
+    fn sync_folder(&mut self) -> Result<(), FileFault> {
+        let synced = sync_folder(self.rt, self.place.folder());
+        self.failures.note(Step::SyncFolder, synced)
+    }
+
+    fn remove(&mut self) -> Result<(), FileFault> {
+        let removed = remove_temporary(self.rt, &self.place, &mut self.temporary);
+        self.failures.note_removal(removed)
+    }
+
+    fn failures(&self) -> u64 {
+        self.failures.count()
+    }
+}

@@ -1,0 +1,253 @@
+//! Implements a file in memory whose calls can be made to fail.
+ghost use Rattle.std.specs.Prelude.{◌≡◌, ◌+◌, ◌<◌, ◌≤◌, ◌++◌, ◌^◌, [], None, Some, IfSome, IsErr};
+ghost use Rattle.std.specs.Prelude.{length, take, ⊤};
+ghost use Rattle.std.specs.Option.{option_copied, option_map};
+ghost use Rattle.std.proofs.Common.{inl, refl};
+ghost use Rattle.dap_device.specs.Calls.{content_of};
+ghost use Rattle.dap_device.specs.MemoryFile.{MemoryState, MightHaveLeft, only_target};
+
+use crate::file::{FileFault, ReadFault, Replaceable, Step};
+use std::alloc::Global;
+use std::marker::Model;
+use std::ops::Range;
+
+/// The calls of a file that fail, by their numbers from 0 on.
+#[derive(Clone, Copy)]
+struct Failing {
+    next: u64,
+    start: u64,
+    end: u64,
+}
+
+impl Failing {
+    /// Counts one call and returns whether it fails.
+    fn next_fails(&mut self) -> bool {
+        let number = self.next;
+        self.next = number.saturating_add(1);
+        self.start <= number && number < self.end
+    }
+}
+
+/// Appends at most `most` of the bytes to a file, and returns how many. Returns `None` if that is
+/// no byte of several, if there is no file, or if an allocation fails.
+fn append(file: &mut Option<Vec<u8>>, bytes: &[u8], most: usize) -> Option<usize>
+    ensures within { IfSome result (λ count. count ≤ length bytes.now) }
+    ensures some { IfSome result (λ count. 0 < length bytes.now → 0 < count) }
+    ensures appended { IfSome result (λ count. content_of file.new
+        ≡ option_map (λ written. written ++ take count bytes.now) (content_of file.old)) }
+{
+    let count = bytes.len().min(most);
+    if count == 0 && !bytes.is_empty() {
+        return None;
+    }
+    match file.as_mut()?.extend_from_slice(&bytes[..count]) {
+        Ok(()) => Some(count),
+        Err(_) => None,
+    }
+}
+
+/// A file in memory. Each call takes effect at once, so a crash leaves the current content.
+#[derive(Drop)]
+pub struct MemoryFile {
+    alloc: Global,
+    target: Option<Vec<u8>>,
+    temporary: Option<Vec<u8>>,
+    past: Vec<Option<Vec<u8>>>,
+    failing: Failing,
+    longest_write: usize,
+    failures: u64,
+    failed_at: Option<Step>,
+}
+
+impl Model for MemoryFile {
+    ghost use Rattle.std.specs.Prelude.{map};
+    ghost use Rattle.dap_device.specs.Calls.{content_of};
+    ghost use Rattle.dap_device.specs.MemoryFile.{MemoryState};
+
+    ghost Value = { MemoryState };
+
+    ghost view = { λ m. record {
+      target = content_of m.target;
+      temporary = content_of m.temporary;
+      past = map content_of m.past.items;
+      failures = m.failures;
+      failed_at = m.failed_at;
+    } };
+}
+
+impl MemoryFile {
+    /// Returns a file with this content, or `None` for a file that does not exist. The calls whose
+    /// numbers from 0 on are in `failing` fail and change nothing. A write appends at most
+    /// `longest_write` bytes.
+    pub fn new(
+        alloc: Global,
+        content: Option<Vec<u8>>,
+        failing: Range<u64>,
+        longest_write: usize,
+    ) -> MemoryFile
+        ensures { result
+            ≡ record {
+              target = content_of content;
+              temporary = None;
+              past = [];
+              failures = 0;
+              failed_at = None;
+            } }
+    {
+        MemoryFile {
+            alloc,
+            target: content,
+            temporary: None,
+            past: Vec::new(alloc),
+            failing: Failing {
+                next: 0,
+                start: failing.start,
+                end: failing.end,
+            },
+            longest_write,
+            failures: 0,
+            failed_at: None,
+        }
+    }
+
+    /// Returns the content under the name.
+    pub fn content(&self) -> Option<&[u8]>
+        ensures { option_copied result ≡ self.now.target }
+    {
+        match &self.target {
+            None => None,
+            Some(bytes) => Some(bytes.as_slice()),
+        }
+    }
+
+    /// Returns the content of the temporary file.
+    pub fn temporary(&self) -> Option<&[u8]>
+        ensures { option_copied result ≡ self.now.temporary }
+    {
+        match &self.temporary {
+            None => None,
+            Some(bytes) => Some(bytes.as_slice()),
+        }
+    }
+}
+
+impl MemoryFile {
+    /// Counts a failure of a step and returns the error.
+    fn fail<T>(&mut self, step: Step) -> Result<T, FileFault>
+        requires { self.old.failures < 2 ^ 63 }
+        ensures err { IsErr result }
+        ensures counted { self.new ≡ record self.old
+            { failures = self.old.failures + 1; failed_at = Some step } }
+    {
+        self.failures += 1;
+        self.failed_at = Some(step);
+        Err(FileFault {})
+    }
+}
+
+impl Replaceable for MemoryFile {
+    ghost is_known = { λ m. ⊤ };
+
+    ghost target = { λ m. m.target };
+
+    ghost temporary = { λ m. m.temporary };
+
+    ghost may_leave = { λ m c. c ≡ m.target };
+
+    ghost may_hold = { λ m c. c ≡ m.temporary };
+
+    ghost moment = { λ m. length m.past };
+
+    ghost left_since = { λ m t c. MightHaveLeft m t c };
+
+    ghost failures = { λ m. m.failures };
+
+    ghost failed_at = { λ m. m.failed_at };
+
+    ghost counts_now = { λ m t c le now. inl now };
+
+    ghost only_now = { λ m c left. only_target m c left };
+
+    ghost stays = { λ m known. refl };
+
+    fn read(&mut self, alloc: Global, limit: u64) -> Result<Option<Vec<u8>>, ReadFault> {
+        if self.failing.next_fails() {
+            self.failures += 1;
+            return Err(ReadFault::Failed);
+        }
+        let Some(bytes) = &self.target else {
+            return Ok(None);
+        };
+        if bytes.is_empty() {
+            return Ok(Some(Vec::new(alloc)));
+        }
+        if bytes.len() as u64 > limit {
+            return Err(ReadFault::TooLong);
+        }
+        match bytes.to_vec(alloc) {
+            Ok(bytes) => Ok(Some(bytes)),
+            Err(_) => Err(ReadFault::Memory),
+        }
+    }
+
+    fn create(&mut self) -> Result<(), FileFault> {
+        if self.failing.next_fails() {
+            return self.fail(Step::Create);
+        }
+        self.temporary = Some(Vec::new(self.alloc));
+        Ok(())
+    }
+
+    fn write(&mut self, bytes: &[u8]) -> Result<usize, FileFault> {
+        if self.failing.next_fails() {
+            return self.fail(Step::Write);
+        }
+        match append(&mut self.temporary, bytes, self.longest_write) {
+            Some(count) => Ok(count),
+            None => self.fail(Step::Write),
+        }
+    }
+
+    fn sync(&mut self) -> Result<(), FileFault> {
+        if self.failing.next_fails() {
+            return self.fail(Step::Sync);
+        }
+        Ok(())
+    }
+
+    fn rename(&mut self) -> Result<(), FileFault> {
+        if self.failing.next_fails() {
+            return self.fail(Step::Rename);
+        }
+        match self.past.push(self.target.take()) {
+            Ok(()) => {
+                self.target = self.temporary.take();
+                Ok(())
+            }
+            Err(failed) => {
+                self.target = failed.value;
+                self.fail(Step::Rename)
+            }
+        }
+    }
+
+    fn sync_folder(&mut self) -> Result<(), FileFault> {
+        if self.failing.next_fails() {
+            return self.fail(Step::SyncFolder);
+        }
+        Ok(())
+    }
+
+    fn remove(&mut self) -> Result<(), FileFault> {
+        if self.failing.next_fails() {
+            self.failures += 1;
+            return Err(FileFault {});
+        }
+        self.temporary = None;
+        Ok(())
+    }
+
+    fn failures(&self) -> u64 {
+        self.failures
+    }
+}

@@ -1,2 +1,0 @@
-pub mod Past
-pub mod Runs

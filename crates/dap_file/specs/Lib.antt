@@ -1,4 +1,0 @@
-pub mod Calls
-pub mod Crash
-pub mod Memory
-pub mod Replacing
