@@ -17,3 +17,4 @@ pub mod TextErrors
 pub mod ReadMessages
 pub mod OrderAnswers
 pub mod OneOrderOutcome
+pub mod EmptyRecordings

@@ -15,7 +15,8 @@ use dap_rename::Mode;
 use std::alloc::Global;
 
 /// Puts a masked recording in order, as [`order_bytes`] does. If no rules are for the order,
-/// returns the recording unchanged, does not check it, and does not allocate.
+/// returns the recording unchanged, does not check it, and does not allocate. An empty recording
+/// does not allocate either.
 ///
 /// # Errors
 ///
@@ -33,6 +34,7 @@ pub fn order_masked(
     ensures err { IfErr result
         (RefusesOrderBy limits mode (swaps_of_mask rules.now) masked.items) }
     ensures none { swaps_of_mask rules.now ≡ [] → IsOk result }
+    ensures empty { masked.items ≡ [] → IsOk result }
 {
     let swaps = rules.swaps();
     if swaps.is_empty() {
@@ -65,7 +67,7 @@ fn order_refusal(refused: Refused) -> ApplyRefused
 ///
 /// If no rules are for the order, returns the masked text and does not check its session. Otherwise
 /// the masked recording and the returned text are both checked in the same way as by
-/// [`check`](dap_normalise::check) in this mode.
+/// [`check`](dap_normalise::check) in this mode. An empty recording does not allocate.
 ///
 /// # Errors
 ///
@@ -88,6 +90,7 @@ pub fn apply_rules(
     ensures ok { IfOk result
         (λ text. AppliesRules limits mode (mask_of rules.now) recording.now text.items) }
     ensures err { IfErr result (IsRefusedByRules limits mode (mask_of rules.now) recording.now) }
+    ensures empty { recording.now ≡ [] → IsOk result }
 {
     let masked = match mask_bytes(alloc, rules, recording, limits) {
         Ok(masked) => masked,

@@ -1,5 +1,5 @@
 //! Masks a recording in memory.
-ghost use Rattle.std.specs.Prelude.{IfErr, IfOk};
+ghost use Rattle.std.specs.Prelude.{◌≡◌, [], IfErr, IfOk, IsOk};
 ghost use Rattle.dap_input.specs.Limits.{AreSound};
 ghost use Rattle.dap_mask.specs.KeptRules.{mask_of};
 ghost use Rattle.dap_rules.specs.MaskedRecordings.{IsMaskedTo};
@@ -12,7 +12,8 @@ use dap_input::{Limits, Refused};
 use dap_mask::MaskRules;
 use std::alloc::Global;
 
-/// Returns the text of a masked recording, as [`mask`] writes it.
+/// Returns the text of a masked recording, as [`mask`] writes it. An empty recording has an empty
+/// text, and does not allocate.
 ///
 /// # Errors
 ///
@@ -27,7 +28,11 @@ pub fn mask_bytes(
     ensures ok { IfOk result
         (λ masked. IsMaskedTo limits (mask_of rules.now) recording.now masked.items) }
     ensures err { IfErr result (RefusesToMask limits (mask_of rules.now) recording.now) }
+    ensures empty { recording.now ≡ [] → IsOk result }
 {
+    if recording.is_empty() {
+        return Ok(Vec::new(alloc));
+    }
     let mut reader = MemorySource::new(recording);
     let mut writer = TextSink::new(alloc);
     match mask(alloc, rules, &mut reader, &mut writer, limits) {

@@ -1,5 +1,5 @@
 //! Puts the records of a recording in order.
-ghost use Rattle.std.specs.Prelude.{◌≡◌, ◌+◌, ◌<◌, ◌≤◌, ◌^◌, IfErr, IfOk, IsErrOf};
+ghost use Rattle.std.specs.Prelude.{◌≡◌, ◌+◌, ◌<◌, ◌≤◌, ◌^◌, [], IfErr, IfOk, IsOk, IsErrOf};
 ghost use Rattle.dap_message.specs.SwapRules.{swaps_of};
 ghost use Rattle.dap_input.specs.Engine.{Answers};
 ghost use Rattle.dap_input.specs.Limits.{AreSound};
@@ -25,7 +25,7 @@ use std::alloc::Global;
 /// as by [`check`](dap_normalise::check) in this mode.
 ///
 /// Buffers the messages of the recording, and the text. Reads the recording twice, once to check it
-/// and once for its messages, and the text once.
+/// and once for its messages, and the text once. An empty recording does not allocate.
 ///
 /// # Errors
 ///
@@ -48,7 +48,11 @@ pub fn order_bytes(
     ensures ok { IfOk result
         (λ text. Orders limits mode (swaps_of rules.now) recording.now text.items) }
     ensures err { IfErr result (RefusesToOrder limits mode (swaps_of rules.now) recording.now) }
+    ensures empty { recording.now ≡ [] → IsOk result }
 {
+    if recording.is_empty() {
+        return Ok(Vec::new(alloc));
+    }
     check_bytes(alloc, recording, limits, mode)?;
     let text = text_in_order(alloc, rules, recording, limits, mode)?;
     check_bytes(alloc, text.as_slice(), limits, mode)?;

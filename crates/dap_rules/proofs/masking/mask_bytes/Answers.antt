@@ -4,8 +4,15 @@ use Rattle.dap_mask.specs.KeptRules.{mask_of}
 use Rattle.dap_rules.specs.MaskedRecordings.{IsMaskedTo}
 use Rattle.dap_rules.specs.Applying.{RefusesToMask}
 use Rattle.dap_rules.specs.Memory.{WrittenBytes}
+use Rattle.dap_rules.proofs.EmptyRecordings.{no_bytes, none_masked}
 use Rattle.dap_rules.proofs.MemoryRuns.{mask_refused, masked_whole}
 use Rattle.dap_rules.proofs.masking.mask_bytes.Goals as goal
+
+pub returns-then-is_empty-clause-ok : goal.returns-then-is_empty-clause-ok
+returns-then-is_empty-clause-ok c =
+    let none = no_bytes c.args.recording.now (sym c.is_empty.ensures ∙ c.if-is_empty.true) in
+    rw (none, c.new.ensures.items)
+    (none_masked c.args.limits c.requires.limits c.args.rules.now)
 
 pub returns-in-Ok-clause-ok : goal.returns-in-Ok-clause-ok
 returns-in-Ok-clause-ok c =

@@ -1,11 +1,18 @@
-use Rattle.std.proofs.Common.{subst}
+use Rattle.std.proofs.Common.{◌∙◌, sym, subst}
 use Rattle.std.proofs.lemmas.Result.{err_from_is_err_and}
 use Rattle.dap_message.specs.SwapRules.{swaps_of}
 use Rattle.dap_normalise.specs.Accepting.{IsAccepted}
+use Rattle.dap_rules.proofs.EmptyRecordings.{no_bytes, none_ordered}
 use Rattle.dap_rules.proofs.OrderAnswers.{not_written, text_refused}
 use Rattle.dap_rules.proofs.TextErrors.{text_error}
 use Rattle.dap_rules.proofs.WrittenTexts.{ordered_only}
 use Rattle.dap_rules.proofs.ordering.order_bytes.Goals as goal
+
+pub returns-then-is_empty-clause-ok : goal.returns-then-is_empty-clause-ok
+returns-then-is_empty-clause-ok c =
+    let none = no_bytes c.args.recording.now (sym c.is_empty.ensures ∙ c.if-is_empty.true) in
+    rw (none, c.new.ensures.items)
+    (none_ordered c.args.limits c.requires.limits c.args.mode (swaps_of c.args.rules.now))
 
 pub returns-in_err-text-clause-err : goal.returns-in_err-text-clause-err
 returns-in_err-text-clause-err c =

@@ -1,0 +1,61 @@
+-- The recording without bytes is accepted, and its text is empty.
+use Rattle.std.proofs.Common.{◌≡◌, ℕ, true, List, [], ◌∷◌, length, nat_eq, refl, sym, ap, subst}
+use Rattle.std.proofs.Common.{arith}
+use Rattle.dap_mask.specs.KeptRules.{mask_of}
+use Rattle.dap_mask.specs.declared.mask_rules.MaskRules.{MaskRules}
+use Rattle.dap_message.specs.SwapRules.{SwapRule}
+use Rattle.dap_rename.specs.declared.mode.Mode.{Mode}
+use Rattle.dap_words.proofs.WordsUtf8.{strings_utf8}
+use Rattle.dap_input.specs.Limits.{AreSound}
+use Rattle.dap_input.specs.declared.limits.Limits.{Limits}
+use Rattle.dap_input.proofs.Runs.{run_none}
+use Rattle.dap_normalise.specs.Accepting.{Fits, IsAccepted, accepting, text}
+use Rattle.dap_normalise.proofs.AcceptingFacts as normalised
+use Rattle.dap_order.specs.MessageOrder.{ordered}
+use Rattle.dap_rules.specs.MaskedRecordings.{IsMaskedTo}
+use Rattle.dap_rules.specs.Masking.{masking}
+use Rattle.dap_rules.specs.Ordering.{Orders}
+use Rattle.dap_rules.proofs.MaskedTexts.{masked_to}
+use Rattle.dap_rules.proofs.MaskingFacts as masked
+use Rattle.dap_rules.proofs.OneOutcome.{one_masked}
+
+pub no_bytes : (bytes : List ℕ) → nat_eq (length bytes) 0 ≡ true → bytes ≡ []
+no_bytes [] empty = refl
+no_bytes (b ∷ bytes) empty = absurd (grind (arith, empty))
+
+none_in_order : (rules : List SwapRule) → ordered rules [] ≡ []
+unfolding ordered
+none_in_order rules = refl
+
+module _ (limits : Limits) (sound : AreSound limits) where
+  pub none_masked : (rules : MaskRules) → IsMaskedTo limits (mask_of rules) [] []
+  none_masked rules =
+      let mask = mask_of rules in
+      masked_to limits sound mask rules.list.safe rules.list.settled rules.list.kept
+      (strings_utf8 rules.list.words.list.items) rules.list.leave [] []
+      ((masked.accepted_facts limits mask).accepted_of_run [] []
+      (run_none (masking limits mask) [] 0))
+
+  pub masked_is_empty : (rules : MaskRules) (recording written : List ℕ) → recording ≡ []
+      → IsMaskedTo limits (mask_of rules) recording written → written ≡ []
+  masked_is_empty rules recording written none is =
+      one_masked limits (mask_of rules) [] written []
+      (subst (λ bytes. IsMaskedTo limits (mask_of rules) bytes written) none is)
+      (none_masked rules)
+
+  module _ (mode : Mode) where
+    none_accepted : IsAccepted limits mode [] []
+    none_accepted =
+        (normalised.accepted_facts limits mode).accepted_of_run [] []
+        (run_none (accepting limits mode) [] 0)
+
+    pub none_ordered : (rules : List SwapRule) → Orders limits mode rules [] []
+    none_ordered rules =
+        let same = sym (none_in_order rules) in
+        record {
+          messages = [];
+          accepts = none_accepted;
+          text_is = ap text same;
+          fits = subst (Fits limits) same (record { each = tt; whole = omega arith });
+          accepted = subst (IsAccepted limits mode []) same none_accepted;
+        }
