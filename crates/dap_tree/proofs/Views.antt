@@ -2,7 +2,7 @@
 use Rattle.std.proofs.Common.{◌≡◌, ℕ, List, [], ◌∷◌, ◌++◌, Option, Some, None, option_map, String}
 use Rattle.std.proofs.Common.{Vec, BTreeMap, Global, Ordering, Less, Equal, Greater, string_bytes}
 use Rattle.std.proofs.Common.{string_cmp, nat_cmp, is_eq, cond, Bool, true, Bor, MutBor, refl, sym}
-use Rattle.std.proofs.Common.{ap, ◌∙◌, rules}
+use Rattle.std.proofs.Common.{ap, ◌∙◌, rules, true≢false}
 use Rattle.std.proofs.lemmas.Cmp.{nat_list_cmp_total}
 use Rattle.std.specs.Cmp.Lexicographic.{slice_cmp}
 use Rattle.std.specs.List.{AllByRecursion}
@@ -15,6 +15,7 @@ use Rattle.std.specs.Prelude.{OnSome}
 use Rattle.dap_tree.specs.Doc.{Doc, null, boolean, whole, text, list, object, id, Members}
 use Rattle.dap_tree.specs.Doc.{no_members, member, put, get, get_member, change_member}
 use Rattle.dap_tree.specs.Doc.{change_child, as_object, is_below_all, is_ordered, members_ordered}
+use Rattle.dap_tree.specs.Doc.{is_empty}
 use Rattle.dap_tree.specs.View.{view, items_view, members_view}
 use Rattle.dap_tree.specs.declared.tree.Tree.{Tree, the_lemmas}
 use Rattle.dap_tree.specs.declared.tree.Tree as tree
@@ -29,6 +30,15 @@ view-List v = search (rules, the_lemmas)
 pub view-Object : (m : BTreeMap (String Global) Tree)
     → view (tree.Object m) ≡ object (members_view m.entries)
 view-Object m = search (rules, the_lemmas)
+
+-- the array or object of these is empty only if they are
+pub no_item : (ts : List Tree) → is_empty (list (items_view ts)) ≡ true → ts ≡ []
+no_item [] empty = refl
+no_item (t ∷ ts) empty = absurd (true≢false (sym empty))
+
+pub no_entry : (es : List Entry) → is_empty (object (members_view es)) ≡ true → es ≡ []
+no_entry [] empty = refl
+no_entry (e ∷ es) empty = absurd (true≢false (sym empty))
 
 members_view-match_ordering : (o : Ordering) (a b c : List Entry)
     → members_view (match_ordering o a b c)

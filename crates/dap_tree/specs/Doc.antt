@@ -1,7 +1,7 @@
 -- The model of a tree: a JSON value of integers and ids. Every `Tree` has the members of its
 -- objects in the byte order of their names.
-use Rattle.std.specs.Prelude.{ℕ, suc, max, ◌^◌, ◌-◌, ℤ, pos, negsuc, List, Bool, true, false, ◌&&◌}
-use Rattle.std.specs.Prelude.{◌||◌, not, nat_le, nat_lt, Option, Some, None}
+use Rattle.std.specs.Prelude.{ℕ, suc, max, ◌^◌, ◌-◌, ℤ, pos, negsuc, List, [], Bool, true, false}
+use Rattle.std.specs.Prelude.{◌&&◌, ◌||◌, not, nat_le, nat_lt, Option, Some, None}
 use Rattle.std.specs.Ordering.{nat_cmp, match_ordering, is_lt}
 use Rattle.std.specs.Cmp.Lexicographic.{slice_cmp}
 use Rattle.std.specs.Str.{is_utf8}
@@ -34,6 +34,13 @@ has_fixed_size (text s) = false
 has_fixed_size (list ds) = false
 has_fixed_size (object ms) = false
 has_fixed_size (id s z) = true
+
+-- The document is an empty string, array or object.
+abbrev pub is_empty : Doc → Bool
+is_empty (text []) = true
+is_empty (list no_items) = true
+is_empty (object no_members) = true
+is_empty _ = false
 
 -- ---- sound documents
 
