@@ -84,7 +84,7 @@ test: need-rt need-python
 TRIED = $(if $(findstring command,$(origin CRATES)),$(CRATES))
 
 mutants: need-rt need-python
-	@echo "Tries the wrong bodies of $(or $(TRIED),all crates): 18 minutes for all on 4 processors after make, longer if make has proved less."
+	@echo "Tries the wrong bodies of $(or $(TRIED),all crates): about an hour for all on 4 processors after make, longer if make has proved less."
 	@python3 scripts/mutants.py $(TRIED)
 
 # Runs the program that make has built, if it exists.
