@@ -5,7 +5,6 @@ pub mod GoldenByNames
 pub mod GoldenRun
 pub mod MemoryFiles
 pub mod OneFile
-pub mod RuledFile
 pub mod RuledPair
 pub mod Run
 pub mod SavedRun

@@ -1,6 +1,7 @@
 -- What the program does with two recordings and a file of rules that are given by their names.
 -- Source: own.
 use Rattle.std.specs.Prelude.{ℕ, Bool, List}
+use Rattle.dap_commands.specs.declared.commands.Printed.{Printed}
 use Rattle.dap_device.specs.declared.device.Sink.{Ghosts as Sink}
 use Rattle.dap_device.specs.declared.device.Source.{Ghosts as Source}
 use Rattle.dap_input.specs.declared.limits.Limits.{Limits}
@@ -11,9 +12,6 @@ use Rattle.dap_runs.specs.declared.files.OpenFault.{OpenFault}
 use Rattle.dap_runs.specs.declared.rules_files.RulesOpenFault.{RulesOpenFault}
 use Rattle.dap_runs.specs.declared.rules_texts.RuledPairRun.{RuledPairRun}
 use Rattle.dapnorm.specs.Findings.{AreReported}
-use Rattle.dapnorm.specs.declared.findings.Findings.{Findings}
-use Rattle.dapnorm.specs.declared.findings.Findings.TheVariants.{Verdict, FirstDifference}
-use Rattle.dapnorm.specs.declared.findings.Findings.TheVariants.{AllDifferences}
 
 -- `opened` and `opened_rules` say to which input and to which file of rules a name leads, and
 -- `unopened` and `unopened_rules` why it leads to none.
@@ -22,21 +20,9 @@ module _ {I J W E : Type 0} (opened : List ℕ → I → Type 0)
     (unopened_rules : List ℕ → Bool → RulesOpenFault → Type 0) (source : Source I)
     (rules_source : Source J) (sink : Sink W) (errors : Sink E) (limits : Limits) (mode : Mode)
     (rules a b : List ℕ) (before after : W) (silent spoken : E) (run : RuledPairRun I) where
-  -- The findings about what the rules make of the two recordings are printed.
-  abbrev pub AreReportedByRules : Findings → Type 0
-  AreReportedByRules findings = RunsTexts opened unopened opened_rules unopened_rules source
+  -- The verdict on what the rules make of the two recordings, or how that differs, is printed.
+  abbrev pub AreComparedByRules : Printed → Type 0
+  AreComparedByRules printed = RunsTexts opened unopened opened_rules unopened_rules source
       rules_source errors limits mode rules a b before after silent spoken
       (λ used old_a new_a old_b new_b. AreReported memory memory sink errors limits used old_a
-      new_a old_b new_b before after silent spoken run.status findings) run.status run.stop
-
-  -- What the rules make of the two recordings is compared.
-  abbrev pub AreComparedByRules : Type 0
-  AreComparedByRules = AreReportedByRules Verdict
-
-  -- How what the rules make of the two recordings differs is printed.
-  abbrev pub AreDiffedByRules : Type 0
-  AreDiffedByRules = AreReportedByRules FirstDifference
-
-  -- All differences of what the rules make of the two recordings are printed.
-  abbrev pub AreDiffedWholeByRules : Type 0
-  AreDiffedWholeByRules = AreReportedByRules AllDifferences
+      new_a old_b new_b before after silent spoken run.status printed) run.status run.stop

@@ -16,12 +16,12 @@ use Rattle.dapnorm.specs.TaskRun.{TaskIsDone}
 use Rattle.dap_runs.specs.TwoInputs.{is_standard}
 use Rattle.dap_runs.specs.declared.files.OpenFault.{OpenFault}
 use Rattle.dap_runs.specs.declared.files.OpenFault.TheVariants as fault
-use Rattle.dapnorm.specs.declared.ruled_file.RuledRun.{RuledRun}
 use Rattle.dap_runs.specs.declared.rules_files.RulesOpenFault.{RulesOpenFault}
 use Rattle.dapnorm.specs.declared.saved_run.SaveEnd.{SaveEnd}
 use Rattle.dapnorm.specs.declared.saved_run.SaveEnd.TheVariants as end
 use Rattle.dapnorm.specs.declared.saved_run.SavedRun.{SavedRun}
 use Rattle.dapnorm.specs.declared.task.Task.{Task}
+use Rattle.dapnorm.specs.declared.task.TaskRun.{TaskRun}
 
 -- ---- a file of the output that cannot be replaced
 
@@ -88,21 +88,21 @@ module _ {J R O E : Type 0} (opened : List ℕ → J → Type 0)
     (silent spoken : E) where
   -- The task is done, while its output and what it reports are held in memory, and is finished
   -- then.
-  pub record IsHeld (run : RuledRun) : Type 0 where
+  pub record IsHeld (run : TaskRun) : Type 0 where
     pub text : WrittenBytes
     pub reported : WrittenBytes
-    pub held : RuledRun
+    pub held : TaskRun
     pub done : TaskIsDone opened unopened rules_source source text_sink text_sink limits
         is_input_standard old new no_text text no_text reported task held
     pub finishes :
         Finishes file errors name text reported before after silent spoken held.status run.status
-    pub rules : run.unopened ≡ held.unopened
+    pub rules : run.unopened_rules ≡ held.unopened_rules
 
 -- `opened` says to which input a name leads. `unopened` and `unfound` say why a name leads to no
 -- input, and to no output.
 module _ {I O E : Type 0} (opened : List ℕ → I → Type 0) (unopened : List ℕ → OpenFault → Type 0)
     (unfound : List ℕ → OpenFault → Type 0) (errors : Sink E) (name output_name : List ℕ)
-    (silent spoken : E) (Ran : I → O → RuledRun → Type 0) where
+    (silent spoken : E) (Ran : I → O → TaskRun → Type 0) where
   -- The input did not open; or the output was not found; or both were, and `Ran` holds of them and
   -- of the run.
   abbrev pub EndsBy : ℕ → SaveEnd I O → Type 0
@@ -113,7 +113,7 @@ module _ {I O E : Type 0} (opened : List ℕ → I → Type 0) (unopened : List 
       × HasSent errors silent spoken (unfound_line output_name why)
       × (status ≡ unfound_status why)
   EndsBy status (end.Ran input output no_rules) =
-      Ran input output (record { status = status; unopened = no_rules })
+      Ran input output (record { status = status; unopened_rules = no_rules })
 
 module _ {I J O E : Type 0} (opened : List ℕ → I → Type 0)
     (unopened : List ℕ → OpenFault → Type 0) (opened_rules : List ℕ → J → Type 0)
@@ -122,7 +122,7 @@ module _ {I J O E : Type 0} (opened : List ℕ → I → Type 0)
     (file : Replaceable O) (errors : Sink E) (limits : Limits) (task : Task)
     (name output_name : List ℕ) (silent spoken : E) where
   -- The input was opened, the file of the output was found, and the task was done and finished.
-  pub record RanAndSaved (input : I) (output : O) (run : RuledRun) : Type 0 where
+  pub record RanAndSaved (input : I) (output : O) (run : TaskRun) : Type 0 where
     pub old : I
     pub before : O
     pub opens : opened name old

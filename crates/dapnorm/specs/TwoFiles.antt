@@ -1,5 +1,6 @@
 -- What the program does with two files that are given by their names. Source: own.
 use Rattle.std.specs.Prelude.{ℕ, List}
+use Rattle.dap_commands.specs.declared.commands.Printed.{Printed}
 use Rattle.dap_device.specs.declared.device.Sink.{Ghosts as Sink}
 use Rattle.dap_device.specs.declared.device.Source.{Ghosts as Source}
 use Rattle.dap_input.specs.declared.limits.Limits.{Limits}
@@ -8,28 +9,13 @@ use Rattle.dap_runs.specs.TwoInputs.{RunsFiles}
 use Rattle.dap_runs.specs.declared.files.OpenFault.{OpenFault}
 use Rattle.dap_runs.specs.declared.two_inputs.TwoFilesRun.{TwoFilesRun}
 use Rattle.dapnorm.specs.Findings.{AreReported}
-use Rattle.dapnorm.specs.declared.findings.Findings.{Findings}
-use Rattle.dapnorm.specs.declared.findings.Findings.TheVariants.{Verdict, FirstDifference}
-use Rattle.dapnorm.specs.declared.findings.Findings.TheVariants.{AllDifferences}
 
 -- `opened` says to which input a name leads, and `unopened` why it leads to none.
 module _ {I W E : Type 0} (opened : List ℕ → I → Type 0) (unopened : List ℕ → OpenFault → Type 0)
     (source : Source I) (sink : Sink W) (errors : Sink E) (limits : Limits) (mode : Mode)
     (a b : List ℕ) (before after : W) (silent spoken : E) (run : TwoFilesRun I) where
-  -- The findings about the recordings of the two files are printed.
-  abbrev pub FilesAreReported : Findings → Type 0
-  FilesAreReported findings = RunsFiles opened unopened a b errors before after silent spoken
+  -- The verdict on the recordings of the two files, or how they differ, is printed.
+  abbrev pub FilesAreCompared : Printed → Type 0
+  FilesAreCompared printed = RunsFiles opened unopened a b errors before after silent spoken
       (λ old_a new_a old_b new_b. AreReported source source sink errors limits mode old_a new_a
-      old_b new_b before after silent spoken run.status findings) run.status run.inputs
-
-  -- The recordings of the two files are compared.
-  abbrev pub FilesAreCompared : Type 0
-  FilesAreCompared = FilesAreReported Verdict
-
-  -- How the recordings of the two files differ is printed.
-  abbrev pub FilesAreDiffed : Type 0
-  FilesAreDiffed = FilesAreReported FirstDifference
-
-  -- All differences of the recordings of the two files are printed.
-  abbrev pub FilesAreDiffedWhole : Type 0
-  FilesAreDiffedWhole = FilesAreReported AllDifferences
+      old_b new_b before after silent spoken run.status printed) run.status run.inputs

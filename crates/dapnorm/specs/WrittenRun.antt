@@ -8,9 +8,9 @@ use Rattle.dap_runs.specs.declared.files.OpenFault.{OpenFault}
 use Rattle.dap_runs.specs.declared.rules_files.RulesOpenFault.{RulesOpenFault}
 use Rattle.dapnorm.specs.SavedRun.{EndsBy}
 use Rattle.dapnorm.specs.TaskRun.{TaskIsDone}
-use Rattle.dapnorm.specs.declared.ruled_file.RuledRun.{RuledRun}
 use Rattle.dapnorm.specs.declared.saved_run.SavedRun.{SavedRun}
 use Rattle.dapnorm.specs.declared.task.Task.{Task}
+use Rattle.dapnorm.specs.declared.task.TaskRun.{TaskRun}
 
 -- `opened`, `opened_rules` and `device` say to which input, file of rules and device a name leads.
 -- `unopened`, `unopened_rules` and `no_device` say why it leads to none.
@@ -21,7 +21,7 @@ module _ {I J W E : Type 0} (opened : List ℕ → I → Type 0)
     (sink : Sink W) (errors : Sink E) (limits : Limits) (task : Task) (name output_name : List ℕ)
     (silent spoken : E) where
   -- The input and the device were opened, and the task was done.
-  pub record RanAndWrote (input : I) (output : W) (run : RuledRun) : Type 0 where
+  pub record RanAndWrote (input : I) (output : W) (run : TaskRun) : Type 0 where
     pub old : I
     pub before : W
     pub opens : opened name old

@@ -6,28 +6,19 @@ ghost use Rattle.dapnorm.specs.Findings.{AreReported};
 
 use crate::diff_all_run::run_diff_all_with;
 use crate::diff_run::run_diff_with;
+use dap_commands::Printed;
 use dap_device::{Sink, Source};
 use dap_input::Limits;
 use dap_rename::{Mode, NameTable, Tables};
 use dap_runs::run_compare_with;
 use std::alloc::Global;
 
-/// What is printed of two recordings.
-#[derive(Clone, Copy)]
-pub enum Findings {
-    /// What [`run_compare`](crate::run_compare) prints.
-    Verdict,
-    /// What [`run_diff`](crate::run_diff) prints.
-    FirstDifference,
-    /// What [`run_diff_all`](crate::run_diff_all) prints.
-    AllDifferences,
-}
-
-/// Compares two recordings, prints the findings, and returns the status of the program. An error is
-/// reported on `errors`, in one line. The tables must be empty, each with the limit `limits.ids`.
+/// Compares two recordings, prints the verdict or the differences, and returns the status of the
+/// program. An error is reported on `errors`, in one line. The tables must be empty, each with the
+/// limit `limits.ids`.
 pub fn run_findings<A: Source, B: Source, W: Sink, E: Sink, T: NameTable + Drop>(
-    findings: Findings,
     alloc: Global,
+    printed: Printed,
     reader_a: &mut A,
     reader_b: &mut B,
     writer: &mut W,
@@ -48,18 +39,18 @@ pub fn run_findings<A: Source, B: Source, W: Sink, E: Sink, T: NameTable + Drop>
     requires error_failures { E.failures errors.old < 2 ^ 62 }
     ensures reported { AreReported A.Source B.Source W.Sink E.Sink limits mode reader_a.old
         reader_a.new reader_b.old reader_b.new writer.old writer.new errors.old errors.new result
-        findings }
+        printed }
     ensures taken_a { A.given reader_a.new ≤ A.given reader_a.old + limits.input + 1 }
     ensures taken_b { B.given reader_b.new ≤ B.given reader_b.old + limits.input + 1 }
 {
-    match findings {
-        Findings::Verdict => run_compare_with(
+    match printed {
+        Printed::Verdict => run_compare_with(
             alloc, reader_a, reader_b, writer, errors, limits, tables_a, tables_b, mode,
         ),
-        Findings::FirstDifference => run_diff_with(
+        Printed::FirstDifference => run_diff_with(
             alloc, reader_a, reader_b, writer, errors, limits, tables_a, tables_b, mode,
         ),
-        Findings::AllDifferences => run_diff_all_with(
+        Printed::AllDifferences => run_diff_all_with(
             alloc, reader_a, reader_b, writer, errors, limits, tables_a, tables_b, mode,
         ),
     }

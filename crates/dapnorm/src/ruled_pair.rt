@@ -1,9 +1,9 @@
 //! Compares what the rules of a file make of two recordings, all given by the names of their files.
 ghost use Rattle.std.specs.Prelude.{◌<◌, ◌^◌};
-ghost use Rattle.dapnorm.specs.RuledPair.{AreComparedByRules, AreDiffedByRules};
-ghost use Rattle.dapnorm.specs.RuledPair.{AreDiffedWholeByRules, AreReportedByRules};
+ghost use Rattle.dapnorm.specs.RuledPair.{AreComparedByRules};
 
-use crate::findings::{Findings, run_findings};
+use crate::findings::run_findings;
+use dap_commands::Printed;
 use dap_device::{MemorySource, Sink, Source};
 use dap_rename::{Mode, NameTable};
 use dap_runs::{
@@ -11,9 +11,13 @@ use dap_runs::{
 };
 use std::alloc::Global;
 
-/// Prints findings about what the rules of a file make of the recordings that two names lead to,
-/// under the limits of the program.
-fn run_by_rules<
+/// Compares what the rules of a file make of the recordings that two names lead to, under the limits
+/// of the program, and prints the verdict or the differences.
+///
+/// It prints and reports what [`run_compare`](crate::run_compare), [`run_diff`](crate::run_diff) or
+/// [`run_diff_all`](crate::run_diff_all) does, with the texts of [`texts_by_rules`] as its inputs.
+/// Why the rules were not applied is reported in one line, with its status.
+pub fn compare_by_rules<
     I: Source + Drop,
     F: Files<I>,
     J: Source + Drop,
@@ -23,8 +27,8 @@ fn run_by_rules<
     T: NameTable + Drop,
     M: TableMaker<T>,
 >(
-    findings: Findings,
     alloc: Global,
+    printed: Printed,
     files: &F,
     rules_files: &G,
     rules: &str,
@@ -37,9 +41,12 @@ fn run_by_rules<
 ) -> RuledPairRun<I>
     requires write_failures { W.failures writer.old < 2 ^ 62 }
     requires error_failures { E.failures errors.old < 2 ^ 62 }
-    ensures { AreReportedByRules (F.opened files.now) (F.unopened files.now)
+
+    // The rules are those of the file of `rules`, the input of A is that of `a`, and the input of B
+    // that of `b`. What is printed of them goes to `writer`, and what is wrong to `errors`.
+    ensures { AreComparedByRules (F.opened files.now) (F.unopened files.now)
         (G.opened rules_files.now) (G.unopened rules_files.now) I.Source J.Source W.Sink E.Sink
-        LIMITS mode rules.now a.now b.now writer.old writer.new errors.old errors.new result findings }
+        LIMITS mode rules.now a.now b.now writer.old writer.new errors.old errors.new result printed }
 {
     let texts = match texts_by_rules::<I, F, J, G, T, M>(
         alloc,
@@ -61,8 +68,8 @@ fn run_by_rules<
         }
     };
     let status = run_findings(
-        findings,
         alloc,
+        printed,
         &mut MemorySource::new(texts.a.as_slice()),
         &mut MemorySource::new(texts.b.as_slice()),
         writer,
@@ -73,149 +80,4 @@ fn run_by_rules<
         texts.mode,
     );
     RuledPairRun { status, stop: None }
-}
-
-/// Compares what the rules of a file make of the recordings that two names lead to, under the limits
-/// of the program.
-///
-/// It prints and reports what [`run_compare`](crate::run_compare) does, with the texts of
-/// [`texts_by_rules`] as its inputs. Why the rules were not applied is reported in one line, with
-/// its status.
-pub fn compare_by_rules<
-    I: Source + Drop,
-    F: Files<I>,
-    J: Source + Drop,
-    G: RulesFiles<J>,
-    W: Sink,
-    E: Sink,
-    T: NameTable + Drop,
-    M: TableMaker<T>,
->(
-    alloc: Global,
-    files: &F,
-    rules_files: &G,
-    rules: &str,
-    a: &str,
-    b: &str,
-    writer: &mut W,
-    errors: &mut E,
-    maker: &M,
-    mode: Mode,
-) -> RuledPairRun<I>
-    requires write_failures { W.failures writer.old < 2 ^ 62 }
-    requires error_failures { E.failures errors.old < 2 ^ 62 }
-
-    // The rules are those of the file of `rules`, the input of A is that of `a`, and the input of B
-    // that of `b`. The verdict goes to `writer`, and what is wrong to `errors`.
-    ensures { AreComparedByRules (F.opened files.now) (F.unopened files.now)
-        (G.opened rules_files.now) (G.unopened rules_files.now) I.Source J.Source W.Sink E.Sink
-        LIMITS mode rules.now a.now b.now writer.old writer.new errors.old errors.new result }
-{
-    run_by_rules::<I, F, J, G, W, E, T, M>(
-        Findings::Verdict,
-        alloc,
-        files,
-        rules_files,
-        rules,
-        a,
-        b,
-        writer,
-        errors,
-        maker,
-        mode,
-    )
-}
-
-/// Does what [`compare_by_rules`] does, and prints how the recordings differ, as
-/// [`run_diff`](crate::run_diff) does.
-pub fn diff_by_rules<
-    I: Source + Drop,
-    F: Files<I>,
-    J: Source + Drop,
-    G: RulesFiles<J>,
-    W: Sink,
-    E: Sink,
-    T: NameTable + Drop,
-    M: TableMaker<T>,
->(
-    alloc: Global,
-    files: &F,
-    rules_files: &G,
-    rules: &str,
-    a: &str,
-    b: &str,
-    writer: &mut W,
-    errors: &mut E,
-    maker: &M,
-    mode: Mode,
-) -> RuledPairRun<I>
-    requires write_failures { W.failures writer.old < 2 ^ 62 }
-    requires error_failures { E.failures errors.old < 2 ^ 62 }
-
-    // The rules are those of the file of `rules`, the input of A is that of `a`, and the input of B
-    // that of `b`. How they differ goes to `writer`, and what is wrong to `errors`.
-    ensures { AreDiffedByRules (F.opened files.now) (F.unopened files.now)
-        (G.opened rules_files.now) (G.unopened rules_files.now) I.Source J.Source W.Sink E.Sink
-        LIMITS mode rules.now a.now b.now writer.old writer.new errors.old errors.new result }
-{
-    run_by_rules::<I, F, J, G, W, E, T, M>(
-        Findings::FirstDifference,
-        alloc,
-        files,
-        rules_files,
-        rules,
-        a,
-        b,
-        writer,
-        errors,
-        maker,
-        mode,
-    )
-}
-
-/// Does what [`compare_by_rules`] does, and prints all differences of the recordings, as
-/// [`run_diff_all`](crate::run_diff_all) does.
-pub fn diff_all_by_rules<
-    I: Source + Drop,
-    F: Files<I>,
-    J: Source + Drop,
-    G: RulesFiles<J>,
-    W: Sink,
-    E: Sink,
-    T: NameTable + Drop,
-    M: TableMaker<T>,
->(
-    alloc: Global,
-    files: &F,
-    rules_files: &G,
-    rules: &str,
-    a: &str,
-    b: &str,
-    writer: &mut W,
-    errors: &mut E,
-    maker: &M,
-    mode: Mode,
-) -> RuledPairRun<I>
-    requires write_failures { W.failures writer.old < 2 ^ 62 }
-    requires error_failures { E.failures errors.old < 2 ^ 62 }
-
-    // The rules are those of the file of `rules`, the input of A is that of `a`, and the input of B
-    // that of `b`. Their differences go to `writer`, and what is wrong to `errors`.
-    ensures { AreDiffedWholeByRules (F.opened files.now) (F.unopened files.now)
-        (G.opened rules_files.now) (G.unopened rules_files.now) I.Source J.Source W.Sink E.Sink
-        LIMITS mode rules.now a.now b.now writer.old writer.new errors.old errors.new result }
-{
-    run_by_rules::<I, F, J, G, W, E, T, M>(
-        Findings::AllDifferences,
-        alloc,
-        files,
-        rules_files,
-        rules,
-        a,
-        b,
-        writer,
-        errors,
-        maker,
-        mode,
-    )
 }

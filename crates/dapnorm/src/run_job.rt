@@ -1,17 +1,8 @@
 //! Does a job, prints its output, and returns a status.
-ghost use Rattle.std.specs.Prelude.{◌≡◌, ℕ, ◌+◌, ◌<◌, ◌≤◌, ◌^◌, Bool, List, Option, option_map};
-ghost use Rattle.std.specs.Borrow.{Bor};
-ghost use Rattle.dap_commands.specs.Jobs.{mode_for};
+ghost use Rattle.std.specs.Prelude.{◌≡◌, ◌+◌, ◌<◌, ◌≤◌, ◌^◌};
 ghost use Rattle.dap_input.specs.Limits.{AreSound};
 ghost use Rattle.dap_normalise.specs.NameTables.{AreReady};
-ghost use Rattle.dap_profile.specs.RowLines.{lines_of};
-ghost use Rattle.dap_runs.specs.RowsRun.{ReportsRows};
-ghost use Rattle.dap_runs.specs.Reporting.{Answered, IsReported};
-ghost use Rattle.dapnorm.specs.Run.{CheckIsPrinted, CheckIsReported};
-ghost use Rattle.dapnorm.specs.Run.{HasCompacted, HasNormalised, HasShown};
-ghost use Rattle.dap_runs.specs.Reporting.{status_of};
-ghost use Rattle.dapnorm.specs.Run.{ReportsUsage, accepted_line};
-ghost use Rattle.dap_record.specs.TracingRun.{RecordsTrace};
+ghost use Rattle.dapnorm.specs.Run.{CheckIsPrinted, JobIsDone, ReportsUsage, accepted_line};
 
 use arrayvec::ArrayString;
 use dap_commands::{Job, UsageFault};
@@ -79,40 +70,9 @@ pub fn run_stream<R: Source, W: Sink, E: Sink>(
     requires write_failures { W.failures writer.old < 2 ^ 62 }
     requires error_failures { E.failures errors.old < 2 ^ 62 }
 
-    // The output is what the command function writes. An error is reported, and the status is that
-    // of the result. After a failed allocation, either nothing of the input was read, or all of it.
-    ensures compact { job.now ≡ Job.Compact
-        → Answered (HasCompacted R.Source W.Sink limits reader.old reader.new writer.old writer.new)
-        (IsReported E.Sink errors.old errors.new) result }
-
-    // The output is the records that `record` writes, and the status that of its result.
-    ensures record_trace { job.now ≡ Job.Record
-        → Answered (RecordsTrace R.Source W.Sink limits reader.old reader.new writer.old writer.new)
-        (IsReported E.Sink errors.old errors.new) result }
-
-    // The output is the normal form that `normalise` writes, and the status that of its result.
-    // After a failed allocation, no read has failed.
-    ensures normalise { (per_stop : Bool) → job.now ≡ Job.Normalise per_stop
-        → Answered (HasNormalised R.Source W.Sink limits (mode_for per_stop) reader.old reader.new
-        writer.old writer.new) (IsReported E.Sink errors.old errors.new) result }
-
-    // The output is the line of a recording that `check` accepts, and the status that of its result
-    // or of a writer that failed.
-    ensures check { (complete per_stop : Bool) → job.now ≡ Job.Check complete per_stop
-        → CheckIsReported R.Source W.Sink E.Sink limits (mode_for per_stop) complete reader.old
-        reader.new writer.old writer.new errors.old errors.new result }
-
-    // The output is the lines that `show` writes, and the status that of its result. After a failed
-    // allocation, either nothing of the input was read, or all of it.
-    ensures show { job.now ≡ Job.Show
-        → Answered (HasShown R.Source W.Sink limits reader.old reader.new writer.old writer.new)
-        (IsReported E.Sink errors.old errors.new) result }
-
-    // The output is the lines of the rows that are asked for, and nothing is read.
-    ensures rows { (number : Option (Bor (List ℕ))) → job.now ≡ Job.Rows number
-        → (reader.new ≡ reader.old) × ReportsRows W.Sink E.Sink
-        (lines_of (option_map (λ s. s.now) number)) writer.old writer.new errors.old errors.new
-        result }
+    // The job is done. Its output goes to `writer`, and what is wrong to `errors`.
+    ensures done { JobIsDone R.Source W.Sink E.Sink limits reader.old reader.new writer.old
+        writer.new errors.old errors.new result job.now }
 
     // It takes at most one byte past the limit.
     ensures taken { R.given reader.new ≤ R.given reader.old + limits.input + 1 }
@@ -150,40 +110,25 @@ pub fn run_stream_with<R: Source, W: Sink, E: Sink, T: NameTable + Drop>(
     requires error_failures { E.failures errors.old < 2 ^ 62 }
 
     // What `run_stream` promises, whatever the tables are.
-    ensures compact { job.now ≡ Job.Compact
-        → Answered (HasCompacted R.Source W.Sink limits reader.old reader.new writer.old writer.new)
-        (IsReported E.Sink errors.old errors.new) result }
-    ensures record_trace { job.now ≡ Job.Record
-        → Answered (RecordsTrace R.Source W.Sink limits reader.old reader.new writer.old writer.new)
-        (IsReported E.Sink errors.old errors.new) result }
-    ensures normalise { (per_stop : Bool) → job.now ≡ Job.Normalise per_stop
-        → Answered (HasNormalised R.Source W.Sink limits (mode_for per_stop) reader.old reader.new
-        writer.old writer.new) (IsReported E.Sink errors.old errors.new) result }
-    ensures check { (complete per_stop : Bool) → job.now ≡ Job.Check complete per_stop
-        → CheckIsReported R.Source W.Sink E.Sink limits (mode_for per_stop) complete reader.old
-        reader.new writer.old writer.new errors.old errors.new result }
-    ensures show { job.now ≡ Job.Show
-        → Answered (HasShown R.Source W.Sink limits reader.old reader.new writer.old writer.new)
-        (IsReported E.Sink errors.old errors.new) result }
-    ensures rows { (number : Option (Bor (List ℕ))) → job.now ≡ Job.Rows number
-        → (reader.new ≡ reader.old) × ReportsRows W.Sink E.Sink
-        (lines_of (option_map (λ s. s.now) number)) writer.old writer.new errors.old errors.new
-        result }
+    ensures done { JobIsDone R.Source W.Sink E.Sink limits reader.old reader.new writer.old
+        writer.new errors.old errors.new result job.now }
     ensures taken { R.given reader.new ≤ R.given reader.old + limits.input + 1 }
 {
-    let outcome = match *job {
-        Job::Compact => compact(alloc, reader, writer, limits),
-        Job::Record => record(alloc, reader, writer, limits),
-        Job::Normalise { .. } => normalise_with(alloc, reader, writer, limits, tables, job.mode()),
-        Job::Check { complete, .. } => print(
-            writer,
-            check_with(alloc, reader, limits, complete, tables, job.mode()),
+    match *job {
+        Job::Compact => tell_answer(errors, compact(alloc, reader, writer, limits)),
+        Job::Record => tell_answer(errors, record(alloc, reader, writer, limits)),
+        Job::Normalise { .. } => tell_answer(
+            errors,
+            normalise_with(alloc, reader, writer, limits, tables, job.mode()),
         ),
-        Job::Show => show(alloc, reader, writer, limits),
-        Job::Rows { number } => return tell_rows(alloc, number, writer, errors),
+        Job::Check { complete, .. } => {
+            let outcome = check_with(alloc, reader, limits, complete, tables, job.mode());
+            tell_answer(errors, print(writer, outcome))
+        }
+        Job::Show => tell_answer(errors, show(alloc, reader, writer, limits)),
+        Job::Rows { number } => tell_rows(alloc, number, writer, errors),
         Job::Mask { .. } | Job::Compare { .. } | Job::Diff { .. } => unreachable!(),
-    };
-    tell_answer(errors, outcome)
+    }
 }
 
 /// Prints why the arguments name no job, and returns the program's status.

@@ -10,10 +10,8 @@ ghost use Rattle.dapnorm.specs.SavedRun.{EndTakes, Finishes, IsHeld, RunIsSaved,
 ghost use Rattle.dapnorm.specs.SavedRun.{unfound_status};
 
 use crate::one_file::{input_name, report_unopened};
-use crate::ruled_file::RuledRun;
 use crate::targets::Targets;
-use crate::task::{Task, run_task};
-use dap_commands::Job;
+use crate::task::{Task, TaskRun, run_task};
 use dap_device::{Replaceable, Sink, Source};
 use dap_input::Refused;
 use dap_rename::{NameTable, Tables};
@@ -144,10 +142,7 @@ fn run_held<
     name: &str,
     errors: &mut E,
     tables: Tables<T>,
-) -> RuledRun
-    requires stream { (a b per_stop : _) → task.now ≡ Task.Job (Job.Compare a b per_stop) → ⊥ }
-    requires no_rules { (rules : _) → task.now ≡ Task.Job (Job.Mask rules) → ⊥ }
-    requires no_diff { (a b per_stop : _) → task.now ≡ Task.Job (Job.Diff a b per_stop) → ⊥ }
+) -> TaskRun
     requires tables { AreReady T.numbers T.limit LIMITS tables }
     requires given { R.given reader.old < 2 ^ 62 }
     requires read_failures { R.failures reader.old < 2 ^ 62 }
@@ -171,9 +166,9 @@ fn run_held<
         &mut reported,
         tables,
     );
-    RuledRun {
+    TaskRun {
         status: finish(text, reported, run.status, output, name, errors),
-        unopened: run.unopened,
+        unopened_rules: run.unopened_rules,
     }
 }
 
@@ -206,9 +201,6 @@ pub fn save_run<
     errors: &mut E,
     tables: Tables<T>,
 ) -> SavedRun<I, O>
-    requires stream { (a b per_stop : _) → task.now ≡ Task.Job (Job.Compare a b per_stop) → ⊥ }
-    requires no_rules { (rules : _) → task.now ≡ Task.Job (Job.Mask rules) → ⊥ }
-    requires no_diff { (a b per_stop : _) → task.now ≡ Task.Job (Job.Diff a b per_stop) → ⊥ }
     requires tables { AreReady T.numbers T.limit LIMITS tables }
     requires error_failures { E.failures errors.old < 2 ^ 62 }
 
@@ -261,7 +253,7 @@ pub fn save_run<
         end: SaveEnd::Ran {
             input,
             output,
-            unopened_rules: run.unopened,
+            unopened_rules: run.unopened_rules,
         },
     }
 }

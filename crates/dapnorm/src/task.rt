@@ -1,36 +1,121 @@
 //! What is done over one input.
 ghost use Rattle.std.specs.Prelude.{◌≡◌, ◌+◌, ◌<◌, ◌≤◌, ◌^◌};
 ghost use Rattle.dap_normalise.specs.NameTables.{AreReady};
-ghost use Rattle.dapnorm.specs.TaskRun.{TaskIsDone};
+ghost use Rattle.dapnorm.specs.TaskRun.{IsRuledBy, TaskIsDone, job_of};
 
-use crate::ruled_file::{RuledRun, run_mask_by, run_order_by};
 use crate::run_job::run_stream_with;
 use crate::view_run::run_view;
 use dap_commands::Job;
 use dap_device::{Sink, Source};
 use dap_rename::{NameTable, Tables};
-use dap_runs::{LIMITS, RulesFiles};
+use dap_runs::{LIMITS, RulesFiles, RulesOpenFault, report_unopened_rules, run_mask, run_order};
 use dap_show::ShowRequest;
 use std::alloc::Global;
+
+/// The jobs that read at most one input and no rules. [`Job`] describes them.
+#[derive(Clone, Copy, Debug)]
+pub enum StreamJob<'a> {
+    Compact,
+    Record,
+    Normalise { per_stop: bool },
+    Check { complete: bool, per_stop: bool },
+    Show,
+    Rows { number: Option<&'a str> },
+}
+
+impl<'a> StreamJob<'a> {
+    /// Returns the job for [`run_stream`](crate::run_stream).
+    pub fn job(self) -> Job<'a>
+        ensures { result ≡ job_of self.entry }
+    {
+        match self {
+            StreamJob::Compact => Job::Compact,
+            StreamJob::Record => Job::Record,
+            StreamJob::Normalise { per_stop } => Job::Normalise { per_stop },
+            StreamJob::Check { complete, per_stop } => Job::Check { complete, per_stop },
+            StreamJob::Show => Job::Show,
+            StreamJob::Rows { number } => Job::Rows { number },
+        }
+    }
+}
+
+/// What is done to a recording by the rules of a file.
+#[derive(Clone, Copy, Debug)]
+pub enum Ruled {
+    /// It is masked, as [`run_mask`] describes.
+    Mask,
+    /// It is put in order, as [`run_order`] describes.
+    Order,
+}
 
 /// What is done over one input.
 #[derive(Clone, Copy, Debug)]
 pub enum Task<'a> {
-    /// A job, but none over two files and no masking.
-    Job(Job<'a>),
+    /// A job without rules.
+    Job(StreamJob<'a>),
     /// Print the recording as `show` requests.
     Show(ShowRequest),
-    /// Mask the recording by the rules of the file of this name.
-    Mask { rules: &'a str },
-    /// Put the recording in order by the rules of the file of this name.
-    Order { rules: &'a str },
+    /// Mask the recording, or put it in order, by the rules of the file of this name.
+    Apply { ruled: Ruled, rules: &'a str },
+}
+
+/// How a task ended.
+#[derive(Clone, Copy, Debug)]
+pub struct TaskRun {
+    /// The status of the program.
+    pub status: u8,
+    /// Why the file of rules did not open. Nothing was read of the recording then.
+    pub unopened_rules: Option<RulesOpenFault>,
+}
+
+/// Masks the recording of `reader`, or puts it in order, by the rules of the file that a name leads
+/// to.
+fn run_by_rules<J: Source + Drop, G: RulesFiles<J>, R: Source, W: Sink, E: Sink>(
+    alloc: Global,
+    files: &G,
+    ruled: Ruled,
+    rules: &str,
+    is_input_standard: bool,
+    reader: &mut R,
+    writer: &mut W,
+    errors: &mut E,
+) -> TaskRun
+    requires given { R.given reader.old < 2 ^ 62 }
+    requires read_failures { R.failures reader.old < 2 ^ 62 }
+    requires write_failures { W.failures writer.old < 2 ^ 62 }
+    requires error_failures { E.failures errors.old < 2 ^ 62 }
+    ensures run { IsRuledBy (G.opened files.now) (G.unopened files.now) J.Source R.Source W.Sink
+        E.Sink LIMITS rules.now is_input_standard reader.old reader.new writer.old writer.new
+        errors.old errors.new ruled result }
+    ensures taken { R.given reader.new ≤ R.given reader.old + LIMITS.input + 1 }
+{
+    let mut file = match files.open_rules(rules, is_input_standard) {
+        Ok(file) => file,
+        Err(fault) => {
+            let status = report_unopened_rules(errors, fault);
+            return TaskRun {
+                status,
+                unopened_rules: Some(fault),
+            };
+        }
+    };
+    let status = match ruled {
+        Ruled::Mask => run_mask(alloc, &mut file, reader, writer, errors, LIMITS),
+        Ruled::Order => run_order(alloc, &mut file, reader, writer, errors, LIMITS),
+    };
+    TaskRun {
+        status,
+        unopened_rules: None,
+    }
 }
 
 /// Does a task over a reader and a writer, under the limits of the program, and returns its status.
 /// An error is reported on `errors`, in one line.
 ///
-/// It prints and reports what [`run_stream_with`], [`run_view`], [`run_mask_by`] and
-/// [`run_order_by`] do. The tables have to be empty, each with the limit of ids.
+/// It prints and reports what [`run_stream_with`], [`run_view`], [`run_mask`] and [`run_order`] do.
+/// A file of rules that does not open is reported as one that could not be read, with status 4, or
+/// 5 if an allocation failed. If it shows that standard input is closed, the input could not be
+/// read. The tables have to be empty, each with the limit of ids.
 pub fn run_task<
     J: Source + Drop,
     G: RulesFiles<J>,
@@ -47,10 +132,7 @@ pub fn run_task<
     writer: &mut W,
     errors: &mut E,
     tables: Tables<T>,
-) -> RuledRun
-    requires stream { (a b per_stop : _) → task.now ≡ Task.Job (Job.Compare a b per_stop) → ⊥ }
-    requires no_rules { (rules : _) → task.now ≡ Task.Job (Job.Mask rules) → ⊥ }
-    requires no_diff { (a b per_stop : _) → task.now ≡ Task.Job (Job.Diff a b per_stop) → ⊥ }
+) -> TaskRun
     requires tables { AreReady T.numbers T.limit LIMITS tables }
     requires given { R.given reader.old < 2 ^ 62 }
     requires read_failures { R.failures reader.old < 2 ^ 62 }
@@ -67,26 +149,18 @@ pub fn run_task<
     ensures taken { R.given reader.new ≤ R.given reader.old + LIMITS.input + 1 }
 {
     match *task {
-        Task::Job(job) => RuledRun {
-            status: run_stream_with(alloc, &job, reader, writer, errors, LIMITS, tables),
-            unopened: None,
+        Task::Job(job) => TaskRun {
+            status: run_stream_with(alloc, &job.job(), reader, writer, errors, LIMITS, tables),
+            unopened_rules: None,
         },
-        Task::Show(request) => RuledRun {
+        Task::Show(request) => TaskRun {
             status: run_view(alloc, request, reader, writer, errors, LIMITS),
-            unopened: None,
+            unopened_rules: None,
         },
-        Task::Mask { rules } => run_mask_by::<J, G, R, W, E>(
+        Task::Apply { ruled, rules } => run_by_rules::<J, G, R, W, E>(
             alloc,
             files,
-            rules,
-            is_input_standard,
-            reader,
-            writer,
-            errors,
-        ),
-        Task::Order { rules } => run_order_by::<J, G, R, W, E>(
-            alloc,
-            files,
+            ruled,
             rules,
             is_input_standard,
             reader,

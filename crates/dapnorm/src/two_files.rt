@@ -1,20 +1,26 @@
 //! Compares two recordings that are given by the names of their files.
 ghost use Rattle.std.specs.Prelude.{◌+◌, ◌<◌, ◌≤◌, ◌^◌, IfOk};
 ghost use Rattle.dap_normalise.specs.NameTables.{AreReady};
-ghost use Rattle.dapnorm.specs.TwoFiles.{FilesAreCompared, FilesAreDiffed, FilesAreDiffedWhole};
-ghost use Rattle.dapnorm.specs.TwoFiles.{FilesAreReported};
+ghost use Rattle.dapnorm.specs.TwoFiles.{FilesAreCompared};
 
-use crate::findings::{Findings, run_findings};
+use crate::findings::run_findings;
+use dap_commands::Printed;
 use dap_device::{Sink, Source};
 use dap_rename::{Mode, NameTable, Tables};
 use dap_runs::{Files, LIMITS, TwoFilesRun, open_both, report_open_stop};
 use std::alloc::Global;
 
-/// Prints findings about the recordings of the files that two names lead to, under the limits of
-/// the program.
-fn run_files<I: Source + Drop, F: Files<I>, W: Sink, E: Sink, T: NameTable + Drop>(
-    findings: Findings,
+/// Compares the recordings of the files that two names lead to, under the limits of the program, and
+/// prints the verdict or the differences.
+///
+/// It prints and reports what [`run_compare`](crate::run_compare), [`run_diff`](crate::run_diff) or
+/// [`run_diff_all`](crate::run_diff_all) does. An input that does not open is reported as one that
+/// could not be read, with status 4, or 5 if an allocation failed. Two inputs that are both standard
+/// input are a mistake of the user, with status 3. The tables have to be empty, each with the limit
+/// of ids.
+pub fn compare_files<I: Source + Drop, F: Files<I>, W: Sink, E: Sink, T: NameTable + Drop>(
     alloc: Global,
+    printed: Printed,
     files: &F,
     a: &str,
     b: &str,
@@ -28,8 +34,13 @@ fn run_files<I: Source + Drop, F: Files<I>, W: Sink, E: Sink, T: NameTable + Dro
     requires tables_b { AreReady T.numbers T.limit LIMITS tables_b }
     requires write_failures { W.failures writer.old < 2 ^ 62 }
     requires error_failures { E.failures errors.old < 2 ^ 62 }
-    ensures reported { FilesAreReported (F.opened files.now) (F.unopened files.now) I.Source W.Sink
-        E.Sink LIMITS mode a.now b.now writer.old writer.new errors.old errors.new result findings }
+
+    // The input of A is that of the first name, and the input of B that of the second. What is
+    // printed of them goes to `writer`, and what is wrong to `errors`.
+    ensures compared { FilesAreCompared (F.opened files.now) (F.unopened files.now) I.Source W.Sink
+        E.Sink LIMITS mode a.now b.now writer.old writer.new errors.old errors.new result printed }
+
+    // It takes at most one byte past the limit of each.
     ensures taken_a { IfOk result.inputs (λ inputs. I.given inputs.0 ≤ LIMITS.input + 1) }
     ensures taken_b { IfOk result.inputs (λ inputs. I.given inputs.1 ≤ LIMITS.input + 1) }
 {
@@ -44,8 +55,8 @@ fn run_files<I: Source + Drop, F: Files<I>, W: Sink, E: Sink, T: NameTable + Dro
         }
     };
     let status = run_findings(
-        findings,
         alloc,
+        printed,
         &mut input_a,
         &mut input_b,
         writer,
@@ -59,131 +70,4 @@ fn run_files<I: Source + Drop, F: Files<I>, W: Sink, E: Sink, T: NameTable + Dro
         status,
         inputs: Ok((input_a, input_b)),
     }
-}
-
-/// Compares the recordings of the files that two names lead to, under the limits of the program.
-///
-/// It prints and reports what [`run_compare`](crate::run_compare) does. An input that does not open
-/// is reported as one that could not be read, with status 4, or 5 if an allocation failed. Two
-/// inputs that are both standard input are a mistake of the user, with status 3. The tables have
-/// to be empty, each with the limit of ids.
-pub fn compare_files<I: Source + Drop, F: Files<I>, W: Sink, E: Sink, T: NameTable + Drop>(
-    alloc: Global,
-    files: &F,
-    a: &str,
-    b: &str,
-    writer: &mut W,
-    errors: &mut E,
-    tables_a: Tables<T>,
-    tables_b: Tables<T>,
-    mode: Mode,
-) -> TwoFilesRun<I>
-    requires tables_a { AreReady T.numbers T.limit LIMITS tables_a }
-    requires tables_b { AreReady T.numbers T.limit LIMITS tables_b }
-    requires write_failures { W.failures writer.old < 2 ^ 62 }
-    requires error_failures { E.failures errors.old < 2 ^ 62 }
-
-    // The input of A is that of the first name, and the input of B that of the second. The verdict
-    // on them goes to `writer`, and what is wrong to `errors`.
-    ensures compared { FilesAreCompared (F.opened files.now) (F.unopened files.now) I.Source W.Sink
-        E.Sink LIMITS mode a.now b.now writer.old writer.new errors.old errors.new result }
-
-    // It takes at most one byte past the limit of each.
-    ensures taken_a { IfOk result.inputs (λ inputs. I.given inputs.0 ≤ LIMITS.input + 1) }
-    ensures taken_b { IfOk result.inputs (λ inputs. I.given inputs.1 ≤ LIMITS.input + 1) }
-{
-    run_files(
-        Findings::Verdict,
-        alloc,
-        files,
-        a,
-        b,
-        writer,
-        errors,
-        tables_a,
-        tables_b,
-        mode,
-    )
-}
-
-/// Does what [`compare_files`] does, and prints how the recordings differ, as
-/// [`run_diff`](crate::run_diff) does.
-pub fn diff_files<I: Source + Drop, F: Files<I>, W: Sink, E: Sink, T: NameTable + Drop>(
-    alloc: Global,
-    files: &F,
-    a: &str,
-    b: &str,
-    writer: &mut W,
-    errors: &mut E,
-    tables_a: Tables<T>,
-    tables_b: Tables<T>,
-    mode: Mode,
-) -> TwoFilesRun<I>
-    requires tables_a { AreReady T.numbers T.limit LIMITS tables_a }
-    requires tables_b { AreReady T.numbers T.limit LIMITS tables_b }
-    requires write_failures { W.failures writer.old < 2 ^ 62 }
-    requires error_failures { E.failures errors.old < 2 ^ 62 }
-
-    // The input of A is that of the first name, and the input of B that of the second. How they
-    // differ goes to `writer`, and what is wrong to `errors`.
-    ensures compared { FilesAreDiffed (F.opened files.now) (F.unopened files.now) I.Source W.Sink
-        E.Sink LIMITS mode a.now b.now writer.old writer.new errors.old errors.new result }
-
-    // It takes at most one byte past the limit of each.
-    ensures taken_a { IfOk result.inputs (λ inputs. I.given inputs.0 ≤ LIMITS.input + 1) }
-    ensures taken_b { IfOk result.inputs (λ inputs. I.given inputs.1 ≤ LIMITS.input + 1) }
-{
-    run_files(
-        Findings::FirstDifference,
-        alloc,
-        files,
-        a,
-        b,
-        writer,
-        errors,
-        tables_a,
-        tables_b,
-        mode,
-    )
-}
-
-/// Does what [`compare_files`] does, and prints all differences of the recordings, as
-/// [`run_diff_all`](crate::run_diff_all) does.
-pub fn diff_all_files<I: Source + Drop, F: Files<I>, W: Sink, E: Sink, T: NameTable + Drop>(
-    alloc: Global,
-    files: &F,
-    a: &str,
-    b: &str,
-    writer: &mut W,
-    errors: &mut E,
-    tables_a: Tables<T>,
-    tables_b: Tables<T>,
-    mode: Mode,
-) -> TwoFilesRun<I>
-    requires tables_a { AreReady T.numbers T.limit LIMITS tables_a }
-    requires tables_b { AreReady T.numbers T.limit LIMITS tables_b }
-    requires write_failures { W.failures writer.old < 2 ^ 62 }
-    requires error_failures { E.failures errors.old < 2 ^ 62 }
-
-    // The input of A is that of the first name, and the input of B that of the second. Their
-    // differences go to `writer`, and what is wrong to `errors`.
-    ensures compared { FilesAreDiffedWhole (F.opened files.now) (F.unopened files.now) I.Source
-        W.Sink E.Sink LIMITS mode a.now b.now writer.old writer.new errors.old errors.new result }
-
-    // It takes at most one byte past the limit of each.
-    ensures taken_a { IfOk result.inputs (λ inputs. I.given inputs.0 ≤ LIMITS.input + 1) }
-    ensures taken_b { IfOk result.inputs (λ inputs. I.given inputs.1 ≤ LIMITS.input + 1) }
-{
-    run_files(
-        Findings::AllDifferences,
-        alloc,
-        files,
-        a,
-        b,
-        writer,
-        errors,
-        tables_a,
-        tables_b,
-        mode,
-    )
 }

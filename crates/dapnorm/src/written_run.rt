@@ -9,7 +9,6 @@ use crate::devices::Devices;
 use crate::one_file::{input_name, report_unopened};
 use crate::saved_run::{SaveEnd, SavedRun, report_unfound};
 use crate::task::{Task, run_task};
-use dap_commands::Job;
 use dap_device::{Sink, Source};
 use dap_rename::{NameTable, Tables};
 use dap_runs::{Files, LIMITS, RulesFiles, is_standard};
@@ -43,9 +42,6 @@ pub fn write_run<
     errors: &mut E,
     tables: Tables<T>,
 ) -> SavedRun<I, W>
-    requires stream { (a b per_stop : _) → task.now ≡ Task.Job (Job.Compare a b per_stop) → ⊥ }
-    requires no_rules { (rules : _) → task.now ≡ Task.Job (Job.Mask rules) → ⊥ }
-    requires no_diff { (a b per_stop : _) → task.now ≡ Task.Job (Job.Diff a b per_stop) → ⊥ }
     requires tables { AreReady T.numbers T.limit LIMITS tables }
     requires error_failures { E.failures errors.old < 2 ^ 62 }
 
@@ -96,7 +92,7 @@ pub fn write_run<
         end: SaveEnd::Ran {
             input,
             output: device,
-            unopened_rules: run.unopened,
+            unopened_rules: run.unopened_rules,
         },
     }
 }

@@ -1,6 +1,6 @@
 //! Compares the recordings of two files, or prints how they differ.
 use crate::explaining::{explain_no_rules, print};
-use crate::files::{OpenedInput, SystemFiles};
+use crate::files::OpenedInput;
 use crate::reports::{report_failure, report_reason};
 use crate::{REFUSED, Setting, tables};
 use dap_device::KeptInput;
@@ -8,7 +8,6 @@ use dap_explain::{explain_applying, explain_comparison};
 use dapnorm::{
     Comparison, IndexNames, LIMITS, Mode, OpenFault, OpenStop, Printed, RuledPairRun, RulesStop,
     StdSink, TableMaker, Tables, TwoFilesRun, Which, compare_by_rules, compare_files,
-    diff_all_by_rules, diff_all_files, diff_by_rules, diff_files,
 };
 use std::alloc::Global;
 use std::hash::RandomState;
@@ -33,85 +32,6 @@ fn explain(
             explain_comparison(rt.alloc(), a, b, LIMITS, mode, setting.hasher),
         );
     }
-}
-
-/// Compares the recordings of two files, and prints the verdict.
-fn print_verdict(
-    rt: &HostRuntime,
-    a: &str,
-    b: &str,
-    mode: Mode,
-    setting: Setting<'_>,
-) -> TwoFilesRun<OpenedInput> {
-    let alloc = rt.alloc();
-    let files = SystemFiles {
-        rt,
-        is_kept: setting.explain,
-    };
-    compare_files(
-        alloc,
-        &files,
-        a,
-        b,
-        &mut StdSink::new(rt.stdout()),
-        &mut StdSink::new(rt.stderr()),
-        tables(alloc, LIMITS, setting.hasher),
-        tables(alloc, LIMITS, setting.hasher),
-        mode,
-    )
-}
-
-/// Compares the recordings of two files, and prints what differs at the first record at which they
-/// differ.
-fn print_first_difference(
-    rt: &HostRuntime,
-    a: &str,
-    b: &str,
-    mode: Mode,
-    setting: Setting<'_>,
-) -> TwoFilesRun<OpenedInput> {
-    let alloc = rt.alloc();
-    let files = SystemFiles {
-        rt,
-        is_kept: setting.explain,
-    };
-    diff_files(
-        alloc,
-        &files,
-        a,
-        b,
-        &mut StdSink::new(rt.stdout()),
-        &mut StdSink::new(rt.stderr()),
-        tables(alloc, LIMITS, setting.hasher),
-        tables(alloc, LIMITS, setting.hasher),
-        mode,
-    )
-}
-
-/// Compares the recordings of two files, and prints all differences.
-fn print_all_differences(
-    rt: &HostRuntime,
-    a: &str,
-    b: &str,
-    mode: Mode,
-    setting: Setting<'_>,
-) -> TwoFilesRun<OpenedInput> {
-    let alloc = rt.alloc();
-    let files = SystemFiles {
-        rt,
-        is_kept: setting.explain,
-    };
-    diff_all_files(
-        alloc,
-        &files,
-        a,
-        b,
-        &mut StdSink::new(rt.stdout()),
-        &mut StdSink::new(rt.stderr()),
-        tables(alloc, LIMITS, setting.hasher),
-        tables(alloc, LIMITS, setting.hasher),
-        mode,
-    )
 }
 
 /// Reports the reason of an input that did not open.
@@ -154,11 +74,19 @@ pub fn compare_two(
     printed: Printed,
     setting: Setting<'_>,
 ) -> u8 {
-    let run = match printed {
-        Printed::Verdict => print_verdict(rt, a, b, mode, setting),
-        Printed::FirstDifference => print_first_difference(rt, a, b, mode, setting),
-        Printed::AllDifferences => print_all_differences(rt, a, b, mode, setting),
-    };
+    let alloc = rt.alloc();
+    let run = compare_files(
+        alloc,
+        printed,
+        &setting.system_files(rt),
+        a,
+        b,
+        &mut StdSink::new(rt.stdout()),
+        &mut StdSink::new(rt.stderr()),
+        tables(alloc, LIMITS, setting.hasher),
+        tables(alloc, LIMITS, setting.hasher),
+        mode,
+    );
     explained(rt, (a, b), &run, mode, setting)
 }
 
@@ -182,63 +110,22 @@ fn print_by_rules(
     rules: &str,
     setting: Setting<'_>,
 ) -> RuledPairRun<OpenedInput> {
-    let alloc = rt.alloc();
-    let files = SystemFiles {
-        rt,
-        is_kept: setting.explain,
-    };
     let maker = HashedTables {
         hasher: setting.hasher,
     };
-    let rules_files = setting.system_rules(rt);
-    let (a, b, mode) = (comparison.a, comparison.b, comparison.mode());
-    let mut writer = StdSink::new(rt.stdout());
-    let mut errors = StdSink::new(rt.stderr());
-    let (out, err) = (&mut writer, &mut errors);
-    match comparison.printed {
-        Printed::Verdict => {
-            compare_by_rules(
-                alloc,
-                &files,
-                &rules_files,
-                rules,
-                a,
-                b,
-                out,
-                err,
-                &maker,
-                mode,
-            )
-        }
-        Printed::FirstDifference => {
-            diff_by_rules(
-                alloc,
-                &files,
-                &rules_files,
-                rules,
-                a,
-                b,
-                out,
-                err,
-                &maker,
-                mode,
-            )
-        }
-        Printed::AllDifferences => {
-            diff_all_by_rules(
-                alloc,
-                &files,
-                &rules_files,
-                rules,
-                a,
-                b,
-                out,
-                err,
-                &maker,
-                mode,
-            )
-        }
-    }
+    compare_by_rules(
+        rt.alloc(),
+        comparison.printed,
+        &setting.system_files(rt),
+        &setting.system_rules(rt),
+        rules,
+        comparison.a,
+        comparison.b,
+        &mut StdSink::new(rt.stdout()),
+        &mut StdSink::new(rt.stderr()),
+        &maker,
+        comparison.mode(),
+    )
 }
 
 /// Explains why the rules were not applied to two recordings.

@@ -1,16 +1,14 @@
-//! Does the jobs of the command line, over their files.
-ghost use Rattle.std.specs.Prelude.{◌≡◌};
-
+//! Does the tasks of the command line, over their files.
 use crate::comparing::compare_two;
 use crate::explaining::{explain_mask_of, explain_order_of, print};
-use crate::files::{OpenedInput, SystemDevices, SystemFile, SystemFiles, SystemTargets};
+use crate::files::{OpenedInput, SystemDevices, SystemFile, SystemTargets};
 use crate::reports::{explain_unopened, report_failure, report_reason};
 use crate::{REFUSED, Setting, tables};
 use dap_device::{KeptInput, is_standard};
 use dap_explain::{explain_job, explain_view};
 use dapnorm::{
-    Job, LIMITS, OneFileRun, OpenFault, Printed, RuledFileRun, RulesOpenFault, SaveEnd, SavedRun,
-    ShowRequest, StdSink, Task, mask_file, order_file, run_file, save_run, view_file, write_run,
+    FileRun, Job, LIMITS, Printed, Ruled, RulesOpenFault, SaveEnd, SavedRun, StdSink, StreamJob,
+    Task, run_file, save_run, write_run,
 };
 use std::fs::{self, File};
 
@@ -18,20 +16,24 @@ use std::fs::{self, File};
 fn explain_refusal(rt: &HostRuntime, task: Task<'_>, input: &[u8], setting: Setting<'_>) {
     let hasher = setting.hasher;
     match task {
-        Task::Mask { rules } => explain_mask_of(rt, rules, setting.rules, input),
-        Task::Order { rules } => explain_order_of(rt, rules, input),
-        Task::Job(job) => print(rt, explain_job(rt.alloc(), &job, input, LIMITS, hasher)),
+        Task::Apply { ruled, rules } => match ruled {
+            Ruled::Mask => explain_mask_of(rt, rules, setting.rules, input),
+            Ruled::Order => explain_order_of(rt, rules, input),
+        },
+        Task::Job(job) => print(
+            rt,
+            explain_job(rt.alloc(), &job.job(), input, LIMITS, hasher),
+        ),
         Task::Show(request) => print(rt, explain_view(rt.alloc(), request, input, LIMITS)),
     }
 }
 
 /// Reports the reason of a file of rules that did not open.
 fn explain_rules(rt: &HostRuntime, task: Task<'_>, unopened: Option<RulesOpenFault>) {
-    if let Some(RulesOpenFault::Unread(error)) = unopened {
-        match task {
-            Task::Mask { rules } | Task::Order { rules } => report_reason(rt, rules, &error),
-            Task::Job(_) | Task::Show(_) => {}
-        }
+    if let Some(RulesOpenFault::Unread(error)) = unopened
+        && let Task::Apply { rules, .. } = task
+    {
+        report_reason(rt, rules, &error);
     }
 }
 
@@ -52,25 +54,18 @@ fn explain(
     }
 }
 
-/// Does a job over the input of a name, and writes its output to standard output.
-fn print_job(
+/// Does a task over the input of a name, and writes its output to standard output.
+fn print_task(
     rt: &HostRuntime,
-    job: Job<'_>,
+    task: Task<'_>,
     name: Option<&str>,
     setting: Setting<'_>,
-) -> OneFileRun<OpenedInput>
-    requires no_compare { (a b per_stop : _) → job ≡ Job.Compare a b per_stop → ⊥ }
-    requires no_mask { (rules : _) → job ≡ Job.Mask rules → ⊥ }
-    requires no_diff { (a b per_stop : _) → job ≡ Job.Diff a b per_stop → ⊥ }
-{
-    let files = SystemFiles {
-        rt,
-        is_kept: setting.explain,
-    };
+) -> FileRun<OpenedInput> {
     run_file(
         rt.alloc(),
-        &files,
-        &job,
+        &setting.system_files(rt),
+        &setting.system_rules(rt),
+        &task,
         name,
         &mut StdSink::new(rt.stdout()),
         &mut StdSink::new(rt.stderr()),
@@ -78,143 +73,26 @@ fn print_job(
     )
 }
 
-/// Prints the recording of a name to standard output, as a request of `show` says.
-fn print_view(
-    rt: &HostRuntime,
-    request: ShowRequest,
-    name: Option<&str>,
-    setting: Setting<'_>,
-) -> OneFileRun<OpenedInput> {
-    let files = SystemFiles {
-        rt,
-        is_kept: setting.explain,
-    };
-    view_file(
-        rt.alloc(),
-        &files,
-        request,
-        name,
-        &mut StdSink::new(rt.stdout()),
-        &mut StdSink::new(rt.stderr()),
-    )
-}
-
-/// Masks the recording of a name, and writes it to standard output.
-fn print_masked(
-    rt: &HostRuntime,
-    rules: &str,
-    name: Option<&str>,
-    setting: Setting<'_>,
-) -> RuledFileRun<OpenedInput> {
-    let files = SystemFiles {
-        rt,
-        is_kept: setting.explain,
-    };
-    mask_file(
-        rt.alloc(),
-        &files,
-        &setting.system_rules(rt),
-        rules,
-        name,
-        &mut StdSink::new(rt.stdout()),
-        &mut StdSink::new(rt.stderr()),
-    )
-}
-
-/// Puts the recording of a name in order, and writes it to standard output.
-fn print_ordered(
-    rt: &HostRuntime,
-    rules: &str,
-    name: Option<&str>,
-    setting: Setting<'_>,
-) -> RuledFileRun<OpenedInput> {
-    let files = SystemFiles {
-        rt,
-        is_kept: setting.explain,
-    };
-    order_file(
-        rt.alloc(),
-        &files,
-        &setting.system_rules(rt),
-        rules,
-        name,
-        &mut StdSink::new(rt.stdout()),
-        &mut StdSink::new(rt.stderr()),
-    )
-}
-
-/// Explains a task that was done over the input of a name. Why an input did not open is always
-/// explained.
-fn explain_input(
+/// Explains a task whose output went to standard output, and returns its status. Why an input did
+/// not open is always explained.
+fn explained(
     rt: &HostRuntime,
     task: Task<'_>,
     name: Option<&str>,
-    input: &Result<OpenedInput, OpenFault>,
-    status: u8,
+    run: &FileRun<OpenedInput>,
     setting: Setting<'_>,
-) {
-    match input {
+) -> u8 {
+    let status = run.task.status;
+    match &run.input {
         Ok(input) => {
             if setting.explain {
+                explain_rules(rt, task, run.task.unopened_rules);
                 explain(rt, task, name, input.kept(), status, setting);
             }
         }
         Err(fault) => explain_unopened(rt, name, fault),
     }
-}
-
-/// Explains a task by the rules of a file that was done over the input of a name, and returns its
-/// status.
-fn explained_by_rules(
-    rt: &HostRuntime,
-    task: Task<'_>,
-    name: Option<&str>,
-    run: &RuledFileRun<OpenedInput>,
-    setting: Setting<'_>,
-) -> u8 {
-    if setting.explain {
-        explain_rules(rt, task, run.unopened_rules);
-    }
-    explain_input(rt, task, name, &run.input, run.status, setting);
-    run.status
-}
-
-/// Explains a task that was done over the input of a name, and returns its status.
-fn explained(
-    rt: &HostRuntime,
-    task: Task<'_>,
-    name: Option<&str>,
-    run: &OneFileRun<OpenedInput>,
-    setting: Setting<'_>,
-) -> u8 {
-    explain_input(rt, task, name, &run.input, run.status, setting);
-    run.status
-}
-
-/// Does a task over one input, and writes its output to standard output.
-fn print_task(rt: &HostRuntime, task: Task<'_>, name: Option<&str>, setting: Setting<'_>) -> u8
-    requires no_compare { (a b per_stop : _) → task ≡ Task.Job (Job.Compare a b per_stop) → ⊥ }
-    requires no_mask { (rules : _) → task ≡ Task.Job (Job.Mask rules) → ⊥ }
-    requires no_diff { (a b per_stop : _) → task ≡ Task.Job (Job.Diff a b per_stop) → ⊥ }
-{
-    match task {
-        Task::Job(job) => {
-            let run = print_job(rt, job, name, setting);
-            explained(rt, task, name, &run, setting)
-        }
-        Task::Show(request) => {
-            let run = print_view(rt, request, name, setting);
-            explained(rt, task, name, &run, setting)
-        }
-        Task::Mask { rules } => {
-            let run = print_masked(rt, rules, name, setting);
-            explained_by_rules(rt, task, name, &run, setting)
-        }
-        Task::Order { rules } => {
-            let run = print_ordered(rt, rules, name, setting);
-            explained_by_rules(rt, task, name, &run, setting)
-        }
-    }
+    status
 }
 
 /// Returns whether a file exists that is neither a regular file nor a folder.
@@ -232,18 +110,10 @@ fn write_task(
     name: Option<&str>,
     output: &str,
     setting: Setting<'_>,
-) -> SavedRun<OpenedInput, StdSink<File>>
-    requires no_compare { (a b per_stop : _) → task ≡ Task.Job (Job.Compare a b per_stop) → ⊥ }
-    requires no_mask { (rules : _) → task ≡ Task.Job (Job.Mask rules) → ⊥ }
-    requires no_diff { (a b per_stop : _) → task ≡ Task.Job (Job.Diff a b per_stop) → ⊥ }
-{
-    let files = SystemFiles {
-        rt,
-        is_kept: setting.explain,
-    };
+) -> SavedRun<OpenedInput, StdSink<File>> {
     write_run(
         rt.alloc(),
-        &files,
+        &setting.system_files(rt),
         &setting.system_rules(rt),
         &SystemDevices { rt },
         &task,
@@ -261,22 +131,14 @@ fn save_task<'a>(
     name: Option<&str>,
     output: &str,
     setting: Setting<'_>,
-) -> SavedRun<OpenedInput, SystemFile<'a>>
-    requires no_compare { (a b per_stop : _) → task ≡ Task.Job (Job.Compare a b per_stop) → ⊥ }
-    requires no_mask { (rules : _) → task ≡ Task.Job (Job.Mask rules) → ⊥ }
-    requires no_diff { (a b per_stop : _) → task ≡ Task.Job (Job.Diff a b per_stop) → ⊥ }
-{
-    let files = SystemFiles {
-        rt,
-        is_kept: setting.explain,
-    };
+) -> SavedRun<OpenedInput, SystemFile<'a>> {
     let targets = SystemTargets {
         rt,
         hasher: setting.hasher,
     };
     save_run(
         rt.alloc(),
-        &files,
+        &setting.system_files(rt),
         &setting.system_rules(rt),
         &targets,
         &task,
@@ -330,11 +192,7 @@ pub fn run_over_input(
     input: Option<&str>,
     output: Option<&str>,
     setting: Setting<'_>,
-) -> u8
-    requires no_compare { (a b per_stop : _) → task ≡ Task.Job (Job.Compare a b per_stop) → ⊥ }
-    requires no_mask { (rules : _) → task ≡ Task.Job (Job.Mask rules) → ⊥ }
-    requires no_diff { (a b per_stop : _) → task ≡ Task.Job (Job.Diff a b per_stop) → ⊥ }
-{
+) -> u8 {
     match output {
         Some(name) if !is_standard(name) => {
             if is_device(rt, name) {
@@ -345,7 +203,10 @@ pub fn run_over_input(
             explain_unsaved(rt, name, &run.end);
             explained_end(rt, task, input, name, &run, setting)
         }
-        _ => print_task(rt, task, input, setting),
+        _ => {
+            let run = print_task(rt, task, input, setting);
+            explained(rt, task, input, &run, setting)
+        }
     }
 }
 
@@ -357,14 +218,23 @@ pub fn run_job(
     output: Option<&str>,
     setting: Setting<'_>,
 ) -> u8 {
-    match job {
+    let task = match job {
+        Job::Compact => Task::Job(StreamJob::Compact),
+        Job::Record => Task::Job(StreamJob::Record),
+        Job::Normalise { per_stop } => Task::Job(StreamJob::Normalise { per_stop }),
+        Job::Check { complete, per_stop } => Task::Job(StreamJob::Check { complete, per_stop }),
+        Job::Show => Task::Job(StreamJob::Show),
+        Job::Rows { number } => Task::Job(StreamJob::Rows { number }),
+        Job::Mask { rules } => Task::Apply {
+            ruled: Ruled::Mask,
+            rules,
+        },
         Job::Compare { a, b, .. } => {
-            compare_two(rt, a, b, job.mode(), Printed::Verdict, setting)
+            return compare_two(rt, a, b, job.mode(), Printed::Verdict, setting);
         }
         Job::Diff { a, b, .. } => {
-            compare_two(rt, a, b, job.mode(), Printed::FirstDifference, setting)
+            return compare_two(rt, a, b, job.mode(), Printed::FirstDifference, setting);
         }
-        Job::Mask { rules } => run_over_input(rt, Task::Mask { rules }, input, output, setting),
-        _ => run_over_input(rt, Task::Job(job), input, output, setting),
-    }
+    };
+    run_over_input(rt, task, input, output, setting)
 }

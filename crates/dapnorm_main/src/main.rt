@@ -18,14 +18,15 @@ mod suggesting;
 mod words;
 
 use crate::comparing::run_comparison;
-use crate::files::SystemRules;
+use crate::files::{SystemFiles, SystemRules};
 use crate::golden::keep_golden;
 use crate::jobs::{run_job, run_over_input};
 use crate::showing::show_recording;
 use crate::suggesting::suggest_rules;
 use crate::words::rules_given;
 use dapnorm::{
-    Action, Command, IndexNames, Limits, StdSink, Tables, Task, UsageFault, command, run_usage,
+    Action, Command, IndexNames, Limits, Ruled, StdSink, Tables, Task, UsageFault, command,
+    run_usage,
 };
 use std::alloc::Global;
 use std::env;
@@ -58,6 +59,14 @@ pub struct Setting<'a> {
 }
 
 impl<'a> Setting<'a> {
+    /// Returns the files of the system, which keep their bytes if they may have to be explained.
+    fn system_files(&self, rt: &'a HostRuntime) -> SystemFiles<'a> {
+        SystemFiles {
+            rt,
+            is_kept: self.explain,
+        }
+    }
+
     /// Returns the rules, which are read from the text or from a file.
     fn system_rules(&self, rt: &'a HostRuntime) -> SystemRules<'a> {
         SystemRules {
@@ -142,7 +151,10 @@ fn run_command(rt: &HostRuntime, command: Command<'_>, setting: Setting<'_>) -> 
         Action::Suggest(files) => suggest_rules(rt, (files.a, files.b), files.rules, setting),
         Action::Order(order) => run_over_input(
             rt,
-            Task::Order { rules: order.rules },
+            Task::Apply {
+                ruled: Ruled::Order,
+                rules: order.rules,
+            },
             command.input,
             command.output,
             setting,

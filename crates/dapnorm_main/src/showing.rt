@@ -1,6 +1,4 @@
 //! Shows a recording as the options of `show` request.
-ghost use Rattle.std.specs.Prelude.{◌≡◌};
-
 use crate::jobs::run_over_input;
 use crate::{Setting, USAGE};
 use dapnorm::{Detail, Show, ShowRequest, Task};

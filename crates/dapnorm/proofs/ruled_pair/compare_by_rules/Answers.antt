@@ -3,7 +3,7 @@ use Rattle.dap_device.specs.Memory.{GivenBytes}
 use Rattle.dapnorm.specs.Findings.{AreReported}
 use Rattle.dap_runs.specs.TextsByRules.{bytes_of, memory}
 use Rattle.dap_runs.specs.declared.program_limits.TheConstants.{LIMITS}
-use Rattle.dapnorm.proofs.ruled_pair.run_by_rules.Goals as goal
+use Rattle.dapnorm.proofs.ruled_pair.compare_by_rules.Goals as goal
 
 pub returns : goal.returns
 returns g c =
@@ -21,10 +21,10 @@ returns g c =
           (λ (reader : GivenBytes). AreReported memory memory g.W.Sink g.E.Sink LIMITS
           c.in-Ok.texts.mode (bytes_of c.in-Ok.texts.a.items) ran.new.reader_a reader
           ran.new.reader_b c.args.writer.now ran.new.writer
-          c.args.errors.now ran.new.errors ran.result c.args.findings) two
+          c.args.errors.now ran.new.errors ran.result c.args.printed) two
           (subst (λ (reader : GivenBytes). AreReported memory memory g.W.Sink g.E.Sink LIMITS
           c.in-Ok.texts.mode reader ran.new.reader_a c.new-2.result
           ran.new.reader_b c.args.writer.now ran.new.writer
-          c.args.errors.now ran.new.errors ran.result c.args.findings) one
+          c.args.errors.now ran.new.errors ran.result c.args.printed) one
           ran.ensures.reported);
     }
