@@ -16,7 +16,7 @@ use Rattle.dap_input.specs.ReadTo.{IsReadTo}
 use Rattle.dap_input.specs.RecordSteps.{IsAtStart, IsBetweenRecords}
 use Rattle.dap_input.specs.declared.records.Records.{Records}
 use Rattle.dap_input.proofs.Outcomes.{first_of_stop}
-use Rattle.dap_input.proofs.Runs.{ValueLaws, AcceptedFacts, Run, run_none, run_push}
+use Rattle.dap_input.proofs.Runs.{ValueLaws, AcceptedFacts, Run, none_accepted, run_push}
 use Rattle.dap_input.proofs.Runs.{some_bytes as some_record}
 
 -- An engine reads the input up to its limit.
@@ -60,7 +60,7 @@ module _ (j : Validation) where
       → IsAtStart represents j.input new → StandsBehind j represents [] new []
   none_read represents new accepted start = record {
     front = [];
-    accepted = accepted.accepted_of_run [] [] (run_none j [] 0);
+    accepted = none_accepted j accepted;
     came = sym (ap (λ (w : Window). w.unread) start.pieces);
     taken = ap (λ (w : Window). w.taken) start.pieces;
     limit_is = ap (λ (w : Window). w.limit) start.pieces;

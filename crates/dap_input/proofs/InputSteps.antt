@@ -6,7 +6,8 @@ use Rattle.std.proofs.lemmas.List.{length_push}
 use Rattle.dap_device.specs.declared.device.Source.{Ghosts as Source}
 use Rattle.dap_device.specs.declared.reading.Stop.{Stop}
 use Rattle.dap_device.specs.declared.reading.Stop.TheVariants.{End, Full, Failed}
-use Rattle.dap_frame.specs.Grammar.{Grammar, FailsAt}
+use Rattle.dap_frame.specs.Grammar.{Grammar, FailsAt, HasItem}
+use Rattle.dap_frame.proofs.Ends.{item_not_open}
 use Rattle.dap_recording.specs.declared.record_fault.RecordCause.{RecordCause}
 use Rattle.dap_recording.specs.declared.record_fault.RecordCause.TheVariants as cause
 use Rattle.dap_input.specs.InputSteps.{RefusalHolds}
@@ -24,6 +25,17 @@ use Rattle.dap_input.proofs.InputLoop.{first_too_long, first_cut, first_objected
 use Rattle.dap_input.proofs.InputLoop.{only_ends, next_accepted, some_bytes}
 use Rattle.dap_input.proofs.Refusals.{IsShownCause, faulty_told, objected_not_cut}
 use Rattle.dap_input.proofs.Refusals.{objection_told}
+
+-- A record that is buffered requires no bytes.
+pub nothing_more : {A : Type 0} (j : Validation) (g : Grammar A RecordCause)
+    (held_of : A → j.Payload) → ReadsAs j g held_of → (held more : List ℕ) → IsNeeded g held more
+    → HasItem g held → more ≡ []
+nothing_more j g held_of facts held more (inl none) has = none
+nothing_more j g held_of facts held more (inr some) has =
+    absurd (item_not_open facts.records.grammar has.item (has.more ++ some.0) (held_of has.value)
+    (facts.item_of has.item has.value has.is_item)
+    (subst j.records.IsOpen (ap (λ bytes. bytes ++ some.0) has.bytes_are
+    ∙ append_assoc has.item has.more some.0) (facts.open_of (held ++ some.0) some.5)))
 
 module _ {I A R : Type 0} (j : Validation) (g : Grammar A RecordCause) (held_of : A → j.Payload)
     (facts : ReadsAs j g held_of) (represents : I → List ℕ → Type 0) (source : Source R)

@@ -7,11 +7,11 @@ pub mod ItemReaders
 pub mod NextRecord
 pub mod OneOutcome
 pub mod Outcomes
+pub mod PendingTexts
 pub mod ReadBounds
 pub mod RecordLoop
 pub mod Refusals
 pub mod RunFronts
 pub mod Runs
 pub mod StreamEnds
-pub mod Streams
 pub mod WholeInputs

@@ -55,6 +55,9 @@ module _ (j : Validation) where
   unfolding Run
   run_none before used = refl
 
+  pub none_accepted : AcceptedFacts j → j.IsAccepted [] []
+  none_accepted facts = facts.accepted_of_run [] [] (run_none [] 0)
+
   -- One more record that passes makes a longer run.
   pub run_push : (before : List j.Value) (used : ℕ) (bytes : List ℕ) (values : List j.Value)
       (front : List ℕ) (value : j.Value)

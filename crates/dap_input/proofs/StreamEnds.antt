@@ -6,7 +6,7 @@ use Rattle.std.proofs.Common.{append-nil}
 use Rattle.std.proofs.lemmas.Bool.{true≢false}
 use Rattle.std.specs.Prelude.{is_err}
 use Rattle.std.specs.Io.KnownBytes.{Appends}
-use Rattle.std.proofs.KnownBytes.{Appends-nil, Appends-trans}
+use Rattle.std.proofs.KnownBytes.{Appends-nil}
 use Rattle.dap_device.specs.declared.device.Source.{Ghosts as Source}
 use Rattle.dap_device.specs.declared.device.Sink.{Ghosts as Sink}
 use Rattle.dap_device.specs.Device.{HasFlushedAll, HasTakenNothing}
@@ -19,8 +19,8 @@ use Rattle.dap_recording.specs.declared.record_fault.RecordCause.TheVariants.{Cu
 use Rattle.dap_input.specs.Engine.{Accepts}
 use Rattle.dap_input.specs.InputSteps.{RefusalHolds}
 use Rattle.dap_input.specs.Validation.{Validation}
-use Rattle.dap_input.specs.Streaming.{AnswersRefusal, Flushes, HasComeTo, HasFailedToWrite}
-use Rattle.dap_input.specs.Streaming.{RanOutOfMemory, HasGivenUpAt, IsNextText, Streams}
+use Rattle.dap_input.specs.Streaming.{Answers, Ends, Flushes, HasComeTo, HasFailedToWrite}
+use Rattle.dap_input.specs.Streaming.{RanOutOfMemory, HasGivenUpAt, Streams}
 use Rattle.dap_input.specs.declared.refused.Refused.{Refused}
 use Rattle.dap_input.specs.declared.refused.Refused.TheVariants.{Record, WriteFault, Memory}
 use Rattle.dap_input.proofs.Coming.{nothing_came}
@@ -46,6 +46,48 @@ nothing_written sink before = record {
   no_failure = refl;
 }
 
+-- If the result is `Memory`, the output had been written, and an allocation failed before.
+pub memory_of : {W U : Type 0} (sink : Sink W) (waiting : List ℕ) (writer end : W)
+    (because : Refused) (result : Result U Refused)
+    → Ends sink waiting writer end (Err because) result → result ≡ Err Memory → because ≡ Memory
+memory_of sink waiting writer end Memory result ends memory = refl
+memory_of sink waiting writer end because result (inl (mid, all, inl done)) memory =
+    let e = sym done.0 ∙ memory in cc
+memory_of sink waiting writer end because result (inl (mid, all, inr failed)) memory =
+    let e = sym failed.0 ∙ memory in cc
+memory_of sink waiting writer end because result (inr (front, is)) memory =
+    let e = sym is ∙ memory in cc
+
+-- If all records were read, no allocation failed.
+pub not_given_up : {W U : Type 0} (sink : Sink W) (waiting : List ℕ) (writer end : W) (done : U)
+    (result : Result U Refused) → Ends sink waiting writer end (Ok done) result
+    → result ≡ Err Memory → ⊥
+not_given_up sink waiting writer end done result (inl (mid, all, inl flushed)) memory =
+    let e = sym flushed.0 ∙ memory in cc
+not_given_up sink waiting writer end done result (inl (mid, all, inr failed)) memory =
+    let e = sym failed.0 ∙ memory in cc
+not_given_up sink waiting writer end done result (inr (front, is)) memory =
+    let e = sym is ∙ memory in cc
+
+-- Nothing has been read.
+pub none_come : {R : Type 0} (j : Validation) (Gives : List ℕ → List ℕ → Type 0)
+    (source : Source R) (start : R) → j.IsAccepted [] [] → Gives [] []
+    → HasComeTo j Gives source start start None 1 []
+none_come j Gives source start accepted gives = record {
+  bytes = [];
+  came = nothing_came source start;
+  read_to = record { before = []; last = []; split = refl; few = omega arith; ends = inl refl };
+  before = record {
+    values = [];
+    front = [];
+    rest = [];
+    split = refl;
+    accepted = accepted;
+    is_number = omega arith;
+  };
+  gives = gives;
+}
+
 module _ {R W : Type 0} (j : Validation) (Gives Promises : List ℕ → List ℕ → Type 0)
     (source : Source R) (sink : Sink W) (start : R) (before : W) where
   -- Nothing has been read or written.
@@ -55,20 +97,7 @@ module _ {R W : Type 0} (j : Validation) (Gives Promises : List ℕ → List ℕ
     number = 1;
     stop = None;
     text = [];
-    to = record {
-      bytes = [];
-      came = nothing_came source start;
-      read_to = record { before = []; last = []; split = refl; few = omega arith; ends = inl refl };
-      before = record {
-        values = [];
-        front = [];
-        rest = [];
-        split = refl;
-        accepted = accepted;
-        is_number = omega arith;
-      };
-      gives = gives;
-    };
+    to = none_come j Gives source start accepted gives;
     written = nothing_written sink before;
   }
 
@@ -98,7 +127,7 @@ module _ {R W : Type 0} (j : Validation) (Gives Promises : List ℕ → List ℕ
     -- an allocation failed, and this is the number of the next record to read
     pub gives_up : (because : Refused) (next : ℕ) → (because ≡ Memory → next ≤ number + 1)
         → (end : W) (result : Result (Unit {0}) Refused)
-        → AnswersRefusal sink writer end because result → result ≡ Err Memory
+        → Answers sink writer end (Err because) result → result ≡ Err Memory
         → HasGivenUpAt j Gives Promises source sink next start after before end
     gives_up Memory next few end result (is, same) memory =
         subst (HasGivenUpAt j Gives Promises source sink next start after before) (sym same)
@@ -114,26 +143,6 @@ module _ {R W : Type 0} (j : Validation) (Gives Promises : List ℕ → List ℕ
         })
     gives_up because next few end result given memory =
         absurd (not_memory because (λ e. absurd (let same = e in cc)) end result given memory)
-
-    -- a write that fails
-    pub failed_to_write : (next : List ℕ)
-        → IsNextText j Gives Promises source sink to.bytes stop number text next → (end : W)
-        → PrefixWritten sink writer end next
-        → HasFailedToWrite j Gives Promises source sink start after before end
-    failed_to_write next is_next end front = record {
-      number = number;
-      stop = stop;
-      text = text;
-      to = to;
-      next = next;
-      is_next = is_next;
-      count = front.count;
-      within = front.within;
-      written = Appends-trans _ _ _ _ _ written.appended front.appended;
-      awaits = some_of_both sink.unflushed before writer end (length text) front.count
-          written.awaits front.awaits;
-      failure = front.failure ∙ ap (λ n. n + 1) written.no_failure;
-    }
 
     -- a flush that fails
     failed_to_flush : (end : W)
@@ -209,7 +218,7 @@ module _ {R W : Type 0} (j : Validation) (Gives Promises : List ℕ → List ℕ
         subst (Answer end) (sym failed.0) (failed_to_flush end failed.1)
 
     pub refused : (because : Refused) → Told because → (end : W)
-        (result : Result (Unit {0}) Refused) → AnswersRefusal sink writer end because result
+        (result : Result (Unit {0}) Refused) → Answers sink writer end (Err because) result
         → Answer end result
     refused Memory reported end result (is, same) =
         subst (Answer end) (sym is)

@@ -139,7 +139,7 @@ module _ {I A R : Type 0} (j : Validation) (g : Grammar A RecordCause) (held_of 
           (steps.refused_held j g held_of facts represents source was.bytes records values
           was.behind new reader after whole read because h)
 
-      pub on : (whole : A) → Reads (Ok (Some whole)) → (value : j.Value)
+      abbrev pub on : (whole : A) → Reads (Ok (Some whole)) → (value : j.Value)
           → j.IsNext values (held_of whole) value
           → Going j represents source start after new (values ++ value ∷ [])
       on whole read value is_next = record {

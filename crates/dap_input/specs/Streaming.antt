@@ -8,7 +8,7 @@ use Rattle.dap_device.specs.declared.device.Source.{Ghosts as Source}
 use Rattle.dap_device.specs.declared.device.Sink.{Ghosts as Sink}
 use Rattle.dap_device.specs.Device.{AwaitFlush, HasFlushedAll, HasTakenNothing}
 use Rattle.dap_device.specs.Pieces.{HasReadSoFar}
-use Rattle.dap_device.specs.Written.{AllSent, AllWritten}
+use Rattle.dap_device.specs.Written.{AllSent, AllWritten, PrefixWritten}
 use Rattle.dap_device.specs.declared.reading.Stop.{Stop}
 use Rattle.dap_device.specs.declared.reading.Stop.TheVariants.{End}
 use Rattle.dap_recording.specs.declared.record_fault.RecordCause.TheVariants.{Cut}
@@ -106,8 +106,15 @@ Flushes sink before after outcome given =
     ⊎ ((given ≡ Err WriteFault)
     × HasTakenNothing sink.out sink.unflushed sink.failures before after)
 
--- How a rejection is returned: at once if an allocation failed, otherwise after the writer was
--- flushed.
-abbrev pub AnswersRefusal : {W U : Type 0} → Sink W → W → W → Refused → Result U Refused → Type 0
-AnswersRefusal sink before after Memory given = (given ≡ Err Memory) × (after ≡ before)
-AnswersRefusal sink before after because given = Flushes sink before after (Err because) given
+-- How a result is returned: at once if an allocation failed, otherwise after the writer was flushed.
+abbrev pub Answers : {W U : Type 0} → Sink W → W → W → Result U Refused → Result U Refused → Type 0
+Answers sink before after (Err Memory) given = (given ≡ Err Memory) × (after ≡ before)
+Answers sink before after outcome given = Flushes sink before after outcome given
+
+-- The remaining output is written before the result is returned; or the writer fails, and
+-- `WriteFault` is returned.
+abbrev pub Ends : {W U : Type 0} → Sink W → List ℕ → W → W → Result U Refused → Result U Refused
+    → Type 0
+Ends {W} sink text before after outcome given =
+    ((mid : W) × AllWritten sink before mid text × Answers sink mid after outcome given)
+    ⊎ (PrefixWritten sink before after text × (given ≡ Err WriteFault))

@@ -23,6 +23,8 @@ use Rattle.dap_normalise.specs.Accepting.{NormalFits, HasGrown, id_limit}
 use Rattle.dap_normalise.proofs.NormalTexts.{few_or_many, few_not_many, fits_or_grew, fits_not_grown}
 use Rattle.dap_normalise.proofs.NormalTexts.{normal, normal_fits, normal_fits_front, proper_push}
 use Rattle.dap_input.proofs.Runs.{Run, run_within, ValueLaws, ValueFacts, AcceptedFacts}
+use Rattle.dap_input.proofs.Runs.{none_accepted}
+use Rattle.dap_normalise.specs.Normalising.{Normalises}
 
 -- ---- the content of a record
 
@@ -286,4 +288,14 @@ module _ (limits : Limits) (mode : Mode) where
           few = keeps.few;
           fits = keeps.fits;
         };
+  }
+
+  -- The normal form of no messages has no text.
+  abbrev pub none_normalised : Normalises limits mode [] []
+  none_normalised = record {
+    messages = [];
+    accepts = none_accepted (accepting limits mode) accepted_facts;
+    normal = [];
+    is_normal = normal mode [] tt;
+    text_is = refl;
   }

@@ -10,5 +10,4 @@ pub mod StreamAnswers
 pub mod StreamLoop
 pub mod StreamWriting
 pub mod WholeInput
-pub mod PendingTexts
 pub mod SomeContents

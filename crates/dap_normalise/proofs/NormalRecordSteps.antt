@@ -1,6 +1,6 @@
 -- The possible results of reading the next record of an input.
 use Rattle.std.proofs.Common.{◌≡◌, ℕ, ℤ, ◌+◌, ◌≤◌, List, [], ◌∷◌, ◌++◌, Option, Some, None, Result}
-use Rattle.std.proofs.Common.{Ok, Err, refl, ◌∙◌, ap, subst, inl, inr, length, arith, append_assoc}
+use Rattle.std.proofs.Common.{Ok, Err, refl, ◌∙◌, ap, subst, length, arith}
 use Rattle.dap_device.specs.declared.device.Source.{Ghosts as Source}
 use Rattle.dap_device.specs.Pieces.{HasReadSoFar}
 use Rattle.dap_device.specs.declared.reading.Stop.TheVariants.{End}
@@ -8,12 +8,10 @@ use Rattle.dap_message.specs.Message.{Sent}
 use Rattle.dap_recording.specs.declared.record.Record.{Record as WholeRecord}
 use Rattle.dap_recording.specs.RecordReading.{RecordReading}
 use Rattle.dap_recording.specs.declared.record_fault.RecordCause.TheVariants.{Cut}
-use Rattle.dap_frame.proofs.Ends.{item_not_open}
-use Rattle.dap_recording.specs.Recording.{IsOpenRecord}
 use Rattle.dap_recording.proofs.Records.{readable}
 use Rattle.dap_input.specs.InputSteps.{RefusalHolds}
 use Rattle.dap_input.specs.ItemReading.{RepresentsRecord, record_items}
-use Rattle.dap_input.specs.RecordSteps.{Finds, IsAtStart, IsNeeded, ReadsNext}
+use Rattle.dap_input.specs.RecordSteps.{Finds, IsAtStart, ReadsNext}
 use Rattle.dap_input.specs.Refusals.{RejectsPayload}
 use Rattle.dap_rename.specs.declared.mode.Mode.{Mode}
 use Rattle.dap_input.specs.declared.limits.Limits.{Limits}
@@ -72,6 +70,25 @@ before_of limits mode bytes records messages normal behind represents judge_limi
       judge_mode_is = judge_mode_is;
     }
 
+-- The position in the input before the next record.
+abbrev pub behind_of : {T : Type 0} {numbers : T → List ℤ} {table_limit : T
+    → ℕ} (limits : Limits) (mode : Mode) (bytes : List ℕ) (records : NormalRecords T)
+    (messages normal : List Sent)
+    → RepresentsBefore numbers table_limit limits mode bytes records messages normal
+    → StandsBehind (accepting limits mode) (RepresentsRecord limits.frame) bytes records.records
+    messages
+behind_of limits mode bytes records messages normal was = record {
+  front = was.front;
+  accepted = was.accepted;
+  came = was.came;
+  taken = was.taken;
+  limit_is = was.limit_is;
+  between = was.between;
+  number_is = was.number_is;
+  few = was.few;
+  read_to = was.read_to;
+}
+
 -- Nothing of the input has been read.
 pub none_read : {T : Type 0} {numbers : T → List ℤ} {table_limit : T
     → ℕ} (limits : Limits) (mode : Mode) (new : NormalRecords T)
@@ -92,17 +109,7 @@ module _ {T R : Type 0} {numbers : T → List ℤ} {table_limit : T → ℕ} (so
     (new : Records RecordReading) (before after : R) where
   behind : StandsBehind (accepting limits mode) (RepresentsRecord limits.frame) bytes old.records
       messages
-  behind = record {
-    front = was.front;
-    accepted = was.accepted;
-    came = was.came;
-    taken = was.taken;
-    limit_is = was.limit_is;
-    between = was.between;
-    number_is = was.number_is;
-    few = was.few;
-    read_to = was.read_to;
-  }
+  behind = behind_of limits mode bytes old messages normal was
 
   abbrev Reads : Result (Option WholeRecord) Refused → Type 0
   Reads outcome = ReadsNext (record_items limits.frame) (RepresentsRecord limits.frame) source
@@ -136,24 +143,11 @@ module _ {T R : Type 0} {numbers : T → List ℤ} {table_limit : T → ℕ} (so
   }
 
   -- if the record is buffered, nothing is read
-  pub nothing_more : (outcome : Result (Option WholeRecord) Refused) (read : Reads outcome)
-      → IsBuffered limits old → read.more ≡ []
-  nothing_more outcome read has = none_of read.needed
-    where
-      none_of : IsNeeded (record_items limits.frame) old.records.pieces.unread read.more
-          → read.more ≡ []
-      none_of (inl none) = none
-      none_of (inr some) =
-          absurd (item_not_open (readable limits.frame).grammar has.item (has.more ++ some.0)
-          (payload_of has.value) has.is_item
-          (subst (λ bytes. IsOpenRecord limits.frame bytes)
-          (ap (λ bytes. bytes ++ some.0) has.bytes_are
-          ∙ append_assoc has.item has.more some.0) some.5))
-
   pub nothing_given : (outcome : Result (Option WholeRecord) Refused) → Reads outcome
       → IsBuffered limits old → source.given after ≡ source.given before
   nothing_given outcome read has =
-      let none = nothing_more outcome read has in
+      let none = steps.nothing_more (accepting limits mode) (record_items limits.frame) payload_of
+      (reads_records limits mode) old.records.pieces.unread read.more read.needed has in
       let counted = read.came.counted in
       omega (arith, counted, ap length none)
 

@@ -1,5 +1,5 @@
 -- The results of the command functions that check a recording record by record.
-use Rattle.std.proofs.Common.{◌≡◌, inl, ℕ, ℤ, ◌+◌, ◌<◌, Bool, true, false, List, [], ◌++◌, None}
+use Rattle.std.proofs.Common.{◌≡◌, ℕ, ℤ, ◌+◌, ◌<◌, Bool, true, false, List, [], ◌++◌}
 use Rattle.std.proofs.Common.{Result, Ok, Err, refl, sym, ◌∙◌, subst, arith}
 use Rattle.std.proofs.lemmas.Bool.{true≢false}
 use Rattle.dap_device.specs.declared.device.Source.{Ghosts as Source}
@@ -13,16 +13,15 @@ use Rattle.dap_normalise.specs.declared.normal_records.NormalRecords.{NormalReco
 use Rattle.dap_input.specs.declared.refused.Refused.{Refused}
 use Rattle.dap_input.specs.declared.refused.Refused.TheVariants.{Incomplete, WriteFault, Memory}
 use Rattle.dap_input.proofs.Refusals.{untold}
-use Rattle.dap_input.proofs.Coming.{nothing_came}
-use Rattle.dap_input.proofs.Runs.{run_none}
+use Rattle.dap_input.proofs.StreamEnds.{none_come}
 use Rattle.dap_normalise.specs.Accepting.{IsAccepted, accepting, text}
 use Rattle.dap_normalise.specs.Checking.{Checks}
 use Rattle.dap_input.specs.Engine.{Accepts}
 use Rattle.dap_normalise.specs.JudgingSteps.{RepresentsMessages}
+use Rattle.dap_normalise.specs.Normalising.{Normalises}
 use Rattle.dap_normalise.specs.NormalSteps.{HasEnded, HasAdvanced, HasNext, HasStoppedAt}
 use Rattle.dap_normalise.specs.Streaming.{HasComeTo}
-use Rattle.dap_normalise.proofs.AcceptingFacts.{accepted_facts}
-use Rattle.dap_normalise.proofs.NormalTexts.{normal}
+use Rattle.dap_normalise.proofs.AcceptingFacts.{none_normalised}
 use Rattle.dap_normalise.proofs.StreamLoop.{Going, all_came, refused_to, refuses_next}
 
 module _ {T R : Type 0} {numbers : T → List ℤ} {table_limit : T → ℕ} (source : Source R)
@@ -123,35 +122,11 @@ module _ {T R : Type 0} {numbers : T → List ℤ} {table_limit : T → ℕ} (so
         }
 
 -- Nothing has been read.
-none_come : {R : Type 0} (source : Source R) (limits : Limits) (mode : Mode) (start : R)
-    → HasComeTo source limits mode start start None 1 []
-none_come source limits mode start =
-    let accepted =
-    (accepted_facts limits mode).accepted_of_run [] [] (run_none (accepting limits mode) [] 0) in
-    record {
-      bytes = [];
-      came = nothing_came source start;
-      read_to = record { before = []; last = []; split = refl; few = omega arith; ends = inl refl };
-      before = record {
-        values = [];
-        front = [];
-        rest = [];
-        split = refl;
-        accepted = accepted;
-        is_number = omega arith;
-      };
-      gives = record {
-        messages = [];
-        accepts = accepted;
-        normal = [];
-        is_normal = normal mode [] tt;
-        text_is = refl;
-      };
-    }
-
 pub check_gives_up : {R : Type 0} (source : Source R) (limits : Limits) (mode : Mode)
     (complete : Bool) (start : R) → Checks source limits mode complete start start (Err Memory)
-check_gives_up source limits mode complete start = (1, [], none_come source limits mode start)
+check_gives_up source limits mode complete start =
+    let none = none_normalised limits mode in
+    (1, [], none_come (accepting limits mode) (Normalises limits mode) source start none.accepts none)
 
 -- An error does not depend on whether each request must have a response.
 pub refuses_all_the_same : {R : Type 0} (source : Source R) (limits : Limits) (mode : Mode)

@@ -1,7 +1,7 @@
 -- The loop invariant of a command function that checks a recording record by record.
 use Rattle.std.proofs.Common.{◌≡◌, ℕ, ℤ, ◌+◌, ◌≤◌, true, false, Ok, Bool, List, []}
 use Rattle.std.proofs.Common.{◌∷◌, ◌++◌, length, Option, Some, None, refl, ◌∙◌, ap, subst, arith}
-use Rattle.std.proofs.Common.{append_assoc, length-append}
+use Rattle.std.proofs.Common.{append_assoc}
 use Rattle.std.proofs.lemmas.List.{length_push}
 use Rattle.dap_device.specs.declared.device.Source.{Ghosts as Source}
 use Rattle.dap_device.specs.Pieces.{HasReadSoFar}
@@ -17,12 +17,16 @@ use Rattle.dap_normalise.specs.declared.normal_records.NormalRecords.{NormalReco
 use Rattle.dap_input.specs.declared.refused.Refused.{Refused}
 use Rattle.dap_normalise.specs.Accepting.{accepting, text}
 use Rattle.dap_input.specs.Inputs.{AcceptedBefore, Input}
+use Rattle.dap_input.specs.ItemReading.{RepresentsRecord}
 use Rattle.dap_normalise.specs.NormalSteps.{HasEnded, HasAdvanced, HasNext, HasStoppedAt}
 use Rattle.dap_normalise.specs.NormalSteps.{RepresentsBefore}
 use Rattle.dap_input.specs.ReadTo.{IsReadTo, so_far}
+use Rattle.dap_normalise.specs.Normalising.{Normalises}
 use Rattle.dap_normalise.specs.Streaming.{HasComeTo, RefusesNext}
 use Rattle.dap_input.specs.Refusals.{RefusesAt}
-use Rattle.dap_input.proofs.Coming.{came_on, nothing_came}
+use Rattle.dap_input.proofs.Coming.{came_on, nothing_came, taken_within}
+use Rattle.dap_input.proofs.PendingTexts.{come_on, stands_at}
+use Rattle.dap_normalise.proofs.NormalRecordSteps.{behind_of}
 
 module _ {R : Type 0} (source : Source R) where
   -- A reader that reached its end delivered a complete input.
@@ -93,12 +97,11 @@ module _ {T R : Type 0} {numbers : T → List ℤ} {table_limit : T → ℕ} (so
         records new reader after before longer
         → source.given after ≤ source.given start + limits.input + 1
     gone_taken new after before longer gone =
-        let so_many = was.came.counted in
-        let behind = gone.came.counted in
         let taken = gone.represents.taken in
         let limit = gone.represents.limit_is in
         let within = gone.represents.between.within in
-        omega (arith, so_many, behind, taken, limit, within, length-append was.bytes gone.more)
+        taken_within source limits.input was.came gone.came
+        (omega (arith, taken, limit, within))
 
     -- ---- an input of which this part was read
 
@@ -133,39 +136,33 @@ module _ {T R : Type 0} {numbers : T → List ℤ} {table_limit : T → ℕ} (so
 
     -- ---- so far
 
-    module _ (after : R) (more : List ℕ) (stop : Option Stop)
-        (came : HasReadSoFar source reader after more stop) where
-      abbrev pub records_before : AcceptedBefore (accepting limits mode)
-          (so_far (was.bytes ++ more) stop) records.records.number
-      records_before = record {
-        values = was.messages;
-        front = was.represents.front;
-        rest = records.records.pieces.unread ++ more;
-        split = ap (λ t. t ++ more) was.represents.came
-            ∙ append_assoc was.represents.front records.records.pieces.unread more;
-        accepted = was.represents.accepted;
-        is_number = was.represents.number_is;
-      }
+    pub normalises : Normalises limits mode was.represents.front (text was.normal)
+    normalises = record {
+      messages = was.messages;
+      accepts = was.represents.accepted;
+      normal = was.normal;
+      is_normal = normal_before limits mode was.bytes records was.messages was.normal
+          was.represents;
+      text_is = refl;
+    }
 
-      abbrev pub come_to : IsReadTo (accepting limits mode) (was.bytes ++ more)
-          records.records.number
-          → HasComeTo source limits mode start after stop records.records.number
-          (text was.normal)
-      come_to read_to = record {
-        bytes = was.bytes ++ more;
-        came = came_on source start reader after was.bytes more stop was.came came;
-        read_to = read_to;
-        before = records_before;
-        gives =
-            record {
-              messages = was.messages;
-              accepts = was.represents.accepted;
-              normal = was.normal;
-              is_normal = normal_before limits mode was.bytes records was.messages was.normal
-                  was.represents;
-              text_is = refl;
-            };
-      }
+    -- No more was read than the next record requires.
+    abbrev pub here : HasComeTo source limits mode start reader None records.records.number
+        (text was.normal)
+    here =
+        stands_at (accepting limits mode) (RepresentsRecord limits.frame) (Normalises limits mode)
+        source (record {
+          bytes = was.bytes;
+          came = was.came;
+          behind = behind_of limits mode was.bytes records was.messages was.normal was.represents;
+        }) (text was.normal) normalises
+
+    abbrev pub come_to : (after : R) (more : List ℕ) (stop : Option Stop)
+        → HasReadSoFar source reader after more stop
+        → IsReadTo (accepting limits mode) (was.bytes ++ more) records.records.number
+        → HasComeTo source limits mode start after stop records.records.number (text was.normal)
+    come_to after more stop came read_to =
+        come_on (accepting limits mode) (Normalises limits mode) source here came read_to
 
     module _ (after : R) (new : NormalRecords T) (because : Refused)
         (stopped : HasStoppedAt numbers table_limit source limits mode was.bytes
@@ -188,10 +185,7 @@ module _ {T R : Type 0} {numbers : T → List ℤ} {table_limit : T → ℕ} (so
 
       pub few_taken : source.given after ≤ source.given start + limits.input + 1
       few_taken =
-          let before = was.came.counted in
-          let behind = stopped.came.counted in
-          let within = stopped.within in
-          omega (arith, before, behind, within, length-append was.bytes stopped.more)
+          taken_within source limits.input was.came stopped.came stopped.within
 
     -- ---- at the end
 
@@ -205,10 +199,8 @@ module _ {T R : Type 0} {numbers : T → List ℤ} {table_limit : T → ℕ} (so
 
       pub all_taken : source.given after ≤ source.given start + limits.input + 1
       all_taken =
-          let so_many = was.came.counted in
-          let behind = ended.came.counted in
           let within = ended.accepted.short in
-          omega (arith, so_many, behind, within, length-append was.bytes ended.more)
+          taken_within source limits.input was.came ended.came (omega (arith, within))
 
     pub passed_taken : (new : NormalRecords T) (after : R) (before longer : List ℕ) (some : Bool)
         → HasNext numbers table_limit source limits mode was.bytes was.messages was.normal

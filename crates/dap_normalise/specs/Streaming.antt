@@ -1,14 +1,12 @@
 -- The results of `normalise` and `check`, and how much they have then read and written: those of
 -- every command function that works record by record. The output is the normal form. Source: own.
-use Rattle.std.specs.Prelude.{◌≡◌, ◌⊎◌, ℕ, List, Option, Result, Err}
+use Rattle.std.specs.Prelude.{ℕ, List, Option, Result}
 use Rattle.dap_device.specs.declared.device.Source.{Ghosts as Source}
 use Rattle.dap_device.specs.declared.device.Sink.{Ghosts as Sink}
-use Rattle.dap_device.specs.Written.{AllWritten, PrefixWritten}
 use Rattle.dap_device.specs.declared.reading.Stop.{Stop}
 use Rattle.dap_input.specs.Streaming as engine
 use Rattle.dap_input.specs.declared.limits.Limits.{Limits}
 use Rattle.dap_input.specs.declared.refused.Refused.{Refused}
-use Rattle.dap_input.specs.declared.refused.Refused.TheVariants.{Memory, WriteFault}
 use Rattle.dap_rename.specs.declared.mode.Mode.{Mode}
 use Rattle.dap_normalise.specs.Accepting.{accepting}
 use Rattle.dap_normalise.specs.Normalising.{IsCanonical, Normalises}
@@ -45,19 +43,11 @@ module _ {R W : Type 0} (source : Source R) (sink : Sink W) (limits : Limits) (m
   Streams = engine.Streams (accepting limits mode) (Normalises limits mode) (IsCanonical limits
       mode) source sink
 
--- The result is returned: at once if it is `Memory`, and otherwise after the writer is flushed.
-abbrev pub Answers : {W : Type 0} → Sink W → W → W → Result (Unit {0}) Refused
-    → Result (Unit {0}) Refused → Type 0
-Answers sink before after (Err Memory) given = (given ≡ Err Memory) × (after ≡ before)
-Answers sink before after outcome given = engine.Flushes sink before after outcome given
+abbrev pub Flushes : {W U : Type 0} → Sink W → W → W → Result U Refused → Result U Refused → Type 0
+Flushes = engine.Flushes
 
 -- The remaining output is written before the result is returned; or the writer fails, and
 -- `WriteFault` is returned.
 abbrev pub Ends : {W : Type 0} → Sink W → List ℕ → W → W → Result (Unit {0}) Refused
     → Result (Unit {0}) Refused → Type 0
-Ends {W} sink text before after outcome given =
-    ((mid : W) × AllWritten sink before mid text × Answers sink mid after outcome given)
-    ⊎ (PrefixWritten sink before after text × (given ≡ Err WriteFault))
-
-abbrev pub Flushes : {W U : Type 0} → Sink W → W → W → Result U Refused → Result U Refused → Type 0
-Flushes = engine.Flushes
+Ends = engine.Ends

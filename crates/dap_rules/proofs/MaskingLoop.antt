@@ -1,33 +1,34 @@
 -- The invariant of the loop of `mask` over the records of its input, and its possible results.
-use Rattle.std.proofs.Common.{◌≡◌, inl, inr, ℕ, ◌+◌, ◌-◌, ◌<◌, List, [], ◌∷◌, ◌++◌}
-use Rattle.std.proofs.Common.{Option, Some, None, Result, Ok, Err, refl, sym, ◌∙◌, subst}
-use Rattle.std.proofs.Common.{length}
+use Rattle.std.proofs.Common.{◌≡◌, ℕ, ◌+◌, ◌-◌, ◌<◌, ◌≤◌, List, [], ◌∷◌, ◌++◌, Option}
+use Rattle.std.proofs.Common.{Some, None, Result, Ok, Err, refl, subst, arith, length}
 use Rattle.dap_device.specs.declared.device.Source.{Ghosts as Source}
 use Rattle.dap_device.specs.declared.device.Sink.{Ghosts as Sink}
 use Rattle.dap_device.specs.Written.{AllWritten, PrefixWritten}
-use Rattle.dap_device.proofs.Sending.{all_then_all}
+use Rattle.dap_frame.specs.Grammar.{HasItem}
 use Rattle.dap_message.specs.Message.{Sent}
 use Rattle.dap_recording.specs.RecordReading.{RecordReading}
 use Rattle.dap_recording.specs.declared.record.Record.{Record as WholeRecord}
+use Rattle.dap_input.specs.Engine.{Accepts}
 use Rattle.dap_input.specs.ItemReading.{RepresentsRecord, record_items}
 use Rattle.dap_input.specs.Limits.{AreSound}
-use Rattle.dap_input.specs.RecordSteps.{IsAtStart, ReadsNext}
-use Rattle.dap_input.specs.Streaming.{AnswersRefusal, HasFailedToWrite, RanOutOfMemory}
-use Rattle.dap_input.specs.Streaming.{HasGivenUpAt}
-use Rattle.dap_input.specs.Streaming.{Streams}
+use Rattle.dap_input.specs.ReadTo.{IsReadTo}
+use Rattle.dap_input.specs.RecordSteps.{Finds, IsAtStart, ReadsNext}
+use Rattle.dap_input.specs.Streaming.{HasComeTo, HasFailedToWrite, RanOutOfMemory}
+use Rattle.dap_input.specs.Streaming.{HasGivenUpAt, Streams}
 use Rattle.dap_input.specs.declared.limits.Limits.{Limits}
 use Rattle.dap_input.specs.declared.records.Records.{Records}
 use Rattle.dap_input.specs.declared.refused.Refused.{Refused}
 use Rattle.dap_input.specs.declared.refused.Refused.TheVariants.{Memory}
-use Rattle.dap_input.proofs.Coming.{came_on}
-use Rattle.dap_input.proofs.StreamEnds.{nothing_written}
-use Rattle.dap_input.proofs.Streams.{Streaming}
-use Rattle.dap_input.proofs.Streams as streams
+use Rattle.dap_input.proofs.InputSteps as steps
+use Rattle.dap_input.proofs.PendingTexts.{Waiting, stands_at}
+use Rattle.dap_input.proofs.PendingTexts as pending
+use Rattle.dap_input.proofs.Runs.{none_accepted}
+use Rattle.dap_input.proofs.StreamEnds as ends
 use Rattle.dap_input.proofs.WholeInputs.{Going as Judged}
 use Rattle.dap_input.proofs.WholeInputs as inputs
 use Rattle.dap_normalise.specs.Accepting.{Fits}
 use Rattle.dap_normalise.specs.JudgingSteps.{payload_of}
-use Rattle.dap_normalise.specs.Streaming.{Answers, Ends}
+use Rattle.dap_normalise.specs.Streaming.{Ends}
 use Rattle.dap_mask.specs.KeptRules.{mask_of}
 use Rattle.dap_mask.specs.Mask.{Mask}
 use Rattle.dap_mask.specs.declared.mask_rules.MaskRules.{MaskRules}
@@ -36,10 +37,7 @@ use Rattle.dap_rules.specs.MaskedRecordings.{IsMaskedTo, Masks}
 use Rattle.dap_rules.specs.MaskingSteps.{Masked}
 use Rattle.dap_words.proofs.WordsUtf8.{strings_utf8}
 use Rattle.dap_rules.proofs.MaskedTexts.{masked_to}
-use Rattle.dap_rules.proofs.MaskingFacts.{fits_none, reads_records}
-use Rattle.dap_rules.proofs.PendingTexts.{IsAtHand, Waiting, failed_inside, longer_is}
-use Rattle.dap_rules.proofs.PendingTexts.{none_waiting, on, stops_before}
-use Rattle.dap_rules.proofs.PendingTexts.{stops_behind, waits_on}
+use Rattle.dap_rules.proofs.MaskingFacts.{accepted_facts, fits_none, reads_records}
 
 -- The records before the next one are accepted, and their masked text, of `written` bytes, was
 -- written or is buffered.
@@ -51,24 +49,19 @@ pub record Going {R W : Type 0} (limits : Limits) (mask : Mask) (source : Source
       records values
   pub fits : Fits limits (left_of mask values)
   pub count : written ≡ length (masked_text mask values)
-  pub sent : List ℕ
-  pub went_out : AllWritten sink before writer sent
-  pub waits : Waiting limits mask records judged.bytes (masked_text mask values) sent waiting
-
-masks : (limits : Limits) (mask : Mask) (bytes : List ℕ) (messages : List Sent)
-    → IsAccepted limits mask bytes messages → Masks limits mask bytes (masked_text mask messages)
-masks limits mask bytes messages accepted =
-    record { messages = messages; accepts = accepted; text_is = refl }
+  pub waits : Waiting (masking limits mask) (Masks limits mask) sink before writer
+      (HasItem (record_items limits.frame) records.pieces.unread) judged.bytes
+      (masked_text mask values) waiting
 
 module _ {R W : Type 0} (rules : MaskRules) (limits : Limits) (sound : AreSound limits)
     (source : Source R) (sink : Sink W) (start : R) (before : W) where
   abbrev mask : Mask
   mask = mask_of rules
 
-  promised : (bytes : List ℕ) (messages : List Sent) → IsAccepted limits mask bytes messages
-      → IsMaskedTo limits mask bytes (masked_text mask messages)
-  promised = masked_to limits sound mask rules.list.safe rules.list.settled rules.list.kept
-      (strings_utf8 rules.list.words.list.items) rules.list.leave
+  masks : (bytes : List ℕ) (messages : List Sent) → IsAccepted limits mask bytes messages
+      → Masks limits mask bytes (masked_text mask messages)
+  masks bytes messages accepted =
+      record { messages = messages; accepts = accepted; text_is = refl }
 
   abbrev pub Answer : R → W → Result (Unit {0}) Refused → Type 0
   Answer after end outcome =
@@ -83,14 +76,24 @@ module _ {R W : Type 0} (rules : MaskRules) (limits : Limits) (sound : AreSound 
   -- Nothing has been read or written.
   pub given_up : RanOutOfMemory (masking limits mask) (Masks limits mask) (IsMaskedTo limits mask)
       source sink start start before before
-  given_up = streams.given_up (masking limits mask) (record_items limits.frame) payload_of
-      (reads_records limits mask) (RepresentsRecord limits.frame) (masked_text mask)
-      (Masks limits mask) (IsMaskedTo limits mask) (masks limits mask) promised refl source sink
-      start before
+  given_up =
+      let accepted = none_accepted (masking limits mask) (accepted_facts limits mask) in
+      ends.given_up (masking limits mask) (Masks limits mask) (IsMaskedTo limits mask) source sink
+      start before accepted (masks [] [] accepted)
 
   abbrev pub Goes : R → W → Records RecordReading → ℕ → List ℕ → Type 0
   Goes reader writer records written waiting =
       Going limits mask source sink start reader before writer records written waiting
+
+  module _ {reader : R} {records : Records RecordReading} {values : List Sent}
+      (judged : Judged (masking limits mask) (RepresentsRecord limits.frame) source start reader
+      records values) where
+    -- No more was read than the next record requires.
+    abbrev here : HasComeTo (masking limits mask) (Masks limits mask) source start reader None
+        records.number (masked_text mask values)
+    here = stands_at (masking limits mask) (RepresentsRecord limits.frame) (Masks limits mask)
+        source judged (masked_text mask values)
+        (masks judged.behind.front values judged.behind.accepted)
 
   pub none_read : (records : Records RecordReading)
       → IsAtStart (RepresentsRecord limits.frame) limits.input records
@@ -103,159 +106,157 @@ module _ {R W : Type 0} (rules : MaskRules) (limits : Limits) (sound : AreSound 
         judged = judged;
         fits = fits_none limits mask;
         count = refl;
-        sent = [];
-        went_out = nothing_written sink before;
-        waits = none_waiting source limits mask start start records [] judged;
+        waits = pending.none_waiting (masking limits mask) (Masks limits mask)
+            (IsMaskedTo limits mask) source sink (here judged) (ends.nothing_written sink before);
       }
 
   module _ (reader : R) (writer : W) (records : Records RecordReading) (written : ℕ)
-      (waiting : List ℕ) (was : Goes reader writer records written waiting) where
-    -- All buffered output was written.
-    all_out : (mid : W) → AllWritten sink writer mid waiting
-        → Streaming (masking limits mask) (RepresentsRecord limits.frame) (masked_text mask) source
-        sink start reader before mid records was.values
-    all_out mid all = record {
-      going = was.judged;
-      written = subst (AllWritten sink before mid) (sym was.waits.text_is)
-          (all_then_all sink before writer mid was.sent waiting was.went_out all);
-    }
+      (waiting : List ℕ) (was : Goes reader writer records written waiting)
+      (new : Records RecordReading) (after : R) where
+    abbrev pub Reads : Result (Option WholeRecord) Refused → Type 0
+    Reads outcome = ReadsNext (record_items limits.frame) (RepresentsRecord limits.frame) source
+        records new reader after outcome
 
-    module _ (new : Records RecordReading) (after : R) where
-      abbrev pub Reads : Result (Option WholeRecord) Refused → Type 0
-      Reads outcome = ReadsNext (record_items limits.frame) (RepresentsRecord limits.frame) source
-          records new reader after outcome
+    module _ (outcome : Result (Option WholeRecord) Refused) (read : Reads outcome) where
+      -- No more was read than the next record requires.
+      read_to : IsReadTo (masking limits mask) (was.judged.bytes ++ read.more) records.number
+      read_to = steps.read_to (masking limits mask) (record_items limits.frame) payload_of
+          (reads_records limits mask) (RepresentsRecord limits.frame) source was.judged.bytes
+          records was.values was.judged.behind new reader after outcome read
 
-      -- The buffered output was not written completely, and no record is to be written after it.
-      failed : (outcome : Result (Option WholeRecord) Refused) → Reads outcome → (end : W)
-          → PrefixWritten sink writer end waiting → Fails after end
-      failed outcome read end front =
-          failed_inside source sink limits mask start after before writer end
-          (was.judged.bytes ++ read.more) was.sent waiting read.stop
-          (came_on source start reader after was.judged.bytes read.more read.stop was.judged.came
-          read.came)
-          was.went_out front
-          (stops_before source limits mask start reader records was.values was.judged was.sent
-          waiting was.waits new after outcome read front.count front.within)
+      none_more : HasItem (record_items limits.frame) records.pieces.unread → read.more ≡ []
+      none_more = steps.nothing_more (masking limits mask) (record_items limits.frame) payload_of
+          (reads_records limits mask) records.pieces.unread read.more read.needed
 
-      answered : (mid end : W) (because : Refused) (result : Result (Unit {0}) Refused)
-          → Answers sink mid end (Err because) result → AnswersRefusal sink mid end because result
-      answered mid end Memory result given = given
-      answered mid end because result given = given
+    -- ---- no record was received
 
-      pub not_read : (because : Refused) → Reads (Err because) → (end : W)
-          (result : Result (Unit {0}) Refused)
+    pub not_read : (because : Refused) → Reads (Err because) → (end : W)
+        (result : Result (Unit {0}) Refused)
+        → Ends sink waiting writer end (Err because) result → Answer after end result
+    not_read because read =
+        pending.refused (masking limits mask) (Masks limits mask) (IsMaskedTo limits mask) source
+        sink (here was.judged) was.waits read.came (read_to (Err because) read)
+        (none_more (Err because) read) because
+        (steps.refused_read (masking limits mask) (record_items limits.frame) payload_of
+        (reads_records limits mask) (RepresentsRecord limits.frame) source was.judged.bytes
+        records was.values was.judged.behind new reader after because read)
+
+    abbrev pub GivesUp : W → Type 0
+    GivesUp end = HasGivenUpAt (masking limits mask) (Masks limits mask) (IsMaskedTo limits mask)
+        source sink new.number start after before end
+
+    pub not_read_gives_up : (because : Refused) → Reads (Err because) → (end : W)
+        (result : Result (Unit {0}) Refused)
+        → Ends sink waiting writer end (Err because) result → result ≡ Err Memory → GivesUp end
+    not_read_gives_up because read =
+        pending.gives_up (masking limits mask) (Masks limits mask) (IsMaskedTo limits mask) source
+        sink (here was.judged) was.waits read.came (read_to (Err because) read)
+        (none_more (Err because) read) because new.number few
+      where
+        few : because ≡ Memory → new.number ≤ records.number + 1
+        few is =
+            let same = (subst (λ b. Finds (record_items limits.frame)
+            (RepresentsRecord limits.frame) records new (records.pieces.unread ++ read.more)
+            read.more read.stop (Err b)) is read.finds).2 in
+            omega (arith, same)
+
+    -- ---- all records were received
+
+    pub all_masked : Reads (Ok None) → (end : W) (result : Result (Unit {0}) Refused)
+        → Ends sink waiting writer end (Ok tt) result → Answer after end result
+    all_masked read =
+        pending.streamed (masking limits mask) (Masks limits mask) (IsMaskedTo limits mask) source
+        sink (here was.judged) was.waits read.came (read_to (Ok None) read)
+        (none_more (Ok None) read) accepts
+      where
+        accepts : Accepts source limits.input (IsMaskedTo limits mask) start after
+            (masked_text mask was.values)
+        accepts =
+            let all = inputs.accepts_all (masking limits mask) (record_items limits.frame)
+            payload_of (reads_records limits mask) (RepresentsRecord limits.frame) source start
+            reader records was.values was.judged new after read in
+            record {
+              whole = all.whole;
+              came = record {
+                came = all.came.came;
+                counted = all.came.counted;
+                has_length = all.within;
+                stopped = all.came.paused;
+              };
+              gives = masked_to limits sound mask rules.list.safe rules.list.settled
+                  rules.list.kept (strings_utf8 rules.list.words.list.items) rules.list.leave
+                  all.whole was.values all.accepted;
+            }
+
+    -- ---- a record was received
+
+    module _ (whole : WholeRecord) (read : Reads (Ok (Some whole))) where
+      pub fewer : (new.pieces.limit - new.pieces.taken) + length new.pieces.unread
+          < (records.pieces.limit - records.pieces.taken) + length records.pieces.unread
+      fewer = inputs.fewer_left (masking limits mask) (record_items limits.frame) payload_of
+          (reads_records limits mask) (RepresentsRecord limits.frame) source start reader records
+          was.values was.judged new after whole read
+
+      pub not_masked : (because : Refused) (longer : List ℕ)
+          → Masked limits mask was.values (payload_of whole) records.number waiting longer
+          (Err because) → (end : W) (result : Result (Unit {0}) Refused)
           → Ends sink waiting writer end (Err because) result → Answer after end result
-      not_read because read end result (inl (mid, all, given)) =
-          streams.not_read (masking limits mask) (record_items limits.frame) payload_of
-          (reads_records limits mask) (RepresentsRecord limits.frame) (masked_text mask)
-          (Masks limits mask) (IsMaskedTo limits mask) (masks limits mask) promised refl source sink
-          start before reader mid records was.values (all_out mid all) new after because read end
-          result (answered mid end because result given)
-      not_read because read end result (inr (front, is)) =
-          subst (Answer after end) (sym is) (failed (Err because) read end front)
+      not_masked because longer is =
+          pending.refused (masking limits mask) (Masks limits mask) (IsMaskedTo limits mask)
+          source sink (here was.judged) was.waits read.came (read_to (Ok (Some whole)) read)
+          (none_more (Ok (Some whole)) read) because
+          (steps.refused_held (masking limits mask) (record_items limits.frame) payload_of
+          (reads_records limits mask) (RepresentsRecord limits.frame) source was.judged.bytes
+          records was.values was.judged.behind new reader after whole read because is)
 
-      abbrev pub GivesUp : W → Type 0
-      GivesUp end = HasGivenUpAt (masking limits mask) (Masks limits mask) (IsMaskedTo limits mask)
-          source sink new.number start after before end
-
-      pub not_read_gives_up : (because : Refused) → Reads (Err because) → (end : W)
+      pub not_masked_gives_up : (because : Refused) → (end : W)
           (result : Result (Unit {0}) Refused)
           → Ends sink waiting writer end (Err because) result → result ≡ Err Memory → GivesUp end
-      not_read_gives_up because read end result (inl (mid, all, given)) memory =
-          streams.not_read_gives_up (masking limits mask) (record_items limits.frame) payload_of
-          (reads_records limits mask) (RepresentsRecord limits.frame) (masked_text mask)
-          (Masks limits mask) (IsMaskedTo limits mask) (masks limits mask) promised refl source sink
-          start before reader mid records was.values (all_out mid all) new after because read end
-          result (answered mid end because result given) memory
-      not_read_gives_up because read end result (inr (front, is)) memory =
-          absurd (let e = sym is ∙ memory in cc)
+      not_masked_gives_up because =
+          pending.gives_up (masking limits mask) (Masks limits mask) (IsMaskedTo limits mask)
+          source sink (here was.judged) was.waits read.came (read_to (Ok (Some whole)) read)
+          (none_more (Ok (Some whole)) read) because new.number
+          (λ is. let number = read.finds.1.number_is in omega (arith, number))
 
-      pub all_masked : Reads (Ok None) → (end : W) (result : Result (Unit {0}) Refused)
-          → Ends sink waiting writer end (Ok tt) result → Answer after end result
-      all_masked read end result (inl (mid, all, given)) =
-          streams.streamed (masking limits mask) (record_items limits.frame) payload_of
-          (reads_records limits mask) (RepresentsRecord limits.frame) (masked_text mask)
-          (Masks limits mask) (IsMaskedTo limits mask) (masks limits mask) promised refl source sink
-          start before reader mid records was.values (all_out mid all) new after read end result
-          given
-      all_masked read end result (inr (front, is)) =
-          subst (Answer after end) (sym is) (failed (Ok None) read end front)
+      -- The masked record was appended to the buffered output.
+      module _ (next : ℕ) (longer : List ℕ)
+          (is : Masked limits mask was.values (payload_of whole) records.number waiting longer
+          (Ok next)) where
+        abbrev judged_next : Judged (masking limits mask) (RepresentsRecord limits.frame) source
+            start after new (was.values ++ is.message ∷ [])
+        judged_next = inputs.on (masking limits mask) (record_items limits.frame) payload_of
+            (reads_records limits mask) (RepresentsRecord limits.frame) source start reader
+            records was.values was.judged new after whole read is.message is.is_next
 
-      module _ (whole : WholeRecord) (read : Reads (Ok (Some whole))) where
-        pub fewer : (new.pieces.limit - new.pieces.taken) + length new.pieces.unread
-            < (records.pieces.limit - records.pieces.taken) + length records.pieces.unread
-        fewer = inputs.fewer_left (masking limits mask) (record_items limits.frame) payload_of
-            (reads_records limits mask) (RepresentsRecord limits.frame) source start reader records
-            was.values was.judged new after whole read
+        passed : pending.Passes (masking limits mask) (Masks limits mask) sink before writer
+            (HasItem (record_items limits.frame) new.pieces.unread) (Fails after)
+            judged_next.bytes (masked_text mask (was.values ++ is.message ∷ [])) longer
+        passed =
+            let to = here judged_next in
+            pending.passed (masking limits mask) (Masks limits mask) (IsMaskedTo limits mask)
+            source sink (here was.judged) was.waits read.came (read_to (Ok (Some whole)) read)
+            (none_more (Ok (Some whole)) read) is.longer read.finds.1.number_is is.text_is
+            is.appended (to.before, to.gives)
 
-        pub not_masked : (because : Refused) (longer : List ℕ)
-            → Masked limits mask was.values (payload_of whole) records.number waiting longer
-            (Err because) → (end : W) (result : Result (Unit {0}) Refused)
-            → Ends sink waiting writer end (Err because) result → Answer after end result
-        not_masked because longer is end result (inl (mid, all, given)) =
-            streams.not_taken (masking limits mask) (record_items limits.frame) payload_of
-            (reads_records limits mask) (RepresentsRecord limits.frame) (masked_text mask)
-            (Masks limits mask) (IsMaskedTo limits mask) (masks limits mask) promised refl source
-            sink start before reader mid records was.values (all_out mid all) new after whole read
-            because is end result (answered mid end because result given)
-        not_masked because longer is end result (inr (front, same)) =
-            subst (Answer after end) (sym same) (failed (Ok (Some whole)) read end front)
+        goes_on : (end : W) (left : List ℕ)
+            → Waiting (masking limits mask) (Masks limits mask) sink before end
+            (HasItem (record_items limits.frame) new.pieces.unread) judged_next.bytes
+            (masked_text mask (was.values ++ is.message ∷ [])) left → Goes after end new next left
+        goes_on end left waits = record {
+          values = was.values ++ is.message ∷ [];
+          judged = judged_next;
+          fits = is.is_next.fits;
+          count = is.count;
+          waits = waits;
+        }
 
-        pub not_masked_gives_up : (because : Refused) → (end : W)
-            (result : Result (Unit {0}) Refused)
-            → Ends sink waiting writer end (Err because) result → result ≡ Err Memory → GivesUp end
-        not_masked_gives_up because end result (inl (mid, all, given)) memory =
-            streams.not_taken_gives_up (masking limits mask) (record_items limits.frame) payload_of
-            (reads_records limits mask) (RepresentsRecord limits.frame) (masked_text mask)
-            (Masks limits mask) (IsMaskedTo limits mask) (masks limits mask) promised refl source
-            sink start before reader mid records was.values (all_out mid all) new after whole read
-            because end result (answered mid end because result given) memory
-        not_masked_gives_up because end result (inr (front, is)) memory =
-            absurd (let e = sym is ∙ memory in cc)
+        pub written_on : (end : W) → AllWritten sink writer end longer
+            → Goes after end new next []
+        written_on end all = goes_on end [] (passed.written end all)
 
-        -- The masked record was appended to the buffered output.
-        module _ (next : ℕ) (longer : List ℕ)
-            (is : Masked limits mask was.values (payload_of whole) records.number waiting longer
-            (Ok next)) where
-          abbrev judged_next : Judged (masking limits mask) (RepresentsRecord limits.frame) source
-              start after new (was.values ++ is.message ∷ [])
-          judged_next = on source limits mask start reader records was.values was.judged was.sent
-              waiting was.waits new after whole read next longer is
+        pub waited_on : HasItem (record_items limits.frame) new.pieces.unread
+            → Goes after writer new next longer
+        waited_on has = goes_on writer longer (passed.waits has)
 
-          pub written_on : (end : W) → AllWritten sink writer end longer
-              → Goes after end new next []
-          written_on end all = record {
-            values = was.values ++ is.message ∷ [];
-            judged = judged_next;
-            fits = is.is_next.fits;
-            count = is.count;
-            sent = masked_text mask (was.values ++ is.message ∷ []);
-            went_out = subst (AllWritten sink before end)
-                (sym (longer_is source limits mask start reader records was.values was.judged
-                was.sent waiting was.waits new after whole read next longer is))
-                (all_then_all sink before writer end was.sent longer was.went_out all);
-            waits = none_waiting source limits mask start after new
-                (was.values ++ is.message ∷ []) judged_next;
-          }
-
-          pub waited_on : IsAtHand limits mask new → Goes after writer new next longer
-          waited_on has = record {
-            values = was.values ++ is.message ∷ [];
-            judged = judged_next;
-            fits = is.is_next.fits;
-            count = is.count;
-            sent = was.sent;
-            went_out = was.went_out;
-            waits = waits_on source limits mask start reader records was.values was.judged was.sent
-                waiting was.waits new after whole read next longer is has;
-          }
-
-          pub failed_to_write : (end : W) → PrefixWritten sink writer end longer → Fails after end
-          failed_to_write end front =
-              failed_inside source sink limits mask start after before writer end
-              (was.judged.bytes ++ read.more) was.sent longer read.stop
-              (came_on source start reader after was.judged.bytes read.more read.stop
-              was.judged.came read.came)
-              was.went_out front
-              (stops_behind source limits mask start reader records was.values was.judged was.sent
-              waiting was.waits new after whole read next longer is front.count front.within)
+        pub failed_to_write : (end : W) → PrefixWritten sink writer end longer → Fails after end
+        failed_to_write = passed.fails

@@ -1,16 +1,13 @@
 use Rattle.std.proofs.Common.{ℕ, List, ◌++◌, ◌∷◌, [], Err, Ok, sym, ◌∙◌, subst}
 use Rattle.dap_device.specs.Written.{AllWritten, PrefixWritten}
-use Rattle.dap_device.proofs.Sending.{all_then_all}
-use Rattle.dap_input.proofs.Coming.{came_on}
-use Rattle.dap_input.proofs.StreamEnds.{all_written, front_written, nothing_written}
+use Rattle.dap_input.proofs.StreamEnds.{all_written, front_written, memory_of, not_given_up}
+use Rattle.dap_input.proofs.StreamEnds.{nothing_written}
 use Rattle.dap_normalise.specs.Accepting.{text}
 use Rattle.dap_normalise.specs.Streaming.{Ends}
-use Rattle.dap_normalise.proofs.PendingTexts.{Waiting, failed_inside, longer_is, none_waiting}
-use Rattle.dap_normalise.proofs.PendingTexts.{stops_behind, waits_on}
 use Rattle.dap_normalise.proofs.StreamAnswers.{ended, gone}
 use Rattle.dap_normalise.proofs.StreamLoop.{all_taken, at_start, few_taken, gone_taken, on}
-use Rattle.dap_normalise.proofs.StreamWriting.{all_given_up, all_refused, all_streamed, memory_of}
-use Rattle.dap_normalise.proofs.StreamWriting.{not_given_up, unfailed}
+use Rattle.dap_normalise.proofs.StreamWriting.{Waits, all_given_up, all_refused, all_streamed}
+use Rattle.dap_normalise.proofs.StreamWriting.{none_waiting, passed, unfailed}
 use Rattle.dap_normalise.proofs.normalising.write_records.Goals as goal
 
 pub records-init : goal.records-init
@@ -19,12 +16,11 @@ records-init g c =
     c.requires.represents in
     record {
       going = start;
-      sent = [];
-      written = nothing_written g.W.Sink c.args.writer.now;
-      waits = subst (Waiting c.args.limits c.args.mode c.args.records.now [] [] []) (sym
-          c.new-text.ensures.items)
-          (none_waiting g.R.Source c.args.limits c.args.mode c.args.reader.now c.args.reader.now
-          c.args.records.now start);
+      waits = subst (Waits c.args.limits c.args.mode c.args.records.now g.W.Sink c.args.writer.now
+          c.args.writer.now [] []) (sym c.new-text.ensures.items)
+          (none_waiting g.R.Source g.W.Sink c.args.limits c.args.mode c.args.reader.now
+          c.args.writer.now c.args.reader.now c.args.records.now start c.args.writer.now
+          (nothing_written g.W.Sink c.args.writer.now));
     }
 
 pub returns-then-is_err-clause-outcome : goal.returns-then-is_err-clause-outcome
@@ -40,18 +36,12 @@ returns-then-is_err-clause-outcome g c =
     c.as_slice.ensures.value
     (front_written g.W.Sink c.records.writer c.write_all.new.writer c.write_all.result
     c.as_slice.result.now c.write_all.ensures (sym c.is_err.ensures.value ∙ c.if-is_err.true)) in
-    failed_inside g.R.Source g.W.Sink c.args.limits c.args.mode c.args.reader.now c.next.new.reader
-    c.args.writer.now c.records.writer c.write_all.new.writer _ c.records.invariant.sent _ _
-    (came_on g.R.Source c.args.reader.now c.records.reader c.next.new.reader was.bytes here.more _
-    was.came here.came)
-    c.records.invariant.written front
-    (stops_behind g.R.Source c.args.limits c.args.mode c.args.reader.now c.records.reader
-    c.records.records was
-    c.records.invariant.sent c.records.text.items c.records.invariant.waits c.next.new.self
-    c.next.new.reader c.next.new.text.items here
+    (passed g.R.Source g.W.Sink c.args.limits c.args.mode c.args.reader.now c.args.writer.now
+    c.records.reader c.records.records was c.records.writer c.records.text.items
+    c.records.invariant.waits c.next.new.self c.next.new.reader
     (c.in-Ok-true.ensures.at_hand c.args.limits c.args.mode was.bytes was.messages was.normal
     was.represents)
-    front.count front.within)
+    c.next.new.text.items here).fails c.write_all.new.writer front
 
 pub returns-then-is_err-clause-taken : goal.returns-then-is_err-clause-taken
 returns-then-is_err-clause-taken g c =
@@ -94,19 +84,14 @@ records-preserved-in-Ok-true g c =
     c.next.new.self c.next.new.reader _ _ here in
     record {
       going = now;
-      sent = text now.normal;
-      written = subst (AllWritten g.W.Sink c.args.writer.now c.write_all.new.writer)
-          (sym (longer_is g.R.Source c.args.limits c.args.mode c.args.reader.now c.records.reader
-          c.records.records was c.records.invariant.sent c.records.text.items
-          c.records.invariant.waits c.next.new.self c.next.new.reader c.next.new.text.items here
+      waits = subst (Waits c.args.limits c.args.mode c.next.new.self g.W.Sink c.args.writer.now
+          c.write_all.new.writer now.bytes (text now.normal)) (sym {A = List ℕ} c.clear.ensures.items)
+          ((passed g.R.Source g.W.Sink c.args.limits c.args.mode c.args.reader.now c.args.writer.now
+          c.records.reader c.records.records was c.records.writer c.records.text.items
+          c.records.invariant.waits c.next.new.self c.next.new.reader
           (c.in-Ok-true.ensures.at_hand c.args.limits c.args.mode was.bytes was.messages was.normal
-          was.represents)))
-          (all_then_all g.W.Sink c.args.writer.now c.records.writer c.write_all.new.writer
-          c.records.invariant.sent c.next.new.text.items c.records.invariant.written all);
-      waits = subst (Waiting c.args.limits c.args.mode c.next.new.self now.bytes (text now.normal)
-          (text now.normal)) (sym {A = List ℕ} c.clear.ensures.items)
-          (none_waiting g.R.Source c.args.limits c.args.mode c.args.reader.now c.next.new.reader
-          c.next.new.self now);
+          was.represents)
+          c.next.new.text.items here).written c.write_all.new.writer all);
     }
 
 pub records-smaller : goal.records-smaller
@@ -132,13 +117,12 @@ records-preserved g c =
       going = on g.R.Source c.args.limits c.args.mode c.args.reader.now c.records.reader
           c.records.records was
           c.next.new.self c.next.new.reader _ _ here;
-      sent = c.records.invariant.sent;
-      written = c.records.invariant.written;
-      waits = waits_on g.R.Source c.args.limits c.args.mode c.args.reader.now c.records.reader
-          c.records.records was c.records.invariant.sent c.records.text.items
-          c.records.invariant.waits c.next.new.self c.next.new.reader c.next.new.text.items here
+      waits = (passed g.R.Source g.W.Sink c.args.limits c.args.mode c.args.reader.now c.args.writer.now
+          c.records.reader c.records.records was c.records.writer c.records.text.items
+          c.records.invariant.waits c.next.new.self c.next.new.reader
           (c.in-Ok-true.ensures.at_hand c.args.limits c.args.mode was.bytes was.messages was.normal
           was.represents)
+          c.next.new.text.items here).waits
           (c.has_next.ensures c.args.limits c.args.mode (was.bytes ++ here.more)
           (was.messages ++ here.message ∷ []) (was.normal ++ here.named ∷ []) here.represents
           c.if-not-has_next.false);
@@ -154,9 +138,8 @@ returns-in-Ok-false-clause-outcome g c =
     was.represents)
     c.in-Ok-false.field-0-test in
     all_streamed g.R.Source g.W.Sink c.args.limits c.args.mode c.args.reader.now c.args.writer.now
-    c.records.reader c.records.records was c.records.writer c.records.invariant.sent
-    c.records.text.items c.records.invariant.written c.records.invariant.waits c.next.new.self
-    c.next.new.reader
+    c.records.reader c.records.records was c.records.writer c.records.text.items
+    c.records.invariant.waits c.next.new.self c.next.new.reader
     (c.in-Ok-false.ensures.at_hand c.args.limits c.args.mode was.bytes was.messages was.normal
     was.represents)
     c.requires.limits _ _ end c.finish_output.new.writer c.finish_output.result
@@ -166,7 +149,7 @@ returns-in-Ok-false-clause-outcome g c =
 pub returns-in-Ok-false-clause-given_up : goal.returns-in-Ok-false-clause-given_up
 returns-in-Ok-false-clause-given_up g c = λ memory.
     absurd (not_given_up g.W.Sink c.as_slice-in-Ok-false.result.now c.records.writer
-    c.finish_output.new.writer c.finish_output.result c.finish_output.ensures memory)
+    c.finish_output.new.writer tt c.finish_output.result c.finish_output.ensures memory)
 
 pub returns-in-Ok-false-clause-taken : goal.returns-in-Ok-false-clause-taken
 returns-in-Ok-false-clause-taken g c =
@@ -185,9 +168,8 @@ pub returns-in-Err-clause-outcome : goal.returns-in-Err-clause-outcome
 returns-in-Err-clause-outcome g c =
     let was = c.records.invariant.going in
     all_refused g.R.Source g.W.Sink c.args.limits c.args.mode c.args.reader.now c.args.writer.now
-    c.records.reader c.records.records was c.records.writer c.records.invariant.sent
-    c.records.text.items c.records.invariant.written c.records.invariant.waits c.next.new.self
-    c.next.new.reader
+    c.records.reader c.records.records was c.records.writer c.records.text.items
+    c.records.invariant.waits c.next.new.self c.next.new.reader
     (c.in-Err.ensures.at_hand c.args.limits c.args.mode was.bytes was.messages was.normal
     was.represents)
     c.in-Err.refused
@@ -202,9 +184,8 @@ pub returns-in-Err-clause-given_up : goal.returns-in-Err-clause-given_up
 returns-in-Err-clause-given_up g c = λ memory.
     let was = c.records.invariant.going in
     all_given_up g.R.Source g.W.Sink c.args.limits c.args.mode c.args.reader.now c.args.writer.now
-    c.records.reader c.records.records was c.records.writer c.records.invariant.sent
-    c.records.text.items c.records.invariant.written c.records.invariant.waits c.next.new.self
-    c.next.new.reader
+    c.records.reader c.records.records was c.records.writer c.records.text.items
+    c.records.invariant.waits c.next.new.self c.next.new.reader
     (c.in-Err.ensures.at_hand c.args.limits c.args.mode was.bytes was.messages was.normal
     was.represents)
     c.in-Err.refused
@@ -227,7 +208,7 @@ returns-in-Err-clause-taken g c =
 pub returns-in-Ok-false-clause-memory : goal.returns-in-Ok-false-clause-memory
 returns-in-Ok-false-clause-memory g c = λ memory.
     absurd (not_given_up g.W.Sink c.as_slice-in-Ok-false.result.now c.records.writer
-    c.finish_output.new.writer c.finish_output.result c.finish_output.ensures memory)
+    c.finish_output.new.writer tt c.finish_output.result c.finish_output.ensures memory)
 
 pub returns-in-Err-clause-memory : goal.returns-in-Err-clause-memory
 returns-in-Err-clause-memory g c = λ memory.

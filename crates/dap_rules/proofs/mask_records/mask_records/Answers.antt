@@ -1,11 +1,10 @@
 use Rattle.std.proofs.Common.{Err, Ok, sym, ◌∙◌, subst}
 use Rattle.dap_device.specs.Written.{AllWritten, PrefixWritten}
-use Rattle.dap_input.proofs.StreamEnds.{all_written, front_written}
+use Rattle.dap_input.proofs.StreamEnds.{all_written, front_written, not_given_up}
 use Rattle.dap_normalise.specs.Streaming.{Ends}
 use Rattle.dap_rules.proofs.MaskingLoop.{all_masked, failed_to_write, fewer, none_read}
 use Rattle.dap_rules.proofs.MaskingLoop.{not_masked, not_masked_gives_up, not_read}
 use Rattle.dap_rules.proofs.MaskingLoop.{not_read_gives_up, waited_on, written_on}
-use Rattle.dap_normalise.proofs.StreamWriting.{not_given_up}
 use Rattle.dap_rules.proofs.mask_records.mask_records.Goals as goal
 
 pub records-init : goal.records-init
@@ -40,7 +39,7 @@ returns-in-Err-clause-outcome g c =
 pub returns-in-Ok-None-clause-given_up : goal.returns-in-Ok-None-clause-given_up
 returns-in-Ok-None-clause-given_up g c = λ memory.
     absurd (not_given_up g.W.Sink c.as_slice.result.now c.records.writer c.finish_output.new.writer
-    c.finish_output.result c.finish_output.ensures memory)
+    tt c.finish_output.result c.finish_output.ensures memory)
 
 pub returns-in-Err-clause-given_up : goal.returns-in-Err-clause-given_up
 returns-in-Err-clause-given_up g c = λ memory.
