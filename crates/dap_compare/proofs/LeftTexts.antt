@@ -1,6 +1,6 @@
 -- The text that the next record of an input stores.
-use Rattle.std.proofs.Common.{◌≡◌, inl, inr, ℕ, ℤ, ◌+◌, Bool, true, false, List, [], ◌∷◌, ◌++◌}
-use Rattle.std.proofs.Common.{length, Option, Some, None, Ok, sym, ◌∙◌, ap, subst}
+use Rattle.std.proofs.Common.{◌≡◌, inl, inr, ℕ, ℤ, ◌+◌, Bool, true, false, List, [], ◌++◌}
+use Rattle.std.proofs.Common.{length, Some, None, Ok, sym, ◌∙◌, ap, subst}
 use Rattle.dap_device.specs.declared.device.Source.{Ghosts as Source}
 use Rattle.dap_device.specs.declared.reading.Stop.TheVariants.{End}
 use Rattle.dap_rename.specs.declared.mode.Mode.{Mode}
@@ -17,8 +17,8 @@ use Rattle.dap_compare.specs.LeftTexts.{LeavesRecord}
 use Rattle.dap_compare.proofs.ComparingLoop.{taken_in}
 use Rattle.dap_compare.proofs.OneVerdict.{before_same, whole_before}
 
-module _ {T R : Type 0} {numbers : T → List ℤ} {table_limit : T → ℕ} (source : Source R)
-    (limits : Limits) (mode : Mode) (start reader : R) (records : NormalRecords T)
+module _ {T R : Type 0} {numbers : T → List ℤ} {table_limit : T → ℕ} {source : Source R}
+    {limits : Limits} {mode : Mode} {start reader : R} {records : NormalRecords T}
     (was : Going numbers table_limit source limits mode start reader records) where
   left_here : (new : NormalRecords T) (after : R) (text longer : List ℕ) (some : Bool)
       → HasNext numbers table_limit source limits mode was.bytes was.messages was.normal records new
@@ -29,12 +29,11 @@ module _ {T R : Type 0} {numbers : T → List ℤ} {table_limit : T → ℕ} (so
     stop = None;
     came = came_on source start reader after was.bytes gone.more None was.came gone.came;
     is_record = λ input is. inr (
-      next_in source limits mode start reader records was new after text longer gone input is.0
+      next_in was gone input is.0
           is.1,
       was.normal,
       gone.named,
-      normal_before limits mode (was.bytes ++ gone.more) new (was.messages ++ gone.message ∷ [])
-          (was.normal ++ gone.named ∷ []) gone.represents,
+      normal_before gone.represents,
       gone.appended ∙ ap (λ t. t ++ record_of gone.named) none,
     );
   }
@@ -43,7 +42,7 @@ module _ {T R : Type 0} {numbers : T → List ℤ} {table_limit : T → ℕ} (so
     stop = Some End;
     came = came_on source start reader after was.bytes ended.more (Some End) was.came ended.came;
     is_record = λ input is.
-        let here = before_in source limits mode start reader records was input ended.more is.0 in
+        let here = before_in was input ended.more is.0 in
         let taken = taken_in limits mode (was.bytes ++ ended.more) input was.messages is
         ended.accepted in
         inl (

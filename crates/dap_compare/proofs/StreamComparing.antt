@@ -48,7 +48,7 @@ use Rattle.dap_compare.proofs.ComparingLoop.{has_ended, not_the_same, one_form, 
 use Rattle.dap_compare.proofs.ComparingLoop.{x_has_ended, y_has_ended}
 use Rattle.dap_input.proofs.Coming.{came_on, nothing_came}
 use Rattle.dap_input.proofs.InputLoop.{read_later}
-use Rattle.dap_input.proofs.Runs.{run_none}
+use Rattle.dap_input.proofs.Runs.{none_accepted}
 use Rattle.dap_normalise.proofs.NormalTexts.{normal}
 use Rattle.dap_normalise.proofs.StreamLoop.{Going, before_in, next_in, normal_before}
 use Rattle.dap_compare.proofs.Verdicts.{same_lengths}
@@ -59,7 +59,7 @@ pub none_compared : {R S : Type 0} (source_a : Source R) (source_b : Source S) (
     → Compares source_a source_b limits mode start_a start_a start_b start_b (Err because.Memory)
 none_compared source_a source_b limits mode start_a start_b =
     let accepted =
-    (accepted_facts limits mode).accepted_of_run [] [] (run_none (accepting limits mode) [] 0) in
+    none_accepted (accepting limits mode) (accepted_facts limits mode) in
     let none : IsReadTo (accepting limits mode) [] 1 =
     record { before = []; last = []; split = refl; few = omega arith; ends = inl refl } in
     let before : (input : Input) → AcceptedBefore (accepting limits mode) input 1 =
@@ -93,25 +93,25 @@ none_compared source_a source_b limits mode start_a start_b =
     }
 
 -- The result for the next record is an allocation failure, or an error at that record.
-pub as_told : {T R : Type 0} {numbers : T → List ℤ} {table_limit : T → ℕ} (source : Source R)
-    (limits : Limits) (mode : Mode) (bytes : List ℕ) (messages normal : List Sent)
-    (old new : NormalRecords T) (before after : R) (refused : Refused)
-    → (stopped : HasStoppedAt numbers table_limit source limits mode bytes messages normal
+pub as_told : {T R : Type 0} {numbers : T → List ℤ} {table_limit : T → ℕ} {source : Source R}
+    {limits : Limits} {mode : Mode} {bytes : List ℕ} {messages normal : List Sent}
+    {old new : NormalRecords T} {before after : R} {refused : Refused}
+    (stopped : HasStoppedAt numbers table_limit source limits mode bytes messages normal
     old new before after refused)
     → (refused ≡ why.Memory)
     ⊎ ((refused ≡ why.Memory → ⊥)
     × RefusesAt (accepting limits mode) (so_far (bytes ++ stopped.more) stopped.stop)
     old.records.number refused)
-as_told source limits mode bytes messages normal old new before after why.Memory stopped =
+as_told {refused = why.Memory} stopped =
     inl refl
-as_told source limits mode bytes messages normal old new before after refused stopped =
+as_told stopped =
     inr ((λ same. absurd (let e = same in cc)), stopped.says)
 
-module _ {T R S : Type 0} {numbers : T → List ℤ} {table_limit : T → ℕ} (source_a : Source R)
-    (source_b : Source S) (limits : Limits) (mode : Mode)
-    (start_a reader_a : R) (records_a : NormalRecords T)
+module _ {T R S : Type 0} {numbers : T → List ℤ} {table_limit : T → ℕ} {source_a : Source R}
+    {source_b : Source S} {limits : Limits} {mode : Mode}
+    {start_a reader_a : R} {records_a : NormalRecords T}
     (a : Going numbers table_limit source_a limits mode start_a reader_a records_a)
-    (start_b reader_b : S) (records_b : NormalRecords T)
+    {start_b reader_b : S} {records_b : NormalRecords T}
     (b : Going numbers table_limit source_b limits mode start_b reader_b records_b)
     (alike : a.normal ≡ b.normal) where
   abbrev pub number : ℕ
@@ -120,9 +120,9 @@ module _ {T R S : Type 0} {numbers : T → List ℤ} {table_limit : T → ℕ} (
   are : AreSame (stop_in mode) a.messages b.messages
   are =
       normal_is_complete (stop_in mode) a.messages b.messages a.normal
-      (normal_before limits mode a.bytes records_a a.messages a.normal a.represents)
+      (normal_before a.represents)
       (subst (IsNormal (stop_in mode) b.messages) (sym alike)
-      (normal_before limits mode b.bytes records_b b.messages b.normal b.represents))
+      (normal_before b.represents))
 
   pub one_number : records_b.records.number ≡ number
   one_number =
@@ -150,13 +150,13 @@ module _ {T R S : Type 0} {numbers : T → List ℤ} {table_limit : T → ℕ} (
 
     before : AreSameBefore (accepting limits mode) (AreSame (stop_in mode)) x y number
     before = record {
-      of_a = before_in source_a limits mode start_a reader_a records_a a x (more_a
+      of_a = before_in a x (more_a
           ++ beyond_x) split_x;
       of_b = record {
         values = b.messages;
         front = b.represents.front;
         rest = records_b.records.pieces.unread ++ (more_b ++ beyond_y);
-        split = (before_in source_b limits mode start_b reader_b records_b b y (more_b
+        split = (before_in b y (more_b
             ++ beyond_y) split_y).split;
         accepted = b.represents.accepted;
         is_number = sym one_number ∙ b.represents.number_is;
@@ -319,8 +319,7 @@ module _ {T R S : Type 0} {numbers : T → List ℤ} {table_limit : T → ℕ} (
   told_by_a new after refused refusal of_it stopped =
       ⊎_elim (λ is. rw (of_it.0 is) (gave_up_by_a new after refused is stopped))
       (λ reported. rw (of_it.1 reported.0) (refused_by_a new after refused stopped reported.1))
-      (as_told source_a limits mode a.bytes a.messages a.normal records_a new reader_a
-      after refused stopped)
+      (as_told stopped)
 
   pub told_by_b : (passed_to : R) (more : List ℕ) (stop : Option Stop)
       → Passed passed_to more stop
@@ -335,8 +334,7 @@ module _ {T R S : Type 0} {numbers : T → List ℤ} {table_limit : T → ℕ} (
       (gave_up_by_b passed_to more stop passed new after refused is stopped))
       (λ reported. rw (of_it.1 reported.0)
       (refused_by_b passed_to more stop passed new after refused stopped reported.1))
-      (as_told source_b limits mode b.bytes b.messages b.normal records_b new reader_b
-      after refused stopped)
+      (as_told stopped)
 
   -- ---- the record of A
 
@@ -350,8 +348,7 @@ module _ {T R S : Type 0} {numbers : T → List ℤ} {table_limit : T → ℕ} (
       no_failure = gone.came.paused;
       passes = λ x is_x.
           goes_on limits mode number x
-          (next_in source_a limits mode start_a reader_a records_a a new_a after_a
-          text_a longer_a gone x is_x.0 is_x.1);
+          (next_in a gone x is_x.0 is_x.1);
     }
 
     pub ended_passed : (ended : HasEnded numbers table_limit source_a limits mode
@@ -397,8 +394,7 @@ module _ {T R S : Type 0} {numbers : T → List ℤ} {table_limit : T → ℕ} (
         → AcceptedBefore (accepting limits mode) y (number + 1)
     next_y gone y is_y =
         subst (λ n. AcceptedBefore (accepting limits mode) y (n + 1)) one_number
-        (next_in source_b limits mode start_b reader_b records_b b new_b after_b text_b
-        longer_b gone y is_y.0 is_y.1)
+        (next_in b gone y is_y.0 is_y.1)
 
     number_of_a : number ≡ length a.messages + 1
     number_of_a = a.represents.number_is
@@ -448,8 +444,7 @@ module _ {T R S : Type 0} {numbers : T → List ℤ} {table_limit : T → ℕ} (
         (before (a.bytes ++ gone.more) (b.bytes ++ ended.more) gone.more ended.more refl refl
         None (Some End) x y is_x is_y) b.messages
         (taken_in limits mode (b.bytes ++ ended.more) y b.messages is_y ended.accepted) number_of_b
-        (next_in source_a limits mode start_a reader_a records_a a new_a after_a text_a
-        longer_a gone x is_x.0 is_x.1))
+        (next_in a gone x is_x.0 is_x.1))
 
     pub none_and_some : (n : ℕ) → n ≡ number → Ended_a → Gone_b
         → HasCompared source_a source_b limits mode start_a after_a
@@ -471,8 +466,7 @@ module _ {T R S : Type 0} {numbers : T → List ℤ} {table_limit : T → ℕ} (
       is_normal_b =
           subst (λ n. IsNormal (stop_in mode) (b.messages ++ went.message ∷ []) (n ++ went.named
           ∷ []))
-          (sym alike) (normal_before limits mode (b.bytes ++ went.more) new_b
-          (b.messages ++ went.message ∷ []) (b.normal ++ went.named ∷ []) went.represents)
+          (sym alike) (normal_before went.represents)
 
       pub texts_apart : text_a ≡ [] → text_b ≡ [] → (n : ℕ) → n ≡ number → (longer_a ≡ longer_b → ⊥)
           → HasCompared source_a source_b limits mode start_a after_a
@@ -484,12 +478,9 @@ module _ {T R S : Type 0} {numbers : T → List ℤ} {table_limit : T → ℕ} (
           are_apart limits mode x y number
           (before (a.bytes ++ gone.more) (b.bytes ++ went.more) gone.more went.more refl refl
           None None x y is_x is_y)
-          (next_in source_a limits mode start_a reader_a records_a a new_a after_a
-          text_a longer_a gone x is_x.0 is_x.1) (in_y y is_y)
+          (next_in a gone x is_x.0 is_x.1) (in_y y is_y)
           (not_the_same limits mode a.normal (a.messages ++ gone.message ∷ []) (b.messages
-          ++ went.message ∷ []) gone.named went.named (normal_before limits mode (a.bytes
-          ++ gone.more) new_a
-          (a.messages ++ gone.message ∷ []) (a.normal ++ gone.named ∷ []) gone.represents)
+          ++ went.message ∷ []) gone.named went.named (normal_before gone.represents)
           is_normal_b
           (λ equal. apart (gone.appended ∙ ap (λ t. t ++ record_of gone.named) none ∙ equal
           ∙ sym (went.appended ∙ ap (λ t. t ++ record_of went.named) nothing)))))
@@ -500,8 +491,7 @@ module _ {T R S : Type 0} {numbers : T → List ℤ} {table_limit : T → ℕ} (
             values = b.messages ++ went.message ∷ [];
             front = went.represents.front;
             rest = new_b.records.pieces.unread ++ is_y.0;
-            split = (next_in source_b limits mode start_b reader_b records_b b new_b
-                after_b text_b longer_b went y is_y.0 is_y.1).split;
+            split = (next_in b went y is_y.0 is_y.1).split;
             accepted = went.represents.accepted;
             is_number =
                 (let is = number_of_b in omega (arith, is, length_push b.messages went.message));
@@ -513,8 +503,7 @@ module _ {T R S : Type 0} {numbers : T → List ℤ} {table_limit : T → ℕ} (
           sym
           (one_form limits mode a.normal (a.messages ++ gone.message ∷ []) (b.messages
           ++ went.message
-          ∷ []) gone.named went.named (normal_before limits mode (a.bytes ++ gone.more) new_a
-          (a.messages ++ gone.message ∷ []) (a.normal ++ gone.named ∷ []) gone.represents)
+          ∷ []) gone.named went.named (normal_before gone.represents)
           is_normal_b
           sound
           gone.represents.front went.represents.front gone.represents.accepted
@@ -551,81 +540,88 @@ module _ {T R S : Type 0} {numbers : T → List ℤ} {table_limit : T → ℕ} (
     told_apart false false ended over none nothing (inr (inr wrong)) n is =
         absurd (true≢false (sym wrong.0))
 
-    module _ (end_a : Ended_a) (end_b : Ended_b) where
-      pub names_a : Represents numbers table_limit new_a.judge.names a.messages
-      names_a =
-          subst (λ judge. Represents numbers table_limit judge.names a.messages)
-          (sym end_a.judge_is) a.represents.represents.names
+  -- both inputs have ended
 
-      pub names_b : Represents numbers table_limit new_b.judge.names b.messages
-      names_b =
-          subst (λ judge. Represents numbers table_limit judge.names b.messages)
-          (sym end_b.judge_is) b.represents.represents.names
+  module _ {new_a new_b : NormalRecords T} {after_a : R} {after_b : S}
+      {text_a longer_a text_b longer_b : List ℕ}
+      (end_a : HasEnded numbers table_limit source_a limits mode a.bytes a.messages a.normal
+      records_a new_a reader_a after_a text_a longer_a)
+      (end_b : HasEnded numbers table_limit source_b limits mode b.bytes b.messages b.normal
+      records_b new_b reader_b after_b text_b longer_b) where
+    pub names_a : Represents numbers table_limit new_a.judge.names a.messages
+    names_a =
+        subst (λ judge. Represents numbers table_limit judge.names a.messages)
+        (sym end_a.judge_is) a.represents.represents.names
 
-      mode_a : judge_mode new_a.judge ≡ mode
-      mode_a =
-          subst (λ (judge : Judge T). judge_mode judge ≡ mode) (sym end_a.judge_is)
-          a.represents.judge_mode_is
+    pub names_b : Represents numbers table_limit new_b.judge.names b.messages
+    names_b =
+        subst (λ judge. Represents numbers table_limit judge.names b.messages)
+        (sym end_b.judge_is) b.represents.represents.names
 
-      mode_b : judge_mode new_b.judge ≡ mode
-      mode_b =
-          subst (λ (judge : Judge T). judge_mode judge ≡ mode) (sym end_b.judge_is)
-          b.represents.judge_mode_is
+    mode_a : judge_mode new_a.judge ≡ mode
+    mode_a =
+        subst (λ (judge : Judge T). judge_mode judge ≡ mode) (sym end_a.judge_is)
+        a.represents.judge_mode_is
 
-      stand_a : RepresentsWith (stop_in mode) numbers table_limit new_a.judge.names a.messages
-      stand_a =
-          subst (λ k. RepresentsWith (stop_in k) numbers table_limit new_a.judge.names a.messages)
-          mode_a names_a
+    mode_b : judge_mode new_b.judge ≡ mode
+    mode_b =
+        subst (λ (judge : Judge T). judge_mode judge ≡ mode) (sym end_b.judge_is)
+        b.represents.judge_mode_is
 
-      stand_b : RepresentsWith (stop_in mode) numbers table_limit new_b.judge.names b.messages
-      stand_b =
-          subst (λ k. RepresentsWith (stop_in k) numbers table_limit new_b.judge.names b.messages)
-          mode_b names_b
+    stand_a : RepresentsWith (stop_in mode) numbers table_limit new_a.judge.names a.messages
+    stand_a =
+        subst (λ k. RepresentsWith (stop_in k) numbers table_limit new_a.judge.names a.messages)
+        mode_a names_a
 
-      pub equal_counts : HaveEqualCounts numbers new_a.judge.names new_b.judge.names
-      equal_counts = record {
-        mode = mode_a ∙ sym mode_b;
-        stops = stand_a.stops ∙ same_stops (stop_in mode) (mode_is_told mode) a.messages
-            b.messages are
-            ∙ sym stand_b.stops;
-        classes = λ c. ap length (stand_a.classes c)
-            ∙ same_counts (stop_in mode) a.messages b.messages are c
-            ∙ sym (ap length (stand_b.classes c));
-      }
+    stand_b : RepresentsWith (stop_in mode) numbers table_limit new_b.judge.names b.messages
+    stand_b =
+        subst (λ k. RepresentsWith (stop_in k) numbers table_limit new_b.judge.names b.messages)
+        mode_b names_b
 
-      pub both_ended : (renaming : Renaming)
-          → entries (pairs_of renaming)
-          ≡ equal_places (stop_in (judge_mode new_a.judge)) a.messages b.messages
-          → HasCompared source_a source_b limits mode start_a after_a
-          start_b after_b (Ok (code.Same renaming))
-      both_ended renaming pairs = record {
-        number = number;
-        bytes_a = a.bytes ++ end_a.more;
-        stop_a = Some End;
-        came_a = came_on source_a start_a reader_a after_a a.bytes end_a.more
-            (Some End) a.came end_a.came;
-        read_a = end_a.read_to;
-        bytes_b = b.bytes ++ end_b.more;
-        stop_b = Some End;
-        came_b = came_on source_b start_b reader_b after_b b.bytes end_b.more
-            (Some End) b.came end_b.came;
-        read_b = subst (IsReadTo (accepting limits mode) (b.bytes ++ end_b.more)) one_number
-            end_b.read_to;
-        tells = λ x y is_x is_y.
-            subst (λ how. IsRecordingVerdict limits mode x y (are_same how))
-            (sym (pairs ∙ ap (λ k. equal_places (stop_in k) a.messages b.messages) mode_a))
-            (both_have_ended limits mode x y a.messages b.messages
-            (taken_in limits mode (a.bytes ++ end_a.more) x a.messages is_x end_a.accepted)
-            (taken_in limits mode (b.bytes ++ end_b.more) y b.messages is_y end_b.accepted) are);
-        none_fails = (end_a.came.paused.1 ∙ a.came.paused, end_b.came.paused.1 ∙ b.came.paused);
-      }
+    pub equal_counts : HaveEqualCounts numbers new_a.judge.names new_b.judge.names
+    equal_counts = record {
+      mode = mode_a ∙ sym mode_b;
+      stops = stand_a.stops ∙ same_stops (stop_in mode) (mode_is_told mode) a.messages
+          b.messages are
+          ∙ sym stand_b.stops;
+      classes = λ c. ap length (stand_a.classes c)
+          ∙ same_counts (stop_in mode) a.messages b.messages are c
+          ∙ sym (ap length (stand_b.classes c));
+    }
 
-      -- Both inputs have ended, and an allocation failed after that.
-      pub gave_up_at_end : Compares source_a source_b limits mode start_a after_a start_b after_b
-          (Err because.Memory)
-      gave_up_at_end =
-          gave_up after_a end_a.more (Some End) end_a.came end_a.read_to end_a.came.paused.1
-          after_b end_b.more (Some End) end_b.came
-          (subst (IsReadTo (accepting limits mode) (b.bytes ++ end_b.more)) one_number
-          end_b.read_to)
-          end_b.came.paused.1
+    pub both_ended : (renaming : Renaming)
+        → entries (pairs_of renaming)
+        ≡ equal_places (stop_in (judge_mode new_a.judge)) a.messages b.messages
+        → HasCompared source_a source_b limits mode start_a after_a
+        start_b after_b (Ok (code.Same renaming))
+    both_ended renaming pairs = record {
+      number = number;
+      bytes_a = a.bytes ++ end_a.more;
+      stop_a = Some End;
+      came_a = came_on source_a start_a reader_a after_a a.bytes end_a.more
+          (Some End) a.came end_a.came;
+      read_a = end_a.read_to;
+      bytes_b = b.bytes ++ end_b.more;
+      stop_b = Some End;
+      came_b = came_on source_b start_b reader_b after_b b.bytes end_b.more
+          (Some End) b.came end_b.came;
+      read_b = subst (IsReadTo (accepting limits mode) (b.bytes ++ end_b.more)) one_number
+          end_b.read_to;
+      tells = λ x y is_x is_y.
+          subst (λ how. IsRecordingVerdict limits mode x y (are_same how))
+          (sym (pairs ∙ ap (λ k. equal_places (stop_in k) a.messages b.messages) mode_a))
+          (both_have_ended limits mode x y a.messages b.messages
+          (taken_in limits mode (a.bytes ++ end_a.more) x a.messages is_x end_a.accepted)
+          (taken_in limits mode (b.bytes ++ end_b.more) y b.messages is_y end_b.accepted) are);
+      none_fails = (end_a.came.paused.1 ∙ a.came.paused, end_b.came.paused.1 ∙ b.came.paused);
+    }
+
+    -- Both inputs have ended, and an allocation failed after that.
+    pub gave_up_at_end : Compares source_a source_b limits mode start_a after_a start_b after_b
+        (Err because.Memory)
+    gave_up_at_end =
+        gave_up after_a end_a.more (Some End) end_a.came end_a.read_to end_a.came.paused.1
+        after_b end_b.more (Some End) end_b.came
+        (subst (IsReadTo (accepting limits mode) (b.bytes ++ end_b.more)) one_number
+        end_b.read_to)
+        end_b.came.paused.1

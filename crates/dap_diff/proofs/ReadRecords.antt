@@ -1,5 +1,5 @@
 -- What reading a recording into memory keeps from record to record, and its results.
-use Rattle.std.proofs.Common.{◌≡◌, ℕ, ◌+◌, ℤ, false, List, [], ◌∷◌, ◌++◌, length, None, Err}
+use Rattle.std.proofs.Common.{◌≡◌, ℕ, ◌+◌, ℤ, false, List, [], ◌∷◌, ◌++◌, length, Err}
 use Rattle.std.proofs.Common.{refl, sym, ◌∙◌, ap, subst, arith, append_assoc}
 use Rattle.std.proofs.lemmas.List.{length_push}
 use Rattle.dap_device.specs.declared.device.Source.{Ghosts as Source}
@@ -42,34 +42,33 @@ module _ {T R : Type 0} (numbers : T → List ℤ) (table_limit : T → ℕ) (so
     pub are_entries : AreEntriesOf mode old.stop 1 going.normal added
     pub stop_is : so_far.stop ≡ last_stop mode old.stop 1 going.normal
 
-module _ {T R : Type 0} {numbers : T → List ℤ} {table_limit : T → ℕ} (source : Source R)
-    (limits : Limits) (mode : Mode) (start reader : R) (records : NormalRecords T)
-    (old so_far : Recording)
+module _ {T R : Type 0} {numbers : T → List ℤ} {table_limit : T → ℕ} {source : Source R}
+    {limits : Limits} {mode : Mode} {start reader : R} {records : NormalRecords T}
+    {old so_far : Recording}
     (was : Keeps numbers table_limit source limits mode start reader records old so_far)
-    (new : NormalRecords T) (after : R) where
-  abbrev pub accepted : (before longer : List ℕ)
+    {new : NormalRecords T} {after : R} where
+  abbrev pub accepted : {before longer : List ℕ}
       → HasEnded numbers table_limit source limits mode was.going.bytes was.going.messages
       was.going.normal records new reader after before longer
       → HasNormalText source limits mode start after so_far.text.items
-  accepted before longer end = record {
+  accepted end = record {
     whole = was.going.bytes ++ end.more;
-    came = all_came source limits mode start reader records was.going after new before longer end;
+    came = all_came was.going end;
     gives = record {
       messages = was.going.messages;
       accepts = end.accepted;
       normal = was.going.normal;
-      is_normal = normal_before limits mode was.going.bytes records was.going.messages
-          was.going.normal was.going.represents;
+      is_normal = normal_before was.going.represents;
       text_is = was.text_is;
     };
   }
 
-  pub all_added : (before longer : List ℕ)
+  pub all_added : {before longer : List ℕ}
       → HasEnded numbers table_limit source limits mode was.going.bytes was.going.messages
       was.going.normal records new reader after before longer
       → AddsRecording source limits mode start after old so_far
-  all_added before longer end = record {
-    has_text = accepted before longer end;
+  all_added end = record {
+    has_text = accepted end;
     added = was.added;
     entries_are = was.entries_are;
     are_entries = was.are_entries;
@@ -84,39 +83,36 @@ module _ {T R : Type 0} {numbers : T → List ℤ} {table_limit : T → ℕ} (so
   refused which why.Memory refusal stopped is written =
       subst (λ r. Reads source limits mode start after {U = Unit {0}} which written (Err r))
       (sym (is.0 refl))
-      (check_refuses source limits mode start reader records was.going new after false why.Memory
-      stopped)
+      (check_refuses was.going false why.Memory stopped)
   refused which because refusal stopped is written =
       subst (λ r. Reads source limits mode start after {U = Unit {0}} which written (Err r))
       (sym (is.1 (λ e. let same = e in cc)))
-      (refl, check_refuses source limits mode start reader records was.going new after false because stopped)
+      (refl, check_refuses was.going false because stopped)
 
   -- An allocation failed after the record was read.
-  pub gave_up : (before longer : List ℕ)
+  pub gave_up : {before longer : List ℕ}
       → HasAdvanced numbers table_limit source limits mode was.going.bytes was.going.messages
       was.going.normal records new reader after before longer
       → RanOutOfMemory source limits mode start after
-  gave_up before longer gone = (
+  gave_up gone = (
     records.records.number,
     text was.going.normal,
-    come_to source limits mode start reader records was.going after gone.more None gone.came
+    come_to was.going gone.came
         gone.read_to,
   )
 
   -- ---- one more record
 
-  module _ (sound : AreSound limits) (before longer : List ℕ)
+  module _ (sound : AreSound limits) {before longer : List ℕ}
       (gone : HasAdvanced numbers table_limit source limits mode was.going.bytes was.going.messages
       was.going.normal records new reader after before longer)
-      (shown : List ℕ) (is : shown ≡ record_of gone.named) where
+      {shown : List ℕ} (is : shown ≡ record_of gone.named) where
     pub is_record : IsRecordOf limits shown gone.named
     is_record =
         record_is limits mode sound shown gone.represents.front
         (was.going.messages ++ gone.message ∷ []) was.going.normal gone.named
         gone.represents.accepted
-        (normal_before limits mode (was.going.bytes ++ gone.more) new
-        (was.going.messages ++ gone.message ∷ []) (was.going.normal ++ gone.named ∷ [])
-        gone.represents) is
+        (normal_before gone.represents) is
 
     pub kept : (longer_recording : Recording)
         → AddsEntry limits mode records.records.number shown so_far longer_recording
@@ -134,7 +130,7 @@ module _ {T R : Type 0} {numbers : T → List ℤ} {table_limit : T → ℕ} (so
         (subst (λ k. IsEntryOf k records.records.number adds.message adds.entry) was.stop_is
         adds.is_entry)) in
         record {
-          going = on source limits mode start reader records was.going new after before longer gone;
+          going = on was.going gone;
           text_is = adds.text_is ∙ ap (λ t. so_far.text.items ++ t) is
               ∙ ap (λ t. t ++ record_of gone.named) was.text_is
               ∙ sym (text_push was.going.normal gone.named);

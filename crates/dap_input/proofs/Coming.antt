@@ -5,6 +5,7 @@ use Rattle.std.proofs.lemmas.List.{nil_from_length}
 use Rattle.std.proofs.KnownBytes.{Consumes-nil, Consumes-trans}
 use Rattle.dap_device.specs.declared.device.Source.{Ghosts as Source}
 use Rattle.dap_device.specs.Pieces.{HasReadSoFar, HasPaused}
+use Rattle.dap_device.specs.Reading.{HasReadInput}
 use Rattle.dap_device.specs.declared.reading.Stop.{Stop}
 use Rattle.dap_device.specs.declared.reading.Stop.TheVariants.{End, Full, Failed}
 
@@ -48,3 +49,10 @@ module _ {R : Type 0} (source : Source R) where
       let before = was.counted in
       let behind = next.counted in
       omega (arith, before, behind, within, length-append bytes more)
+
+  -- A source that reached its end delivered a complete input.
+  pub whole_came : {start end : R} {limit : ℕ} {bytes : List ℕ}
+      → HasReadSoFar source start end bytes (Some End) → length bytes ≤ limit
+      → HasReadInput source start end limit bytes End
+  whole_came came short =
+      record { came = came.came; counted = came.counted; has_length = short; stopped = came.paused }

@@ -1,5 +1,5 @@
--- An engine that writes the text of each validated record, and buffers it as long as the next record
--- is buffered too: what it returns, and the record in which a write that fails stops.
+-- An engine that writes the text of each validated record, and buffers it as long as the next
+-- record is buffered too: what it returns, and the record in which a write that fails stops.
 use Rattle.std.proofs.Common.{◌≡◌, ◌⊎◌, ⊎_elim, inl, inr, ℕ, ◌+◌, ◌-◌, ◌<◌, ◌≤◌, List, []}
 use Rattle.std.proofs.Common.{◌++◌, length, take, Option, None, Some, Result, Ok, Err, refl, sym}
 use Rattle.std.proofs.Common.{◌∙◌, ap, subst, arith, append_assoc, append-nil, length-append}
@@ -96,8 +96,8 @@ module _ (j : Validation) (Gives : List ℕ → List ℕ → Type 0) where
     pub fails : (end : W) → PrefixWritten sink writer end waiting → Fails end
     pub waits : IsBuffered → Waiting sink before writer IsBuffered bytes given waiting
 
-module _ {I R : Type 0} (j : Validation) (represents : I → List ℕ → Type 0)
-    (Gives : List ℕ → List ℕ → Type 0) (source : Source R) {start reader : R} {records : Records I}
+module _ {I R : Type 0} {j : Validation} {represents : I → List ℕ → Type 0}
+    (Gives : List ℕ → List ℕ → Type 0) {source : Source R} {start reader : R} {records : Records I}
     {values : List j.Value} (was : Going j represents source start reader records values) where
   -- The engine has read as far as the next record requires, or less.
   abbrev pub stands_at : (given : List ℕ) → Gives was.behind.front given
@@ -119,7 +119,7 @@ module _ {I R : Type 0} (j : Validation) (represents : I → List ℕ → Type 0
   }
 
 -- More bytes were received, as many as the record requires, or fewer.
-module _ {R : Type 0} (j : Validation) (Gives : List ℕ → List ℕ → Type 0) (source : Source R)
+module _ {R : Type 0} {j : Validation} {Gives : List ℕ → List ℕ → Type 0} {source : Source R}
     {start reader after : R} {number : ℕ} {given more : List ℕ} {stop : Option Stop}
     (to : HasComeTo j Gives source start reader None number given)
     (came : HasReadSoFar source reader after more stop)
@@ -141,9 +141,10 @@ module _ {R : Type 0} (j : Validation) (Gives : List ℕ → List ℕ → Type 0
     gives = to.gives;
   }
 
-module _ {R W : Type 0} (j : Validation) (Gives Promises : List ℕ → List ℕ → Type 0)
-    (source : Source R) (sink : Sink W) {start reader : R} {before writer : W} {number : ℕ}
-    {given : List ℕ} (to : HasComeTo j Gives source start reader None number given) where
+module _ {R W : Type 0} {j : Validation} {Gives : List ℕ → List ℕ → Type 0}
+    (Promises : List ℕ → List ℕ → Type 0) {source : Source R} {sink : Sink W}
+    {start reader : R} {before writer : W} {number : ℕ} {given : List ℕ}
+    (to : HasComeTo j Gives source start reader None number given) where
   -- All of the text was written.
   pub none_waiting : {IsBuffered : Type 0} → AllWritten sink before writer given
       → Waiting j Gives sink before writer IsBuffered to.bytes given []
@@ -167,7 +168,7 @@ module _ {R W : Type 0} (j : Validation) (Gives Promises : List ℕ → List ℕ
     come = to.bytes ++ more
 
     abbrev there : HasComeTo j Gives source start after stop number given
-    there = come_on j Gives source to came read_to
+    there = come_on to came read_to
 
     here : AreBefore j Gives come number given
     here = (at_stop j Gives come stop None number there.before, to.gives)
@@ -298,7 +299,8 @@ module _ {R W : Type 0} (j : Validation) (Gives Promises : List ℕ → List ℕ
     -- ---- a record was received, and this is its text
 
     module _ {next : ℕ} {next_given longer : List ℕ} (text : List ℕ)
-        (number_is : next ≡ number + 1) (text_is : next_given ≡ given ++ text) (appended : longer ≡ waiting ++ text)
+        (number_is : next ≡ number + 1) (text_is : next_given ≡ given ++ text)
+        (appended : longer ≡ waiting ++ text)
         (behind : AreBefore j Gives come next next_given) where
       longer_is : next_given ≡ waits.sent ++ longer
       longer_is = text_is ∙ ap (λ t. t ++ text) waits.text_is

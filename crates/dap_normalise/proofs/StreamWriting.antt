@@ -1,7 +1,6 @@
 -- The results of `normalise`, and what it has then written.
-use Rattle.std.proofs.Common.{◌≡◌, ℕ, ℤ, ◌+◌, List, [], ◌++◌, Result, Ok, Err, refl}
-use Rattle.std.proofs.Common.{◌∙◌, subst, arith}
-use Rattle.std.proofs.lemmas.List.{length_push}
+use Rattle.std.proofs.Common.{◌≡◌, ℕ, ℤ, List, [], ◌++◌, Result, Ok, Err, refl}
+use Rattle.std.proofs.Common.{◌∙◌, subst}
 use Rattle.dap_device.specs.declared.device.Source.{Ghosts as Source}
 use Rattle.dap_device.specs.declared.device.Sink.{Ghosts as Sink}
 use Rattle.dap_device.specs.Pieces.{HasPaused}
@@ -11,7 +10,7 @@ use Rattle.dap_input.specs.declared.limits.Limits.{Limits}
 use Rattle.dap_input.specs.declared.refused.Refused.{Refused}
 use Rattle.dap_input.specs.declared.refused.Refused.TheVariants.{Memory}
 use Rattle.dap_input.proofs.Coming.{none_counted}
-use Rattle.dap_input.proofs.PendingTexts.{Waiting}
+use Rattle.dap_input.proofs.PendingTexts.{Passes, Waiting}
 use Rattle.dap_input.proofs.PendingTexts as pending
 use Rattle.dap_input.proofs.StreamEnds as ends
 use Rattle.dap_rename.specs.declared.mode.Mode.{Mode}
@@ -25,19 +24,8 @@ use Rattle.dap_normalise.specs.Streaming.{Streams}
 use Rattle.dap_normalise.proofs.AcceptingFacts.{none_normalised}
 use Rattle.dap_normalise.proofs.JudgedRecords.{text_push}
 use Rattle.dap_normalise.proofs.NormalFormLaws.{canonical}
-use Rattle.dap_normalise.proofs.StreamLoop.{Going, all_came, here, normal_before, on}
-
--- If an allocation fails at a record, the reader has not failed.
-pub unfailed : {T R : Type 0} {numbers : T → List ℤ} {table_limit : T → ℕ} (source : Source R)
-    (limits : Limits) (mode : Mode) (start reader : R) (records : NormalRecords T)
-    (was : Going numbers table_limit source limits mode start reader records)
-    (new : NormalRecords T) (after : R) (because : Refused)
-    → HasStoppedAt numbers table_limit source limits mode was.bytes was.messages was.normal
-    records new reader after because
-    → because ≡ Memory → source.failures after ≡ source.failures start
-unfailed source limits mode start reader records was new after because stopped memory =
-    subst (HasPaused source reader after) (stopped.goes_on memory) stopped.came.paused
-    ∙ was.came.paused
+use Rattle.dap_normalise.proofs.StreamLoop.{Going, all_came, here, next_number, normal_before}
+use Rattle.dap_normalise.proofs.StreamLoop.{on}
 
 -- Nothing has been read or written.
 pub given_up : {R W : Type 0} (source : Source R) (sink : Sink W) (limits : Limits) (mode : Mode)
@@ -54,93 +42,79 @@ Waits limits mode records sink before writer =
     Waiting (accepting limits mode) (Normalises limits mode) sink before writer
     (IsBuffered limits records)
 
-module _ {T R W : Type 0} {numbers : T → List ℤ} {table_limit : T → ℕ} (source : Source R)
-    (sink : Sink W) (limits : Limits) (mode : Mode) (start : R) (before : W) (reader : R)
-    (records : NormalRecords T)
-    (was : Going numbers table_limit source limits mode start reader records) (writer : W) where
-  pub none_waiting : AllWritten sink before writer (text was.normal)
-      → Waits limits mode records sink before writer was.bytes (text was.normal) []
-  none_waiting =
-      pending.none_waiting (accepting limits mode) (Normalises limits mode)
-      (IsCanonical limits mode) source sink (here source limits mode start reader records was)
+module _ {T R : Type 0} {numbers : T → List ℤ} {table_limit : T → ℕ} {source : Source R}
+    {limits : Limits} {mode : Mode} {start reader : R} {records : NormalRecords T}
+    (was : Going numbers table_limit source limits mode start reader records) where
+  -- If an allocation fails at a record, the reader has not failed.
+  pub unfailed : {new : NormalRecords T} {after : R} {because : Refused}
+      → HasStoppedAt numbers table_limit source limits mode was.bytes was.messages was.normal
+      records new reader after because
+      → because ≡ Memory → source.failures after ≡ source.failures start
+  unfailed {after = after} stopped memory =
+      subst (HasPaused source reader after) (stopped.goes_on memory) stopped.came.paused
+      ∙ was.came.paused
 
-  module _ (waiting : List ℕ)
+  pub none_waiting : {W : Type 0} {sink : Sink W} {before writer : W}
+      → AllWritten sink before writer (text was.normal)
+      → Waits limits mode records sink before writer was.bytes (text was.normal) []
+  none_waiting = pending.none_waiting (IsCanonical limits mode) (here was)
+
+  module _ {W : Type 0} {sink : Sink W} {before writer : W} {waiting : List ℕ}
       (waits : Waits limits mode records sink before writer was.bytes (text was.normal) waiting)
-      (new : NormalRecords T) (after : R)
+      {new : NormalRecords T} {after : R}
       (same_given : IsBuffered limits records → source.given after ≡ source.given reader) where
     -- ---- the engine stops here
 
-    pub all_streamed : AreSound limits → (text_before longer : List ℕ)
+    pub all_streamed : AreSound limits → {text_before longer : List ℕ}
         → HasEnded numbers table_limit source limits mode was.bytes was.messages
         was.normal records new reader after text_before longer
         → (end : W) (outcome : Result (Unit {0}) Refused)
         → Ends sink waiting writer end (Ok tt) outcome
         → Streams source sink limits mode start after before end outcome
-    all_streamed sound text_before longer ended =
-        pending.streamed (accepting limits mode) (Normalises limits mode) (IsCanonical limits mode)
-        source sink (here source limits mode start reader records was) waits ended.came
-        ended.read_to (λ has. none_counted source ended.came (same_given has)) (record {
+    all_streamed sound ended =
+        pending.streamed (IsCanonical limits mode) (here was) waits ended.came ended.read_to
+        (λ has. none_counted source ended.came (same_given has)) (record {
           whole = was.bytes ++ ended.more;
-          came = all_came source limits mode start reader records was after new text_before longer
-              ended;
+          came = all_came was ended;
           gives = canonical limits mode sound (was.bytes ++ ended.more) (text was.normal)
               (record {
                 messages = was.messages;
                 accepts = ended.accepted;
                 normal = was.normal;
-                is_normal = normal_before limits mode was.bytes records was.messages was.normal
-                    was.represents;
+                is_normal = normal_before was.represents;
                 text_is = refl;
               });
         })
 
-    module _ (because : Refused)
+    module _ {because : Refused}
         (stopped : HasStoppedAt numbers table_limit source limits mode was.bytes was.messages
         was.normal records new reader after because) (end : W)
         (outcome : Result (Unit {0}) Refused)
         (ends_so : Ends sink waiting writer end (Err because) outcome) where
       pub all_refused : Streams source sink limits mode start after before end outcome
       all_refused =
-          pending.refused (accepting limits mode) (Normalises limits mode)
-          (IsCanonical limits mode) source sink (here source limits mode start reader records was)
-          waits stopped.came stopped.read_to
+          pending.refused (IsCanonical limits mode) (here was) waits stopped.came stopped.read_to
           (λ has. none_counted source stopped.came (same_given has)) because
           (stopped.says, stopped.cut) end outcome ends_so
 
       pub all_given_up : outcome ≡ Err Memory
           → HasGivenUpAt source sink limits mode new.records.number start after before end
       all_given_up =
-          pending.gives_up (accepting limits mode) (Normalises limits mode)
-          (IsCanonical limits mode) source sink (here source limits mode start reader records was)
-          waits stopped.came stopped.read_to
+          pending.gives_up (IsCanonical limits mode) (here was) waits stopped.came stopped.read_to
           (λ has. none_counted source stopped.came (same_given has)) because new.records.number
           stopped.last end outcome ends_so
 
     -- ---- one more record
 
-    module _ (longer : List ℕ)
-        (gone : HasAdvanced numbers table_limit source limits mode was.bytes was.messages was.normal
-        records new reader after waiting longer) where
-      abbrev next : Going numbers table_limit source limits mode start after new
-      next = on source limits mode start reader records was new after waiting longer gone
-
-      number_is : new.records.number ≡ records.records.number + 1
-      number_is =
-          let is = was.represents.number_is in
-          let is_next = gone.represents.number_is in
-          omega (arith, is, is_next, length_push was.messages gone.message)
-
-      abbrev behind : pending.AreBefore (accepting limits mode) (Normalises limits mode)
-          next.bytes new.records.number (text next.normal)
-      behind = let to = here source limits mode start after new next in (to.before, to.gives)
-
-      pub passed : pending.Passes (accepting limits mode) (Normalises limits mode) sink before
-          writer (IsBuffered limits new)
-          (HasFailedToWrite source sink limits mode start after before) next.bytes
-          (text next.normal) longer
-      passed =
-          pending.passed (accepting limits mode) (Normalises limits mode)
-          (IsCanonical limits mode) source sink (here source limits mode start reader records was)
-          waits gone.came gone.read_to
-          (λ has. none_counted source gone.came (same_given has)) (record_of gone.named)
-          number_is (text_push was.normal gone.named) gone.appended behind
+    pub passed : {longer : List ℕ}
+        → (gone : HasAdvanced numbers table_limit source limits mode was.bytes was.messages
+        was.normal records new reader after waiting longer)
+        → Passes (accepting limits mode) (Normalises limits mode) sink before writer
+        (IsBuffered limits new) (HasFailedToWrite source sink limits mode start after before)
+        (on was gone).bytes (text (on was gone).normal) longer
+    passed gone =
+        let to = here (on was gone) in
+        pending.passed (IsCanonical limits mode) (here was) waits gone.came gone.read_to
+        (λ has. none_counted source gone.came (same_given has)) (record_of gone.named)
+        (next_number was gone) (text_push was.normal gone.named) gone.appended
+        (to.before, to.gives)

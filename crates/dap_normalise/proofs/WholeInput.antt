@@ -18,7 +18,8 @@ use Rattle.dap_input.specs.Inputs.{Input, Fault, IsRefusedAt, refused, read_faul
 use Rattle.dap_input.specs.Limits.{AreSound}
 use Rattle.dap_normalise.specs.Normalised.{AreTyped, HoldsSome}
 use Rattle.dap_normalise.specs.Normalising.{IsCanonical, Normalises, RefusesBytes}
-use Rattle.dap_normalise.specs.NormalSteps.{HasEnded, HasStoppedAt}
+use Rattle.dap_normalise.specs.JudgingSteps.{record_of}
+use Rattle.dap_normalise.specs.NormalSteps.{HasAdvanced, HasEnded, HasStoppedAt, RepresentsBefore}
 use Rattle.dap_input.specs.ReadTo.{IsOf, so_far}
 use Rattle.dap_input.specs.Refusals.{IsRefused, RefusesAt, RefusalMatches}
 use Rattle.dap_normalise.proofs.AcceptingFacts.{accepted_facts, value_laws}
@@ -26,7 +27,8 @@ use Rattle.dap_input.proofs.Refusals.{refused_as, refused_in}
 use Rattle.dap_recording.proofs.Records.{readable}
 use Rattle.dap_normalise.proofs.NormalFormLaws.{canonical}
 use Rattle.dap_input.proofs.Coming.{came_on}
-use Rattle.dap_normalise.proofs.StreamLoop.{Going, normal_before}
+use Rattle.dap_normalise.proofs.JudgedRecords.{text_push}
+use Rattle.dap_normalise.proofs.StreamLoop.{Going, at_start, normal_before, on}
 
 are_typed : (records : List Payload) (messages : List Sent) → AreMessages records messages
     → AreTyped messages
@@ -59,51 +61,73 @@ memory = record {
   failures = λ source. 0;
 }
 
-module _ (limits : Limits) (mode : Mode) (sound : AreSound limits) (bytes : List ℕ) where
-  abbrev pub start : GivenBytes
-  start = record { left = bytes; given = 0 }
+abbrev pub start : List ℕ → GivenBytes
+start bytes = record { left = bytes; given = 0 }
 
-  module _ {T : Type 0} {numbers : T → List ℤ} {table_limit : T
-      → ℕ} (reader : GivenBytes) (records : NormalRecords T)
-      (was : Going numbers table_limit memory limits mode start reader records)
-      (after : GivenBytes) where
-    -- The bytes read are a prefix of the input.
-    split : (more : List ℕ) (stop : Option Stop)
-        → HasReadSoFar memory reader after more stop
-        → bytes ≡ (was.bytes ++ more) ++ after.left
-    split more stop came =
-        (came_on memory start reader after was.bytes more stop was.came
-        came).came
+-- The records before the next one are accepted, and this is the text of their normal form.
+pub record HasText {T : Type 0} (numbers : T → List ℤ) (table_limit : T → ℕ) (limits : Limits)
+    (mode : Mode) (bytes : List ℕ) (reader : GivenBytes) (records : NormalRecords T)
+    (written : List ℕ) : Type 0 where
+  pub going : Going numbers table_limit memory limits mode (start bytes) reader records
+  pub text_is : written ≡ text going.normal
 
-    module _ (new : NormalRecords T) (text_before longer : List ℕ)
-        (end : HasEnded numbers table_limit memory limits mode was.bytes
-        was.messages was.normal records new reader after text_before longer) where
-      whole : bytes ≡ was.bytes ++ end.more
-      whole = split end.more (Some End) end.came
-          ∙ ap (λ t. (was.bytes ++ end.more) ++ t) end.came.paused.0
-          ∙ append-nil (was.bytes ++ end.more)
+module _ {T : Type 0} {numbers : T → List ℤ} {table_limit : T → ℕ} {limits : Limits} {mode : Mode}
+    {bytes : List ℕ} {reader : GivenBytes} {records : NormalRecords T} {written : List ℕ} where
+  -- Nothing has been read.
+  pub no_text : reader ≡ start bytes
+      → RepresentsBefore numbers table_limit limits mode [] records [] [] → written ≡ []
+      → HasText numbers table_limit limits mode bytes reader records written
+  no_text first represents none =
+      subst (λ r. HasText numbers table_limit limits mode bytes r records written) (sym first)
+      (record { going = at_start memory (start bytes) represents; text_is = none })
 
-      pub normalised_whole : Normalises limits mode bytes (text was.normal)
+  -- The bytes read are a prefix of the input.
+  split : (has : HasText numbers table_limit limits mode bytes reader records written)
+      (after : GivenBytes) (more : List ℕ) (stop : Option Stop)
+      → HasReadSoFar memory reader after more stop
+      → bytes ≡ (has.going.bytes ++ more) ++ after.left
+  split has after more stop came =
+      (came_on memory (start bytes) reader after has.going.bytes more stop has.going.came came).came
+
+  module _ (has : HasText numbers table_limit limits mode bytes reader records written)
+      {new : NormalRecords T} {after : GivenBytes} where
+    pub more_text : {longer : List ℕ}
+        → HasAdvanced numbers table_limit memory limits mode has.going.bytes
+        has.going.messages has.going.normal
+        records new reader after written longer
+        → HasText numbers table_limit limits mode bytes after new longer
+    more_text gone = record {
+      going = on has.going gone;
+      text_is = gone.appended ∙ ap (λ t. t ++ record_of gone.named) has.text_is
+          ∙ sym (text_push has.going.normal gone.named);
+    }
+
+    module _ {longer : List ℕ}
+        (end : HasEnded numbers table_limit memory limits mode has.going.bytes
+        has.going.messages has.going.normal
+        records new reader after written longer) where
+      whole : bytes ≡ has.going.bytes ++ end.more
+      whole = split has after end.more (Some End) end.came
+          ∙ ap (λ t. (has.going.bytes ++ end.more) ++ t) end.came.paused.0
+          ∙ append-nil (has.going.bytes ++ end.more)
+
+      pub normalised_whole : Normalises limits mode bytes longer
       normalised_whole = record {
-        messages = was.messages;
-        accepts = subst (λ t. IsAccepted limits mode t was.messages) (sym whole) end.accepted;
-        normal = was.normal;
-        is_normal = normal_before limits mode was.bytes records was.messages was.normal
-            was.represents;
-        text_is = refl;
+        messages = has.going.messages;
+        accepts = subst (λ t. IsAccepted limits mode t has.going.messages) (sym whole) end.accepted;
+        normal = has.going.normal;
+        is_normal = normal_before has.going.represents;
+        text_is = end.kept ∙ has.text_is;
       }
 
-      pub canonical_whole : (written : List ℕ) → written ≡ text was.normal
-          → IsCanonical limits mode bytes written
-      canonical_whole written same =
-          subst (IsCanonical limits mode bytes) (sym same)
-          (canonical limits mode sound bytes (text was.normal) normalised_whole)
+      pub canonical_whole : AreSound limits → IsCanonical limits mode bytes longer
+      canonical_whole sound = canonical limits mode sound bytes longer normalised_whole
 
-    module _ (new : NormalRecords T) (because : Refused)
-        (stopped : HasStoppedAt numbers table_limit memory limits mode was.bytes
-        was.messages was.normal records new reader after because) where
+    module _ (because : Refused)
+        (stopped : HasStoppedAt numbers table_limit memory limits mode has.going.bytes
+        has.going.messages has.going.normal records new reader after because) where
       abbrev all : List ℕ
-      all = was.bytes ++ stopped.more
+      all = has.going.bytes ++ stopped.more
 
       abbrev given_input : Input
       given_input = record { bytes = bytes; failed = false }
@@ -131,13 +155,14 @@ module _ (limits : Limits) (mode : Mode) (sound : AreSound limits) (bytes : List
           let here = refused_in (accepting limits mode) (readable limits.frame) (value_laws limits
           mode)
           (accepted_facts limits mode) all records.records.number because given_input stopped.stop
-          (is_of stopped.stop (split stopped.more stopped.stop stopped.came) stopped.came.paused)
+          (is_of stopped.stop (split has after stopped.more stopped.stop stopped.came)
+          stopped.came.paused)
           says stopped.cut in
           reported here.fault here.tells here.is_refused
 
-    pub refuses_bytes : (new : NormalRecords T) (because : Refused)
-        → HasStoppedAt numbers table_limit memory limits mode was.bytes
-        was.messages was.normal records new reader after because → RefusesBytes limits mode bytes
-        because
-    refuses_bytes new Memory stopped = tt
-    refuses_bytes new because stopped = refuses_input new because stopped stopped.says
+    pub refuses_bytes : (because : Refused)
+        → HasStoppedAt numbers table_limit memory limits mode has.going.bytes
+        has.going.messages has.going.normal records new reader after because
+        → RefusesBytes limits mode bytes because
+    refuses_bytes Memory stopped = tt
+    refuses_bytes because stopped = refuses_input because stopped stopped.says

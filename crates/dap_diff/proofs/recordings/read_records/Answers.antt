@@ -1,4 +1,4 @@
-use Rattle.std.proofs.Common.{◌≡◌, [], ◌++◌, refl, sym, ◌∙◌, ap, append-nil, rules}
+use Rattle.std.proofs.Common.{[], ◌++◌, refl, sym, ◌∙◌, ap, append-nil, rules}
 use Rattle.dap_diff.specs.Entries.{AddsEntry}
 use Rattle.dap_normalise.specs.JudgingSteps.{record_of}
 use Rattle.dap_normalise.proofs.StreamAnswers.{ended, gone}
@@ -10,8 +10,7 @@ pub records-init : goal.records-init
 records-init g c =
     let first = c.requires.represents.number_is in
     record {
-      going = at_start g.R.Source c.args.limits c.args.mode c.args.reader.now c.args.records.now
-          c.requires.represents;
+      going = at_start g.R.Source c.args.reader.now c.requires.represents;
       text_is = c.requires.empty;
       number_is = first;
       added = [];
@@ -23,113 +22,68 @@ records-init g c =
 pub returns-in-Ok-false-clause-outcome : goal.returns-in-Ok-false-clause-outcome
 returns-in-Ok-false-clause-outcome g c =
     let was = c.records.invariant in
-    accepted g.R.Source c.args.limits c.args.mode c.args.reader.now c.records.reader
-    c.records.records _ _ was c.next.new.self c.next.new.reader _ _
-    (ended g.R.Source c.args.limits c.args.mode c.args.reader.now c.records.reader
-    c.records.records was.going c.next.new.self c.next.new.reader _ _ _
-    (c.in-Ok-false.ensures.next c.args.limits c.args.mode was.going.bytes was.going.messages
-    was.going.normal was.going.represents)
+    accepted was (ended was.going (c.in-Ok-false.ensures.next _ _ _ _ _ was.going.represents)
     c.in-Ok-false.field-0-test)
 
 pub returns-in-Ok-false-clause-entries : goal.returns-in-Ok-false-clause-entries
 returns-in-Ok-false-clause-entries g c =
     let was = c.records.invariant in
-    all_added g.R.Source c.args.limits c.args.mode c.args.reader.now c.records.reader
-    c.records.records _ _ was c.next.new.self c.next.new.reader _ _
-    (ended g.R.Source c.args.limits c.args.mode c.args.reader.now c.records.reader
-    c.records.records was.going c.next.new.self c.next.new.reader _ _ _
-    (c.in-Ok-false.ensures.next c.args.limits c.args.mode was.going.bytes was.going.messages
-    was.going.normal was.going.represents)
+    all_added was (ended was.going (c.in-Ok-false.ensures.next _ _ _ _ _ was.going.represents)
     c.in-Ok-false.field-0-test)
 
 pub returns-in-Ok-false-clause-taken : goal.returns-in-Ok-false-clause-taken
 returns-in-Ok-false-clause-taken g c =
     let was = c.records.invariant in
-    all_taken g.R.Source c.args.limits c.args.mode c.args.reader.now c.records.reader
-    c.records.records was.going c.next.new.reader c.next.new.self _ _
-    (ended g.R.Source c.args.limits c.args.mode c.args.reader.now c.records.reader
-    c.records.records was.going c.next.new.self c.next.new.reader _ _ _
-    (c.in-Ok-false.ensures.next c.args.limits c.args.mode was.going.bytes was.going.messages
-    was.going.normal was.going.represents)
+    all_taken was.going (ended was.going (c.in-Ok-false.ensures.next _ _ _ _ _ was.going.represents)
     c.in-Ok-false.field-0-test)
 
 pub returns-in-Err-clause-outcome : goal.returns-in-Err-clause-outcome
 returns-in-Err-clause-outcome g c =
     let was = c.records.invariant in
-    refused g.R.Source c.args.limits c.args.mode c.args.reader.now c.records.reader
-    c.records.records _ _ was c.next.new.self c.next.new.reader c.args.which c.in-Err.refused
+    refused was c.args.which c.in-Err.refused
     c.refusal_of.result
-    (c.in-Err.ensures.next c.args.limits c.args.mode was.going.bytes was.going.messages
-    was.going.normal was.going.represents)
+    (c.in-Err.ensures.next _ _ _ _ _ was.going.represents)
     c.refusal_of.ensures c.records.recording.text.items
 
 pub returns-in-Err-clause-taken : goal.returns-in-Err-clause-taken
 returns-in-Err-clause-taken g c =
     let was = c.records.invariant in
-    few_taken g.R.Source c.args.limits c.args.mode c.args.reader.now c.records.reader
-    c.records.records was.going c.next.new.reader c.next.new.self _
-    (c.in-Err.ensures.next c.args.limits c.args.mode was.going.bytes was.going.messages
-    was.going.normal was.going.represents)
+    few_taken was.going (c.in-Err.ensures.next _ _ _ _ _ was.going.represents)
 
 pub add_record-requires-clause-is_record : goal.add_record-requires-clause-is_record
 add_record-requires-clause-is_record g c =
     let was = c.records.invariant in
-    let more = gone g.R.Source c.args.limits c.args.mode c.args.reader.now c.records.reader
-    c.records.records was.going c.next.new.self c.next.new.reader _ _ _
-    (c.in-Ok-true.ensures.next c.args.limits c.args.mode was.going.bytes was.going.messages
-    was.going.normal was.going.represents)
+    let more = gone was.going (c.in-Ok-true.ensures.next _ _ _ _ _ was.going.represents)
     c.in-Ok-true.field-0-test in (
       more.named,
-      is_record g.R.Source c.args.limits c.args.mode c.args.reader.now c.records.reader
-          c.records.records _ _ was c.next.new.self c.next.new.reader c.requires.limits _ _ more
-          c.as_slice.result.now
-          (c.as_slice.ensures.value ∙ more.appended
+      is_record was c.requires.limits more (c.as_slice.ensures.value ∙ more.appended
           ∙ ap (λ t. t ++ record_of more.named) c.clear.ensures.items),
     )
 
 pub returns-then-is_err-clause-outcome : goal.returns-then-is_err-clause-outcome
 returns-then-is_err-clause-outcome g c =
     let was = c.records.invariant in
-    gave_up g.R.Source c.args.limits c.args.mode c.args.reader.now c.records.reader
-    c.records.records _ _ was c.next.new.self c.next.new.reader _ _
-    (gone g.R.Source c.args.limits c.args.mode c.args.reader.now c.records.reader
-    c.records.records was.going c.next.new.self c.next.new.reader _ _ _
-    (c.in-Ok-true.ensures.next c.args.limits c.args.mode was.going.bytes was.going.messages
-    was.going.normal was.going.represents)
+    gave_up was (gone was.going (c.in-Ok-true.ensures.next _ _ _ _ _ was.going.represents)
     c.in-Ok-true.field-0-test)
 
 pub returns-then-is_err-clause-taken : goal.returns-then-is_err-clause-taken
 returns-then-is_err-clause-taken g c =
     let was = c.records.invariant in
-    gone_taken g.R.Source c.args.limits c.args.mode c.args.reader.now c.records.reader
-    c.records.records was.going c.next.new.self c.next.new.reader _ _
-    (gone g.R.Source c.args.limits c.args.mode c.args.reader.now c.records.reader
-    c.records.records was.going c.next.new.self c.next.new.reader _ _ _
-    (c.in-Ok-true.ensures.next c.args.limits c.args.mode was.going.bytes was.going.messages
-    was.going.normal was.going.represents)
+    gone_taken was.going (gone was.going (c.in-Ok-true.ensures.next _ _ _ _ _ was.going.represents)
     c.in-Ok-true.field-0-test)
 
 pub records-smaller : goal.records-smaller
 records-smaller g c =
     let was = c.records.invariant in
-    (gone g.R.Source c.args.limits c.args.mode c.args.reader.now c.records.reader
-    c.records.records was.going c.next.new.self c.next.new.reader _ _ _
-    (c.in-Ok-true.ensures.next c.args.limits c.args.mode was.going.bytes was.going.messages
-    was.going.normal was.going.represents)
+    (gone was.going (c.in-Ok-true.ensures.next _ _ _ _ _ was.going.represents)
     c.in-Ok-true.field-0-test).shorter
 
 pub records-preserved : goal.records-preserved
 records-preserved g c =
     let was = c.records.invariant in
-    let more = gone g.R.Source c.args.limits c.args.mode c.args.reader.now c.records.reader
-    c.records.records was.going c.next.new.self c.next.new.reader _ _ _
-    (c.in-Ok-true.ensures.next c.args.limits c.args.mode was.going.bytes was.going.messages
-    was.going.normal was.going.represents)
+    let more = gone was.going (c.in-Ok-true.ensures.next _ _ _ _ _ was.going.represents)
     c.in-Ok-true.field-0-test in
     let adds : AddsEntry c.args.limits c.args.mode c.records.records.records.number
     c.as_slice.result.now c.records.recording c.add_record.new.recording = search rules in
-    kept g.R.Source c.args.limits c.args.mode c.args.reader.now c.records.reader
-    c.records.records _ _ was c.next.new.self c.next.new.reader c.requires.limits _ _ more
-    c.as_slice.result.now
-    (c.as_slice.ensures.value ∙ more.appended
+    kept was c.requires.limits more (c.as_slice.ensures.value ∙ more.appended
     ∙ ap (λ t. t ++ record_of more.named) c.clear.ensures.items) _ adds

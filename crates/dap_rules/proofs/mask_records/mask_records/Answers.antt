@@ -2,35 +2,33 @@ use Rattle.std.proofs.Common.{Err, Ok, sym, ◌∙◌, subst}
 use Rattle.dap_device.specs.Written.{AllWritten, PrefixWritten}
 use Rattle.dap_input.proofs.StreamEnds.{all_written, front_written, not_given_up}
 use Rattle.dap_normalise.specs.Streaming.{Ends}
-use Rattle.dap_rules.proofs.MaskingLoop.{all_masked, failed_to_write, fewer, none_read}
-use Rattle.dap_rules.proofs.MaskingLoop.{not_masked, not_masked_gives_up, not_read}
-use Rattle.dap_rules.proofs.MaskingLoop.{not_read_gives_up, waited_on, written_on}
+use Rattle.dap_mask.specs.KeptRules.{mask_of}
+use Rattle.dap_rules.proofs.MaskingLoop.{all_masked, fewer, none_read, not_masked}
+use Rattle.dap_rules.proofs.MaskingLoop.{not_masked_gives_up, not_read, not_read_gives_up, passed}
+use Rattle.dap_rules.proofs.MaskingLoop.{promised, waited_on, written_on}
 use Rattle.dap_rules.proofs.mask_records.mask_records.Goals as goal
 
 pub records-init : goal.records-init
 records-init g c =
     rw c.new-text.ensures.items
-    (none_read c.args.rules.now c.args.limits c.requires.limits g.R.Source g.W.Sink
-    c.args.reader.now c.args.writer.now c.args.records.now c.requires.start)
+    (none_read c.args.limits (mask_of c.args.rules.now) g.R.Source g.W.Sink c.args.reader.now
+    c.args.writer.now c.args.records.now c.requires.start)
 
 pub returns-in-Ok-None-clause-outcome : goal.returns-in-Ok-None-clause-outcome
 returns-in-Ok-None-clause-outcome g c =
-    all_masked c.args.rules.now c.args.limits c.requires.limits g.R.Source g.W.Sink
-    c.args.reader.now c.args.writer.now c.records.reader c.records.writer c.records.records
-    c.records.written c.records.text.items c.records.invariant c.next.new.self c.next.new.reader
+    let was = c.records.invariant in
+    all_masked was (promised c.args.limits c.requires.limits c.args.rules.now)
     (rw c.in-Ok-None.field-0-is at c.in-Ok-None.ensures c.args.limits.frame
-    c.records.invariant.judged.behind.between)
+    was.judged.behind.between)
     c.finish_output.new.writer c.finish_output.result
-    (subst (λ t. Ends g.W.Sink t c.records.writer c.finish_output.new.writer (Ok tt) c.finish_output.result)
+    (subst (λ t. Ends g.W.Sink t c.records.writer c.finish_output.new.writer (Ok tt)
+    c.finish_output.result)
     c.as_slice.ensures.value c.finish_output.ensures)
 
 pub returns-in-Err-clause-outcome : goal.returns-in-Err-clause-outcome
 returns-in-Err-clause-outcome g c =
-    not_read c.args.rules.now c.args.limits c.requires.limits g.R.Source g.W.Sink
-    c.args.reader.now c.args.writer.now c.records.reader c.records.writer c.records.records
-    c.records.written c.records.text.items c.records.invariant c.next.new.self c.next.new.reader
-    c.in-Err.because
-    (c.in-Err.ensures c.args.limits.frame c.records.invariant.judged.behind.between)
+    let was = c.records.invariant in
+    not_read was (c.in-Err.ensures c.args.limits.frame was.judged.behind.between)
     c.finish_output-in-Err.new.writer c.finish_output-in-Err.result
     (subst (λ t. Ends g.W.Sink t c.records.writer c.finish_output-in-Err.new.writer
     (Err c.in-Err.because) c.finish_output-in-Err.result)
@@ -42,41 +40,36 @@ returns-in-Ok-None-clause-given_up g c = λ memory.
     tt c.finish_output.result c.finish_output.ensures memory)
 
 pub returns-in-Err-clause-given_up : goal.returns-in-Err-clause-given_up
-returns-in-Err-clause-given_up g c = λ memory.
-    not_read_gives_up c.args.rules.now c.args.limits c.requires.limits g.R.Source g.W.Sink
-    c.args.reader.now c.args.writer.now c.records.reader c.records.writer c.records.records
-    c.records.written c.records.text.items c.records.invariant c.next.new.self c.next.new.reader
-    c.in-Err.because
-    (c.in-Err.ensures c.args.limits.frame c.records.invariant.judged.behind.between)
+returns-in-Err-clause-given_up g c =
+    let was = c.records.invariant in
+    not_read_gives_up was (c.in-Err.ensures c.args.limits.frame was.judged.behind.between)
     c.finish_output-in-Err.new.writer c.finish_output-in-Err.result
     (subst (λ t. Ends g.W.Sink t c.records.writer c.finish_output-in-Err.new.writer
     (Err c.in-Err.because) c.finish_output-in-Err.result)
-    c.as_slice-in-Err.ensures.value c.finish_output-in-Err.ensures) memory
+    c.as_slice-in-Err.ensures.value c.finish_output-in-Err.ensures)
 
 pub returns-in-Err-append_masked-clause-given_up : goal.returns-in-Err-append_masked-clause-given_up
-returns-in-Err-append_masked-clause-given_up g c = λ memory.
-    not_masked_gives_up c.args.rules.now c.args.limits c.requires.limits g.R.Source g.W.Sink
-    c.args.reader.now c.args.writer.now c.records.reader c.records.writer c.records.records
-    c.records.written c.records.text.items c.records.invariant c.next.new.self c.next.new.reader
-    c.in-Ok-Some.whole (rw c.in-Ok-Some.field-0-is at c.in-Ok-Some.ensures
-    c.args.limits.frame c.records.invariant.judged.behind.between)
+returns-in-Err-append_masked-clause-given_up g c =
+    let was = c.records.invariant in
+    not_masked_gives_up was
+    (rw c.in-Ok-Some.field-0-is at c.in-Ok-Some.ensures c.args.limits.frame
+    was.judged.behind.between)
     c.in-Err-append_masked.because
     c.finish_output-in-Err-append_masked.new.writer c.finish_output-in-Err-append_masked.result
     (subst (λ t. Ends g.W.Sink t c.records.writer c.finish_output-in-Err-append_masked.new.writer
     (Err c.in-Err-append_masked.because) c.finish_output-in-Err-append_masked.result)
     (c.as_slice-in-Err-append_masked.ensures.value ∙ c.in-Err-append_masked.ensures.kept)
-    c.finish_output-in-Err-append_masked.ensures) memory
+    c.finish_output-in-Err-append_masked.ensures)
 
 pub returns-in-Err-append_masked-clause-outcome : goal.returns-in-Err-append_masked-clause-outcome
 returns-in-Err-append_masked-clause-outcome g c =
-    not_masked c.args.rules.now c.args.limits c.requires.limits g.R.Source g.W.Sink
-    c.args.reader.now c.args.writer.now c.records.reader c.records.writer c.records.records
-    c.records.written c.records.text.items c.records.invariant c.next.new.self c.next.new.reader
-    c.in-Ok-Some.whole (rw c.in-Ok-Some.field-0-is at c.in-Ok-Some.ensures
-    c.args.limits.frame c.records.invariant.judged.behind.between)
+    let was = c.records.invariant in
+    not_masked was
+    (rw c.in-Ok-Some.field-0-is at c.in-Ok-Some.ensures c.args.limits.frame
+    was.judged.behind.between)
     c.in-Err-append_masked.because c.append_masked.new.out.items
-    (rw c.number-number.ensures at c.in-Err-append_masked.ensures.masked
-    c.records.invariant.values c.records.invariant.fits c.records.invariant.count)
+    (rw c.number-number.ensures at c.in-Err-append_masked.ensures.masked was.values was.fits
+    was.count)
     c.finish_output-in-Err-append_masked.new.writer c.finish_output-in-Err-append_masked.result
     (subst (λ t. Ends g.W.Sink t c.records.writer c.finish_output-in-Err-append_masked.new.writer
     (Err c.in-Err-append_masked.because) c.finish_output-in-Err-append_masked.result)
@@ -85,15 +78,11 @@ returns-in-Err-append_masked-clause-outcome g c =
 
 pub returns-then-is_err-clause-outcome : goal.returns-then-is_err-clause-outcome
 returns-then-is_err-clause-outcome g c =
-    failed_to_write c.args.rules.now c.args.limits c.requires.limits g.R.Source g.W.Sink
-    c.args.reader.now c.args.writer.now c.records.reader c.records.writer c.records.records
-    c.records.written c.records.text.items c.records.invariant c.next.new.self c.next.new.reader
-    c.in-Ok-Some.whole (rw c.in-Ok-Some.field-0-is at c.in-Ok-Some.ensures
-    c.args.limits.frame c.records.invariant.judged.behind.between)
-    c.in-Ok.after c.append_masked.new.out.items
-    (c.in-Ok.ensures.masked c.records.invariant.values c.records.invariant.fits
-    c.records.invariant.count)
-    c.write_all.new.writer
+    let was = c.records.invariant in
+    (passed was
+    (rw c.in-Ok-Some.field-0-is at c.in-Ok-Some.ensures c.args.limits.frame
+    was.judged.behind.between)
+    (c.in-Ok.ensures.masked was.values was.fits was.count)).fails c.write_all.new.writer
     (subst (PrefixWritten g.W.Sink c.records.writer c.write_all.new.writer)
     c.as_slice-then-len-ge-PIECE.ensures.value
     (front_written g.W.Sink c.records.writer c.write_all.new.writer c.write_all.result
@@ -102,25 +91,19 @@ returns-then-is_err-clause-outcome g c =
 
 pub records-smaller-in-records : goal.records-smaller-in-records
 records-smaller-in-records g c =
+    let was = c.records.invariant in
     rw c.recycle.ensures
-    (fewer c.args.rules.now c.args.limits c.requires.limits g.R.Source g.W.Sink
-    c.args.reader.now c.args.writer.now c.records.reader c.records.writer c.records.records
-    c.records.written c.records.text.items c.records.invariant c.next.new.self c.next.new.reader
-    c.in-Ok-Some.whole (rw c.in-Ok-Some.field-0-is at c.in-Ok-Some.ensures
-    c.args.limits.frame c.records.invariant.judged.behind.between))
+    (fewer was (rw c.in-Ok-Some.field-0-is at c.in-Ok-Some.ensures c.args.limits.frame
+    was.judged.behind.between))
 
 pub records-preserved-in-records : goal.records-preserved-in-records
 records-preserved-in-records g c =
+    let was = c.records.invariant in
     rw (c.recycle.ensures, c.clear.ensures.items)
-    (written_on c.args.rules.now c.args.limits c.requires.limits g.R.Source g.W.Sink
-    c.args.reader.now c.args.writer.now c.records.reader c.records.writer c.records.records
-    c.records.written c.records.text.items c.records.invariant c.next.new.self c.next.new.reader
-    c.in-Ok-Some.whole (rw c.in-Ok-Some.field-0-is at c.in-Ok-Some.ensures
-    c.args.limits.frame c.records.invariant.judged.behind.between)
-    c.in-Ok.after c.append_masked.new.out.items
-    (c.in-Ok.ensures.masked c.records.invariant.values c.records.invariant.fits
-    c.records.invariant.count)
-    c.write_all.new.writer
+    (written_on was
+    (rw c.in-Ok-Some.field-0-is at c.in-Ok-Some.ensures c.args.limits.frame
+    was.judged.behind.between)
+    (c.in-Ok.ensures.masked was.values was.fits was.count) c.write_all.new.writer
     (subst (AllWritten g.W.Sink c.records.writer c.write_all.new.writer)
     c.as_slice-then-len-ge-PIECE.ensures.value
     (all_written g.W.Sink c.records.writer c.write_all.new.writer c.write_all.result
@@ -129,24 +112,17 @@ records-preserved-in-records g c =
 
 pub records-smaller : goal.records-smaller
 records-smaller g c =
+    let was = c.records.invariant in
     rw c.recycle.ensures
-    (fewer c.args.rules.now c.args.limits c.requires.limits g.R.Source g.W.Sink
-    c.args.reader.now c.args.writer.now c.records.reader c.records.writer c.records.records
-    c.records.written c.records.text.items c.records.invariant c.next.new.self c.next.new.reader
-    c.in-Ok-Some.whole (rw c.in-Ok-Some.field-0-is at c.in-Ok-Some.ensures
-    c.args.limits.frame c.records.invariant.judged.behind.between))
+    (fewer was (rw c.in-Ok-Some.field-0-is at c.in-Ok-Some.ensures c.args.limits.frame
+    was.judged.behind.between))
 
 pub records-preserved : goal.records-preserved
 records-preserved g c =
+    let was = c.records.invariant in
     let read = rw c.in-Ok-Some.field-0-is at c.in-Ok-Some.ensures c.args.limits.frame
-    c.records.invariant.judged.behind.between in
+    was.judged.behind.between in
     rw c.recycle.ensures
-    (waited_on c.args.rules.now c.args.limits c.requires.limits g.R.Source g.W.Sink
-    c.args.reader.now c.args.writer.now c.records.reader c.records.writer c.records.records
-    c.records.written c.records.text.items c.records.invariant c.next.new.self c.next.new.reader
-    c.in-Ok-Some.whole read
-    c.in-Ok.after c.append_masked.new.out.items
-    (c.in-Ok.ensures.masked c.records.invariant.values c.records.invariant.fits
-    c.records.invariant.count)
+    (waited_on was read (c.in-Ok.ensures.masked was.values was.fits was.count)
     (rw c.recycle.ensures at c.has_next.ensures c.args.limits.frame read.finds.1.between
     c.if-not-has_next.false))
