@@ -9,14 +9,14 @@ use Rattle.dap_mask.specs.declared.fault.RulesCause.TheVariants as cause
 use Rattle.dap_mask.specs.declared.fault.RulesFault.{RulesFault}
 use Rattle.dap_rename.specs.declared.mode.Mode.TheVariants.{Whole}
 use Rattle.dap_input.specs.declared.limits.Limits.{Limits}
-use Rattle.dap_compare.specs.declared.verdict.Which.TheVariants.{A, B}
+use Rattle.dap_compare.specs.declared.verdict.Which.{Which}
 use Rattle.dap_rules.specs.declared.fault.ApplyRefused.{ApplyRefused}
 use Rattle.dap_rules.specs.declared.fault.ApplyRefused.TheVariants.{Memory}
-use Rattle.dap_suggest.specs.NotSuggested.{AreRejected, IsNotSuggested, IsRulesRefusal}
-use Rattle.dap_suggest.specs.NotSuggested.{IsSearchRefusal, IsSessionRefusal, input_refusal}
+use Rattle.dap_suggest.specs.NotSuggested.{IsNotSuggested, IsRulesRefusal, IsSearchRefusal}
+use Rattle.dap_suggest.specs.NotSuggested.{input_refusal}
 use Rattle.dap_runs.specs.ComparingRun.{IsPrinted}
 use Rattle.dap_suggest.specs.SuggestRun.{IsReported}
-use Rattle.dap_suggest.specs.Suggested.{IsRejected, MakesNormal}
+use Rattle.dap_suggest.specs.Suggested.{IsOneRejected}
 use Rattle.dap_suggest.specs.declared.suggestion.SuggestRefused.{SuggestRefused}
 use Rattle.dap_suggest.specs.declared.suggestion.SuggestRefused.TheVariants as because
 
@@ -57,31 +57,18 @@ module _ (limits : Limits) (given a b : List ℕ) where
     search_failed (because.NoRules obstacle) is = (mask, said)
     search_failed because.Memory is = accepted_are_short given mask said
 
-    a_rejected : (refused : ApplyRefused) → IsRejected limits Whole mask a refused
-        → IsNotSuggested limits given a b (input_refusal A refused)
-    a_rejected Memory is = accepted_are_short given mask said
-    a_rejected refused is = (mask, said, is)
+    named : (which : Which) (refused : ApplyRefused)
+        → IsOneRejected limits Whole mask a b (which, refused)
+        → IsNotSuggested limits given a b (input_refusal which refused)
+    named which Memory is = accepted_are_short given mask said
+    named which refused is = (mask, said, is)
 
-    no_session_of_a : (result : SuggestRefused) → IsSessionRefusal limits mask A a result
+    pub one_rejected : (which : Which) (refused : ApplyRefused)
+        → IsOneRejected limits Whole mask a b (which, refused)
+        → (result : SuggestRefused) → result ≡ input_refusal which refused
         → IsNotSuggested limits given a b result
-    no_session_of_a result (refused, is, same) = subst
-        (IsNotSuggested limits given a b) (sym same) (a_rejected refused is)
-
-    module _ (text : List ℕ) (of_a : MakesNormal limits Whole mask a text) where
-      b_rejected : (refused : ApplyRefused) → IsRejected limits Whole mask b refused
-          → IsNotSuggested limits given a b (input_refusal B refused)
-      b_rejected Memory is = accepted_are_short given mask said
-      b_rejected refused is = (mask, said, (text, of_a), is)
-
-      no_session_of_b : (result : SuggestRefused) → IsSessionRefusal limits mask B b result
-          → IsNotSuggested limits given a b result
-      no_session_of_b result (refused, is, same) = subst
-          (IsNotSuggested limits given a b) (sym same) (b_rejected refused is)
-
-    pub no_sessions : (result : SuggestRefused) → AreRejected limits mask a b result
-        → IsNotSuggested limits given a b result
-    no_sessions result (inl is) = no_session_of_a result is
-    no_sessions result (inr (of_a, is)) = no_session_of_b of_a.0 of_a.1 result is
+    one_rejected which refused is result same = subst
+        (IsNotSuggested limits given a b) (sym same) (named which refused is)
 
 -- ---- the status of a failed allocation
 
@@ -98,9 +85,7 @@ module _ {E : Type 0} (errors : Sink E) (silent spoken : E) (status : ℕ) (memo
       → IsReported errors given silent spoken status refused → length given ≤ 65536
   short_at_memory limits given a b (because.Rules fault) is (sent, rejected) =
       absurd (omega arith)
-  short_at_memory limits given a b (because.Input A refused) (mask, said, is) tells =
-      accepted_are_short given mask said
-  short_at_memory limits given a b (because.Input B refused) (mask, said, of_a, is) tells =
+  short_at_memory limits given a b (because.Input which refused) (mask, said, is) tells =
       accepted_are_short given mask said
   short_at_memory limits given a b (because.NoRules obstacle) (mask, said) tells =
       accepted_are_short given mask said

@@ -1,5 +1,5 @@
 -- Why no rules are suggested for two recordings. Source: own.
-use Rattle.std.specs.Prelude.{◌≡◌, ◌≢◌, ◌⊎◌, ℕ, ◌≤◌, List, length, Ok, Err}
+use Rattle.std.specs.Prelude.{◌≡◌, ◌≢◌, ℕ, ◌≤◌, List, length, Ok, Err}
 use Rattle.dap_mask.specs.Mask.{Mask}
 use Rattle.dap_mask.specs.RulesFile.{rules_said}
 use Rattle.dap_mask.specs.declared.fault.RulesCause.TheVariants as cause
@@ -7,10 +7,9 @@ use Rattle.dap_mask.specs.declared.fault.RulesFault.{RulesFault}
 use Rattle.dap_rename.specs.declared.mode.Mode.TheVariants.{Whole}
 use Rattle.dap_input.specs.declared.limits.Limits.{Limits}
 use Rattle.dap_compare.specs.declared.verdict.Which.{Which}
-use Rattle.dap_compare.specs.declared.verdict.Which.TheVariants.{A, B}
 use Rattle.dap_rules.specs.declared.fault.ApplyRefused.{ApplyRefused}
 use Rattle.dap_rules.specs.declared.fault.ApplyRefused.TheVariants.{Memory}
-use Rattle.dap_suggest.specs.Suggested.{IsRejected, MakesNormal}
+use Rattle.dap_suggest.specs.Suggested.{IsOneRejected}
 use Rattle.dap_suggest.specs.declared.inputs.Inputs.{Inputs}
 use Rattle.dap_suggest.specs.declared.suggestion.SuggestRefused.{SuggestRefused}
 use Rattle.dap_suggest.specs.declared.suggestion.SuggestRefused.TheVariants as because
@@ -21,12 +20,9 @@ AreAccepted given = (mask : Mask) × (rules_said given ≡ Ok mask)
 
 -- The rules that were given are accepted, and A, or B if A is not rejected, is rejected by them.
 abbrev pub IsInputRejected : Limits → List ℕ → List ℕ → List ℕ → Which → ApplyRefused → Type 0
-IsInputRejected limits given a b A refused =
-    (mask : Mask) × (rules_said given ≡ Ok mask) × IsRejected limits Whole mask a refused
-IsInputRejected limits given a b B refused =
+IsInputRejected limits given a b which refused =
     (mask : Mask) × (rules_said given ≡ Ok mask)
-    × ((text : List ℕ) × MakesNormal limits Whole mask a text)
-    × IsRejected limits Whole mask b refused
+    × IsOneRejected limits Whole mask a b (which, refused)
 
 -- Why no rules are suggested. A search without a result proves nothing about the recordings. Rules
 -- that are too long are rejected before any allocation.
@@ -48,19 +44,6 @@ HasNoSuggestion inputs =
 abbrev pub input_refusal : Which → ApplyRefused → SuggestRefused
 input_refusal which Memory = because.Memory
 input_refusal which refused = because.Input which refused
-
--- The error for a recording that the rules reject, or of which they make no accepted session.
-abbrev pub IsSessionRefusal : Limits → Mask → Which → List ℕ → SuggestRefused → Type 0
-IsSessionRefusal limits mask which recording result =
-    (refused : ApplyRefused) × IsRejected limits Whole mask recording refused
-    × (result ≡ input_refusal which refused)
-
--- The error for two recordings: A is rejected, or B is, and A is not.
-abbrev pub AreRejected : Limits → Mask → List ℕ → List ℕ → SuggestRefused → Type 0
-AreRejected limits mask a b result =
-    IsSessionRefusal limits mask A a result
-    ⊎ (((text : List ℕ) × MakesNormal limits Whole mask a text)
-    × IsSessionRefusal limits mask B b result)
 
 -- The error for rules that are rejected, or that were not read because an allocation failed.
 abbrev pub IsRulesRefusal : RulesFault → SuggestRefused → Type 0

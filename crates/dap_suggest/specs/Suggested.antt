@@ -5,6 +5,8 @@ use Rattle.dap_mask.specs.Mask.{Mask}
 use Rattle.dap_mask.specs.RulesFile.{rules_said}
 use Rattle.dap_rename.specs.declared.mode.Mode.{Mode}
 use Rattle.dap_rename.specs.declared.mode.Mode.TheVariants.{Whole}
+use Rattle.dap_compare.specs.declared.verdict.Which.{Which}
+use Rattle.dap_compare.specs.declared.verdict.Which.TheVariants.{A, B}
 use Rattle.dap_input.specs.declared.limits.Limits.{Limits}
 use Rattle.dap_input.specs.Refusals.{IsRefused}
 use Rattle.dap_normalise.specs.Accepting.{accepting}
@@ -14,6 +16,7 @@ use Rattle.dap_rules.specs.Modes.{mode_by}
 use Rattle.dap_rules.specs.declared.fault.ApplyRefused.{ApplyRefused}
 use Rattle.dap_rules.specs.declared.fault.ApplyRefused.TheVariants as step
 use Rattle.dap_suggest.specs.declared.inputs.Inputs.{Inputs}
+use Rattle.dap_suggest.specs.declared.sessions.Sessions.{Sessions}
 use Rattle.dap_suggest.specs.declared.suggestion.Suggestion.{Suggestion}
 
 -- ---- rules that were found
@@ -25,6 +28,12 @@ pub record MakesNormal (limits : Limits) (mode : Mode) (mask : Mask)
   pub session : List ℕ
   pub applies : AppliesRules limits mode mask recording session
   pub normalises : Normalises limits mode session written
+
+-- The rules make these sessions of the two recordings.
+abbrev pub AreMade : Inputs → Mode → Mask → Sessions → Type 0
+AreMade inputs mode mask made =
+    MakesNormal inputs.limits mode mask inputs.a.now made.a.normal.bytes
+    × MakesNormal inputs.limits mode mask inputs.b.now made.b.normal.bytes
 
 -- The rules make one normal text of both recordings.
 pub record HaveOneNormal (limits : Limits) (mode : Mode) (mask : Mask) (a b : List ℕ) : Type 0 where
@@ -58,3 +67,9 @@ IsRejected limits mode mask recording (step.Order refused) =
     × IsRefused (accepting limits mode) session refused)
 IsRejected limits mode mask recording step.ReadFault = ⊥
 IsRejected limits mode mask recording step.Memory = Unit {0}
+
+-- A is rejected by the rules; or B is, and A is not.
+abbrev pub IsOneRejected : Limits → Mode → Mask → List ℕ → List ℕ → Which × ApplyRefused → Type 0
+IsOneRejected limits mode mask a b (A, refused) = IsRejected limits mode mask a refused
+IsOneRejected limits mode mask a b (B, refused) =
+    ((text : List ℕ) × MakesNormal limits mode mask a text) × IsRejected limits mode mask b refused

@@ -1,87 +1,81 @@
 //! The actions that are tried at a place.
-use crate::words::{push_parts, push_quoted};
+use crate::confirming::read_rules;
+use crate::obstacle::Unsolved;
+use crate::words::{push_parts, push_quoted, text_at};
 use dap_mask::{MaskRules, read_masked};
 use dap_tree::{Scratch, Tree};
 use std::alloc::{AllocError, Global};
 
-/// How many candidates there are.
-const CANDIDATES: usize = 9;
+/// The verbs that are tried at a text, in this order, with spaces up to one length. Each verb is
+/// for one rule. Two verbs are in an order that a file of rules may have.
+const CANDIDATES: [&[&str]; 9] = [
+    &["uuid   "],
+    &["hex    "],
+    &["digits "],
+    &["long   "],
+    &["uuid   ", "hex    "],
+    &["digits ", "hex    "],
+    &["uuid   ", "long   "],
+    &["long   ", "hex    "],
+    &["long   ", "digits "],
+];
 
-/// Returns the verbs that are tried at a text, by their place in the order in which they are tried,
-/// with spaces up to one length. Each verb is for one rule. Two verbs are in an order that a file of
-/// rules may have. After the last ones the verb makes any two values of one sort equal.
-fn verbs_of(candidate: usize) -> &'static [&'static str] {
-    match candidate {
-        0 => &["uuid   "],
-        1 => &["hex    "],
-        2 => &["digits "],
-        3 => &["long   "],
-        4 => &["uuid   ", "hex    "],
-        5 => &["digits ", "hex    "],
-        6 => &["uuid   ", "long   "],
-        7 => &["long   ", "hex    "],
-        8 => &["long   ", "digits "],
-        _ => &["blank  "],
-    }
-}
+/// The verb that makes any two values of one sort equal.
+const BLANK: &[&str] = &["blank  "];
 
 /// The messages and the places of a pair of texts that are compared alone.
-const FIRST: &str = "event    x a";
+const FIRST: &[u8] = b"event    x a";
 
-const SECOND: &str = "event    x b";
+const SECOND: &[u8] = b"event    x b";
 
-/// Appends the rules of a candidate, for these messages and this place.
-fn push_verbs(candidate: usize, target: &[u8], out: &mut Vec<u8>) -> Result<(), AllocError> {
-    for verb in verbs_of(candidate) {
-        out.extend_from_slice(verb.as_bytes())?;
-        push_parts(&[target, b"\n"], out)?;
+/// Appends a rule of each verb, for these messages and this place.
+fn push_rules(verbs: &[&str], target: &[u8], out: &mut Vec<u8>) -> Result<(), AllocError> {
+    for verb in verbs {
+        push_parts(&[verb.as_bytes(), target, b"\n"], out)?;
     }
     Ok(())
 }
 
+/// Returns the verbs of a candidate, or the verb that blanks the value.
+fn verbs_of(candidate: Option<usize>) -> &'static [&'static str] {
+    match candidate {
+        Some(candidate) => CANDIDATES.get(candidate).copied().unwrap_or(BLANK),
+        None => BLANK,
+    }
+}
+
 /// Appends the rules of a candidate, or the rule that blanks the value, after a comment.
 pub fn push_commented(
-    comment: &[u8],
+    comment: &str,
     candidate: Option<usize>,
     target: &[u8],
     out: &mut Vec<u8>,
 ) -> Result<(), AllocError> {
-    out.extend_from_slice(comment)?;
-    push_verbs(candidate.unwrap_or(CANDIDATES), target, out)?;
+    out.extend_from_slice(comment.as_bytes())?;
+    push_rules(verbs_of(candidate), target, out)?;
     out.push(b'\n')?;
     Ok(())
 }
 
 /// Returns the messages and the place of a rule that this module wrote.
 pub fn target_of(line: &[u8]) -> &[u8] {
-    match line {
-        [_, _, _, _, _, _, _, target @ ..] => target,
-        _ => line,
-    }
-}
-
-/// Reads the rules by which a pair of texts is compared for a candidate.
-fn test_of(alloc: Global, candidate: usize) -> Result<MaskRules, AllocError> {
-    let mut text = Vec::new(alloc);
-    push_verbs(candidate, FIRST.as_bytes(), &mut text)?;
-    push_verbs(candidate, SECOND.as_bytes(), &mut text)?;
-    match MaskRules::read(alloc, text.as_slice()) {
-        Ok(rules) => Ok(rules),
-        Err(_) => Err(AllocError),
-    }
+    line.get(7..).unwrap_or(line)
 }
 
 /// Returns for each candidate, in their order, the rules by which a pair of texts is compared.
-pub fn tests(alloc: Global) -> Result<Vec<MaskRules>, AllocError> {
+pub fn tests(alloc: Global) -> Result<Vec<MaskRules>, Unsolved> {
     let mut tests = Vec::new(alloc);
-    for candidate in 0..CANDIDATES {
-        tests.push(test_of(alloc, candidate)?)?;
+    for verbs in CANDIDATES {
+        let mut text = Vec::new(alloc);
+        push_rules(verbs, FIRST, &mut text)?;
+        push_rules(verbs, SECOND, &mut text)?;
+        tests.push(read_rules(alloc, text.as_slice())?)?;
     }
     Ok(tests)
 }
 
 /// Returns the content of an event that has a pair of texts.
-pub fn event_of(alloc: Global, a: &Tree, b: &Tree) -> Result<Vec<u8>, AllocError> {
+pub fn event_of(alloc: Global, a: &str, b: &str) -> Result<Vec<u8>, AllocError> {
     let mut out = Vec::from_slice(alloc, b"{\"type\":\"event\",\"event\":\"x\",\"a\":")?;
     push_quoted(alloc, a, &mut out)?;
     out.extend_from_slice(b",\"b\":")?;
@@ -92,16 +86,15 @@ pub fn event_of(alloc: Global, a: &Tree, b: &Tree) -> Result<Vec<u8>, AllocError
 
 /// Returns whether an event has a pair of equal texts.
 fn has_equal_texts(event: &Tree) -> bool {
-    match (event.child("a"), event.child("b")) {
-        (Some(Tree::Text(a)), Some(Tree::Text(b))) => a.as_str() == b.as_str(),
+    match (text_at(event, "a"), text_at(event, "b")) {
+        (Some(a), Some(b)) => a == b,
         _ => false,
     }
 }
 
 /// Returns whether the rules of a candidate make the texts of such an event equal.
 pub fn are_equal_by(alloc: Global, test: &MaskRules, event: &[u8]) -> Result<bool, AllocError> {
-    let mut scratch = Scratch::new(alloc);
-    match read_masked(alloc, event, test, &mut scratch) {
+    match read_masked(alloc, event, test, &mut Scratch::new(alloc)) {
         Ok(Some(event)) => Ok(has_equal_texts(&event)),
         _ => Err(AllocError),
     }

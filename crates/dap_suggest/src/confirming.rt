@@ -4,17 +4,14 @@ ghost use Rattle.dap_input.specs.Limits.{AreSound};
 ghost use Rattle.dap_mask.specs.KeptRules.{mask_of};
 ghost use Rattle.dap_mask.specs.RulesFile.{rules_said};
 ghost use Rattle.dap_suggest.specs.Suggested.{AreSameBy, HaveOneNormal};
-ghost use Rattle.dap_suggest.specs.Suggested.{IsSuggestion, MakesNormal};
+ghost use Rattle.dap_suggest.specs.Suggested.{IsSuggestion};
 
 use crate::inputs::Inputs;
 use crate::joined_rules::joined;
 use crate::obstacle::{Obstacle, Unsolved};
-use crate::sessions::{Session, session_of};
+use crate::sessions::sessions_by;
 use crate::suggestion::Suggestion;
-use dap_compare::Which;
-use dap_input::Limits;
 use dap_mask::{MaskRules, RulesCause};
-use dap_normalise::Normalised;
 use dap_rename::Mode;
 use dap_rules::{ApplyRefused, mode_by};
 use std::alloc::Global;
@@ -63,29 +60,6 @@ pub fn read_rules(alloc: Global, text: &[u8]) -> Result<MaskRules, Unsolved>
     }
 }
 
-/// Returns the normal text that the rules make of a recording.
-fn normal_by(
-    alloc: Global,
-    rules: &MaskRules,
-    which: Which,
-    recording: &[u8],
-    limits: Limits,
-    mode: Mode,
-) -> Result<Normalised, Unsolved>
-    requires { AreSound limits }
-    ensures { IfOk result
-        (λ text. MakesNormal limits mode (mask_of rules.now) recording.now text.bytes) }
-{
-    match session_of(alloc, rules, recording, limits, mode) {
-        Ok(Session { bytes, normal }) => {
-            drop(bytes);
-            Ok(normal)
-        }
-        Err(ApplyRefused::Memory) => Err(Unsolved::Memory),
-        Err(refused) => Err(Unsolved::NoRules(Obstacle::Unapplied(which, refused))),
-    }
-}
-
 /// Compares what the rules make of two recordings.
 ///
 /// # Errors
@@ -101,12 +75,18 @@ fn compare_by(
     ensures { OnOk result (HaveOneNormal inputs.now.limits mode (mask_of rules.now) inputs.now.a.now
         inputs.now.b.now) }
 {
-    let one = normal_by(alloc, rules, Which::A, inputs.a, inputs.limits, mode)?;
-    let other = normal_by(alloc, rules, Which::B, inputs.b, inputs.limits, mode)?;
-    if one.bytes() == other.bytes() {
+    let sessions = match sessions_by(alloc, rules, inputs, mode) {
+        Ok(sessions) => sessions,
+        Err((_, ApplyRefused::Memory)) => return Err(Unsolved::Memory),
+        Err((which, refused)) => {
+            return Err(Unsolved::NoRules(Obstacle::Unapplied(which, refused)));
+        }
+    };
+    let (one, other) = (sessions.a.normal.bytes(), sessions.b.normal.bytes());
+    if one == other {
         return Ok(());
     }
-    let record = first_difference(one.bytes(), other.bytes());
+    let record = first_difference(one, other);
     Err(Unsolved::NoRules(Obstacle::StillDiffers(record)))
 }
 
@@ -143,7 +123,8 @@ fn suggested(
     Ok(Suggestion { rules, mode })
 }
 
-/// Suggests these rules, if two recordings are the same by them, or by them and the line `per-stop`.
+/// Suggests these rules, if two recordings are the same by them, or by them and the line
+/// `per-stop`.
 fn confirm_added(alloc: Global, inputs: &Inputs<'_>, found: &[u8]) -> Result<Suggestion, Unsolved>
     requires { AreSound inputs.now.limits }
     ensures { IfOk result (IsSuggestion inputs.now) }

@@ -1,9 +1,8 @@
 //! Counts the events of two recordings, and drops those of which they have different numbers.
-use crate::words::{push_count, push_name, push_named};
+use crate::words::{push_name, push_named, text_at};
 use dap_compare::Which;
 use dap_diff::Entry;
 use dap_message::{Kind, Message};
-use dap_tree::Tree;
 use std::alloc::{AllocError, Global};
 use std::collections::BTreeMap;
 
@@ -15,6 +14,8 @@ struct Counts {
 }
 
 impl Counts {
+    const NONE: Counts = Counts { a: 0, b: 0 };
+
     fn add(&mut self, which: Which) {
         match which {
             Which::A => self.a = self.a.saturating_add(1),
@@ -40,14 +41,6 @@ pub struct Events {
 pub type EventsByName = BTreeMap<String, Events>;
 
 impl Events {
-    fn new(alloc: Global) -> Events {
-        Events {
-            all: Counts { a: 0, b: 0 },
-            others: Counts { a: 0, b: 0 },
-            by_category: BTreeMap::new(alloc),
-        }
-    }
-
     fn add(
         &mut self,
         alloc: Global,
@@ -60,33 +53,36 @@ impl Events {
             return Ok(());
         };
         let category = String::from_str(alloc, category)?;
-        let count = self
-            .by_category
-            .entry(category)?
-            .or_insert(Counts { a: 0, b: 0 });
-        count.add(which);
+        let counts = self.by_category.entry(category)?.or_insert(Counts::NONE);
+        counts.add(which);
         Ok(())
     }
 
-    /// Returns whether all events of the name are dropped: no categories explain the difference.
-    fn drops_all(&self) -> bool {
-        self.all.differ() && self.others.differ()
-    }
-
-    /// Returns whether the events of a category that has these counts are dropped.
-    fn drops_some(&self, counts: &Counts) -> bool {
-        self.all.differ() && !self.others.differ() && counts.differ()
-    }
-
-    /// Returns whether the events of this category, or those without one, are dropped.
-    fn drops(&self, category: Option<&str>) -> bool {
-        let Some(category) = category else {
-            return self.drops_all();
-        };
-        match self.by_category.get(category) {
-            Some(counts) => self.drops_all() || self.drops_some(counts),
-            None => self.drops_all(),
+    /// Returns the counts of the events of this category, or of those without one.
+    fn counts(&self, category: Option<&str>) -> &Counts {
+        match category {
+            Some(category) => self.by_category.get(category).unwrap_or(&self.others),
+            None => &self.others,
         }
+    }
+
+    /// Returns whether the events that have these counts are dropped: all events of the name are,
+    /// if no categories explain the difference.
+    fn drops(&self, counts: &Counts) -> bool {
+        self.all.differ() && (self.others.differ() || counts.differ())
+    }
+
+    /// Appends the rules that drop events of this name.
+    fn push_drops(&self, alloc: Global, name: &str, out: &mut Vec<u8>) -> Result<(), AllocError> {
+        if self.drops(&self.others) {
+            return push_drop(alloc, name, None, &self.all, out);
+        }
+        for (category, counts) in self.by_category.iter() {
+            if self.drops(counts) {
+                push_drop(alloc, name, Some(category.as_str()), counts, out)?;
+            }
+        }
+        Ok(())
     }
 }
 
@@ -100,10 +96,7 @@ fn is_needed(name: &str) -> bool {
 
 /// Returns the category of a message, if that is a text.
 fn category_of(message: &Message) -> Option<&str> {
-    match message.tree().child("body")?.child("category")? {
-        Tree::Text(text) => Some(text.as_str()),
-        _ => None,
-    }
+    text_at(message.tree().child("body")?, "category")
 }
 
 /// Returns whether a record is an event that is dropped.
@@ -112,26 +105,14 @@ pub fn is_dropped(entry: &Entry, events: &EventsByName) -> bool {
         return false;
     }
     match events.get(entry.message.name()) {
-        Some(found) => found.drops(category_of(&entry.message)),
+        Some(found) => found.drops(found.counts(category_of(&entry.message))),
         None => false,
     }
 }
 
-/// Counts an event of this name.
-fn count_event(
-    alloc: Global,
-    which: Which,
-    name: &str,
-    category: Option<&str>,
-    events: &mut EventsByName,
-) -> Result<(), AllocError> {
-    let name = String::from_str(alloc, name)?;
-    let found = events.entry(name)?.or_insert(Events::new(alloc));
-    found.add(alloc, which, category)
-}
-
-/// Counts the events of a recording, by their category too if that is wanted.
-fn count_side(
+/// Counts the events of a recording by their names, and by their category too if that is wanted.
+/// Those that a session needs are left out.
+pub fn count_events(
     alloc: Global,
     which: Which,
     entries: &[Entry],
@@ -141,71 +122,53 @@ fn count_side(
     for entry in entries {
         let message = &entry.message;
         if message.kind() == Kind::Event && !is_needed(message.name()) {
+            let name = String::from_str(alloc, message.name())?;
+            let found = events.entry(name)?.or_insert(Events {
+                all: Counts::NONE,
+                others: Counts::NONE,
+                by_category: BTreeMap::new(alloc),
+            });
             let category = if by_category {
                 category_of(message)
             } else {
                 None
             };
-            count_event(alloc, which, message.name(), category, events)?;
+            found.add(alloc, which, category)?;
         }
     }
     Ok(())
 }
 
-/// Counts the events of A and of B by their names, and by their category too if that is wanted.
-/// Those that a session needs are left out.
-pub fn count_events(
-    alloc: Global,
-    a: &[Entry],
-    b: &[Entry],
-    by_category: bool,
-) -> Result<EventsByName, AllocError> {
-    let mut events = BTreeMap::new(alloc);
-    count_side(alloc, Which::A, a, by_category, &mut events)?;
-    count_side(alloc, Which::B, b, by_category, &mut events)?;
-    Ok(events)
+/// Appends the comment on the rule that drops events that have these counts.
+fn push_counts(alloc: Global, counts: &Counts, out: &mut Vec<u8>) -> Result<(), AllocError> {
+    let (a, b) = (counts.a, counts.b);
+    let comment = format!(in alloc; "# {a} in A, {b} in B\n")?;
+    out.extend_from_slice(comment.as_bytes())
 }
 
-/// Appends the rule that drops the events of a name, after a comment, without the end of its line.
+/// Appends the rule that drops the events of a name, or those of a category, after a comment.
 fn push_drop(
     alloc: Global,
     name: &str,
+    category: Option<&str>,
     counts: &Counts,
     out: &mut Vec<u8>,
 ) -> Result<(), AllocError> {
-    push_count("# ", counts.a, out)?;
-    push_count(" in A, ", counts.b, out)?;
-    out.extend_from_slice(b" in B\ndrop   ")?;
-    push_named(alloc, Kind::Event, name, out)
-}
-
-/// Appends the rules that drop events of a name.
-fn push_drops(
-    alloc: Global,
-    name: &str,
-    events: &Events,
-    out: &mut Vec<u8>,
-) -> Result<(), AllocError> {
-    if events.drops_all() {
-        push_drop(alloc, name, &events.all, out)?;
-        return out.extend_from_slice(b"\n\n");
+    push_counts(alloc, counts, out)?;
+    out.extend_from_slice(b"drop   ")?;
+    push_named(alloc, Kind::Event, name, out)?;
+    if let Some(category) = category {
+        out.extend_from_slice(b" category=")?;
+        push_name(alloc, category, out)?;
     }
-    for (category, counts) in events.by_category.iter() {
-        if events.drops_some(counts) {
-            push_drop(alloc, name, counts, out)?;
-            out.extend_from_slice(b" category=")?;
-            push_name(alloc, category.as_str(), out)?;
-            out.extend_from_slice(b"\n\n")?;
-        }
-    }
-    Ok(())
+    out.extend_from_slice(b"\n\n")
 }
 
 /// Returns the rules that drop events.
 pub fn drops(alloc: Global, events: &EventsByName) -> Result<Vec<u8>, AllocError> {
     let mut out = Vec::new(alloc);
     for (name, found) in events.iter() {
-        push_drops(alloc, name.as_str(), found, &mut out)?;
+        found.push_drops(alloc, name.as_str(), &mut out)?;
     }
     Ok(out)
 }

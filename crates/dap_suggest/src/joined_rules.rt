@@ -22,11 +22,11 @@ pub fn joined(alloc: Global, given: &[u8], rules: &[u8]) -> Result<Vec<u8>, Allo
 }
 
 /// Returns the LF that has to follow the rules that were given, if their last line lacks it.
-pub fn missing_end(given: &[u8]) -> &'static str {
+pub fn missing_end(given: &[u8]) -> &'static [u8] {
     if given.is_empty() || given.ends_with(b"\n") {
-        ""
+        b""
     } else {
-        "\n"
+        b"\n"
     }
 }
 
@@ -48,31 +48,6 @@ pub fn fault_of(alloc: Global, text: &[u8]) -> Result<Option<RulesFault>, AllocE
     }
 }
 
-/// The rules that are suggested for two recordings.
-#[derive(Drop)]
-struct Rules {
-    spots: Spots,
-    swaps: Swaps,
-}
-
-impl Rules {
-    fn text(&self, alloc: Global, before: &[u8]) -> Result<Vec<u8>, AllocError> {
-        let mut text = Vec::from_slice(alloc, before)?;
-        self.spots.push(&mut text)?;
-        self.swaps.push(&mut text)?;
-        Ok(text)
-    }
-
-    /// Removes the rule of a line that is rejected.
-    fn exclude(&mut self, alloc: Global, line: &[u8]) -> Result<(), Unsolved> {
-        let target = target_of(line);
-        if self.swaps.exclude(target) || self.spots.exclude(alloc, target)? {
-            return Ok(());
-        }
-        Err(Unsolved::NoRules(Obstacle::Unread))
-    }
-}
-
 /// Removes the rule of the line that is rejected. If there are too many rules, removes those for
 /// elements by their name.
 ///
@@ -83,37 +58,21 @@ fn exclude_rejected(
     alloc: Global,
     whole: &[u8],
     fault: RulesFault,
-    rules: &mut Rules,
+    spots: &mut Spots<'_>,
+    swaps: &mut Swaps,
 ) -> Result<(), Unsolved> {
-    match fault.cause {
-        RulesCause::TooLong | RulesCause::TooMany => {
-            if rules.spots.join_elements() {
-                Ok(())
-            } else {
-                Err(Unsolved::NoRules(Obstacle::Unread))
-            }
+    let is_excluded = match fault.cause {
+        RulesCause::TooLong | RulesCause::TooMany => spots.join_elements(),
+        _ => {
+            let target = target_of(line_at(whole, fault.line));
+            swaps.exclude(target) || spots.exclude(alloc, target)?
         }
-        _ => rules.exclude(alloc, line_at(whole, fault.line)),
+    };
+    if is_excluded {
+        Ok(())
+    } else {
+        Err(Unsolved::NoRules(Obstacle::Unread))
     }
-}
-
-/// Returns the text of rules that can follow those that were given. A rule that cannot is removed.
-fn text_of(
-    alloc: Global,
-    given: &[u8],
-    drops: &[u8],
-    rules: &mut Rules,
-) -> Result<Vec<u8>, Unsolved> {
-    let before = joined(alloc, missing_end(given).as_bytes(), drops)?;
-    for _ in 0..ATTEMPTS {
-        let text = rules.text(alloc, before.as_slice())?;
-        let whole = joined(alloc, given, text.as_slice())?;
-        match fault_of(alloc, whole.as_slice())? {
-            None => return Ok(text),
-            Some(fault) => exclude_rejected(alloc, whole.as_slice(), fault, rules)?,
-        }
-    }
-    Err(Unsolved::NoRules(Obstacle::Unread))
 }
 
 /// Returns the rules for two recordings that are matched. They can follow those that were given.
@@ -123,9 +82,34 @@ fn text_of(
 /// No rules make some record the same, or an allocation failed.
 pub fn rules_for(alloc: Global, given: &[u8], matched: &Matched) -> Result<Vec<u8>, Unsolved> {
     let pairs = pairs_of(alloc, matched)?;
-    let mut rules = Rules {
-        spots: spots_of(alloc, pairs.as_slice())?,
-        swaps: swaps_of(alloc, pairs.as_slice())?,
-    };
-    text_of(alloc, given, matched.drops.as_slice(), &mut rules)
+    let mut spots = spots_of(alloc, pairs.as_slice())?;
+    let mut swaps = swaps_of(alloc, pairs.as_slice())?;
+    text_of(
+        alloc,
+        given,
+        matched.drops.as_slice(),
+        &mut spots,
+        &mut swaps,
+    )
+}
+
+/// Returns the text of rules that can follow those that were given. A rule that cannot is removed.
+fn text_of(
+    alloc: Global,
+    given: &[u8],
+    drops: &[u8],
+    spots: &mut Spots<'_>,
+    swaps: &mut Swaps,
+) -> Result<Vec<u8>, Unsolved> {
+    for _ in 0..ATTEMPTS {
+        let mut text = joined(alloc, missing_end(given), drops)?;
+        spots.push(&mut text)?;
+        swaps.push(&mut text)?;
+        let whole = joined(alloc, given, text.as_slice())?;
+        match fault_of(alloc, whole.as_slice())? {
+            None => return Ok(text),
+            Some(fault) => exclude_rejected(alloc, whole.as_slice(), fault, spots, swaps)?,
+        }
+    }
+    Err(Unsolved::NoRules(Obstacle::Unread))
 }

@@ -2,7 +2,7 @@
 ghost use Rattle.dap_input.specs.Limits.{AreSound};
 
 use crate::counting::{EventsByName, count_events, drops, is_dropped};
-use crate::obstacle::{Obstacle, Reason, Unsolved, unsolved_entry};
+use crate::obstacle::{Obstacle, Reason, Unsolved, unsolved_at};
 use crate::sessions::Sessions;
 use dap_compare::{CompareRefused, Which};
 use dap_device::MemorySource;
@@ -11,7 +11,8 @@ use dap_input::Limits;
 use dap_normalise::index_tables;
 use dap_rename::Mode;
 use dap_rules::ApplyRefused;
-use std::alloc::{AllocError, Global};
+use std::alloc::Global;
+use std::collections::BTreeMap;
 
 /// Two recordings whose records are matched, without the events that are dropped.
 #[derive(Drop)]
@@ -65,26 +66,6 @@ fn remove_dropped(recording: &mut Recording, events: &EventsByName) {
     recording.entries.retain(|entry| !is_dropped(entry, events));
 }
 
-/// Removes the events that the recordings have in different numbers, and matches the others.
-/// Returns the rules that drop these events.
-fn match_both(
-    alloc: Global,
-    a: &mut Recording,
-    b: &mut Recording,
-    by_category: bool,
-) -> Result<Vec<u8>, AllocError> {
-    let events = count_events(
-        alloc,
-        a.entries.as_slice(),
-        b.entries.as_slice(),
-        by_category,
-    )?;
-    remove_dropped(a, &events);
-    remove_dropped(b, &events);
-    match_records(alloc, a.entries.as_mut_slice(), b.entries.as_mut_slice())?;
-    drops(alloc, &events)
-}
-
 /// Reads and matches the recordings of two sessions that are accepted. Events that they have in
 /// different numbers are removed, by their category if that is wanted and enough.
 pub fn read_matched(
@@ -95,35 +76,36 @@ pub fn read_matched(
 ) -> Result<Matched, Unsolved>
     requires { AreSound limits }
 {
-    let mut a = read_session(alloc, Which::A, sessions.a.as_slice(), limits)?;
-    let mut b = read_session(alloc, Which::B, sessions.b.as_slice(), limits)?;
-    let drops = match_both(alloc, &mut a, &mut b, by_category)?;
+    let mut a = read_session(alloc, Which::A, sessions.a.bytes.as_slice(), limits)?;
+    let mut b = read_session(alloc, Which::B, sessions.b.bytes.as_slice(), limits)?;
+    let mut events = BTreeMap::new(alloc);
+    count_events(
+        alloc,
+        Which::A,
+        a.entries.as_slice(),
+        by_category,
+        &mut events,
+    )?;
+    count_events(
+        alloc,
+        Which::B,
+        b.entries.as_slice(),
+        by_category,
+        &mut events,
+    )?;
+    remove_dropped(&mut a, &events);
+    remove_dropped(&mut b, &events);
+    match_records(alloc, a.entries.as_mut_slice(), b.entries.as_mut_slice())?;
+    let drops = drops(alloc, &events)?;
     Ok(Matched { a, b, drops })
 }
 
-/// Returns the first record without a counterpart.
-fn first_alone(entries: &[Entry]) -> Option<&Entry> {
-    entries.iter().find(|entry| entry.counterpart.is_none())
-}
-
-/// Fails if a record lacks a counterpart.
-fn all_have_counterparts(alloc: Global, matched: &Matched) -> Result<(), Unsolved> {
-    if let Some(entry) = first_alone(matched.a.entries.as_slice()) {
-        return Err(unsolved_entry(alloc, Reason::NoCounterpart, Which::A, entry));
-    }
-    if let Some(entry) = first_alone(matched.b.entries.as_slice()) {
-        return Err(unsolved_entry(alloc, Reason::NoCounterpart, Which::B, entry));
-    }
-    Ok(())
-}
-
-/// Returns the counterpart of a record, with its place.
+/// Returns a record of A with its counterpart.
 fn pair_of<'m>(entry: &'m Entry, others: &'m [Entry]) -> Option<Pair<'m>> {
     let place = entry.counterpart?;
-    let other = others.get(place)?;
     Some(Pair {
         a: entry,
-        b: other,
+        b: others.get(place)?,
         place,
     })
 }
@@ -134,11 +116,16 @@ fn pair_of<'m>(entry: &'m Entry, others: &'m [Entry]) -> Option<Pair<'m>> {
 ///
 /// A record lacks a counterpart, or an allocation failed.
 pub fn pairs_of<'m>(alloc: Global, matched: &'m Matched) -> Result<Vec<Pair<'m>>, Unsolved> {
-    all_have_counterparts(alloc, matched)?;
     let mut pairs = Vec::new(alloc);
     for entry in matched.a.entries.iter() {
-        if let Some(pair) = pair_of(entry, matched.b.entries.as_slice()) {
-            pairs.push(pair)?;
+        match pair_of(entry, matched.b.entries.as_slice()) {
+            Some(pair) => pairs.push(pair)?,
+            None => return Err(unsolved_at(alloc, Reason::NoCounterpart, Which::A, entry)),
+        }
+    }
+    for entry in matched.b.entries.iter() {
+        if entry.counterpart.is_none() {
+            return Err(unsolved_at(alloc, Reason::NoCounterpart, Which::B, entry));
         }
     }
     Ok(pairs)

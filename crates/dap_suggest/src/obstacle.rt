@@ -58,26 +58,15 @@ impl<T: Drop> From<AllocFailed<T>> for Unsolved {
     }
 }
 
-/// Returns that a record is the reason.
-pub fn unsolved_at(
-    alloc: Global,
-    reason: Reason,
-    which: Which,
-    number: u64,
-    head: &str,
-) -> Unsolved {
-    match String::from_str(alloc, head) {
+/// Returns that a record of a recording is the reason.
+pub fn unsolved_at(alloc: Global, reason: Reason, which: Which, entry: &Entry) -> Unsolved {
+    match String::from_str(alloc, entry.head.as_str()) {
         Ok(head) => Unsolved::NoRules(Obstacle::Record {
             reason,
             which,
-            number,
+            number: entry.number,
             head,
         }),
         Err(_) => Unsolved::Memory,
     }
-}
-
-/// Returns that a record of a recording is the reason.
-pub fn unsolved_entry(alloc: Global, reason: Reason, which: Which, entry: &Entry) -> Unsolved {
-    unsolved_at(alloc, reason, which, entry.number, entry.head.as_str())
 }

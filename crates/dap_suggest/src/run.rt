@@ -36,7 +36,7 @@ fn report_obstacle<E: Sink>(alloc: Global, errors: &mut E, obstacle: &Obstacle) 
 {
     match obstacle_line(alloc, obstacle) {
         Ok(line) => {
-            report_parts(errors, &[line.as_slice()]);
+            report_parts(errors, &[line.as_bytes()]);
             DIFFERENT
         }
         Err(_) => report_rules(errors, RulesRefused::Memory),

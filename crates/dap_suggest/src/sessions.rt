@@ -1,13 +1,11 @@
 //! The sessions that the rules make of two recordings.
-ghost use Rattle.std.specs.Prelude.{◌≡◌, IfErr, IfOk, List, ℕ};
+ghost use Rattle.std.specs.Prelude.{◌≡◌, IfErr, IfOk};
 ghost use Rattle.dap_input.specs.Limits.{AreSound};
 ghost use Rattle.dap_mask.specs.KeptRules.{mask_of};
 ghost use Rattle.dap_rules.specs.ApplyingSteps.{order_refusal};
-ghost use Rattle.dap_suggest.specs.NotSuggested.{AreRejected, IsSessionRefusal, input_refusal};
-ghost use Rattle.dap_suggest.specs.Suggested.{IsRejected, MakesNormal};
+ghost use Rattle.dap_suggest.specs.Suggested.{AreMade, IsOneRejected, IsRejected, MakesNormal};
 
 use crate::inputs::Inputs;
-use crate::suggestion::SuggestRefused;
 use dap_compare::Which;
 use dap_input::{Limits, Refused};
 use dap_mask::MaskRules;
@@ -60,65 +58,35 @@ pub fn session_of(
     }
 }
 
-/// Returns that a recording is rejected by the rules.
-fn input_refusal(which: Which, refused: ApplyRefused) -> SuggestRefused
-    ensures { result ≡ input_refusal which refused }
-{
-    match refused {
-        ApplyRefused::Memory => SuggestRefused::Memory,
-        refused => SuggestRefused::Input(which, refused),
-    }
-}
-
-/// Returns the session that the rules make of a recording.
-fn session_by(
-    alloc: Global,
-    rules: &MaskRules,
-    which: Which,
-    recording: &[u8],
-    limits: Limits,
-) -> Result<Vec<u8>, SuggestRefused>
-    requires { AreSound limits }
-    ensures ok { IfOk result (λ _. (text : List ℕ)
-        × MakesNormal limits Mode.Whole (mask_of rules.now) recording.now text) }
-    ensures err { IfErr result (IsSessionRefusal limits (mask_of rules.now) which recording.now) }
-{
-    match session_of(alloc, rules, recording, limits, Mode::Whole) {
-        Ok(Session { bytes, normal }) => {
-            drop(normal);
-            Ok(bytes)
-        }
-        Err(refused) => Err(input_refusal(which, refused)),
-    }
-}
-
-/// The sessions that the rules make of two recordings.
+/// What the rules make of two recordings.
 #[derive(Drop)]
 pub struct Sessions {
-    pub a: Vec<u8>,
-    pub b: Vec<u8>,
+    pub a: Session,
+    pub b: Session,
 }
 
-/// Returns the sessions that the rules make of two recordings.
+/// Applies the rules to two recordings, and normalises the sessions that they make of them.
 ///
 /// # Errors
 ///
-/// A is rejected, or B is, and A is not; or an allocation failed.
+/// Those of [`session_of`] at A, or at B if A is not rejected.
 pub fn sessions_by(
     alloc: Global,
     rules: &MaskRules,
     inputs: &Inputs<'_>,
-) -> Result<Sessions, SuggestRefused>
+    mode: Mode,
+) -> Result<Sessions, (Which, ApplyRefused)>
     requires { AreSound inputs.now.limits }
-    ensures { IfErr result
-        (AreRejected inputs.now.limits (mask_of rules.now) inputs.now.a.now inputs.now.b.now) }
+    ensures ok { IfOk result (AreMade inputs.now mode (mask_of rules.now)) }
+    ensures err { IfErr result (IsOneRejected inputs.now.limits mode (mask_of rules.now)
+        inputs.now.a.now inputs.now.b.now) }
 {
-    let a = match session_by(alloc, rules, Which::A, inputs.a, inputs.limits) {
+    let a = match session_of(alloc, rules, inputs.a, inputs.limits, mode) {
         Ok(session) => session,
-        Err(refused) => return Err(refused),
+        Err(refused) => return Err((Which::A, refused)),
     };
-    match session_by(alloc, rules, Which::B, inputs.b, inputs.limits) {
+    match session_of(alloc, rules, inputs.b, inputs.limits, mode) {
         Ok(b) => Ok(Sessions { a, b }),
-        Err(refused) => Err(refused),
+        Err(refused) => Err((Which::B, refused)),
     }
 }

@@ -4,7 +4,7 @@ ghost use Rattle.dap_runs.specs.ComparingRun.{refusal_status};
 ghost use Rattle.dap_runs.specs.FaultLine.{compare_refused_text, fault_line};
 ghost use Rattle.dap_runs.specs.Reporting.{HasSent};
 ghost use Rattle.dap_suggest.specs.SuggestFiles.{EndTakes, EndsBy, HasGivenText};
-ghost use Rattle.dap_suggest.specs.SuggestFiles.{HasNamedText, SuggestionIsRun, unread_as};
+ghost use Rattle.dap_suggest.specs.SuggestFiles.{SuggestionIsRun, unread_as};
 
 use crate::run::run_suggest;
 use dap_compare::{CompareRefused, Which};
@@ -47,16 +47,19 @@ pub struct SuggestFilesRun<I> {
     pub end: SuggestEnd<I>,
 }
 
-/// Reads the text of the file of rules that a name leads to.
-fn named_text<J: Source + Drop, G: RulesFiles<J>>(
+/// Reads the text of the rules that are given. Without a name it is empty.
+fn given_text<J: Source + Drop, G: RulesFiles<J>>(
     alloc: Global,
     files: &G,
-    name: &str,
+    rules: Option<&str>,
     is_input_standard: bool,
 ) -> Result<Vec<u8>, NoRules>
-    ensures { HasNamedText (G.opened files.now) (G.unopened files.now) J.Source is_input_standard
-        name.now result }
+    ensures { HasGivenText (G.opened files.now) (G.unopened files.now) J.Source is_input_standard
+        rules.entry result }
 {
+    let Some(name) = rules else {
+        return Ok(Vec::new(alloc));
+    };
     let mut file = match files.open_rules(name, is_input_standard) {
         Ok(file) => file,
         Err(fault) => return Err(NoRules::Unopened(fault)),
@@ -69,22 +72,6 @@ fn named_text<J: Source + Drop, G: RulesFiles<J>>(
         return Err(NoRules::Refused(RulesRefused::Unread));
     }
     Ok(read.bytes)
-}
-
-/// Reads the text of the rules that are given. Without a name it is empty.
-fn given_text<J: Source + Drop, G: RulesFiles<J>>(
-    alloc: Global,
-    files: &G,
-    rules: Option<&str>,
-    is_input_standard: bool,
-) -> Result<Vec<u8>, NoRules>
-    ensures { HasGivenText (G.opened files.now) (G.unopened files.now) J.Source is_input_standard
-        rules.entry result }
-{
-    match rules {
-        None => Ok(Vec::new(alloc)),
-        Some(name) => named_text::<J, G>(alloc, files, name, is_input_standard),
-    }
 }
 
 /// Returns what is reported of an input that was not read.

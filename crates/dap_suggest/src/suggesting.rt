@@ -4,7 +4,7 @@ ghost use Rattle.dap_input.specs.Limits.{AreSound};
 ghost use Rattle.dap_mask.specs.KeptRules.{mask_of};
 ghost use Rattle.dap_mask.specs.RulesFile.{rules_said};
 ghost use Rattle.dap_suggest.specs.NotSuggested.{HasNoSuggestion, IsNotSuggested};
-ghost use Rattle.dap_suggest.specs.NotSuggested.{IsRulesRefusal, IsSearchRefusal};
+ghost use Rattle.dap_suggest.specs.NotSuggested.{IsRulesRefusal, IsSearchRefusal, input_refusal};
 ghost use Rattle.dap_suggest.specs.Suggested.{AreSameBy, IsSuggestion};
 
 use crate::confirming::{confirm, read_rules};
@@ -15,6 +15,7 @@ use crate::matched::read_matched;
 use crate::obstacle::Unsolved;
 use crate::sessions::{Sessions, sessions_by};
 use crate::suggestion::{SuggestRefused, Suggestion};
+use dap_compare::Which;
 use dap_input::{Limits, Refused};
 use dap_mask::{MaskRules, RulesCause, RulesFault};
 use dap_rename::Mode;
@@ -42,24 +43,8 @@ fn search_refusal(unsolved: Unsolved) -> SuggestRefused
 }
 
 /// Searches rules for two recordings and their sessions, which the rules that were given and those
-/// `before` the others make. Returns them after those. Events are dropped by their category only if
-/// that is wanted.
-fn find_rules(
-    alloc: Global,
-    inputs: &Inputs<'_>,
-    before: &[u8],
-    sessions: &Sessions,
-    by_category: bool,
-) -> Result<Vec<u8>, Unsolved>
-    requires { AreSound inputs.now.limits }
-{
-    let known = joined(alloc, inputs.given, before)?;
-    let matched = read_matched(alloc, sessions, by_category, inputs.limits)?;
-    let found = rules_for(alloc, known.as_slice(), &matched)?;
-    Ok(joined(alloc, before, found.as_slice())?)
-}
-
-/// Searches rules as [`find_rules`], and confirms them.
+/// `before` the others make, and confirms them. Events are dropped by their category only if that
+/// is wanted.
 fn find_by(
     alloc: Global,
     inputs: &Inputs<'_>,
@@ -70,8 +55,11 @@ fn find_by(
     requires { AreSound inputs.now.limits }
     ensures { IfOk result (IsSuggestion inputs.now) }
 {
-    let found = find_rules(alloc, inputs, before, sessions, by_category)?;
-    confirm(alloc, inputs, found.as_slice())
+    let known = joined(alloc, inputs.given, before)?;
+    let matched = read_matched(alloc, sessions, by_category, inputs.limits)?;
+    let found = rules_for(alloc, known.as_slice(), &matched)?;
+    let rules = joined(alloc, before, found.as_slice())?;
+    confirm(alloc, inputs, rules.as_slice())
 }
 
 /// Searches and confirms rules. Events are dropped by their category, or by their name alone if no
@@ -102,9 +90,9 @@ fn sessions_after(
 {
     let known = joined(alloc, inputs.given, before)?;
     let rules = read_rules(alloc, known.as_slice())?;
-    match sessions_by(alloc, &rules, inputs) {
+    match sessions_by(alloc, &rules, inputs, Mode::Whole) {
         Ok(sessions) => Ok(Some(sessions)),
-        Err(SuggestRefused::Memory) => Err(Unsolved::Memory),
+        Err((_, ApplyRefused::Memory)) => Err(Unsolved::Memory),
         Err(_) => Ok(None),
     }
 }
@@ -125,6 +113,16 @@ fn find_after_fractions(
     };
     let found = find_confirmed(alloc, inputs, before.as_slice(), &sessions)?;
     Ok(Some(found))
+}
+
+/// Returns that a recording is rejected by the rules.
+fn input_refusal(which: Which, refused: ApplyRefused) -> SuggestRefused
+    ensures { result ≡ input_refusal which refused }
+{
+    match refused {
+        ApplyRefused::Memory => SuggestRefused::Memory,
+        refused => SuggestRefused::Input(which, refused),
+    }
 }
 
 /// Returns whether a recording is rejected for a number that is not an integer of 64 bits.
@@ -169,12 +167,14 @@ fn suggest_by(
     ensures ok { IfOk result (IsSuggestion inputs.now) }
     ensures err { IfErr result (HasNoSuggestion inputs.now) }
 {
-    match sessions_by(alloc, rules, inputs) {
+    match sessions_by(alloc, rules, inputs, Mode::Whole) {
         Ok(sessions) => match find_confirmed(alloc, inputs, b"", &sessions) {
             Ok(suggestion) => Ok(suggestion),
             Err(unsolved) => Err(search_refusal(unsolved)),
         },
-        Err(refused) => suggest_after(alloc, rules, inputs, refused),
+        Err(rejected) => {
+            suggest_after(alloc, rules, inputs, input_refusal(rejected.0, rejected.1))
+        }
     }
 }
 

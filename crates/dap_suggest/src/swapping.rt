@@ -1,7 +1,7 @@
 //! The pairs that come in another order in B, and the rules that let them change places.
 use crate::matched::Pair;
-use crate::obstacle::{Reason, Unsolved, unsolved_entry};
-use crate::words::{push_class, push_count, push_parts};
+use crate::obstacle::{Reason, Unsolved, unsolved_at};
+use crate::words::{class_of, push_parts};
 use dap_compare::Which;
 use dap_message::Message;
 use dap_order::{Half, SwapRule, is_free};
@@ -11,60 +11,56 @@ use std::collections::BTreeMap;
 /// The rules for the order, by their two halves, each with its comment.
 #[derive(Drop)]
 pub struct Swaps {
-    by_halves: BTreeMap<Vec<u8>, Vec<u8>>,
+    by_halves: BTreeMap<Vec<u8>, String>,
 }
 
 /// Returns whether two messages may change places if a rule names them.
 fn may_pass(x: &Message, y: &Message) -> bool {
-    let rules = [SwapRule {
-        one: Half {
-            kind: x.kind(),
-            name: None,
-        },
-        another: Half {
-            kind: y.kind(),
-            name: None,
-        },
-    }];
-    is_free(&rules, x, y)
+    let one = Half {
+        kind: x.kind(),
+        name: None,
+    };
+    let another = Half {
+        kind: y.kind(),
+        name: None,
+    };
+    is_free(&[SwapRule { one, another }], x, y)
 }
 
-/// Returns the two halves of the rule for two messages.
-fn halves_of(alloc: Global, x: &Message, y: &Message) -> Result<Vec<u8>, AllocError> {
+/// Returns the two halves of a rule.
+fn halves_of(alloc: Global, one: &[u8], another: &[u8]) -> Result<Vec<u8>, AllocError> {
     let mut halves = Vec::new(alloc);
-    push_class(alloc, x, &mut halves)?;
-    halves.push(b' ')?;
-    push_class(alloc, y, &mut halves)?;
+    push_parts(&[one, b" ", another], &mut halves)?;
     Ok(halves)
 }
 
 /// Returns the comment that names two records.
-fn comment_of(alloc: Global, x: &Pair<'_>, y: &Pair<'_>) -> Result<Vec<u8>, AllocError> {
-    let mut out = Vec::new(alloc);
-    push_count("# in A records ", x.a.number, &mut out)?;
-    push_count(" and ", y.a.number, &mut out)?;
-    out.extend_from_slice(b", in B the other way round\n")?;
-    Ok(out)
+fn comment_of(alloc: Global, one: u64, another: u64) -> Result<String, AllocError> {
+    format!(in alloc; "# in A records {one} and {another}, in B the other way round\n")
 }
 
 impl Swaps {
-    /// Returns whether there is the rule for two messages, whichever half comes first.
-    fn has(&self, alloc: Global, x: &Message, y: &Message) -> Result<bool, AllocError> {
-        let halves = halves_of(alloc, x, y)?;
-        let exchanged = halves_of(alloc, y, x)?;
-        Ok(
-            self.by_halves.contains_key(halves.as_slice())
-                || self.by_halves.contains_key(exchanged.as_slice()),
-        )
+    /// Returns whether there is a rule with these two halves.
+    fn has(&self, alloc: Global, one: &[u8], another: &[u8]) -> Result<bool, AllocError> {
+        let halves = halves_of(alloc, one, another)?;
+        Ok(self.by_halves.contains_key(halves.as_slice()))
     }
 
-    /// Adds the rule for two pairs, the second of which comes first in B.
-    fn add(&mut self, alloc: Global, x: &Pair<'_>, y: &Pair<'_>) -> Result<(), AllocError> {
-        if self.has(alloc, &x.a.message, &y.a.message)? {
+    /// Adds the rule for two pairs of these classes, the second of which comes first in B, unless
+    /// there is one, whichever half comes first.
+    fn add(
+        &mut self,
+        alloc: Global,
+        x: &Pair<'_>,
+        y: &Pair<'_>,
+        classes: (&[u8], &[u8]),
+    ) -> Result<(), AllocError> {
+        let (one, another) = classes;
+        if self.has(alloc, one, another)? || self.has(alloc, another, one)? {
             return Ok(());
         }
-        let halves = halves_of(alloc, &x.a.message, &y.a.message)?;
-        let comment = comment_of(alloc, x, y)?;
+        let halves = halves_of(alloc, one, another)?;
+        let comment = comment_of(alloc, x.a.number, y.a.number)?;
         drop(self.by_halves.insert(halves, comment)?);
         Ok(())
     }
@@ -73,7 +69,7 @@ impl Swaps {
     pub fn push(&self, out: &mut Vec<u8>) -> Result<(), AllocError> {
         for (halves, comment) in self.by_halves.iter() {
             push_parts(
-                &[comment.as_slice(), b"swap   ", halves.as_slice(), b"\n\n"],
+                &[comment.as_bytes(), b"swap   ", halves.as_slice(), b"\n\n"],
                 out,
             )?;
         }
@@ -86,63 +82,23 @@ impl Swaps {
     }
 }
 
-/// Adds the rule for a pair and one before it, if that comes after it in B.
+/// Adds the rules for a pair and the latest pair of each class before it, if that comes after it in
+/// B.
 fn add_inverted(
     alloc: Global,
-    before: &Pair<'_>,
+    latest: &BTreeMap<Vec<u8>, Pair<'_>>,
     pair: &Pair<'_>,
+    class: &[u8],
     swaps: &mut Swaps,
 ) -> Result<(), Unsolved> {
-    if before.place < pair.place {
-        return Ok(());
-    }
-    if !may_pass(&before.a.message, &pair.a.message) {
-        return Err(unsolved_entry(alloc, Reason::OutOfOrder, Which::A, pair.a));
-    }
-    swaps.add(alloc, before, pair)?;
-    Ok(())
-}
-
-/// Adds the rules for a pair and the latest pair of each class before it, which are named by their
-/// indices.
-fn add_all_inverted(
-    alloc: Global,
-    pairs: &[Pair<'_>],
-    latest: &BTreeMap<Vec<u8>, usize>,
-    pair: &Pair<'_>,
-    swaps: &mut Swaps,
-) -> Result<(), Unsolved> {
-    for (_, index) in latest.iter() {
-        if let Some(before) = pairs.get(*index) {
-            add_inverted(alloc, before, pair, swaps)?;
+    for (earlier, before) in latest.iter() {
+        if before.place < pair.place {
+            continue;
         }
-    }
-    Ok(())
-}
-
-/// Returns whether a pair comes after the one of an index in B.
-fn is_later(pairs: &[Pair<'_>], index: Option<&usize>, pair: &Pair<'_>) -> bool {
-    match index {
-        Some(index) => match pairs.get(*index) {
-            Some(before) => before.place < pair.place,
-            None => true,
-        },
-        None => true,
-    }
-}
-
-/// Keeps a pair as the latest of its class, if it comes after all others of its class in B.
-fn keep_latest(
-    alloc: Global,
-    pairs: &[Pair<'_>],
-    index: usize,
-    pair: &Pair<'_>,
-    latest: &mut BTreeMap<Vec<u8>, usize>,
-) -> Result<(), AllocError> {
-    let mut class = Vec::new(alloc);
-    push_class(alloc, &pair.a.message, &mut class)?;
-    if is_later(pairs, latest.get(class.as_slice()), pair) {
-        let _ = latest.insert(class, index)?;
+        if !may_pass(&before.a.message, &pair.a.message) {
+            return Err(unsolved_at(alloc, Reason::OutOfOrder, Which::A, pair.a));
+        }
+        swaps.add(alloc, before, pair, (earlier.as_slice(), class))?;
     }
     Ok(())
 }
@@ -156,10 +112,33 @@ pub fn swaps_of(alloc: Global, pairs: &[Pair<'_>]) -> Result<Swaps, Unsolved> {
     let mut swaps = Swaps {
         by_halves: BTreeMap::new(alloc),
     };
+    // The pair of each class that comes last in B.
     let mut latest = BTreeMap::new(alloc);
-    for (index, pair) in pairs.iter().enumerate() {
-        add_all_inverted(alloc, pairs, &latest, pair, &mut swaps)?;
-        keep_latest(alloc, pairs, index, pair, &mut latest)?;
+    for pair in pairs {
+        add_pair(alloc, pair, &mut latest, &mut swaps)?;
     }
     Ok(swaps)
+}
+
+/// Adds the rules for a pair and those before it, and keeps it if it is the latest of its class.
+fn add_pair<'m>(
+    alloc: Global,
+    pair: &Pair<'m>,
+    latest: &mut BTreeMap<Vec<u8>, Pair<'m>>,
+    swaps: &mut Swaps,
+) -> Result<(), Unsolved> {
+    let class = class_of(alloc, &pair.a.message)?;
+    add_inverted(alloc, latest, pair, class.as_slice(), swaps)?;
+    if is_later(latest, class.as_slice(), pair) {
+        let _ = latest.insert(class, *pair)?;
+    }
+    Ok(())
+}
+
+/// Returns whether a pair comes after the latest one of its class in B.
+fn is_later(latest: &BTreeMap<Vec<u8>, Pair<'_>>, class: &[u8], pair: &Pair<'_>) -> bool {
+    match latest.get(class) {
+        Some(before) => before.place < pair.place,
+        None => true,
+    }
 }

@@ -2,7 +2,8 @@
 use crate::candidates::{are_equal_by, event_of, push_commented};
 use crate::matched::Pair;
 use crate::walking::Found;
-use crate::words::{push_record, push_value};
+use crate::words::shown_value;
+use dap_compare::Which;
 use dap_mask::MaskRules;
 use dap_tree::Tree;
 use std::alloc::{AllocError, Global};
@@ -12,23 +13,22 @@ use std::alloc::{AllocError, Global};
 pub struct Trial {
     works: Vec<bool>,
     /// The comment that shows the first pair of values.
-    comment: Vec<u8>,
+    comment: String,
 }
 
 impl Trial {
-    /// Returns a trial of some number of candidates, before any pair of values.
+    /// Returns a trial of the candidates at a first pair of values.
     pub fn new(
         alloc: Global,
-        count: usize,
+        tests: &[MaskRules],
         pair: &Pair<'_>,
         found: &Found<'_>,
     ) -> Result<Trial, AllocError> {
-        let mut works = Vec::new(alloc);
-        for _ in 0..count {
-            works.push(true)?;
-        }
+        let works = vec![in alloc; true; tests.len()]?;
         let comment = comment_of(alloc, pair, found)?;
-        Ok(Trial { works, comment })
+        let mut trial = Trial { works, comment };
+        trial.try_at(alloc, tests, found)?;
+        Ok(trial)
     }
 
     /// Tries the candidates at a pair of values.
@@ -38,29 +38,23 @@ impl Trial {
         tests: &[MaskRules],
         found: &Found<'_>,
     ) -> Result<(), AllocError> {
-        if !matches!(found.a, Tree::Text(_)) || !matches!(found.b, Tree::Text(_)) {
+        let (Tree::Text(a), Tree::Text(b)) = (found.a, found.b) else {
             self.works.clear();
             return Ok(());
-        }
-        let event = event_of(alloc, found.a, found.b)?;
-        for (index, test) in tests.iter().enumerate() {
-            self.try_one(alloc, index, test, event.as_slice())?;
-        }
-        Ok(())
+        };
+        let event = event_of(alloc, a.as_str(), b.as_str())?;
+        self.try_event(alloc, tests, event.as_slice())
     }
 
-    /// Tries the candidate of this number at the texts of an event.
-    fn try_one(
+    /// Tries the candidates at the texts of an event.
+    fn try_event(
         &mut self,
         alloc: Global,
-        index: usize,
-        test: &MaskRules,
+        tests: &[MaskRules],
         event: &[u8],
     ) -> Result<(), AllocError> {
-        if let Some(works) = self.works.get_mut(index) {
-            if *works {
-                *works = are_equal_by(alloc, test, event)?;
-            }
+        for (works, test) in self.works.iter_mut().zip(tests) {
+            *works = *works && are_equal_by(alloc, test, event)?;
         }
         Ok(())
     }
@@ -83,28 +77,14 @@ impl Trial {
 
     /// Appends the rules for a place, after their comment.
     pub fn push(&self, target: &[u8], out: &mut Vec<u8>) -> Result<(), AllocError> {
-        push_commented(self.comment.as_slice(), self.candidate(), target, out)
+        push_commented(self.comment.as_str(), self.candidate(), target, out)
     }
 }
 
-/// Appends the line of a comment that shows a value.
-fn push_shown(
-    alloc: Global,
-    words: &str,
-    number: u64,
-    value: &Tree,
-    out: &mut Vec<u8>,
-) -> Result<(), AllocError> {
-    push_record(words, number, out)?;
-    push_value(alloc, value, out)?;
-    out.push(b'\n')?;
-    Ok(())
-}
-
 /// Returns the comment that shows a pair of values.
-fn comment_of(alloc: Global, pair: &Pair<'_>, found: &Found<'_>) -> Result<Vec<u8>, AllocError> {
-    let mut out = Vec::new(alloc);
-    push_shown(alloc, "# A record ", pair.a.number, found.a, &mut out)?;
-    push_shown(alloc, "# B record ", pair.b.number, found.b, &mut out)?;
-    Ok(out)
+fn comment_of(alloc: Global, pair: &Pair<'_>, found: &Found<'_>) -> Result<String, AllocError> {
+    let mut comment = shown_value(alloc, Which::A, pair.a.number, found.a)?;
+    let end = shown_value(alloc, Which::B, pair.b.number, found.b)?;
+    comment.push_str(end.as_str())?;
+    Ok(comment)
 }

@@ -1,5 +1,5 @@
 //! Finds the places at which two messages differ, and at which rules can make them equal.
-use crate::words::push_member;
+use crate::words::{push_member, text_at};
 use dap_tree::Tree;
 use std::alloc::{AllocError, Global};
 use std::collections::BTreeMap;
@@ -7,18 +7,17 @@ use std::collections::BTreeMap;
 /// An element of a list that has one `name` in both messages.
 #[derive(Clone, Copy, Drop)]
 pub struct Element<'t> {
-    /// The number of bytes of its place before the brackets.
+    /// The number of bytes of its target before the brackets.
     pub start: usize,
-    /// The text.
-    pub name: &'t Tree,
+    pub name: &'t str,
 }
 
 /// A place at which two messages differ, and what each has there. The blanks of the two values are
 /// equal.
 #[derive(Drop)]
 pub struct Found<'t> {
-    /// The place, as rules have it.
-    pub place: Vec<u8>,
+    /// The messages and the place, as rules have them.
+    pub target: Vec<u8>,
     /// The innermost element with a name on the way to the place.
     pub element: Option<Element<'t>>,
     pub a: &'t Tree,
@@ -30,19 +29,11 @@ pub struct Found<'t> {
 fn element_of<'t>(
     start: usize,
     item: &'t Tree,
-    other: &'t Tree,
+    other: &Tree,
     around: Option<Element<'t>>,
 ) -> Option<Element<'t>> {
-    match (item.child("name"), other.child("name")) {
-        (Some(Tree::Text(a)), Some(Tree::Text(b))) => {
-            if a.as_str() != b.as_str() {
-                return around;
-            }
-            match item.child("name") {
-                Some(name) => Some(Element { start, name }),
-                None => around,
-            }
-        }
+    match (text_at(item, "name"), text_at(other, "name")) {
+        (Some(name), Some(another)) if name == another => Some(Element { start, name }),
         _ => around,
     }
 }
@@ -70,111 +61,76 @@ fn have_one_blank(a: &Tree, b: &Tree) -> bool {
     )
 }
 
-/// Returns whether a place is a whole message, or each element of a list. Neither is blanked: an
+/// Returns whether a target is a whole message, or each element of a list. Neither is blanked: an
 /// element would lose what the profile wants of it.
-fn is_kept(place: &[u8]) -> bool {
-    place.is_empty() || place.ends_with(b"]")
+fn is_kept(target: &[u8]) -> bool {
+    target.ends_with(b" ") || target.ends_with(b"]")
 }
 
-/// What a comparison of two messages has found.
-#[derive(Drop)]
-pub struct Walk<'t> {
-    /// The place of the values that are compared, as rules have it.
-    place: Vec<u8>,
-    /// The places at which the messages differ.
-    pub found: Vec<Found<'t>>,
-    /// Whether rules for the places make the innermost lists or objects equal.
-    pub is_enough: bool,
+/// Adds a place at which two messages differ.
+fn add<'t>(
+    a: &'t Tree,
+    b: &'t Tree,
+    element: Option<Element<'t>>,
+    target: &Vec<u8>,
+    found: &mut Vec<Found<'t>>,
+) -> Result<(), AllocError> {
+    let target = target.clone()?;
+    found.push(Found {
+        target,
+        element,
+        a,
+        b,
+    })?;
+    Ok(())
 }
 
-impl<'t> Walk<'t> {
-    /// Returns what is found before a comparison.
-    pub fn new(alloc: Global) -> Walk<'t> {
-        Walk {
-            place: Vec::new(alloc),
-            found: Vec::new(alloc),
-            is_enough: true,
-        }
+/// Compares two values that are not both lists or both objects, as [`compare_trees`] does.
+fn compare_scalars<'t>(
+    a: &'t Tree,
+    b: &'t Tree,
+    element: Option<Element<'t>>,
+    target: &Vec<u8>,
+    found: &mut Vec<Found<'t>>,
+) -> Result<bool, AllocError> {
+    if are_equal(a, b) {
+        return Ok(true);
     }
-
-    /// Adds this place.
-    fn add(
-        &mut self,
-        a: &'t Tree,
-        b: &'t Tree,
-        element: Option<Element<'t>>,
-    ) -> Result<(), AllocError> {
-        let place = self.place.clone()?;
-        self.found.push(Found {
-            place,
-            element,
-            a,
-            b,
-        })?;
-        Ok(())
+    if !have_one_blank(a, b) {
+        return Ok(false);
     }
-
-    /// Compares two values that are not both lists or both objects.
-    fn compare_scalars(
-        &mut self,
-        a: &'t Tree,
-        b: &'t Tree,
-        element: Option<Element<'t>>,
-    ) -> Result<(), AllocError> {
-        if are_equal(a, b) {
-            return Ok(());
-        }
-        if have_one_blank(a, b) {
-            return self.add(a, b, element);
-        }
-        self.is_enough = false;
-        Ok(())
-    }
-
-    /// Ends the comparison of two lists or objects. Their place is added in place of those found in
-    /// it, unless rules for these are enough. `start` places were found before it, and
-    /// `was_enough` says whether rules for these make what is around the lists or objects equal.
-    fn settle(
-        &mut self,
-        start: usize,
-        was_enough: bool,
-        a: &'t Tree,
-        b: &'t Tree,
-        element: Option<Element<'t>>,
-    ) -> Result<(), AllocError> {
-        if self.is_enough {
-            self.is_enough = was_enough;
-            return Ok(());
-        }
-        if is_kept(self.place.as_slice()) {
-            return Ok(());
-        }
-        self.is_enough = was_enough;
-        self.found.truncate(start);
-        self.add(a, b, element)
-    }
+    add(a, b, element, target, found)?;
+    Ok(true)
 }
 
-/// Adds the places at which two trees differ.
+/// Adds the places at which two trees differ. The place of a list or an object is added in place of
+/// those found in it, if rules for these are not enough. Returns whether rules for the places make
+/// the trees equal. `target` is the messages and the place of the trees, as rules have them.
 #[cycle(compare_trees)]
 pub fn compare_trees<'t>(
     alloc: Global,
     a: &'t Tree,
     b: &'t Tree,
     element: Option<Element<'t>>,
-    walk: &mut Walk<'t>,
-) -> Result<(), AllocError> {
-    let (start, was_enough) = (walk.found.len(), walk.is_enough);
-    match (a, b) {
+    target: &mut Vec<u8>,
+    found: &mut Vec<Found<'t>>,
+) -> Result<bool, AllocError> {
+    let start = found.len();
+    let is_enough = match (a, b) {
         (Tree::List(items), Tree::List(others)) => {
-            compare_items(alloc, items, others, element, walk)?;
+            compare_items(alloc, items, others, element, target, found)?
         }
         (Tree::Object(members), Tree::Object(others)) => {
-            compare_members(alloc, members, others, element, walk)?;
+            compare_members(alloc, members, others, element, target, found)?
         }
-        _ => return walk.compare_scalars(a, b, element),
+        _ => return compare_scalars(a, b, element, target, found),
+    };
+    if is_enough || is_kept(target.as_slice()) {
+        return Ok(is_enough);
     }
-    walk.settle(start, was_enough, a, b, element)
+    found.truncate(start);
+    add(a, b, element, target, found)?;
+    Ok(true)
 }
 
 #[cycle(compare_trees)]
@@ -183,19 +139,18 @@ fn compare_items<'t>(
     items: &'t Vec<Tree>,
     others: &'t Vec<Tree>,
     element: Option<Element<'t>>,
-    walk: &mut Walk<'t>,
-) -> Result<(), AllocError> {
-    let length = walk.place.len();
-    walk.is_enough = items.len() == others.len();
-    walk.place.extend_from_slice(b"[]")?;
-    for (index, item) in items.iter().enumerate() {
-        if let Some(other) = others.get(index) {
-            let inner = element_of(length, item, other, element);
-            compare_trees(alloc, item, other, inner, walk)?;
-        }
+    target: &mut Vec<u8>,
+    found: &mut Vec<Found<'t>>,
+) -> Result<bool, AllocError> {
+    let start = target.len();
+    let mut is_enough = items.len() == others.len();
+    target.extend_from_slice(b"[]")?;
+    for (item, other) in items.iter().zip(others.iter()) {
+        let inner = element_of(start, item, other, element);
+        is_enough = compare_trees(alloc, item, other, inner, target, found)? && is_enough;
     }
-    walk.place.truncate(length);
-    Ok(())
+    target.truncate(start);
+    Ok(is_enough)
 }
 
 #[cycle(compare_trees)]
@@ -204,19 +159,19 @@ fn compare_members<'t>(
     members: &'t BTreeMap<String, Tree>,
     others: &'t BTreeMap<String, Tree>,
     element: Option<Element<'t>>,
-    walk: &mut Walk<'t>,
-) -> Result<(), AllocError> {
-    let length = walk.place.len();
-    walk.is_enough = members.len() == others.len();
+    target: &mut Vec<u8>,
+    found: &mut Vec<Found<'t>>,
+) -> Result<bool, AllocError> {
+    let start = target.len();
+    let mut is_enough = members.len() == others.len();
     for (name, member) in members.iter() {
-        match others.get(name.as_str()) {
-            Some(other) => {
-                push_member(alloc, name.as_str(), &mut walk.place)?;
-                compare_trees(alloc, member, other, element, walk)?;
-                walk.place.truncate(length);
-            }
-            None => walk.is_enough = false,
-        }
+        let Some(other) = others.get(name.as_str()) else {
+            is_enough = false;
+            continue;
+        };
+        push_member(alloc, name.as_str(), target)?;
+        is_enough = compare_trees(alloc, member, other, element, target, found)? && is_enough;
+        target.truncate(start);
     }
-    Ok(())
+    Ok(is_enough)
 }

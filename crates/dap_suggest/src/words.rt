@@ -1,10 +1,11 @@
 //! The words of rules and of their comments.
 ghost use Rattle.std.specs.Prelude.{◌≤◌, length};
 
+use dap_compare::Which;
 use dap_difference::{Step, push_path};
 use dap_message::{Kind, Message};
+use dap_runs::letter;
 use dap_tree::{Tree, write_tree};
-use itoa::Buffer;
 use std::alloc::{AllocError, Global};
 
 /// How many bytes of a value a comment has at most.
@@ -32,23 +33,12 @@ pub fn push_name(alloc: Global, name: &str, out: &mut Vec<u8>) -> Result<(), All
     push_path(alloc, &[Step::Member(name)], out)
 }
 
-/// Appends a text as a JSON string.
-pub fn push_quoted(alloc: Global, text: &Tree, out: &mut Vec<u8>) -> Result<(), AllocError> {
-    if !text.sound() {
-        return Ok(());
+/// Appends a member to the messages and the place of a rule.
+pub fn push_member(alloc: Global, name: &str, target: &mut Vec<u8>) -> Result<(), AllocError> {
+    if !target.ends_with(b" ") {
+        target.push(b'.')?;
     }
-    let Ok(text) = write_tree(alloc, text) else {
-        return Err(AllocError);
-    };
-    out.extend_from_slice(text.as_bytes())
-}
-
-/// Appends a member to a place.
-pub fn push_member(alloc: Global, name: &str, place: &mut Vec<u8>) -> Result<(), AllocError> {
-    if !place.is_empty() {
-        place.push(b'.')?;
-    }
-    push_name(alloc, name, place)
+    push_name(alloc, name, target)
 }
 
 /// Appends a kind and a name of messages, as rules have them.
@@ -62,58 +52,56 @@ pub fn push_named(
     push_name(alloc, name, out)
 }
 
-/// Appends the kind and the name of a message, as rules have them.
-pub fn push_class(alloc: Global, message: &Message, out: &mut Vec<u8>) -> Result<(), AllocError> {
-    push_named(alloc, message.kind(), message.name(), out)
+/// Returns the kind and the name of a message, as rules have them.
+pub fn class_of(alloc: Global, message: &Message) -> Result<Vec<u8>, AllocError> {
+    let mut class = Vec::new(alloc);
+    push_named(alloc, message.kind(), message.name(), &mut class)?;
+    Ok(class)
 }
 
-/// Appends a word and a number.
-pub fn push_count(word: &str, number: u64, out: &mut Vec<u8>) -> Result<(), AllocError> {
-    let mut digits = Buffer::new();
-    push_parts(&[word.as_bytes(), digits.format(number).as_bytes()], out)
-}
-
-/// Appends the words for a recording and the number of a record of it, as comments begin.
-pub fn push_record(words: &str, number: u64, out: &mut Vec<u8>) -> Result<(), AllocError> {
-    push_count(words, number, out)?;
-    out.extend_from_slice(b": ")
-}
-
-/// Returns whether a byte continues the character of the byte before it.
-fn is_inside(byte: u8) -> bool {
-    byte >= 128 && byte < 192
-}
-
-/// Returns how many bytes of a text a comment has. No character is split.
-fn shown_length(text: &[u8]) -> usize
-    ensures { result ≤ length text.now }
-{
-    if text.len() <= SHOWN {
-        return text.len();
+/// Returns the text of a member.
+pub fn text_at<'t>(tree: &'t Tree, name: &str) -> Option<&'t str> {
+    match tree.child(name)? {
+        Tree::Text(text) => Some(text.as_str()),
+        _ => None,
     }
-    for back in 0..4 {
-        let end = SHOWN - back;
-        if !is_inside(text[end]) {
-            return end;
-        }
-    }
-    SHOWN
 }
 
-/// Appends a text, cut if it is long.
-fn push_cut(text: &[u8], out: &mut Vec<u8>) -> Result<(), AllocError> {
-    let shown = shown_length(text);
-    let end: &[u8] = if shown < text.len() { b"..." } else { b"" };
-    push_parts(&[&text[..shown], end], out)
-}
-
-/// Appends a value as JSON, cut if it is long. An id is its number.
-pub fn push_value(alloc: Global, value: &Tree, out: &mut Vec<u8>) -> Result<(), AllocError> {
+/// Returns a value as JSON. An id is its number.
+fn json_of(alloc: Global, value: &Tree) -> Result<String, AllocError> {
     if !value.sound() {
-        return Ok(());
+        return Ok(String::new(alloc));
     }
-    let Ok(text) = write_tree(alloc, value) else {
-        return Err(AllocError);
-    };
-    push_cut(text.as_bytes(), out)
+    match write_tree(alloc, value) {
+        Ok(text) => Ok(text),
+        Err(_) => Err(AllocError),
+    }
+}
+
+/// Appends a text as a JSON string.
+pub fn push_quoted(alloc: Global, text: &str, out: &mut Vec<u8>) -> Result<(), AllocError> {
+    let text = json_of(alloc, &Tree::Text(String::from_str(alloc, text)?))?;
+    out.extend_from_slice(text.as_bytes())
+}
+
+/// Returns the line of a comment that shows a part of a record.
+pub fn shown(alloc: Global, which: Which, number: u64, text: &str) -> Result<String, AllocError> {
+    let side = letter(which);
+    format!(in alloc; "# {side} record {number}: {text}\n")
+}
+
+/// Returns the line of a comment that shows a value as JSON, cut if it is long. No character is
+/// split.
+pub fn shown_value(
+    alloc: Global,
+    which: Which,
+    number: u64,
+    value: &Tree,
+) -> Result<String, AllocError> {
+    let mut text = json_of(alloc, value)?;
+    if text.len() > SHOWN {
+        text.truncate(text.floor_char_boundary(SHOWN));
+        text.push_str("...")?;
+    }
+    shown(alloc, which, number, text.as_str())
 }
