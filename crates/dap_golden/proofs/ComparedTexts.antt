@@ -15,8 +15,7 @@ use Rattle.dap_input.specs.ReadTo.{IsOf}
 use Rattle.dap_normalise.specs.Accepting.{accepting, text}
 use Rattle.dap_normalise.specs.Normalising.{Normalises}
 use Rattle.dap_normalise.proofs.NormalFormLaws.{equal_texts_tell, has_one_normal_form}
-use Rattle.dap_normalise.proofs.WholeInput.{memory}
-use Rattle.dap_rules.proofs.MemoryInputs.{came_of, reported}
+use Rattle.dap_input.proofs.MemoryInputs.{came_of, memory, reported}
 use Rattle.dap_rules.proofs.OrderedTexts.{one_accepted}
 use Rattle.dap_compare.specs.Comparing.{are_same, differ}
 use Rattle.dap_compare.specs.Verdicts.{HasCompared, IsRecordingVerdict, TellsVerdict}

@@ -13,8 +13,7 @@ use Rattle.dap_input.specs.declared.refused.Refused.TheVariants.{Memory, ReadFau
 use Rattle.dap_record.specs.Tracing.{IsOfEnd, IsRecordedAs, IsTraceRefused}
 use Rattle.dap_record.specs.TracingRun.{JudgesTrace, RecordsTrace}
 use Rattle.dap_record.proofs.TraceOutcomes.{refusal_stays}
-use Rattle.dap_normalise.proofs.WholeInput.{memory}
-use Rattle.dap_rules.proofs.MemoryInputs.{all_came}
+use Rattle.dap_input.proofs.MemoryInputs.{all_came, memory}
 use Rattle.dap_rules.specs.Memory.{IsOutOfMemory, WrittenBytes}
 use Rattle.dap_rules.proofs.MemoryRuns.{all_sent, text_sink}
 use Rattle.dap_golden.specs.Golden.{IsRecordingOf, of_trace}

@@ -7,8 +7,7 @@ use Rattle.dap_normalise.specs.Accepting.{IsAccepted}
 use Rattle.dap_normalise.specs.Checking.{AreCounted, HasChecked}
 use Rattle.dap_normalise.specs.Normalising.{IsCanonical}
 use Rattle.dap_normalise.specs.declared.checked.Checked.{Checked}
-use Rattle.dap_normalise.proofs.WholeInput.{memory}
-use Rattle.dap_rules.proofs.MemoryInputs.{all_came}
+use Rattle.dap_input.proofs.MemoryInputs.{all_came, memory}
 use Rattle.dap_rules.proofs.OrderedTexts.{one_accepted}
 
 module _ (limits : Limits) (mode : Mode) where

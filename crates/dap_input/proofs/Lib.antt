@@ -4,6 +4,7 @@ pub mod InputLoop
 pub mod InputRefusals
 pub mod InputSteps
 pub mod ItemReaders
+pub mod MemoryInputs
 pub mod NextRecord
 pub mod OneOutcome
 pub mod Outcomes

@@ -8,7 +8,7 @@ use Rattle.dap_frame.proofs.Ends.{IsReadable, open_shorter, shown_later}
 use Rattle.dap_input.specs.Inputs.{EndsAt}
 use Rattle.dap_recording.specs.declared.record_fault.RecordCause.{RecordCause}
 use Rattle.dap_input.specs.Validation.{Validation, cut, IsFirstRefusal}
-use Rattle.dap_input.specs.ReadTo.{IsReadTo}
+use Rattle.dap_input.specs.ReadTo.{IsBounded, IsReadTo}
 use Rattle.dap_input.proofs.RunFronts.{no_bytes, same_values}
 use Rattle.dap_input.proofs.Runs.{ValueLaws, AcceptedFacts, GoesOn, Run, run_goes_on}
 
@@ -172,7 +172,7 @@ module _ (j : Validation) (records : IsReadable j.records) (judged : ValueLaws j
               by_reach (reach read.before read.last read.split earlier early ends)
 
       -- The bound on the bytes read beyond a complete record.
-      pub past_record : (whole more : List ℕ) (held : j.Payload) → rest ≡ whole ++ more
+      past_record : (whole more : List ℕ) (held : j.Payload) → rest ≡ whole ++ more
           → IsItem j.records whole held → length bytes ≤ length front + length whole + 65536
       past_record whole more held whole_is is_record =
           bounded (length whole)
@@ -180,10 +180,22 @@ module _ (j : Validation) (records : IsReadable j.records) (judged : ValueLaws j
           held is_open (sym is ∙ whole_is) is_record in omega (arith, short))
 
       -- The bound on the bytes read beyond the byte that proves an error.
-      pub past_fault : (cause : RecordCause) (place : ℕ) → FailsAt j.records rest cause place
+      past_fault : (cause : RecordCause) (place : ℕ) → FailsAt j.records rest cause place
           → length bytes ≤ length front + place + 65536
       past_fault cause place shows =
           bounded place (λ part is is_open.
           let later =
           shown_later records.grammar part read.last cause place is_open
           (subst (λ t. FailsAt j.records t cause place) is shows) in omega (arith, later))
+
+-- If no more was read than a record required, the number of bytes read is bounded.
+pub is_bounded : (j : Validation) → IsReadable j.records → ValueLaws j → AcceptedFacts j
+    → (bytes : List ℕ) (number : ℕ) → IsReadTo j bytes number → IsBounded j bytes number
+is_bounded j records judged accepted bytes number read = record {
+  past_record = λ before.
+      past_record j records judged accepted bytes before.front before.rest before.values number
+      before.split before.accepted before.is_number read;
+  past_fault = λ before.
+      past_fault j records judged accepted bytes before.front before.rest before.values number
+      before.split before.accepted before.is_number read;
+}

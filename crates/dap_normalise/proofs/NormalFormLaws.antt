@@ -113,7 +113,9 @@ renamed stop reported r k (m ∷ ms) (n ∷ ns) same h =
           (related_rest r xs more ys rest count h)),
     )
 
-numbered : (records : List Payload) (ms : List Sent) → AreMessages records ms → All IsNumbered ms
+-- The sequence numbers in the messages of records are those of their sides.
+pub numbered : (records : List Payload) (ms : List Sent) → AreMessages records ms
+    → All IsNumbered ms
 numbered [] [] typed k d small = absurd (omega (arith, small))
 numbered [] (m ∷ ms) typed k d small = absurd typed
 numbered (held ∷ records) [] typed k d small = absurd typed

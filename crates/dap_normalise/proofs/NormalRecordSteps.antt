@@ -33,7 +33,7 @@ use Rattle.dap_normalise.specs.NormalSteps.{RepresentsBefore}
 use Rattle.dap_normalise.proofs.AcceptingFacts.{accepted_facts, value_laws}
 
 -- A reader of records returns the records that are checked.
-reads_records : (limits : Limits) (mode : Mode) → ReadsAs (accepting limits mode) (record_items
+pub reads_records : (limits : Limits) (mode : Mode) → ReadsAs (accepting limits mode) (record_items
     limits.frame) payload_of
 reads_records limits mode = record {
   records = readable limits.frame;

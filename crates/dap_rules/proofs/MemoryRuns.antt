@@ -12,8 +12,7 @@ use Rattle.dap_input.specs.Streaming.{Streams}
 use Rattle.dap_rules.specs.MaskedRecordings.{IsMaskedTo, Masks}
 use Rattle.dap_rules.specs.Masking.{masking}
 use Rattle.dap_rules.proofs.MaskingFacts.{accepted_facts, value_laws}
-use Rattle.dap_normalise.proofs.WholeInput.{memory}
-use Rattle.dap_rules.proofs.MemoryInputs.{all_came, refused_whole}
+use Rattle.dap_input.proofs.MemoryInputs.{all_came, memory, refused_whole}
 use Rattle.dap_rules.specs.Applying.{RefusesToMask}
 use Rattle.dap_rules.specs.Memory.{IsOutOfMemory, WrittenBytes}
 

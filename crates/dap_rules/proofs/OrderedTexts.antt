@@ -1,21 +1,18 @@
 -- The laws of ordered recordings, from those of ordered messages and of normal forms.
-use Rattle.std.proofs.Common.{◌≡◌, ◌↔◌, ℕ, zero, suc, List, [], ◌∷◌, sym, ◌∙◌, ap}
-use Rattle.std.proofs.Common.{subst, arith}
-use Rattle.std.specs.List.{All}
+use Rattle.std.proofs.Common.{◌≡◌, ◌↔◌, ℕ, List, sym, ◌∙◌, ap}
+use Rattle.std.proofs.Common.{subst}
 use Rattle.dap_message.specs.Message.{Sent}
 use Rattle.dap_recording.proofs.Records.{readable}
 use Rattle.dap_rename.specs.Messages.{AreSame, no_stop}
 use Rattle.dap_rename.specs.Modes.{stop_in}
 use Rattle.dap_rename.specs.declared.mode.Mode.{Mode}
 use Rattle.dap_rename.specs.declared.mode.Mode.TheVariants.{Whole}
-use Rattle.dap_session.specs.RenamedLists.{IsNumbered}
 use Rattle.dap_session.specs.Rules.{open_requests}
-use Rattle.dap_session.proofs.SequenceNumbers.{typed_numbered}
 use Rattle.dap_input.specs.declared.limits.Limits.{Limits}
 use Rattle.dap_input.proofs.Outcomes.{one_list}
-use Rattle.dap_normalise.specs.Accepting.{Payload, AreMessages, Fits, IsAccepted, accepting, text}
+use Rattle.dap_normalise.specs.Accepting.{Fits, IsAccepted, accepting, text}
 use Rattle.dap_normalise.proofs.AcceptingFacts.{accepted_facts, value_laws}
-use Rattle.dap_normalise.proofs.NormalFormLaws.{equal_texts_tell}
+use Rattle.dap_normalise.proofs.NormalFormLaws.{equal_texts_tell, numbered}
 use Rattle.dap_order.specs.MessageOrder.{ordered}
 use Rattle.dap_order.proofs.MessageOrder.{to_ordered}
 use Rattle.dap_order.proofs.SameMessages.{same_orders, from_same_orders}
@@ -30,16 +27,6 @@ pub one_accepted : (limits : Limits) (mode : Mode) (bytes : List ℕ) (ms ns : L
 one_accepted limits mode =
     one_list (accepting limits mode) (readable limits.frame) (value_laws limits mode)
     (accepted_facts limits mode)
-
-numbered : (records : List Payload) (ms : List Sent) → AreMessages records ms → All IsNumbered ms
-numbered [] [] typed k d small = absurd (omega (arith, small))
-numbered [] (m ∷ ms) typed k d small = absurd typed
-numbered (held ∷ records) [] typed k d small = absurd typed
-numbered (held ∷ records) (m ∷ ms) typed zero d small =
-    subst (λ side. IsNumbered (record { side = side; doc = m.doc })) (sym typed.0.0)
-    (typed_numbered held.0 typed.0.1.0 m.doc typed.0.1.2)
-numbered (held ∷ records) (m ∷ ms) typed (suc k) d small =
-    numbered records ms typed.1 k d (omega (arith, small))
 
 pub one_ordered_text : OneOrderedText
 one_ordered_text limits mode rules bytes written other a b =

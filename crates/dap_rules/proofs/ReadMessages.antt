@@ -25,30 +25,14 @@ use Rattle.dap_input.specs.declared.records.Records.{Records}
 use Rattle.dap_input.specs.declared.refused.Refused.{Refused}
 use Rattle.dap_input.specs.declared.refused.Refused.TheVariants.{Memory}
 use Rattle.dap_input.proofs.Coming.{came_on}
-use Rattle.dap_input.proofs.InputLoop.{ReadsAs}
 use Rattle.dap_input.proofs.Refusals.{refused_in}
 use Rattle.dap_input.proofs.Runs.{GoesOn, Run, run_goes_on, some_bytes}
 use Rattle.dap_input.proofs.WholeInputs as loop
 use Rattle.dap_normalise.specs.Accepting.{Payload, IsAccepted, IsMessage, IsNext, Rejects, accepting}
 use Rattle.dap_normalise.specs.JudgingSteps.{payload_of}
 use Rattle.dap_normalise.proofs.AcceptingFacts.{accepted_facts, message_once, value_laws}
-use Rattle.dap_normalise.proofs.WholeInput.{memory}
-
--- A reader of records returns the records that are checked.
-reads_records : (limits : Limits) (mode : Mode)
-    → ReadsAs (accepting limits mode) (record_items limits.frame) payload_of
-reads_records limits mode = record {
-  records = readable limits.frame;
-  judged = value_laws limits mode;
-  accepted = accepted_facts limits mode;
-  item_of = λ bytes whole is. is;
-  fault_of = λ bytes cause ends. ends;
-  open_of = λ bytes is_open. is_open;
-}
-
--- The recording in memory, before anything is read.
-abbrev pub start : List ℕ → GivenBytes
-start recording = record { left = recording; given = 0 }
+use Rattle.dap_normalise.proofs.NormalRecordSteps.{reads_records}
+use Rattle.dap_input.proofs.MemoryInputs.{memory, start}
 
 -- The records before the next one contain these messages.
 abbrev pub Reading : Limits → Mode → List ℕ → GivenBytes → Records RecordReading → List Sent → Type 0

@@ -1,9 +1,9 @@
 use Rattle.std.proofs.Common.{false, refl, sym, arith}
 use Rattle.std.proofs.lemmas.Bool.{true≢false}
 use Rattle.std.proofs.lemmas.Result.{err_from_is_err_and}
+use Rattle.dap_input.proofs.MemoryInputs.{start}
 use Rattle.dap_normalise.proofs.StreamAnswers.{check_accepts, ended, gone, some_records}
 use Rattle.dap_normalise.proofs.WholeInput.{canonical_whole, more_text, no_text, refuses_bytes}
-use Rattle.dap_normalise.proofs.WholeInput.{start}
 use Rattle.dap_golden.proofs.SessionCounts.{counted}
 use Rattle.dap_golden.proofs.normal_session.normalise_records.Goals as goal
 

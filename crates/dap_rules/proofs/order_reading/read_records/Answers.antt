@@ -6,7 +6,7 @@ use Rattle.dap_input.specs.ItemReading.{RepresentsRecord, record_items}
 use Rattle.dap_input.specs.RecordSteps.{ReadsNext}
 use Rattle.dap_normalise.specs.Accepting.{IsMessage}
 use Rattle.dap_normalise.specs.JudgingSteps.{payload_of}
-use Rattle.dap_normalise.proofs.WholeInput.{memory}
+use Rattle.dap_input.proofs.MemoryInputs.{memory}
 use Rattle.dap_rules.proofs.ReadMessages.{Reading, fewer}
 use Rattle.dap_rules.proofs.ReadMessages.{no_message, none_read, not_read, one_more}
 use Rattle.dap_rules.proofs.order_reading.read_records.Goals as goal
