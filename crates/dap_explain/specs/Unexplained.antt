@@ -4,8 +4,6 @@ use Rattle.std.specs.Prelude.{string_bytes}
 use Rattle.std.specs.declared.alloc.Global.{Global}
 use Rattle.dap_commands.specs.declared.jobs.Job.{Job}
 use Rattle.dap_commands.specs.declared.jobs.Job.TheVariants as job
-use Rattle.dap_explain.specs.declared.commands.Ruled.{Ruled}
-use Rattle.dap_explain.specs.declared.commands.Ruled.TheVariants as ruled
 use Rattle.dap_golden.specs.declared.fault.GoldenRefused.{GoldenRefused}
 use Rattle.dap_golden.specs.declared.fault.GoldenRefused.TheVariants as golden
 use Rattle.dap_input.specs.declared.limits.Limits.{Limits}
@@ -70,7 +68,3 @@ pub record IsOrderedByFile (limits : Limits) (rules input : List ℕ) : Type 0 w
   pub said : rules_said rules ≡ Ok mask
   pub written : List ℕ
   pub orders : Orders limits Whole mask.swaps input written
-
-abbrev pub IsDoneByFile : Ruled → Limits → List ℕ → List ℕ → Type 0
-IsDoneByFile ruled.Mask limits rules input = IsMaskedByFile limits rules input
-IsDoneByFile ruled.Order limits rules input = IsOrderedByFile limits rules input

@@ -1,7 +1,7 @@
 //! Explains why a command rejected its inputs: does its work again to find the error.
 ghost use Rattle.std.specs.Prelude.{◌≡◌, false, IfOk, None, string_bytes};
 ghost use Rattle.dap_explain.specs.Lines.{AreLines};
-ghost use Rattle.dap_explain.specs.Unexplained.{IsApplyFailure, IsDoneByFile, IsEmpty};
+ghost use Rattle.dap_explain.specs.Unexplained.{IsApplyFailure, IsEmpty};
 ghost use Rattle.dap_explain.specs.Unexplained.{IsGoldenFailure, IsMaskedByFile, IsOrderedByFile};
 ghost use Rattle.dap_explain.specs.Unexplained.{reads_input_alone};
 ghost use Rattle.dap_input.specs.Limits.{AreSound};
@@ -80,30 +80,20 @@ fn refused_by_job(
     requires { AreSound limits }
     ensures { reads_input_alone job.now ≡ false → result ≡ None }
 {
-    let mode = job.mode();
     let mut reader = MemorySource::new(input);
     let mut writer = StdSink::new(io::sink());
     let outcome = match *job {
         Job::Compact => compact(alloc, &mut reader, &mut writer, limits),
         Job::Record => record(alloc, &mut reader, &mut writer, limits),
         Job::Show => show(alloc, &mut reader, &mut writer, limits),
-        Job::Normalise { .. } => normalise_with(
-            alloc,
-            &mut reader,
-            &mut writer,
-            limits,
-            tables(alloc, limits, hasher),
-            mode,
-        ),
-        Job::Check { complete, .. } => check_with(
-            alloc,
-            &mut reader,
-            limits,
-            complete,
-            tables(alloc, limits, hasher),
-            mode,
-        )
-        .map(|_| ()),
+        Job::Normalise { .. } => {
+            let tables = tables(alloc, limits, hasher);
+            normalise_with(alloc, &mut reader, &mut writer, limits, tables, job.mode())
+        }
+        Job::Check { complete, .. } => {
+            let tables = tables(alloc, limits, hasher);
+            return check_with(alloc, &mut reader, limits, complete, tables, job.mode()).err();
+        }
         _ => Ok(()),
     };
     outcome.err()
@@ -180,13 +170,6 @@ pub fn explain_comparison(
     }
 }
 
-/// A command that applies rules to an input.
-#[derive(Clone, Copy)]
-enum Ruled {
-    Mask,
-    Order,
-}
-
 /// Explains why a line of a file of rules is rejected, or why the rules cannot mask an input.
 pub fn explain_mask(
     alloc: Global,
@@ -200,10 +183,19 @@ pub fn explain_mask(
     // If the rules are accepted and mask the input, there is nothing to explain.
     ensures accepted { IsMaskedByFile limits rules.now input.now → IsEmpty result }
 {
-    explain_ruled(alloc, Ruled::Mask, rules, input, limits)
+    let rules = match MaskRules::read(alloc, rules) {
+        Ok(rules) => rules,
+        Err(fault) => return explain_rules(alloc, rules, fault),
+    };
+    match mask_bytes(alloc, &rules, input, limits) {
+        Ok(_) => Ok(String::new(alloc)),
+        Err(refused) => explain_masked(alloc, input, &rules, refused, limits),
+    }
 }
 
 /// Explains why a line of a file of rules is rejected, or why an input cannot be put in order.
+/// Returns an empty string for `Grew`: its record may be numbered in the text in order, not in the
+/// input.
 pub fn explain_order(
     alloc: Global,
     rules: &[u8],
@@ -216,36 +208,13 @@ pub fn explain_order(
     // If the rules are accepted and put the input in order, there is nothing to explain.
     ensures accepted { IsOrderedByFile limits rules.now input.now → IsEmpty result }
 {
-    explain_ruled(alloc, Ruled::Order, rules, input, limits)
-}
-
-/// Explains why a line of a file of rules is rejected, or why a command rejects an input. Returns
-/// an empty string if `order` reports `Grew`: its record may be numbered in the text in order, not
-/// in the input.
-fn explain_ruled(
-    alloc: Global,
-    ruled: Ruled,
-    rules: &[u8],
-    input: &[u8],
-    limits: Limits,
-) -> Result<String, AllocError>
-    requires { AreSound limits }
-    ensures lines { IfOk result (λ text. ∥ AreLines (string_bytes text) ∥₁) }
-    ensures accepted { IsDoneByFile ruled limits rules.now input.now → IsEmpty result }
-{
     let rules = match MaskRules::read(alloc, rules) {
         Ok(rules) => rules,
         Err(fault) => return explain_rules(alloc, rules, fault),
     };
-    match ruled {
-        Ruled::Mask => match mask_bytes(alloc, &rules, input, limits) {
-            Ok(_) => Ok(String::new(alloc)),
-            Err(refused) => explain_masked(alloc, input, &rules, refused, limits),
-        },
-        Ruled::Order => match order_bytes(alloc, rules.swaps(), input, limits, Mode::Whole) {
-            Ok(_) | Err(Refused::Grew(_)) => Ok(String::new(alloc)),
-            Err(refused) => explain(alloc, input, refused, limits),
-        },
+    match order_bytes(alloc, rules.swaps(), input, limits, Mode::Whole) {
+        Ok(_) | Err(Refused::Grew(_)) => Ok(String::new(alloc)),
+        Err(refused) => explain(alloc, input, refused, limits),
     }
 }
 

@@ -20,28 +20,23 @@ use dap_mask::{MaskRule, MaskRules};
 use serde_json::Value;
 use std::alloc::{AllocError, Global};
 
-/// Explains the rejection of a record whose bytes are a record.
-fn explain_content(
+/// Explains the rejection of a record that contains this value.
+fn explain_value(
     lines: &mut Lines,
     input: &[u8],
     record: Part<'_>,
+    message: &Value,
     refused: Refused,
     rules: &[MaskRule],
     limits: Limits,
 ) {
-    if let Refused::Json(_) = refused {
-        return explain_json(lines, record);
-    }
-    let Some(message) = read_value(lines, record.content) else {
-        return;
-    };
     if let Refused::Message(_, fault) = refused {
-        return explain_message(lines, record, &message, fault);
+        return explain_message(lines, record, message, fault);
     }
-    let head = Head::of(record.side, &message);
+    let head = Head::of(record.side, message);
     add_head(lines, record.number, &head);
     match refused {
-        Refused::Fraction(_) => explain_fraction(lines, record.content, &message, head, rules),
+        Refused::Fraction(_) => explain_fraction(lines, record.content, message, head, rules),
         Refused::Rule(_, rule) => explain_rule(lines, input, record.number, &head, rule),
         Refused::TooManyIds(_) => lines.write(format_args!(
             "the limit is {} different ids of a kind: record shorter sessions",
@@ -87,8 +82,13 @@ fn add_refusal(
         | Refused::Rule(number, _)
         | Refused::TooManyIds(number)
         | Refused::Grew(number) => {
-            if let Some(record) = record_numbered(input, number) {
-                explain_content(lines, input, record, refused, rules, limits);
+            let Some(record) = record_numbered(input, number) else {
+                return;
+            };
+            if let Refused::Json(_) = refused {
+                explain_json(lines, record);
+            } else if let Some(message) = read_value(lines, record.content) {
+                explain_value(lines, input, record, &message, refused, rules, limits);
             }
         }
         Refused::ReadFault | Refused::WriteFault | Refused::Memory => {}

@@ -22,7 +22,8 @@ impl fmt::Display for FrameName {
     fn fmt<W: fmt::Write>(&self, f: &mut fmt::Formatter<W>) -> fmt::Result {
         match self {
             FrameName::Record(number) => write!(f, "record {number}"),
-            FrameName::Of(side) => write!(f, "the frame of the {side}"),
+            FrameName::Of(Side::Client) => f.write_str("the frame of the client"),
+            FrameName::Of(Side::Adapter) => f.write_str("the frame of the adapter"),
         }
     }
 }
@@ -37,52 +38,21 @@ pub(crate) struct BadFrame<'a> {
     pub(crate) len: usize,
 }
 
-/// Adds the lines about a header part with a line that is not a field line.
-fn add_header_line(lines: &mut Lines, name: FrameName, header: &[u8]) {
-    match bad_line(header) {
-        Some(line) => lines.write(format_args!(
-            "the header part of {name} has the line {}, which is not NAME: VALUE",
-            Bytes(line),
-        )),
-        None => lines.write(format_args!("the header part of {name} is empty")),
-    }
-    add_printed(lines, header);
-}
-
-/// Adds lines if a program may have printed text before a header part.
-fn add_printed(lines: &mut Lines, header: &[u8]) {
-    if has_text_before(header) {
-        lines.add("a program may have printed text between two frames");
-        lines.add("let it print to standard error, or send output events instead");
-    }
-}
-
-/// Adds the line about a frame whose header part has this many fields `Content-Length`.
-fn add_lengths(lines: &mut Lines, name: FrameName, header: &[u8], count: &str) {
-    lines.write(format_args!(
-        "the header part of {name} has {count} Content-Length; it is {}",
-        Bytes(header),
-    ));
-}
-
-/// Adds the lines about a content that is too long.
-fn add_content_too_long(lines: &mut Lines, name: FrameName, header: &[u8], limit: usize) {
-    if let Some(len) = content_len(header) {
-        lines.write(format_args!(
-            "the content of {name} has {len} bytes; the limit is {limit} bytes",
-        ));
-    }
-    lines.add("request less at once, such as by start and count of variables");
-}
-
 /// Adds the lines about an incomplete frame.
 fn add_cut(lines: &mut Lines, frame: BadFrame<'_>) {
+    let name = frame.name;
     let Some((header, _)) = split_header(frame.front) else {
-        return add_cut_header(lines, frame);
+        lines.write(format_args!(
+            "the input ends in the header part of {name}: {}",
+            Bytes(frame.front),
+        ));
+        if !has_converted_line_end(frame.front) {
+            lines.add("the program that wrote the input may have been stopped early");
+        }
+        return;
     };
     if let Some(len) = content_len(header) {
         let missing = len.saturating_sub(frame.len.saturating_sub(header.len()) as u64);
-        let name = frame.name;
         lines.write(format_args!(
             "the content of {name} has {len} bytes by its header part, and {missing} of them are missing",
         ));
@@ -92,28 +62,28 @@ fn add_cut(lines: &mut Lines, frame: BadFrame<'_>) {
     }
 }
 
-/// Adds the lines about a frame whose header part is incomplete.
-fn add_cut_header(lines: &mut Lines, frame: BadFrame<'_>) {
-    lines.write(format_args!(
-        "the input ends in the header part of {}: {}",
-        frame.name,
-        Bytes(frame.front),
-    ));
-    if !has_converted_line_end(frame.front) {
-        lines.add("the program that wrote the input may have been stopped early");
-    }
-}
-
 /// Adds the lines about the error of a frame.
 fn add_fault(lines: &mut Lines, frame: BadFrame<'_>, fault: FrameFault, limits: FrameLimits) {
     let (name, header) = (frame.name, header_of(frame.front));
     match fault {
-        FrameFault::HeaderLine => add_header_line(lines, name, header),
-        FrameFault::NoLength => {
-            add_lengths(lines, name, header, "no");
-            add_printed(lines, header);
+        FrameFault::HeaderLine => match bad_line(header) {
+            Some(line) => lines.write(format_args!(
+                "the header part of {name} has the line {}, which is not NAME: VALUE",
+                Bytes(line),
+            )),
+            None => lines.write(format_args!("the header part of {name} is empty")),
+        },
+        FrameFault::NoLength | FrameFault::TwoLengths => {
+            let count = if fault == FrameFault::NoLength {
+                "no"
+            } else {
+                "more than one"
+            };
+            lines.write(format_args!(
+                "the header part of {name} has {count} Content-Length; it is {}",
+                Bytes(header),
+            ));
         }
-        FrameFault::TwoLengths => add_lengths(lines, name, header, "more than one"),
         FrameFault::BadLength => lines.write(format_args!(
             "the Content-Length of {name} is {}, not 1 to 10 digits",
             Bytes(length_value(header).unwrap_or(&[])),
@@ -129,6 +99,16 @@ fn add_fault(lines: &mut Lines, frame: BadFrame<'_>, fault: FrameFault, limits: 
     }
 }
 
+/// Adds the lines about a content that is too long.
+fn add_content_too_long(lines: &mut Lines, name: FrameName, header: &[u8], limit: usize) {
+    if let Some(len) = content_len(header) {
+        lines.write(format_args!(
+            "the content of {name} has {len} bytes; the limit is {limit} bytes",
+        ));
+    }
+    lines.add("request less at once, such as by start and count of variables");
+}
+
 /// Explains that a frame is invalid or incomplete.
 pub(crate) fn explain_frame(
     lines: &mut Lines,
@@ -137,6 +117,11 @@ pub(crate) fn explain_frame(
     limits: FrameLimits,
 ) {
     add_fault(lines, frame, fault, limits);
+    let may_be_printed = matches!(fault, FrameFault::HeaderLine | FrameFault::NoLength);
+    if may_be_printed && has_text_before(header_of(frame.front)) {
+        lines.add("a program may have printed text between two frames");
+        lines.add("let it print to standard error, or send output events instead");
+    }
     if has_converted_line_end(frame.front) {
         lines.add("its header lines do not end with CR LF: line ends may have been converted");
         lines.add(KEEP_LINE_ENDS);

@@ -25,44 +25,33 @@ pub(crate) struct Head<'m> {
 impl<'m> Head<'m> {
     /// Reads the head of a message.
     pub(crate) fn of(side: Option<Side>, message: &'m Value) -> Head<'m> {
-        let kind = match text_at(message, "type") {
-            Some(name) => kind_named(name),
-            None => None,
+        let kind = text_at(message, "type").and_then(kind_named);
+        let is_response = kind == Some(Kind::Response);
+        let name = match kind {
+            Some(Kind::Event) => "event",
+            _ => "command",
         };
-        let mut head = Head {
+        Head {
             side,
             kind,
-            name: None,
+            name: text_at(message, name),
             seq: number_at(message, "seq"),
-            request_seq: None,
-            is_success: false,
-        };
-        if kind == Some(Kind::Response) {
-            head.request_seq = number_at(message, "request_seq");
-            head.is_success = matches!(message.get("success"), Some(Value::Bool(true)));
+            request_seq: if is_response {
+                number_at(message, "request_seq")
+            } else {
+                None
+            },
+            is_success: is_response && matches!(message.get("success"), Some(Value::Bool(true))),
         }
-        let key = if kind == Some(Kind::Event) {
-            "event"
-        } else {
-            "command"
-        };
-        head.name = text_at(message, key);
-        head
     }
 }
 
 fn text_at<'m>(message: &'m Value, name: &str) -> Option<&'m str> {
-    match message.get(name) {
-        Some(Value::String(text)) => Some(text.as_str()),
-        _ => None,
-    }
+    message.get(name)?.as_str()
 }
 
 fn number_at(message: &Value, name: &str) -> Option<i64> {
-    match message.get(name) {
-        Some(Value::Number(number)) => number.as_i64(),
-        _ => None,
-    }
+    message.get(name)?.as_i64()
 }
 
 /// Displays the marker of the sender, the kind and the name of a message, and the request that it
@@ -78,7 +67,7 @@ impl fmt::Display for Head<'_> {
             Some(kind) => kind_word(kind),
             None => "message of unknown type",
         })?;
-        write!(f, "{}", Named(self.name))?;
+        Named(self.name).fmt(f)?;
         match self.request_seq {
             Some(seq) => write!(f, ", to request {seq}"),
             None => Ok(()),
@@ -93,7 +82,10 @@ pub(crate) struct Named<'a>(pub(crate) Option<&'a str>);
 impl fmt::Display for Named<'_> {
     fn fmt<W: fmt::Write>(&self, f: &mut fmt::Formatter<W>) -> fmt::Result {
         match self.0 {
-            Some(name) => write!(f, " {}", Quoted(name)),
+            Some(name) => {
+                f.write_str(" ")?;
+                Quoted(name).fmt(f)
+            }
             None => Ok(()),
         }
     }

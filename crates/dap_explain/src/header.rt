@@ -40,7 +40,7 @@ pub(crate) fn split_piece(bytes: &[u8]) -> Option<(&[u8], &[u8])> {
 
 /// Returns the first line of a header part that is not a field line, without its LF.
 pub(crate) fn bad_line(header: &[u8]) -> Option<&[u8]> {
-    for line in header.split(|byte| *byte == b'\n') {
+    for line in header.split(is_lf) {
         match line.strip_suffix(b"\r") {
             Some([]) => return None,
             Some(field) if is_field(field) => {}
@@ -55,27 +55,27 @@ fn is_field(line: &[u8]) -> bool {
     match name_and_value(line) {
         Some((name, value)) => {
             !name.is_empty()
-                && name.iter().all(|byte| byte.is_ascii_graphic())
-                && value
-                    .iter()
-                    .all(|byte| matches!(*byte, b' '..=b'~' | b'\t'))
+                && name.iter().all(u8::is_ascii_graphic)
+                && value.iter().all(is_value_byte)
         }
         None => false,
     }
 }
 
+/// Returns whether a byte may occur in the value of a field.
+fn is_value_byte(byte: &u8) -> bool {
+    matches!(*byte, b' '..=b'~' | b'\t')
+}
+
 /// Returns the parts of a line before and after its first colon.
 fn name_and_value(line: &[u8]) -> Option<(&[u8], &[u8])> {
     let colon = line.iter().position(|byte| *byte == b':')?;
-    match line.split_at_checked(colon)? {
-        (name, [_, value @ ..]) => Some((name, value)),
-        _ => None,
-    }
+    Some((line.get(..colon)?, line.get(colon.checked_add(1)?..)?))
 }
 
 /// Returns the value of the first field named `Content-Length`, without the surrounding blanks.
 pub(crate) fn length_value(header: &[u8]) -> Option<&[u8]> {
-    for line in header.split(|byte| *byte == b'\n') {
+    for line in header.split(is_lf) {
         match name_and_value(line) {
             Some((name, value)) if name.eq_ignore_ascii_case(LENGTH_NAME) => {
                 return Some(value.trim_ascii());
@@ -143,7 +143,12 @@ fn number_of(digits: &[u8]) -> Option<u64> {
     Some(number)
 }
 
+/// Returns whether a byte ends a line.
+pub(crate) fn is_lf(byte: &u8) -> bool {
+    *byte == b'\n'
+}
+
 /// Returns the bytes before the first LF, or all bytes if there is no LF.
 pub(crate) fn first_line(bytes: &[u8]) -> &[u8] {
-    bytes.split(|byte| *byte == b'\n').next().unwrap_or(bytes)
+    bytes.split(is_lf).next().unwrap_or(bytes)
 }

@@ -43,20 +43,17 @@ impl<'t> Shown<'t> {
     /// Updates the information for a token.
     fn note(&mut self, token: Token<'t>) {
         match token {
-            Token::BeginObject | Token::BeginArray => self.enter(),
+            Token::BeginObject | Token::BeginArray => {
+                self.depth = self.depth.saturating_add(1);
+                if self.depth > MAX_DEPTH && self.fault.is_none() {
+                    self.fault = Some(TokenFault::Depth);
+                }
+            }
             Token::EndObject | Token::EndArray => self.depth = self.depth.saturating_sub(1),
             Token::Key(name) if self.depth == 1 => self.member = name,
             Token::String(text) if self.depth == 1 => self.note_text(text),
             Token::Number(text) => self.note_number(text),
             _ => {}
-        }
-    }
-
-    /// Enters an array or an object.
-    fn enter(&mut self) {
-        self.depth = self.depth.saturating_add(1);
-        if self.depth > MAX_DEPTH {
-            self.note_fault(TokenFault::Depth);
         }
     }
 
@@ -75,15 +72,9 @@ impl<'t> Shown<'t> {
         if self.depth == 1 && self.member == "request_seq" {
             self.request_seq = text.parse::<i64>().ok();
         }
-        if is_past_floats(text) {
-            self.note_fault(TokenFault::Number(text));
-        }
-    }
-
-    /// Stores an error, unless an earlier one is stored.
-    fn note_fault(&mut self, fault: TokenFault<'t>) {
-        if self.fault.is_none() {
-            self.fault = Some(fault);
+        let is_past_floats = matches!(text.parse::<f64>(), Ok(number) if number.is_infinite());
+        if is_past_floats && self.fault.is_none() {
+            self.fault = Some(TokenFault::Number(text));
         }
     }
 
@@ -106,14 +97,6 @@ impl<'t> Shown<'t> {
     }
 }
 
-/// Returns whether the absolute value of a number exceeds the largest 64-bit float.
-fn is_past_floats(text: &str) -> bool {
-    match text.parse::<f64>() {
-        Ok(number) => number.is_infinite(),
-        Err(_) => false,
-    }
-}
-
 /// Reads the tokens of a string up to the first token that is not JSON.
 fn shown_by<'t>(text: &'t str, scratch: &'t mut Scratch<Global>) -> Result<Shown<'t>, AllocError> {
     let mut reader = Reader::new(text, scratch)?;
@@ -126,12 +109,11 @@ fn shown_by<'t>(text: &'t str, scratch: &'t mut Scratch<Global>) -> Result<Shown
 
 /// Returns the position of an error in a string, in bytes.
 fn offset_of(text: &str, error: &Error) -> usize {
-    let line_break = match error.line().checked_sub(2) {
-        Some(breaks) => text.match_indices('\n').nth(breaks),
-        None => None,
-    };
-    let start = match line_break {
-        Some((index, _)) => index.saturating_add(1),
+    let start = match error.line().checked_sub(2) {
+        Some(breaks) => match text.match_indices('\n').nth(breaks) {
+            Some((index, _)) => index.saturating_add(1),
+            None => 0,
+        },
         None => 0,
     };
     start.saturating_add(error.column()).saturating_sub(1)
@@ -156,15 +138,6 @@ fn add_syntax(lines: &mut Lines, record: Part<'_>, text: &str, error: &Error) {
     add_sender(lines, record.side);
 }
 
-/// Adds the lines about a number whose absolute value exceeds the largest 64-bit float.
-fn add_past_floats(lines: &mut Lines, record: u64, number: &str) {
-    lines.write(format_args!(
-        "the number {} of record {record} is outside the range of 64-bit floats",
-        Cut(number),
-    ));
-    lines.add("let the program that sent it write a number of that range");
-}
-
 /// Adds the lines about a string whose tokens contain this information, and that is not JSON
 /// because of this error.
 fn add_shown(lines: &mut Lines, record: Part<'_>, text: &str, shown: &Shown<'_>, error: &Error) {
@@ -176,38 +149,43 @@ fn add_shown(lines: &mut Lines, record: Part<'_>, text: &str, shown: &Shown<'_>,
         Some(TokenFault::Depth) => lines.write(format_args!(
             "record {number} has more than {MAX_DEPTH} arrays and objects inside one another, which dapnorm does not read",
         )),
-        Some(TokenFault::Number(text)) => add_past_floats(lines, number, text),
+        Some(TokenFault::Number(text)) => {
+            lines.write(format_args!(
+                "the number {} of record {number} is outside the range of 64-bit floats",
+                Cut(text),
+            ));
+            lines.add("let the program that sent it write a number of that range");
+        }
         None => add_syntax(lines, record, text, error),
     }
 }
 
-/// Adds the lines about a content that is not UTF-8 after this many bytes.
-fn add_not_utf8(lines: &mut Lines, record: Part<'_>, valid: usize) {
-    lines.write(format_args!(
-        "the content of record {} is not UTF-8 after {valid} bytes: {}",
-        record.number,
-        Bytes(record.content.get(valid..).unwrap_or(&[])),
-    ));
-    add_sender(lines, record.side);
+/// Explains that a string is not JSON.
+fn explain_text(lines: &mut Lines, record: Part<'_>, text: &str) {
+    let Err(error) = Value::from_str(lines.alloc(), text) else {
+        return;
+    };
+    if error.is_memory() {
+        return lines.fail();
+    }
+    let mut scratch = Scratch::new(lines.alloc());
+    if let Some(shown) = lines.noted(shown_by(text, &mut scratch)) {
+        add_shown(lines, record, text, &shown, &error);
+    }
 }
 
 /// Explains that the content of a record is not JSON.
 pub(crate) fn explain_json(lines: &mut Lines, record: Part<'_>) {
     match str::from_utf8(record.content) {
         Ok(text) => explain_text(lines, record, text),
-        Err(error) => add_not_utf8(lines, record, error.valid_up_to()),
-    }
-}
-
-/// Explains that a string is not JSON.
-fn explain_text(lines: &mut Lines, record: Part<'_>, text: &str) {
-    let error = match Value::from_str(lines.alloc(), text) {
-        Ok(_) => return,
-        Err(error) if error.is_memory() => return lines.fail(),
-        Err(error) => error,
-    };
-    let mut scratch = Scratch::new(lines.alloc());
-    if let Some(shown) = lines.noted(shown_by(text, &mut scratch)) {
-        add_shown(lines, record, text, &shown, &error);
+        Err(error) => {
+            let valid = error.valid_up_to();
+            lines.write(format_args!(
+                "the content of record {} is not UTF-8 after {valid} bytes: {}",
+                record.number,
+                Bytes(record.content.get(valid..).unwrap_or(&[])),
+            ));
+            add_sender(lines, record.side);
+        }
     }
 }

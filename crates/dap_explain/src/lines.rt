@@ -1,7 +1,7 @@
 //! Builds the lines of an explanation, indented and without control characters.
-ghost use Rattle.std.specs.Prelude.{◌≡◌, ◌≢◌, ◌<◌, ◌≤◌, true, List, ℕ, All, IfOk, OnOk};
+ghost use Rattle.std.specs.Prelude.{◌≡◌, ◌≢◌, ◌<◌, ◌≤◌, true, All, IfOk, OnOk};
 ghost use Rattle.std.specs.Prelude.{string_bytes};
-ghost use Rattle.dap_explain.specs.Lines.{AreLines, IsPrinted, line_of};
+ghost use Rattle.dap_explain.specs.Lines.{AreLines, IsPrinted};
 
 use serde_json::Value;
 use std::alloc::{AllocError, Global};
@@ -57,12 +57,14 @@ impl Lines {
         }
     }
 
-    /// Returns a value as JSON. After a failed allocation, stores this and returns an empty string.
-    pub(crate) fn json(&mut self, value: &Value) -> String {
-        match self.noted(value.to_string(self.alloc)) {
-            Some(text) => text,
-            None => String::new(self.alloc),
-        }
+    /// Returns a value as JSON, or `missing` if there is none. After a failed allocation, stores
+    /// this and returns an empty string.
+    pub(crate) fn json(&mut self, value: Option<&Value>) -> String {
+        let text = match value {
+            Some(value) => value.to_string(self.alloc),
+            None => String::from_str(self.alloc, "missing"),
+        };
+        self.noted(text).unwrap_or(String::new(self.alloc))
     }
 
     /// Appends a line. It is truncated after 1,000 characters. A character that a terminal does not
@@ -83,7 +85,8 @@ impl Lines {
 
     /// Appends a line, or returns that an allocation failed.
     fn append(&mut self, words: &str) -> Result<(), AllocError> {
-        let line = indented(self.alloc, words)?;
+        let words = printed(self.alloc, words)?;
+        let line = format!(in self.alloc; "  {words}\n")?;
         self.text.push_str(line.as_str())
     }
 
@@ -100,41 +103,19 @@ impl Lines {
     }
 }
 
-/// Returns these words as a line.
-fn indented(alloc: Global, words: &str) -> Result<String, AllocError>
-    ensures { IfOk result (λ line. (words : List ℕ) × All IsPrinted words
-        × (string_bytes line ≡ line_of words)) }
-{
-    let words = printed(alloc, words)?;
-    let mut line = String::from_str(alloc, "  ")?;
-    line.push_str(words.as_str())?;
-    line.push_str("\n")?;
-    Ok(line)
-}
-
 /// Returns the first characters of a string. Characters that a terminal does not print are escaped.
 fn printed(alloc: Global, text: &str) -> Result<String, AllocError>
     ensures { IfOk result (λ words. All IsPrinted (string_bytes words)) }
 {
     let mut words = String::new(alloc);
-    let mut characters = text.chars();
-    for character in characters.by_ref().take(LONGEST) {
+    for (count, character) in text.chars().enumerate() {
+        if count == LONGEST {
+            words.push_str("...")?;
+            break;
+        }
         push_printed(&mut words, character)?;
     }
-    push_ellipsis(&mut words, characters.next().is_some())?;
     Ok(words)
-}
-
-/// Appends `...` to a string that was truncated.
-fn push_ellipsis(words: &mut String, is_cut: bool) -> Result<(), AllocError>
-    requires { All IsPrinted (string_bytes words.old) }
-    ensures { OnOk result (All IsPrinted (string_bytes words.new)) }
-{
-    if is_cut {
-        words.push_str("...")
-    } else {
-        Ok(())
-    }
 }
 
 /// Appends a character, or its escape.

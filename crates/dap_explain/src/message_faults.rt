@@ -6,7 +6,7 @@ use crate::words::Cut;
 use dap_message::MessageFault;
 use dap_profile::{Place, Row, Want, profile_rows};
 use serde_json::Value;
-use std::fmt;
+use std::alloc::{AllocError, Global};
 
 /// Returns the type that a row expects, in words.
 fn want_words(want: Want) -> &'static str {
@@ -37,19 +37,16 @@ fn sort_words(value: &Value) -> &'static str {
     }
 }
 
-/// Adds the lines about a content that is not an object.
-fn add_not_object(lines: &mut Lines, record: Part<'_>, content: &Value) {
-    lines.write(format_args!(
-        "the content of record {} is {}; a message is a JSON object",
-        record.number,
-        sort_words(content),
-    ));
-    add_sender(lines, record.side);
-}
-
 /// Adds the lines about a message whose type the protocol does not define.
 fn add_unknown_type(lines: &mut Lines, record: Part<'_>, message: &Value) {
-    add_type(lines, record.number, message.get("type"));
+    let number = record.number;
+    let kind = message.get("type");
+    if kind.is_some() {
+        let text = lines.json(kind);
+        lines.write(format_args!("the type of record {number} is {}", Cut(text.as_str())));
+    } else {
+        lines.write(format_args!("the message of record {number} has no member \"type\""));
+    }
     lines.add("a message has the type \"request\", \"response\" or \"event\"");
     if message.get("jsonrpc").is_none() {
         add_sender(lines, record.side);
@@ -58,17 +55,6 @@ fn add_unknown_type(lines: &mut Lines, record: Part<'_>, message: &Value) {
             "its member \"jsonrpc\" is that of another protocol, such as a language server's",
         );
         lines.add("record the session of the debug adapter instead");
-    }
-}
-
-/// Adds the line about the type of a message.
-fn add_type(lines: &mut Lines, number: u64, found: Option<&Value>) {
-    match found {
-        None => lines.write(format_args!("the message of record {number} has no member \"type\"")),
-        Some(value) => {
-            let text = lines.json(value);
-            lines.write(format_args!("the type of record {number} is {}", Cut(text.as_str())));
-        }
     }
 }
 
@@ -82,13 +68,14 @@ struct RowFault<'m> {
     value: Option<&'m Value>,
 }
 
-/// Returns the first violation of a row by a message.
+/// Returns the first violation of a row by a message. If there is no object or no array that could
+/// contain the value, there is no violation.
 fn row_fault<'m>(row: &Row, message: &'m Value) -> Option<RowFault<'m>> {
     match row.place {
-        Place::Member(name) => fault_of_member(row, 0, Some(message), name),
-        Place::Inner(outer, name) => fault_of_member(row, 0, message.get(outer), name),
+        Place::Member(name) => fault_of_member(row, Some(message), name),
+        Place::Inner(outer, name) => fault_of_member(row, message.get(outer), name),
         Place::Deep(outer, inner, name) => {
-            fault_of_member(row, 0, value_at(message, outer, inner), name)
+            fault_of_member(row, value_at(message, outer, inner), name)
         }
         Place::Element(outer, list) => fault_of_list(row, value_at(message, outer, list), None),
         Place::Part(outer, list, name) => {
@@ -102,52 +89,42 @@ fn value_at<'m>(message: &'m Value, outer: &str, name: &str) -> Option<&'m Value
     message.get(outer)?.get(name)
 }
 
-/// Returns whether the value at a path, or its absence, violates a row.
-fn is_violated(row: &Row, found: Option<&Value>) -> bool {
-    match found {
-        None | Some(Value::Null) => row.needed,
-        Some(value) => !has_type(value, row.want),
-    }
-}
-
-/// Returns whether a value has the expected type of a row.
-fn has_type(value: &Value, want: Want) -> bool {
-    match (want, value) {
-        (Want::Bool, Value::Bool(_)) => true,
-        (Want::Whole, Value::Number(number)) => number.is_u64() || number.is_i64(),
-        (Want::Text, Value::String(_)) => true,
-        (Want::Object, Value::Object(_)) => true,
-        (Want::List, Value::Array(_)) => true,
-        (_, Value::Number(number)) => want.is_id() && number.is_i64(),
-        _ => false,
+/// Returns the violation by a member of an object.
+fn fault_of_member<'m>(row: &Row, parent: Option<&'m Value>, name: &str) -> Option<RowFault<'m>> {
+    match parent {
+        Some(Value::Object(members)) => fault_at(row, 0, members.get(name)),
+        _ => None,
     }
 }
 
 /// Returns the violation by the value at a path of the row, or by its absence.
 fn fault_at<'m>(row: &Row, element: usize, value: Option<&'m Value>) -> Option<RowFault<'m>> {
-    if is_violated(row, value) {
+    let is_violated = match value {
+        None | Some(Value::Null) => row.needed,
+        Some(value) => !has_type(value, row.want),
+    };
+    if is_violated {
         Some(RowFault { element, value })
     } else {
         None
     }
 }
 
-/// Returns the violation by a member of an object. If the parent is not an object, there is no
-/// violation.
-fn fault_of_member<'m>(
-    row: &Row,
-    element: usize,
-    parent: Option<&'m Value>,
-    name: &str,
-) -> Option<RowFault<'m>> {
-    match parent {
-        Some(Value::Object(members)) => fault_at(row, element, members.get(name)),
-        _ => None,
+/// Returns whether a value has the expected type of a row.
+fn has_type(value: &Value, want: Want) -> bool {
+    match (want, value) {
+        (Want::Bool, Value::Bool(_))
+        | (Want::Text, Value::String(_))
+        | (Want::Object, Value::Object(_))
+        | (Want::List, Value::Array(_)) => true,
+        (Want::Whole, Value::Number(number)) => !number.is_f64(),
+        (_, Value::Number(number)) => want.is_id() && number.is_i64(),
+        _ => false,
     }
 }
 
 /// Returns the violation by the first element of an array that violates the row, or whose member
-/// with this name does. If there is no array, there is no violation.
+/// with this name does.
 fn fault_of_list<'m>(
     row: &Row,
     list: Option<&'m Value>,
@@ -157,10 +134,12 @@ fn fault_of_list<'m>(
         return None;
     };
     for (index, element) in elements.iter().enumerate() {
-        let fault = match name {
-            Some(name) => fault_of_member(row, index, Some(element), name),
-            None => fault_at(row, index, Some(element)),
+        let value = match (name, element) {
+            (None, _) => Some(element),
+            (Some(name), Value::Object(members)) => members.get(name),
+            _ => continue,
         };
+        let fault = fault_at(row, index, value);
         if fault.is_some() {
             return fault;
         }
@@ -168,57 +147,36 @@ fn fault_of_list<'m>(
     None
 }
 
-/// Displays the path of a row of the profile, with the index of the array element, in the notation
+/// Returns the path of a row of the profile, with the index of the array element, in the notation
 /// of `diff`.
-#[derive(Clone, Copy)]
-struct RowPath {
-    place: Place,
-    element: usize,
-}
-
-impl fmt::Display for RowPath {
-    fn fmt<W: fmt::Write>(&self, f: &mut fmt::Formatter<W>) -> fmt::Result {
-        let element = self.element;
-        match self.place {
-            Place::Member(name) => f.write_str(name),
-            Place::Inner(outer, name) => write!(f, "{outer}.{name}"),
-            Place::Deep(outer, inner, name) => write!(f, "{outer}.{inner}.{name}"),
-            Place::Element(outer, list) => write!(f, "{outer}.{list}[{element}]"),
-            Place::Part(outer, list, name) => write!(f, "{outer}.{list}[{element}].{name}"),
-        }
+fn path_of(alloc: Global, place: Place, element: usize) -> Result<String, AllocError> {
+    match place {
+        Place::Member(name) => String::from_str(alloc, name),
+        Place::Inner(outer, name) => format!(in alloc; "{outer}.{name}"),
+        Place::Deep(outer, inner, name) => format!(in alloc; "{outer}.{inner}.{name}"),
+        Place::Element(outer, list) => format!(in alloc; "{outer}.{list}[{element}]"),
+        Place::Part(outer, list, name) => format!(in alloc; "{outer}.{list}[{element}].{name}"),
     }
 }
 
 /// Adds the line about the value at the path of a row.
 fn add_place(lines: &mut Lines, row: &Row, fault: RowFault<'_>) {
-    let path = RowPath {
-        place: row.place,
-        element: fault.element,
-    };
-    let (want, number) = (want_words(row.want), row.number);
-    match fault.value {
-        Some(value) => {
-            let text = lines.json(value);
-            lines.write(format_args!(
-                "{path} is {}; the profile requires {want} there (dapnorm rows {number})",
-                Cut(text.as_str()),
-            ));
-        }
-        None => lines.write(format_args!(
-            "{path} is missing; the profile requires {want} there (dapnorm rows {number})",
-        )),
+    let path = path_of(lines.alloc(), row.place, fault.element);
+    if let Some(path) = lines.noted(path) {
+        let found = lines.json(fault.value);
+        lines.write(format_args!(
+            "{path} is {}; the profile requires {} there (dapnorm rows {})",
+            Cut(found.as_str()),
+            want_words(row.want),
+            row.number,
+        ));
     }
-}
-
-/// Returns the row of the profile with this number.
-fn row_numbered(number: u16) -> Option<&'static Row> {
-    profile_rows().iter().find(|row| row.number == number)
 }
 
 /// Adds the lines about a message that violates the row with this number.
 fn add_row(lines: &mut Lines, record: Part<'_>, message: &Value, number: u16, is_missing: bool) {
     add_head(lines, record.number, &Head::of(record.side, message));
-    let Some(row) = row_numbered(number) else {
+    let Some(row) = profile_rows().get(usize::from(number).saturating_sub(1)) else {
         return;
     };
     match row_fault(row, message) {
@@ -239,7 +197,12 @@ pub(crate) fn explain_message(
 ) {
     match fault {
         MessageFault::NotObject if !message.is_object() => {
-            add_not_object(lines, record, message)
+            lines.write(format_args!(
+                "the content of record {} is {}; a message is a JSON object",
+                record.number,
+                sort_words(message),
+            ));
+            add_sender(lines, record.side);
         }
         MessageFault::UnknownType => add_unknown_type(lines, record, message),
         MessageFault::Missing(row) => add_row(lines, record, message, row, true),

@@ -5,11 +5,15 @@ use crate::frame_faults::{BadFrame, FrameName, explain_frame};
 use crate::head::read_value;
 use crate::header::{KEEP_LINE_ENDS, first_line, split_frame, split_header};
 use crate::lines::Lines;
-use crate::records::{Format, add_likeness, bytes_from};
+use crate::records::{Format, Parts, add_likeness};
 use crate::words::Bytes;
 use dap_frame::{FrameFault, FrameLimits, Framer};
 use dap_recording::RecordCause;
 use std::alloc::Global;
+
+/// How a record starts.
+const RECORD_START: &str =
+    "a record begins with > (client) or < (adapter), and nothing is between two records";
 
 /// The bytes from the start of a rejected record on.
 #[derive(Clone, Copy)]
@@ -33,42 +37,28 @@ impl<'a> BadRecord<'a> {
     fn cause(&self, alloc: Global, limits: FrameLimits) -> Option<RecordCause>
         requires { IsSound limits }
     {
-        let (_, frame) = match self.format.split_marker(self.bytes) {
-            Some(start) => start,
-            None => return Some(RecordCause::BadMarker),
+        let Some((_, frame)) = self.format.split_marker(self.bytes) else {
+            return Some(RecordCause::BadMarker);
         };
-        let mut framer = Framer::new(alloc, limits);
-        match framer.feed(frame) {
-            Err(FrameFault::Memory) => Some(RecordCause::Memory),
-            Err(fault) => Some(RecordCause::Frame(fault)),
-            Ok(fed) if fed.content.is_some() => self.cause_after(&frame[fed.used..]),
-            Ok(_) => Some(RecordCause::Cut),
-        }
-    }
-
-    /// Returns why the record is rejected if these bytes are after its frame.
-    fn cause_after(&self, after: &[u8]) -> Option<RecordCause> {
-        match (self.format, after) {
+        let used = match Framer::new(alloc, limits).feed(frame) {
+            Ok(fed) if fed.content.is_some() => fed.used,
+            Ok(_) => return Some(RecordCause::Cut),
+            Err(FrameFault::Memory) => return Some(RecordCause::Memory),
+            Err(fault) => return Some(RecordCause::Frame(fault)),
+        };
+        match (self.format, &frame[used..]) {
             (Format::Recording, []) => Some(RecordCause::Cut),
-            (Format::Recording, [b'\n', ..]) => None,
-            (Format::Recording, _) => Some(RecordCause::NoLineEnd),
+            (Format::Recording, [first, ..]) if *first != b'\n' => Some(RecordCause::NoLineEnd),
             _ => None,
         }
     }
 }
 
-/// Adds the lines about a record that does not start with a marker.
-fn add_bad_marker(lines: &mut Lines, record: BadRecord<'_>) {
-    lines.write(format_args!("record {} begins {}", record.number, Bytes(record.bytes)));
-    lines.add("a record begins with > (client) or < (adapter), and nothing is between two records");
-}
-
 /// Adds the lines about a record whose frame is not followed by LF.
-fn add_no_line_end(lines: &mut Lines, record: BadRecord<'_>) {
-    let Some((content, after)) = split_frame(record.frame()) else {
+fn add_no_line_end(lines: &mut Lines, number: u64, frame: &[u8]) {
+    let Some((content, after)) = split_frame(frame) else {
         return;
     };
-    let number = record.number;
     lines.write(format_args!(
         "after the frame of record {number} comes {} instead of LF",
         Bytes(after),
@@ -76,49 +66,47 @@ fn add_no_line_end(lines: &mut Lines, record: BadRecord<'_>) {
     if after.starts_with(b"\r\n") {
         lines.add("line ends were converted to CR LF");
         lines.add(KEEP_LINE_ENDS);
-    } else {
-        add_length(lines, record.frame(), content, after);
+        return;
     }
-}
-
-/// Adds lines if the content of a frame is JSON only when extended to the end of the line. `frame`
-/// are the bytes from the start of the frame on, and `after` are those after the frame.
-fn add_length(lines: &mut Lines, frame: &[u8], content: &[u8], after: &[u8]) {
-    let len = content.len();
-    let text_len = len.saturating_add(first_line(after).len());
+    let text_len = content.len().saturating_add(first_line(after).len());
     let text = match split_header(frame) {
         Some((_, rest)) => rest.get(..text_len).unwrap_or(&[]),
         None => &[],
     };
-    if read_value(lines, content).is_none() && read_value(lines, text).is_some() {
+    if !is_json(lines, content) && is_json(lines, text) {
         lines.write(format_args!(
-            "Content-Length is {len}, and the JSON text there has {text_len} bytes",
+            "Content-Length is {}, and the JSON text there has {text_len} bytes",
+            content.len(),
         ));
         lines.add("Content-Length counts bytes of UTF-8: the sender may have counted characters");
     }
 }
 
-/// Adds the lines about an incomplete record.
-fn add_cut(lines: &mut Lines, frame: BadFrame<'_>, limits: FrameLimits) {
-    if split_frame(frame.front).is_none() {
-        return explain_frame(lines, frame, FrameFault::Cut, limits);
-    }
-    lines.write(format_args!("only the LF at the end of {} is missing", frame.name));
-    lines.add("an editor may have removed it: add it again");
+/// Returns whether a text is JSON.
+fn is_json(lines: &mut Lines, text: &[u8]) -> bool {
+    read_value(lines, text).is_some()
 }
 
 /// Adds the lines about the error of a record.
 fn add_cause(lines: &mut Lines, record: BadRecord<'_>, cause: RecordCause, limits: FrameLimits) {
+    let (number, front) = (record.number, record.frame());
     let frame = BadFrame {
-        name: FrameName::Record(record.number),
-        front: record.frame(),
-        len: record.frame().len(),
+        name: FrameName::Record(number),
+        front,
+        len: front.len(),
     };
     match cause {
-        RecordCause::BadMarker => add_bad_marker(lines, record),
+        RecordCause::BadMarker => {
+            lines.write(format_args!("record {number} begins {}", Bytes(record.bytes)));
+            lines.add(RECORD_START);
+        }
         RecordCause::Frame(fault) => explain_frame(lines, frame, fault, limits),
-        RecordCause::NoLineEnd => add_no_line_end(lines, record),
-        RecordCause::Cut => add_cut(lines, frame, limits),
+        RecordCause::NoLineEnd => add_no_line_end(lines, number, front),
+        RecordCause::Cut if split_frame(front).is_some() => {
+            lines.write(format_args!("only the LF at the end of record {number} is missing"));
+            lines.add("an editor may have removed it: add it again");
+        }
+        RecordCause::Cut => explain_frame(lines, frame, FrameFault::Cut, limits),
         RecordCause::Memory => {}
     }
 }
@@ -155,11 +143,11 @@ pub(crate) fn explain_record(
     requires { IsSound limits }
 {
     for format in [Format::Recording, Format::Frames] {
-        if let Some(bytes) = bytes_from(format, input, number) {
+        if let Some(parts) = Parts::from_number(format, input, number) {
             let record = BadRecord {
                 number,
                 format,
-                bytes,
+                bytes: parts.rest,
             };
             if explain_in_format(lines, record, cause, limits) {
                 return;

@@ -40,14 +40,13 @@ impl Format {
     /// Splits the content of a record, or the bytes of a piece, from those after the record or the
     /// piece. `bytes` are those after its marker.
     fn split_content(self, bytes: &[u8]) -> Option<(&[u8], &[u8])> {
-        let (content, rest) = match self {
-            Format::Trace => split_piece(bytes)?,
-            _ => split_frame(bytes)?,
-        };
-        match (self, rest) {
-            (Format::Recording, [b'\n', rest @ ..]) => Some((content, rest)),
-            (Format::Recording, _) => None,
-            _ => Some((content, rest)),
+        match self {
+            Format::Trace => split_piece(bytes),
+            Format::Frames => split_frame(bytes),
+            Format::Recording => {
+                let (content, rest) = split_frame(bytes)?;
+                Some((content, rest.strip_prefix(b"\n")?))
+            }
         }
     }
 }
@@ -61,15 +60,14 @@ pub(crate) struct Part<'a> {
     pub(crate) side: Option<Side>,
     /// The content of the record, or the bytes of the piece.
     pub(crate) content: &'a [u8],
-    /// The bytes after it.
-    rest: &'a [u8],
 }
 
 /// An iterator over the records or pieces of an input, up to the first bytes that are not one.
 #[derive(Clone, Copy)]
 pub(crate) struct Parts<'a> {
     format: Format,
-    rest: &'a [u8],
+    /// The bytes of those that are left.
+    pub(crate) rest: &'a [u8],
     number: u64,
 }
 
@@ -81,6 +79,16 @@ impl<'a> Parts<'a> {
             rest: input,
             number: 1,
         }
+    }
+
+    /// Returns the records or pieces of an input from the one with this number on, if those before
+    /// it exist.
+    pub(crate) fn from_number(format: Format, input: &'a [u8], number: u64) -> Option<Parts<'a>> {
+        let mut parts = Parts::new(format, input);
+        for _ in 1..number {
+            parts.next()?;
+        }
+        Some(parts)
     }
 }
 
@@ -105,32 +113,13 @@ impl<'a> Iterator for Parts<'a> {
             number,
             side,
             content,
-            rest,
         })
     }
 }
 
 /// Returns the record with this number, if the input contains it.
 pub(crate) fn record_numbered(input: &[u8], number: u64) -> Option<Part<'_>> {
-    for record in Parts::new(Format::of(input), input) {
-        if record.number == number {
-            return Some(record);
-        }
-    }
-    None
-}
-
-/// Returns the bytes from the record or piece with this number on, if those before it exist.
-pub(crate) fn bytes_from(format: Format, input: &[u8], number: u64) -> Option<&[u8]> {
-    if number == 1 {
-        return Some(input);
-    }
-    for part in Parts::new(format, input) {
-        if part.number.saturating_add(1) == number {
-            return Some(part.rest);
-        }
-    }
-    None
+    Parts::from_number(Format::of(input), input, number)?.next()
 }
 
 /// The bytes of the byte order mark that some editors write before UTF-8.
@@ -143,39 +132,31 @@ fn likeness_of(input: &[u8], expected: Format) -> Option<&'static str> {
         [b'>' | b'<', rest @ ..] => rest,
         _ => &[],
     };
-    let is_recording = is_like_frames(after_marker);
     if input.starts_with(BYTE_ORDER_MARK) {
-        return Some("the input begins with a UTF-8 byte order mark: save it without one");
-    }
-    if count_of(after_marker).is_some() && expected != Format::Trace {
-        return Some("this looks like a trace: dapnorm record makes a recording of it");
-    }
-    if is_recording && expected == Format::Trace {
-        return Some("this looks like a recording: leave out dapnorm record");
-    }
-    if is_recording && expected == Format::Frames {
-        return Some("this looks like a recording: dapnorm compact reads frames without > and <");
-    }
-    if is_like_frames(input) && expected != Format::Frames {
-        return Some("this looks like frames without > and <: only dapnorm compact reads these");
-    }
-    match input {
-        [b'{' | b'[', ..] => {
-            Some("this looks like JSON without frames: each message needs a header part")
-        }
-        _ => None,
+        Some("the input begins with a UTF-8 byte order mark: save it without one")
+    } else if count_of(after_marker).is_some() && expected != Format::Trace {
+        Some("this looks like a trace: dapnorm record makes a recording of it")
+    } else if is_like_frames(after_marker) && expected != Format::Recording {
+        Some(match expected {
+            Format::Trace => "this looks like a recording: leave out dapnorm record",
+            _ => "this looks like a recording: dapnorm compact reads frames without > and <",
+        })
+    } else if is_like_frames(input) && expected != Format::Frames {
+        Some("this looks like frames without > and <: only dapnorm compact reads these")
+    } else if matches!(input, [b'{' | b'[', ..]) {
+        Some("this looks like JSON without frames: each message needs a header part")
+    } else {
+        None
     }
 }
 
 /// Adds the lines about an input that seems to have another format than the expected one. Returns
 /// whether it does.
 pub(crate) fn add_likeness(lines: &mut Lines, input: &[u8], expected: Format) -> bool {
-    match likeness_of(input, expected) {
-        Some(likeness) => {
-            lines.write(format_args!("the input begins {}", Bytes(input)));
-            lines.add(likeness);
-            true
-        }
-        None => false,
+    let likeness = likeness_of(input, expected);
+    if let Some(likeness) = likeness {
+        lines.write(format_args!("the input begins {}", Bytes(input)));
+        lines.add(likeness);
     }
+    likeness.is_some()
 }

@@ -3,6 +3,7 @@ ghost use Rattle.std.specs.Prelude.{◌≡◌, IfOk, string_bytes};
 ghost use Rattle.dap_explain.specs.Lines.{AreLines};
 ghost use Rattle.dap_explain.specs.Unexplained.{IsEmpty};
 
+use crate::header::is_lf;
 use crate::lines::Lines;
 use crate::rules_line::{is_end, place_of, split_verb};
 use crate::words::{Bytes, Cut};
@@ -17,7 +18,7 @@ const CATEGORY_ADVICE: &str =
 /// Returns the line of a file with this number, counted from 1, without its LF.
 fn line_of(rules: &[u8], number: usize) -> &[u8] {
     rules
-        .split(|byte| *byte == b'\n')
+        .split(is_lf)
         .nth(number.saturating_sub(1))
         .unwrap_or(&[])
 }
@@ -85,7 +86,7 @@ fn add_bad_place(lines: &mut Lines, line: &[u8]) {
 }
 
 /// Returns why a text is not a file of rules. Stores if an allocation failed.
-fn fault_in(lines: &mut Lines, rules: &[u8]) -> Option<RulesFault> {
+pub(crate) fn fault_in(lines: &mut Lines, rules: &[u8]) -> Option<RulesFault> {
     let fault = MaskRules::read(lines.alloc(), rules).err()?;
     if fault.cause == RulesCause::Memory {
         lines.fail();
@@ -100,23 +101,19 @@ fn is_second_refused(lines: &mut Lines, parts: &[&[u8]], cause: RulesCause) -> b
     let Some(rules) = lines.noted(rules) else {
         return false;
     };
-    match fault_in(lines, rules.as_slice()) {
-        Some(fault) => fault.line == 2 && fault.cause == cause,
-        None => false,
-    }
+    fault_in(lines, rules.as_slice()) == Some(RulesFault { line: 2, cause })
 }
 
 /// Returns the number of the first earlier line after which the line is rejected for this reason.
 fn earlier_line(lines: &mut Lines, rules: &[u8], fault: RulesFault) -> Option<usize> {
     let line = line_of(rules, fault.line);
-    for (index, earlier) in rules.split(|byte| *byte == b'\n').enumerate() {
+    for (index, earlier) in rules.split(is_lf).enumerate() {
         let number = index.saturating_add(1);
         if number >= fault.line {
             break;
         }
-        if !is_end(earlier)
-            && is_second_refused(lines, &[earlier, b"\n".as_slice(), line], fault.cause)
-        {
+        let parts = [earlier, b"\n".as_slice(), line];
+        if !is_end(earlier) && is_second_refused(lines, &parts, fault.cause) {
             return Some(number);
         }
     }
@@ -139,19 +136,6 @@ fn is_renaming(lines: &mut Lines, earlier: &[u8], line: &[u8]) -> bool {
     is_second_refused(lines, &parts, RulesCause::Clash)
 }
 
-/// Adds the lines about a change that the change in an earlier line excludes.
-fn add_clash_of_changes(lines: &mut Lines, number: usize, earlier: &[u8], line: &[u8]) {
-    if is_renaming(lines, earlier, line) {
-        lines.write(format_args!("line {number} is about the same elements"));
-        lines.add(
-            "no rule changes the names by which a rule finds elements: leave one of them out",
-        );
-    } else {
-        lines.write(format_args!("line {number} has another action for the same place"));
-        lines.add("write uuid before long and hex last, and do not join uuid and digits");
-    }
-}
-
 /// Adds the lines about a rule that an earlier one excludes.
 fn add_clash(lines: &mut Lines, rules: &[u8], fault: RulesFault) {
     let line = line_of(rules, fault.line);
@@ -163,12 +147,21 @@ fn add_clash(lines: &mut Lines, rules: &[u8], fault: RulesFault) {
         return;
     };
     let earlier = line_of(rules, number);
-    if has_verb(earlier, b"drop") {
-        lines.write(format_args!("line {number} drops events by this category"));
-        lines.add(CATEGORY_ADVICE);
+    let (what, advice) = if has_verb(earlier, b"drop") {
+        ("drops events by this category", CATEGORY_ADVICE)
+    } else if is_renaming(lines, earlier, line) {
+        (
+            "is about the same elements",
+            "no rule changes the names by which a rule finds elements: leave one of them out",
+        )
     } else {
-        add_clash_of_changes(lines, number, earlier, line);
-    }
+        (
+            "has another action for the same place",
+            "write uuid before long and hex last, and do not join uuid and digits",
+        )
+    };
+    lines.write(format_args!("line {number} {what}"));
+    lines.add(advice);
 }
 
 /// Adds the lines about a rule that is there already.

@@ -74,6 +74,11 @@ pub(crate) fn is_end(bytes: &[u8]) -> bool {
     matches!(after_blanks(bytes), [] | [b'#', ..])
 }
 
+/// Returns whether a name needs no quotes.
+pub(crate) fn is_plain_name(name: &str) -> bool {
+    matches!(split_run(name.as_bytes(), ByteClass::Plain), ([_, ..], []))
+}
+
 /// Returns the bytes after the name of a member, or `None` if there is no name.
 fn after_member(bytes: &[u8]) -> Option<&[u8]> {
     match bytes {
@@ -121,7 +126,7 @@ fn after_step(bytes: &[u8]) -> Option<&[u8]> {
 }
 
 /// A part of a rule after its verb.
-#[derive(Clone, Copy, PartialEq)]
+#[derive(Clone, Copy)]
 enum RulePart {
     Kind,
     /// The kind of the events that a rule drops.
@@ -137,7 +142,7 @@ enum RulePart {
     Category,
 }
 
-/// Returns the parts of a rule with a verb. At most one is a place.
+/// Returns the parts of a rule with a verb. A place is the last one.
 fn parts_of(verb: &[u8]) -> Option<&'static [RulePart]> {
     match str::from_utf8(verb).ok()? {
         "blank" | "digits" | "hex" | "long" | "uuid" => {
@@ -206,8 +211,8 @@ impl RulePart {
     fn after(self, bytes: &[u8]) -> Option<&[u8]> {
         let (word, rest) = split_run(bytes, ByteClass::Word);
         match self {
-            RulePart::Event if word != b"event".as_slice() => None,
-            RulePart::Kind | RulePart::Event | RulePart::SecondKind if is_kind(word) => Some(rest),
+            RulePart::Kind | RulePart::SecondKind if is_kind(word) => Some(rest),
+            RulePart::Event if word == b"event".as_slice() => Some(rest),
             RulePart::Kind | RulePart::Event | RulePart::SecondKind => None,
             RulePart::Name if bytes.starts_with(b"*") => bytes.get(1..),
             RulePart::Name | RulePart::Text => after_member(bytes),
@@ -216,8 +221,8 @@ impl RulePart {
         }
     }
 
-    /// Returns the bytes after blanks and the part, or what is wrong there.
-    fn read(self, text: &[u8]) -> Result<&[u8], LineFault<'_>> {
+    /// Returns the bytes of the part after blanks, and the bytes after it, or what is wrong there.
+    fn read(self, text: &[u8]) -> Result<(&[u8], &[u8]), LineFault<'_>> {
         if is_end(text) {
             return Err(LineFault {
                 word: None,
@@ -226,7 +231,9 @@ impl RulePart {
         }
         let bytes = after_blanks(text);
         match self.after(bytes) {
-            Some(rest) if is_end(rest) || after_blanks(rest).len() < rest.len() => Ok(rest),
+            Some(rest) if matches!(rest, [] | [b'#' | b' ' | b'\t' | b'\r', ..]) => {
+                Ok((bytes.strip_suffix(rest).unwrap_or(bytes), rest))
+            }
             _ => {
                 let word = split_run(bytes, ByteClass::Word).0;
                 Err(wrong(word, self.wrong(word)))
@@ -235,33 +242,25 @@ impl RulePart {
     }
 }
 
-/// Returns the path of a rule, which is empty if the rule has none. For a line that is not a rule,
-/// returns what is wrong with it, if that is recognised.
+/// Returns the last part of a rule, which is the place of a rule that has one. For a line that is
+/// not a rule, returns what is wrong with it, if that is recognised.
 pub(crate) fn place_of(line: &[u8]) -> Result<&[u8], LineFault<'_>> {
     let (verb, mut rest) = split_verb(line);
     let Some(parts) = parts_of(verb) else {
         return Err(wrong(verb, NO_VERB));
     };
-    let mut place: &[u8] = &[];
+    let mut last = verb;
     for part in parts {
-        if *part == RulePart::Category && is_end(rest) {
-            return Ok(&[]);
+        if matches!(part, RulePart::Category) && is_end(rest) {
+            break;
         }
-        let after = part.read(rest)?;
-        if *part == RulePart::Place {
-            place = before(after_blanks(rest), after);
-        }
+        let (bytes, after) = part.read(rest)?;
+        last = bytes;
         rest = after;
     }
     if is_end(rest) {
-        Ok(place)
+        Ok(last)
     } else {
         Err(wrong(after_blanks(rest), MORE))
     }
-}
-
-/// Returns the bytes before the end of a text.
-fn before<'t>(text: &'t [u8], end: &[u8]) -> &'t [u8] {
-    text.get(..text.len().saturating_sub(end.len()))
-        .unwrap_or(text)
 }

@@ -1,10 +1,11 @@
 //! Explains messages that violate a session rule.
 use crate::head::{Head, Named, read_value};
 use crate::lines::Lines;
-use crate::records::{Format, Part, Parts};
+use crate::records::{Format, Parts};
 use dap_profile::Kind;
 use dap_session::Rule;
 use dap_tree::Side;
+use serde_json::Value;
 
 /// A message to search for among the messages before the rejected one.
 #[derive(Clone, Copy)]
@@ -35,6 +36,14 @@ impl Sought {
     }
 }
 
+/// Returns the other side.
+fn other(side: Side) -> Side {
+    match side {
+        Side::Client => Side::Adapter,
+        Side::Adapter => Side::Client,
+    }
+}
+
 /// The records of an input before one of them, to be searched.
 #[derive(Clone, Copy)]
 struct Earlier<'a> {
@@ -43,141 +52,116 @@ struct Earlier<'a> {
     before: u64,
 }
 
-/// Returns the record of the first matching message.
-fn find<'a>(lines: &mut Lines, earlier: Earlier<'a>, sought: Sought) -> Option<Part<'a>> {
+/// Returns the first matching message, and the number of its record.
+fn find(lines: &mut Lines, earlier: Earlier<'_>, sought: Sought) -> Option<(u64, Value)> {
     for record in Parts::new(Format::Recording, earlier.input) {
         if record.number >= earlier.before {
             break;
         }
-        if is_sought(lines, record, sought) {
-            return Some(record);
+        let message = read_value(lines, record.content)?;
+        if sought.is_met_by(&Head::of(record.side, &message)) {
+            return Some((record.number, message));
         }
     }
     None
 }
 
-/// Returns whether the message of a record matches.
-fn is_sought(lines: &mut Lines, record: Part<'_>, sought: Sought) -> bool {
-    match read_value(lines, record.content) {
-        Some(message) => sought.is_met_by(&Head::of(record.side, &message)),
-        None => false,
-    }
-}
+/// What may be sent before the response to `initialize`.
+const INITIALIZING: &str =
+    "before the response to initialize, only the adapter sends: responses and output events";
 
-/// Returns the other side.
-fn other(side: Option<Side>) -> Option<Side> {
-    match side {
-        Some(Side::Client) => Some(Side::Adapter),
-        Some(Side::Adapter) => Some(Side::Client),
-        None => None,
-    }
-}
+/// What to do if a session may have started again.
+const SPLIT: &str =
+    "if the recording has two sessions, split it; otherwise fix the program that sent it";
 
-/// Returns the meaning of a rule, in a sentence.
-fn meaning(rule: Rule) -> &'static str {
+/// What to do if a response is wrong.
+const FIX_SENDER: &str = "fix the program that sent the response";
+
+/// Returns the meaning of a rule, in a sentence, and what to do about a violation.
+fn meaning_and_advice(rule: Rule) -> (&'static str, &'static str) {
     match rule {
-        Rule::EventFromClient => "only the adapter sends events",
-        Rule::NotInitialized => {
-            "only output events may come before the client's initialize request"
-        }
-        Rule::StillInitializing => {
-            "before the response to initialize, only the adapter sends: responses and output events"
-        }
-        Rule::InitializeTwice => "a session has one initialize request",
+        Rule::EventFromClient => (
+            "only the adapter sends events",
+            "if > and < are exchanged in the input, fix the program that wrote it",
+        ),
+        Rule::NotInitialized => (
+            "only output events may come before the client's initialize request",
+            "start to record before the client connects",
+        ),
+        Rule::StillInitializing => (
+            INITIALIZING,
+            "let the sender wait for that response; a trace made from a log may have another order",
+        ),
+        Rule::InitializeTwice => ("a session has one initialize request", SPLIT),
         Rule::AfterDisconnect => {
-            "the client sends no request after a successful disconnect response"
+            (
+                "the client sends no request after a successful disconnect response",
+                SPLIT,
+            )
         }
-        Rule::SeqUsed => "each request of a side has a seq of its own",
-        Rule::ConfiguredEarly => "configurationDone comes after an initialized event",
-        Rule::ConfiguredTwice => "the client sends configurationDone once",
-        Rule::NoRequest => "a response answers an earlier request of the other side",
-        Rule::AnsweredTwice => "a request has one response",
-        Rule::OtherCommand => "a response has the command of its request",
-    }
-}
-
-/// Returns what to do about a violation of a rule.
-fn advice(rule: Rule) -> &'static str {
-    match rule {
-        Rule::EventFromClient => {
-            "if > and < are exchanged in the input, fix the program that wrote it"
-        }
-        Rule::NotInitialized => "start to record before the client connects",
-        Rule::StillInitializing => {
-            "let the sender wait for that response; a trace made from a log may have another order"
-        }
-        Rule::ConfiguredEarly => {
-            "let the client wait for that event; a trace made from a log may have another order"
-        }
-        Rule::InitializeTwice | Rule::AfterDisconnect | Rule::SeqUsed => {
-            "if the recording has two sessions, split it; otherwise fix the program that sent it"
-        }
-        Rule::ConfiguredTwice => "fix the client",
-        Rule::NoRequest => "let the recorder write each message before it passes it on",
-        Rule::AnsweredTwice | Rule::OtherCommand => "fix the program that sent the response",
+        Rule::SeqUsed => ("each request of a side has a seq of its own", SPLIT),
+        Rule::ConfiguredEarly => (
+            "configurationDone comes after an initialized event",
+            "let the client wait for that event; a trace made from a log may have another order",
+        ),
+        Rule::ConfiguredTwice => ("the client sends configurationDone once", "fix the client"),
+        Rule::NoRequest => (
+            "a response answers an earlier request of the other side",
+            "let the recorder write each message before it passes it on",
+        ),
+        Rule::AnsweredTwice => ("a request has one response", FIX_SENDER),
+        Rule::OtherCommand => ("a response has the command of its request", FIX_SENDER),
     }
 }
 
 /// Adds a line about the first matching message: what it is, and the number of its record.
-fn add_found(lines: &mut Lines, earlier: Earlier<'_>, sought: Sought, what: &str) {
-    if let Some(record) = find(lines, earlier, sought) {
-        lines.write(format_args!("{what} is record {}", record.number));
-    }
-}
-
-/// Adds a line about the earlier request of a side with this `seq`.
-fn add_request(lines: &mut Lines, earlier: Earlier<'_>, side: Option<Side>, seq: Option<i64>) {
-    if let (Some(side), Some(seq)) = (side, seq) {
-        match find(lines, earlier, Sought::Request(side, seq)) {
-            Some(record) => add_named(lines, record, side, seq),
-            None => lines.write(format_args!(
-                "the {side} sent no request with seq {seq} before it",
-            )),
+fn add_found(lines: &mut Lines, earlier: Earlier<'_>, sought: Sought) {
+    match (find(lines, earlier, sought), sought) {
+        (Some((number, message)), _) => {
+            add_sought(lines, sought, number, Head::of(None, &message).name)
         }
+        (None, Sought::Request(side, seq)) => lines.write(format_args!(
+            "the {side} sent no request with seq {seq} before it",
+        )),
+        _ => {}
     }
 }
 
-/// Adds the line about a request that was found.
-fn add_named(lines: &mut Lines, record: Part<'_>, side: Side, seq: i64) {
-    if let Some(message) = read_value(lines, record.content) {
-        lines.write(format_args!(
-            "the {side}'s request with seq {seq} is{}, in record {}",
-            Named(Head::of(record.side, &message).name),
-            record.number,
-        ));
-    }
-}
-
-/// Adds a line about the first response to the request that a response answers.
-fn add_response(lines: &mut Lines, earlier: Earlier<'_>, head: &Head<'_>) {
-    if let (Some(side), Some(seq)) = (head.side, head.request_seq) {
-        if let Some(record) = find(lines, earlier, Sought::Response(side, seq)) {
-            lines.write(format_args!("record {} is its first response", record.number));
+/// Adds the line about a message that was found in a record, with this name.
+fn add_sought(lines: &mut Lines, sought: Sought, record: u64, name: Option<&str>) {
+    match sought {
+        Sought::Request(side, seq) => lines.write(format_args!(
+            "the {side}'s request with seq {seq} is{}, in record {record}",
+            Named(name),
+        )),
+        Sought::Response(..) => lines.write(format_args!("record {record} is its first response")),
+        Sought::Command(name) => {
+            lines.write(format_args!("the client's {name} request is record {record}"))
         }
+        Sought::Farewell => lines.write(format_args!("that response is record {record}")),
     }
 }
 
 /// Adds the lines about the earlier messages that are relevant for a rule.
 fn add_earlier(lines: &mut Lines, earlier: Earlier<'_>, head: &Head<'_>, rule: Rule) {
-    match rule {
-        Rule::EventFromClient | Rule::NotInitialized | Rule::ConfiguredEarly => {}
-        Rule::StillInitializing | Rule::InitializeTwice => {
-            let what = "the client's initialize request";
-            add_found(lines, earlier, Sought::Command("initialize"), what);
+    match (rule, head.side, head.seq, head.request_seq) {
+        (Rule::StillInitializing | Rule::InitializeTwice, ..) => {
+            add_found(lines, earlier, Sought::Command("initialize"))
         }
-        Rule::ConfiguredTwice => {
-            let what = "the client's configurationDone request";
-            add_found(lines, earlier, Sought::Command("configurationDone"), what);
+        (Rule::ConfiguredTwice, ..) => {
+            add_found(lines, earlier, Sought::Command("configurationDone"))
         }
-        Rule::AfterDisconnect => add_found(lines, earlier, Sought::Farewell, "that response"),
-        Rule::SeqUsed => add_request(lines, earlier, head.side, head.seq),
-        Rule::NoRequest | Rule::OtherCommand => {
-            add_request(lines, earlier, other(head.side), head.request_seq)
+        (Rule::AfterDisconnect, ..) => add_found(lines, earlier, Sought::Farewell),
+        (Rule::SeqUsed, Some(side), Some(seq), _) => {
+            add_found(lines, earlier, Sought::Request(side, seq))
         }
-        Rule::AnsweredTwice => {
-            add_request(lines, earlier, other(head.side), head.request_seq);
-            add_response(lines, earlier, head);
+        (Rule::NoRequest | Rule::OtherCommand | Rule::AnsweredTwice, Some(side), _, Some(seq)) => {
+            add_found(lines, earlier, Sought::Request(other(side), seq));
+            if rule == Rule::AnsweredTwice {
+                add_found(lines, earlier, Sought::Response(side, seq));
+            }
         }
+        _ => {}
     }
 }
 
@@ -193,7 +177,8 @@ pub(crate) fn explain_rule(
         input,
         before: number,
     };
-    lines.add(meaning(rule));
+    let (meaning, advice) = meaning_and_advice(rule);
+    lines.add(meaning);
     add_earlier(lines, earlier, head, rule);
-    lines.add(advice(rule));
+    lines.add(advice);
 }

@@ -5,7 +5,7 @@ ghost use Rattle.dap_frame.specs.Limits.{IsSound};
 use crate::frame_faults::{BadFrame, FrameName, explain_frame};
 use crate::header::{KEEP_LINE_ENDS, count_of, first_line, split_piece};
 use crate::lines::Lines;
-use crate::records::{Format, Parts, add_likeness, bytes_from};
+use crate::records::{Format, Parts, add_likeness};
 use crate::words::Bytes;
 use dap_frame::{FrameFault, FrameLimits, Framer};
 use dap_recording::{RecorderFault, TraceCause, TraceReader};
@@ -15,19 +15,11 @@ use std::alloc::{AllocError, Global};
 /// Returns whether the first piece of the bytes is rejected for this reason.
 fn is_refused(bytes: &[u8], cause: TraceCause) -> bool {
     let mut reader = TraceReader::new();
-    match reader.feed(bytes) {
-        Err(fault) => fault.cause == cause,
-        Ok(_) => match reader.finish() {
-            Err(fault) => fault.cause == cause,
-            Ok(()) => false,
-        },
-    }
-}
-
-/// Adds the lines about a piece that starts incorrectly.
-fn add_bad_piece(lines: &mut Lines, number: u64, bytes: &[u8]) {
-    lines.write(format_args!("piece {number} begins {}", Bytes(bytes)));
-    lines.add("a piece begins with > or <, its length in decimal digits without leading 0, and LF");
+    let fault = match reader.feed(bytes) {
+        Err(fault) => Some(fault),
+        Ok(_) => reader.finish().err(),
+    };
+    matches!(fault, Some(fault) if fault.cause == cause)
 }
 
 /// Adds the lines about an incomplete piece.
@@ -48,28 +40,30 @@ fn add_cut(lines: &mut Lines, number: u64, bytes: &[u8]) {
     lines.add("the program that wrote the input may have been stopped early");
 }
 
-/// Explains that the bytes of a piece are not a piece of a trace.
-pub(crate) fn explain_piece(lines: &mut Lines, trace: &[u8], number: u64, cause: TraceCause) {
-    let Some(bytes) = bytes_from(Format::Trace, trace, number) else {
-        return;
-    };
-    if is_refused(bytes, cause) && (number != 1 || !add_likeness(lines, trace, Format::Trace)) {
-        add_cause(lines, number, bytes, cause);
-    }
-}
-
-/// Adds the lines about why a piece is rejected.
-fn add_cause(lines: &mut Lines, number: u64, bytes: &[u8], cause: TraceCause) {
-    if cause == TraceCause::Cut {
-        return add_cut(lines, number, bytes);
-    }
-    add_bad_piece(lines, number, bytes);
+/// Adds the lines about a piece that starts incorrectly.
+fn add_bad_piece(lines: &mut Lines, number: u64, bytes: &[u8], cause: TraceCause) {
+    lines.write(format_args!("piece {number} begins {}", Bytes(bytes)));
+    lines.add("a piece begins with > or <, its length in decimal digits without leading 0, and LF");
     if cause == TraceCause::BadMarker && number > 1 {
         lines.add("the length of the piece before it may be wrong: it counts bytes");
     }
     if cause == TraceCause::BadCount && first_line(bytes).ends_with(b"\r") {
         lines.add("line ends may have been converted");
         lines.add(KEEP_LINE_ENDS);
+    }
+}
+
+/// Explains that the bytes of a piece are not a piece of a trace.
+pub(crate) fn explain_piece(lines: &mut Lines, trace: &[u8], number: u64, cause: TraceCause) {
+    let Some(Parts { rest: bytes, .. }) = Parts::from_number(Format::Trace, trace, number) else {
+        return;
+    };
+    if !is_refused(bytes, cause) || (number == 1 && add_likeness(lines, trace, Format::Trace)) {
+        return;
+    }
+    match cause {
+        TraceCause::Cut => add_cut(lines, number, bytes),
+        _ => add_bad_piece(lines, number, bytes, cause),
     }
 }
 
@@ -95,30 +89,16 @@ impl LastFrame {
                     rest = &rest[fed.used..];
                 }
                 Err(FrameFault::Memory) => return Err(AllocError),
-                Ok(_) | Err(_) => return self.keep(rest),
+                Ok(_) | Err(_) => {
+                    let room = self.limit.saturating_sub(self.front.len());
+                    self.len = self.len.saturating_add(rest.len());
+                    return self
+                        .front
+                        .extend_from_slice(rest.get(..room).unwrap_or(rest));
+                }
             }
         }
         Ok(())
-    }
-
-    /// Stores bytes of the frame.
-    fn keep(&mut self, bytes: &[u8]) -> Result<(), AllocError> {
-        let room = self.limit.saturating_sub(self.front.len());
-        self.len = self.len.saturating_add(bytes.len());
-        self.front
-            .extend_from_slice(bytes.get(..room).unwrap_or(bytes))
-    }
-
-    /// Explains that the frame of this side is invalid or incomplete, if it is so for this reason.
-    fn explain(&self, lines: &mut Lines, side: Side, fault: FrameFault, limits: FrameLimits) {
-        let frame = BadFrame {
-            name: FrameName::Of(side),
-            front: self.front.as_slice(),
-            len: self.len,
-        };
-        if self.framer.finish() == Err(fault) {
-            explain_frame(lines, frame, fault, limits);
-        }
     }
 }
 
@@ -159,10 +139,19 @@ pub(crate) fn explain_recorder(
 )
     requires { IsSound limits }
 {
-    if let RecorderFault::Frame(side, fault) = fault {
-        match frame_in_piece(lines.alloc(), trace, number, side, limits) {
-            Ok(frame) => frame.explain(lines, side, fault, limits),
-            Err(_) => lines.fail(),
-        }
+    let RecorderFault::Frame(side, fault) = fault else {
+        return;
+    };
+    let last = frame_in_piece(lines.alloc(), trace, number, side, limits);
+    let Some(last) = lines.noted(last) else {
+        return;
+    };
+    if last.framer.finish() == Err(fault) {
+        let frame = BadFrame {
+            name: FrameName::Of(side),
+            front: last.front.as_slice(),
+            len: last.len,
+        };
+        explain_frame(lines, frame, fault, limits);
     }
 }

@@ -1,8 +1,7 @@
 //! Explains requests without a response.
-use crate::head::{Head, read_value};
+use crate::head::{Head, Named, read_value};
 use crate::lines::Lines;
 use crate::records::{Format, Part, Parts};
-use crate::words::Quoted;
 use dap_profile::Kind;
 use dap_tree::Side;
 use std::collections::BTreeSet;
@@ -18,12 +17,9 @@ fn note_message(lines: &mut Lines, answered: &mut Answered, record: Part<'_>) {
     let Some(message) = read_value(lines, record.content) else {
         return;
     };
-    let head = Head::of(record.side, &message);
-    if let Some(seq) = head.request_seq {
-        if answered
-            .insert((head.side == Some(Side::Adapter), seq))
-            .is_err()
-        {
+    if let Some(seq) = Head::of(record.side, &message).request_seq {
+        let added = answered.insert((record.side == Some(Side::Adapter), seq));
+        if added.is_err() {
             lines.fail();
         }
     }
@@ -31,43 +27,22 @@ fn note_message(lines: &mut Lines, answered: &mut Answered, record: Part<'_>) {
 
 /// Adds a line about the request of a record, if it has no response. Returns whether it did.
 fn add_unanswered(lines: &mut Lines, record: Part<'_>, answered: &Answered) -> bool {
-    match read_value(lines, record.content) {
-        Some(message) => {
-            let head = Head::of(record.side, &message);
-            add_if_unanswered(lines, record.number, &head, answered)
-        }
-        None => false,
-    }
-}
-
-/// Adds a line about a message, if it is a request without a response. Returns whether it did.
-fn add_if_unanswered(lines: &mut Lines, number: u64, head: &Head<'_>, answered: &Answered) -> bool {
-    let (Some(side), Some(seq), Some(name)) = (head.side, head.seq, head.name) else {
+    let Some(message) = read_value(lines, record.content) else {
         return false;
     };
-    let has_response = answered.contains(&(side == Side::Client, seq));
-    if head.kind != Some(Kind::Request) || has_response {
+    let head = Head::of(record.side, &message);
+    let (Some(Kind::Request), Some(side), Some(seq)) = (head.kind, head.side, head.seq) else {
         return false;
+    };
+    let is_open = !answered.contains(&(side == Side::Client, seq));
+    if is_open {
+        lines.write(format_args!(
+            "the {side}'s request{} with seq {seq}, in record {}, has no response",
+            Named(head.name),
+            record.number,
+        ));
     }
-    lines.write(format_args!(
-        "the {side}'s request {} with seq {seq}, in record {number}, has no response",
-        Quoted(name),
-    ));
-    true
-}
-
-/// Adds lines about the first five requests without a response. Returns the number of lines added.
-fn add_first(lines: &mut Lines, input: &[u8], answered: &Answered) -> usize {
-    let mut named = 0usize;
-    for record in Parts::new(Format::Recording, input) {
-        if named == NAMED {
-            break;
-        }
-        if add_unanswered(lines, record, answered) {
-            named = named.saturating_add(1);
-        }
-    }
-    named
+    is_open
 }
 
 /// Explains that `count` requests have no response, and names the first five of them.
@@ -76,7 +51,12 @@ pub(crate) fn explain_incomplete(lines: &mut Lines, input: &[u8], count: usize) 
     for record in Parts::new(Format::Recording, input) {
         note_message(lines, &mut answered, record);
     }
-    let named = add_first(lines, input, &answered);
+    let mut named = 0usize;
+    for record in Parts::new(Format::Recording, input) {
+        if named < NAMED && add_unanswered(lines, record, &answered) {
+            named = named.saturating_add(1);
+        }
+    }
     let more = count.saturating_sub(named);
     if named == NAMED && more > 0 {
         lines.write(format_args!("and {more} more"));

@@ -1,5 +1,6 @@
 //! Displays parts of an input, and paths into its messages, in the words of a line.
-use std::fmt;
+use crate::rules_line::is_plain_name;
+use std::fmt::{self, Display};
 
 /// The number of bytes that are shown at the position of an error.
 const SHOWN_BYTES: usize = 40;
@@ -48,7 +49,10 @@ pub(crate) struct Cut<'a>(pub(crate) &'a str);
 impl fmt::Display for Cut<'_> {
     fn fmt<W: fmt::Write>(&self, f: &mut fmt::Formatter<W>) -> fmt::Result {
         match self.0.char_indices().nth(SHOWN_CHARACTERS) {
-            Some((end, _)) => write!(f, "{}...", self.0.get(..end).unwrap_or(self.0)),
+            Some((end, _)) => {
+                f.write_str(self.0.get(..end).unwrap_or(self.0))?;
+                f.write_str("...")
+            }
             None => f.write_str(self.0),
         }
     }
@@ -60,17 +64,18 @@ fn write_escaped<W: fmt::Write>(
     character: char,
     is_byte: bool,
 ) -> fmt::Result {
-    match character {
-        '"' => f.write_str("\\\""),
-        '\\' => f.write_str("\\\\"),
-        '\n' => f.write_str("\\n"),
-        '\r' => f.write_str("\\r"),
-        '\t' => f.write_str("\\t"),
-        ' '..='~' => f.write_char(character),
-        _ if is_byte => write!(f, "\\x{:02x}", u32::from(character)),
-        '\0'..='\u{1f}' => write!(f, "\\u{:04x}", u32::from(character)),
-        _ => f.write_char(character),
-    }
+    let escape = match character {
+        '"' => "\\\"",
+        '\\' => "\\\\",
+        '\n' => "\\n",
+        '\r' => "\\r",
+        '\t' => "\\t",
+        ' '..='~' => return f.write_char(character),
+        _ if is_byte => return write!(f, "\\x{:02x}", u32::from(character)),
+        '\0'..='\u{1f}' => return write!(f, "\\u{:04x}", u32::from(character)),
+        _ => return f.write_char(character),
+    };
+    f.write_str(escape)
 }
 
 /// A step into a JSON value.
@@ -97,14 +102,28 @@ impl fmt::Display for Path<'_> {
             f.write_str(".")?;
         }
         for (index, step) in self.steps.iter().enumerate() {
-            match step {
-                Step::Member(name) if index == 0 => write!(f, "{}", Name(name))?,
-                Step::Member(name) => write!(f, ".{}", Name(name))?,
-                Step::Element(_) if self.is_rule => f.write_str("[]")?,
-                Step::Element(element) => write!(f, "[{element}]")?,
-            }
+            self.write_step(f, *step, index == 0)?;
         }
         Ok(())
+    }
+}
+
+impl Path<'_> {
+    /// Writes a step of the path.
+    fn write_step<W: fmt::Write>(
+        &self,
+        f: &mut fmt::Formatter<W>,
+        step: Step<'_>,
+        is_first: bool,
+    ) -> fmt::Result {
+        match step {
+            Step::Member(name) => {
+                f.write_str(if is_first { "" } else { "." })?;
+                Name(name).fmt(f)
+            }
+            Step::Element(_) if self.is_rule => f.write_str("[]"),
+            Step::Element(element) => write!(f, "[{element}]"),
+        }
     }
 }
 
@@ -114,17 +133,10 @@ pub(crate) struct Name<'a>(pub(crate) &'a str);
 
 impl fmt::Display for Name<'_> {
     fn fmt<W: fmt::Write>(&self, f: &mut fmt::Formatter<W>) -> fmt::Result {
-        if is_plain(self.0) {
+        if is_plain_name(self.0) {
             f.write_str(self.0)
         } else {
-            write!(f, "{}", Quoted(self.0))
+            Quoted(self.0).fmt(f)
         }
     }
-}
-
-/// Returns whether a name consists of one or more letters, digits, `_`, `-` and `$`.
-fn is_plain(name: &str) -> bool {
-    !name.is_empty()
-        && name.bytes().all(|byte| byte.is_ascii_alphanumeric()
-            || matches!(byte, b'_' | b'-' | b'$'))
 }
