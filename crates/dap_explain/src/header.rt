@@ -62,7 +62,7 @@ fn is_field(line: &[u8]) -> bool {
     }
 }
 
-/// Returns whether a byte may occur in the value of a field.
+/// Returns whether the value of a field may contain a byte.
 fn is_value_byte(byte: &u8) -> bool {
     matches!(*byte, b' '..=b'~' | b'\t')
 }

@@ -106,7 +106,8 @@ Flushes sink before after outcome given =
     ⊎ ((given ≡ Err WriteFault)
     × HasTakenNothing sink.out sink.unflushed sink.failures before after)
 
--- How a result is returned: at once if an allocation failed, otherwise after the writer was flushed.
+-- How a result is returned: at once if an allocation failed, otherwise after the writer was
+-- flushed.
 abbrev pub Answers : {W U : Type 0} → Sink W → W → W → Result U Refused → Result U Refused → Type 0
 Answers sink before after (Err Memory) given = (given ≡ Err Memory) × (after ≡ before)
 Answers sink before after outcome given = Flushes sink before after outcome given

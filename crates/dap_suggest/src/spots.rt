@@ -211,7 +211,8 @@ impl<'m> Spots<'m> {
         could_split
     }
 
-    /// Leaves out the candidate for elements by their name. Returns whether there are such.
+    /// Leaves out the candidate for elements by their name. Returns whether there are such
+    /// elements.
     fn exclude_part(&mut self, target: &[u8]) -> bool {
         for (_, spot) in self.by_target.iter_mut() {
             if spot.exclude_part(target) {

@@ -54,8 +54,8 @@ module _ {J R W E : Type 0} (opened : List ℕ → J → Type 0)
     (is_input_standard : Bool) (old new : R) (before after : W) (silent spoken : E) where
   -- The recording is masked, or put in order, by the rules of this file.
   abbrev pub IsReportedBy : J → J → ℕ → Ruled → Type 0
-  IsReportedBy old_rules new_rules status ruled.Mask = MaskIsReported rules_source source sink errors
-      limits old_rules new_rules old new before after silent spoken status
+  IsReportedBy old_rules new_rules status ruled.Mask = MaskIsReported rules_source source sink
+      errors limits old_rules new_rules old new before after silent spoken status
   IsReportedBy old_rules new_rules status ruled.Order = OrderIsReported rules_source source sink
       errors limits old_rules new_rules old new before after silent spoken status
 

@@ -11,8 +11,8 @@ use dap_runs::{
 };
 use std::alloc::Global;
 
-/// Compares what the rules of a file make of the recordings that two names lead to, under the limits
-/// of the program, and prints the verdict or the differences.
+/// Compares what the rules of a file make of the recordings that two names lead to, under the
+/// limits of the program, and prints the verdict or the differences.
 ///
 /// It prints and reports what [`run_compare`](crate::run_compare), [`run_diff`](crate::run_diff) or
 /// [`run_diff_all`](crate::run_diff_all) does, with the texts of [`texts_by_rules`] as its inputs.
@@ -46,7 +46,8 @@ pub fn compare_by_rules<
     // that of `b`. What is printed of them goes to `writer`, and what is wrong to `errors`.
     ensures { AreComparedByRules (F.opened files.now) (F.unopened files.now)
         (G.opened rules_files.now) (G.unopened rules_files.now) I.Source J.Source W.Sink E.Sink
-        LIMITS mode rules.now a.now b.now writer.old writer.new errors.old errors.new result printed }
+        LIMITS mode rules.now a.now b.now writer.old writer.new errors.old errors.new result
+        printed }
 {
     let texts = match texts_by_rules::<I, F, J, G, T, M>(
         alloc,

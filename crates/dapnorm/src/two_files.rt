@@ -10,14 +10,14 @@ use dap_rename::{Mode, NameTable, Tables};
 use dap_runs::{Files, LIMITS, TwoFilesRun, open_both, report_open_stop};
 use std::alloc::Global;
 
-/// Compares the recordings of the files that two names lead to, under the limits of the program, and
-/// prints the verdict or the differences.
+/// Compares the recordings of the files that two names lead to, under the limits of the program,
+/// and prints the verdict or the differences.
 ///
 /// It prints and reports what [`run_compare`](crate::run_compare), [`run_diff`](crate::run_diff) or
 /// [`run_diff_all`](crate::run_diff_all) does. An input that does not open is reported as one that
-/// could not be read, with status 4, or 5 if an allocation failed. Two inputs that are both standard
-/// input are a mistake of the user, with status 3. The tables have to be empty, each with the limit
-/// of ids.
+/// could not be read, with status 4, or 5 if an allocation failed. Two inputs that are both
+/// standard input are a mistake of the user, with status 3. The tables have to be empty, each with
+/// the limit of ids.
 pub fn compare_files<I: Source + Drop, F: Files<I>, W: Sink, E: Sink, T: NameTable + Drop>(
     alloc: Global,
     printed: Printed,

@@ -18,10 +18,10 @@ use std::alloc::Global;
 /// output to the device that another name leads to. Without a name for the input it reads standard
 /// input.
 ///
-/// It writes and reports what [`run_task`] does. A device that does not open is reported as one that
-/// could not be written, with status 4, or 5 if an allocation failed. So is an input that does not
-/// open, as one that could not be read. The input is opened first, then the device, and then the
-/// rules.
+/// It writes and reports what [`run_task`] does. A device that does not open is reported as one
+/// that could not be written, with status 4, or 5 if an allocation failed. So is an input that does
+/// not open, as one that could not be read. The input is opened first, then the device, and then
+/// the rules.
 pub fn write_run<
     I: Source + Drop,
     F: Files<I>,
