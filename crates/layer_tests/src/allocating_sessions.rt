@@ -225,25 +225,55 @@ fn has_content(alloc: Global, message: &Message, text: &str) -> bool {
     matches!(message.content(alloc), Ok(content) if content.as_str() == text)
 }
 
-/// Checks the renamed message while allocation `turn` fails. If it fails, the names must still be
-/// empty. Returns whether it failed.
-fn renames(rt: &impl Abort, alloc: Global, turn: u16) -> bool {
-    let mut names = Names::new(alloc, index_tables(alloc, 4), Mode::Whole);
-    let first = expected(rt, alloc, Side::Adapter, SCOPES);
-    let again = expected(rt, alloc, Side::Adapter, SCOPES);
-    refuse_growth(alloc, turn);
-    let mut outcome = renamed(&mut names, first);
-    let is_refused = was_refused(alloc);
-    if let Err(fault) = outcome {
-        assert!(rt; fault == NameFault::Memory);
-        was_wanted(rt, is_refused);
-        assert!(rt; are_empty(&names));
-        outcome = renamed(&mut names, again);
+/// Checks the renamed message. If an allocation failed, the names must still be empty, and the
+/// message is renamed again.
+fn has_renamed(
+    rt: &impl Abort,
+    alloc: Global,
+    names: &mut Names<IndexTable>,
+    outcome: &Result<Message, NameFault>,
+    is_refused: bool,
+) -> bool {
+    if let Ok(message) = outcome {
+        return has_content(alloc, message, RENAMED_SCOPES);
     }
-    let outcome = outcome.expect(rt, "not renamed");
-    assert!(rt; has_content(alloc, &outcome, RENAMED_SCOPES));
+    assert!(rt; matches!(outcome, Err(NameFault::Memory)));
+    was_wanted(rt, is_refused);
+    assert!(rt; are_empty(names));
+    let again = renamed(names, expected(rt, alloc, Side::Adapter, SCOPES));
+    matches!(&again, Ok(message) if has_content(alloc, message, RENAMED_SCOPES))
+}
+
+/// Renames a message while allocation `turn` fails. Returns the result, and whether it failed.
+fn renamed_at(
+    alloc: Global,
+    names: &mut Names<IndexTable>,
+    message: Message,
+    turn: u16,
+) -> (Result<Message, NameFault>, bool) {
+    refuse_growth(alloc, turn);
+    let outcome = renamed(names, message);
+    (outcome, was_refused(alloc))
+}
+
+/// Checks the renamed message while allocation `turn` fails. Returns whether it failed.
+fn renames_scopes(
+    rt: &impl Abort,
+    alloc: Global,
+    names: &mut Names<IndexTable>,
+    turn: u16,
+) -> bool {
+    let scopes = expected(rt, alloc, Side::Adapter, SCOPES);
+    let (outcome, is_refused) = renamed_at(alloc, names, scopes, turn);
+    assert!(rt; has_renamed(rt, alloc, names, &outcome, is_refused));
     assert!(rt; names.len(Sort::Reference) == 2);
     is_refused
+}
+
+/// Checks new names while allocation `turn` fails. Returns whether it failed.
+fn renames(rt: &impl Abort, alloc: Global, turn: u16) -> bool {
+    let mut names = Names::new(alloc, index_tables(alloc, 4), Mode::Whole);
+    renames_scopes(rt, alloc, &mut names, turn)
 }
 
 /// An event after which the numbering restarts.
@@ -256,26 +286,40 @@ fn have_counts(names: &Names<IndexTable>, stops: u64, references: usize) -> bool
     names.stops() == stops && names.len(Sort::Reference) == references
 }
 
-/// Checks that a stop is renamed while allocation `turn` fails. If it fails, the names must be
-/// unchanged. Returns whether it failed.
-fn begins_again(rt: &impl Abort, alloc: Global, turn: u16) -> bool {
-    let mut names = Names::new(alloc, index_tables(alloc, 4), Mode::PerStop);
-    let scopes = expected(rt, alloc, Side::Adapter, SCOPES);
-    assert!(rt; renamed(&mut names, scopes).is_ok());
-    let first = expected(rt, alloc, Side::Adapter, STOPPED);
-    let again = expected(rt, alloc, Side::Adapter, STOPPED);
-    refuse_growth(alloc, turn);
-    let outcome = renamed(&mut names, first);
-    let is_refused = was_refused(alloc);
-    if let Err(fault) = outcome {
-        assert!(rt; fault == NameFault::Memory);
-        was_wanted(rt, is_refused);
-        assert!(rt; have_counts(&names, 0, 2));
-        assert!(rt; renamed(&mut names, again).is_ok());
+/// Checks that a stop is renamed. If an allocation failed, the names must be unchanged, and the stop
+/// is renamed again.
+fn has_stopped(
+    rt: &impl Abort,
+    alloc: Global,
+    names: &mut Names<IndexTable>,
+    outcome: &Result<Message, NameFault>,
+    is_refused: bool,
+) -> bool {
+    if outcome.is_ok() {
+        return true;
     }
-    assert!(rt; have_counts(&names, 1, 0));
+    assert!(rt; matches!(outcome, Err(NameFault::Memory)));
+    was_wanted(rt, is_refused);
+    assert!(rt; have_counts(names, 0, 2));
+    renamed(names, expected(rt, alloc, Side::Adapter, STOPPED)).is_ok()
+}
+
+/// Checks that a stop is renamed while allocation `turn` fails. Returns whether it failed.
+fn renames_stop(rt: &impl Abort, alloc: Global, names: &mut Names<IndexTable>, turn: u16) -> bool {
+    let scopes = expected(rt, alloc, Side::Adapter, SCOPES);
+    assert!(rt; renamed(names, scopes).is_ok());
+    let stopped = expected(rt, alloc, Side::Adapter, STOPPED);
+    let (outcome, is_refused) = renamed_at(alloc, names, stopped, turn);
+    assert!(rt; has_stopped(rt, alloc, names, &outcome, is_refused));
+    assert!(rt; have_counts(names, 1, 0));
     assert!(rt; names.len_at(Sort::Reference, 0) == 2);
     is_refused
+}
+
+/// Checks that the numbering restarts while allocation `turn` fails. Returns whether it failed.
+fn begins_again(rt: &impl Abort, alloc: Global, turn: u16) -> bool {
+    let mut names = Names::new(alloc, index_tables(alloc, 4), Mode::PerStop);
+    renames_stop(rt, alloc, &mut names, turn)
 }
 
 /// Makes allocation `turn` of each call on a session fail. Returns whether one of them failed.
