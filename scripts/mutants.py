@@ -1,8 +1,8 @@
 """Tries the wrong bodies of crates, those of must-fail/ and those of mutants/: the prover must refuse each.
 
-Many are tried in one check, at most one for each function, over what `make` kept. One that is refused only through a function
-that it calls, or not seen, is tried alone, as `rt must-fail` does. The last line is 'N passed, M failed'. The record of what
-passed is crates/mutants.json; --table prints it and proves nothing."""
+Many are tried in one check, at most one for each function, over what `make` kept. The check proves only the functions that they
+change. An edit that it does not refuse for a reason of its own is tried alone, as `rt must-fail` does. The last line is
+'N passed, M failed'. The record of what passed is crates/mutants.json; --table prints it and proves nothing."""
 import argparse
 import contextlib
 import os
@@ -11,16 +11,18 @@ import sys
 import threading
 import time
 from concurrent.futures import FIRST_COMPLETED, ThreadPoolExecutor, wait
-from typing import Callable, Dict, Iterator, List, NamedTuple
+from typing import Callable, Dict, Iterator, List, NamedTuple, Optional
 
 import kit
 import mutation_record
 from mutation_record import TIERS
-from mutation_rounds import Edit, Output, Verdict, in_rounds, is_readable, joined, judged, read_edits, tried_alone
+from mutation_rounds import Edit, Output, Verdict, in_rounds, is_readable, joined, judged, only, read_edits, tried_alone
 from mutation_scratch import Interrupted, Scratch
 
 TOP = os.path.dirname(os.path.dirname(os.path.abspath(__file__)))
 JOBS = ["--jobs", "1"]
+# The status of a check that was asked for a function that it does not find.
+NOT_FOUND = 2
 
 
 class Task(NamedTuple):
@@ -103,26 +105,39 @@ class CrateRun:
     def round(self, edits: List[Edit]) -> List[Task]:
         """Tries several edits in one check, and gives the checks of those that it does not decide."""
         texts = joined(self.scratch.rt, self.crate, edits)
-        if texts is not None:
-            with self.scratch.over(self.name) as kept:
-                ran = self.scratch.check(self.crate, texts, JOBS, kept)
-            output = Output(ran.stdout)
-            if is_readable(self.scratch.rt, ran, texts) and (len(edits) == 1 or not output.strays(edits)):
-                return self.read_round(edits, output)
+        output = None if texts is None else self.output(edits, texts)
+        if output is not None:
+            return self.read_round(edits, output)
         if len(edits) == 1:
             return [self.task(lambda: self.alone(edits[0]))]
         half = len(edits) // 2
         return [self.task(lambda it=it: self.round(it)) for it in (edits[:half], edits[half:])]
 
+    def output(self, edits: List[Edit], texts: Dict[str, str]) -> Optional[Output]:
+        """Returns what a check of these edits printed, or None if it says nothing for certain.
+
+        Only the functions that the edits change are checked. The whole crate is, if the prover does not find one of them."""
+        for flags in ([*JOBS, *only(edits)], JOBS):
+            with self.scratch.over(self.name) as kept:
+                ran = self.scratch.check(self.crate, texts, flags, kept)
+            if ran.returncode != NOT_FOUND:
+                break
+        output = Output(ran.stdout)
+        is_certain = is_readable(self.scratch.rt, ran, texts) and (len(edits) == 1 or not output.strays(edits))
+        return output if is_certain else None
+
     def read_round(self, edits: List[Edit], output: Output) -> List[Task]:
-        undecided = []
-        for edit in edits:
-            verdict = judged(edit, output)
-            if verdict is None:
-                undecided.append(self.task(lambda it=edit: self.alone(it)))
-            else:
-                self.report.add(verdict)
-        return undecided
+        """Reports the edits that a round refuses, and gives the checks of the others.
+
+        A caller of a function that is refused may not have been tried, so the others are tried again without those that are refused.
+        If none is, each is tried alone."""
+        verdicts = [judged(edit, output) for edit in edits]
+        for verdict in filter(None, verdicts):
+            self.report.add(verdict)
+        undecided = [edit for edit, verdict in zip(edits, verdicts) if verdict is None]
+        if 0 < len(undecided) < len(edits):
+            return [self.task(lambda: self.round(undecided))]
+        return [self.task(lambda it=it: self.alone(it)) for it in undecided]
 
     def alone(self, edit: Edit) -> List[Task]:
         with self.scratch.over(self.name) as kept:

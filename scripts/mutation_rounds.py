@@ -100,6 +100,11 @@ def joined(rt, crate, edits: List[Edit]) -> Optional[Dict[str, str]]:
     return texts
 
 
+def only(edits: List[Edit]) -> List[str]:
+    """Returns the words by which a check proves only the functions that these edits change, and those that they call."""
+    return [word for edit in edits for it in edit.functions for word in ("--only", it.path())]
+
+
 class Output:
     """What a check printed of each function, with the lines that belong to it."""
 
@@ -166,7 +171,7 @@ class Output:
 def is_readable(rt, ran, texts: Dict[str, str]) -> bool:
     """Returns whether a check reached its verdict, with every text read."""
     lines = ran.stdout.rstrip("\n").split("\n")
-    has_verdict = ran.returncode in (0, 1) and lines[-1].startswith("logic=")
+    has_verdict = ran.returncode in (0, 1) and lines[-1].startswith(("logic=", "only="))
     return has_verdict and not rt.rtlib.STALE.search(ran.stdout) and not any(rt.unread(it, texts) for it in lines)
 
 

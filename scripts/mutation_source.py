@@ -36,6 +36,13 @@ class Function(NamedTuple):
         exact = f"{own}{self.trait}{self.arguments}::{self.name}"
         return exact if self.trait and exact in found else found[0] if len(found) == 1 else None
 
+    def path(self) -> str:
+        """Returns the path below the crate by which a check can be asked for this function.
+
+        A check does not find a method at a type that its impl fixes, nor one whose impl is in another module than its type."""
+        own = "::".join(it for it in (self.module, self.owner) if it)
+        return f"{own}{self.trait}{self.arguments}::{self.name}" if own else self.name
+
     def unit(self) -> str:
         """Returns what is proved as one: the function, or the whole cycle of calls that it is a member of."""
         return "::".join([self.module, self.owner + self.trait + self.arguments, "+" + self.cycle if self.cycle else self.name])

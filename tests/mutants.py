@@ -94,6 +94,9 @@ EDITS = {
     "mutants/weak": ("a / 2", "a / 3"),
     "mutants/wrong_second": ("let copy = a;", "let copy = a / 5;"),
 }
+# the functions for which the checks of a whole run ask: `weak` is not found, an edit of `second` is not read, and a caller of a function
+# that is refused is tried again without it
+ASKED = [["first"], ["first"], ["first", "second"], ["first", "second", "weak"], ["second"], ["second", "weak"], ["weak"]]
 REAL = ["must-fail/wrong_first", "mutants/wrong_second"]
 LINES = """\
 tiny/calls_first (mutants): refused, tried alone: note: src/lib.rt:1:1: a note
@@ -162,6 +165,10 @@ def of_sources(report, rattle):
     report.check("the path of a method whose type is elsewhere", of_type.printed("low", other) == other[0])
     report.check("two methods of a name", of_type.printed("low", paths + fixed) is None)
     report.check("no path", odd.printed("low", paths) is None)
+    asked = [it.path() for it, _ in found.bodies]
+    wanted = ["shapes::Pairs::of", "shapes::PairsFromAllocError::from"]
+    wanted += ["shapes::inner::Sized::twice", "shapes::inner::odd", "shapes::inner::even"]
+    report.check("the paths that a check is asked for", asked == wanted, repr(asked))
 
 
 def of_outputs(report):
@@ -211,12 +218,15 @@ def repository(folder, names):
 
 
 class Recorded(mutation_scratch.Scratch):
-    """A scratch copy whose prover is a table: it refuses what the edits' names say."""
+    """A scratch copy whose prover is a table: it refuses what the edits' names say. It does not find the function `weak` by its name."""
 
-    checks = 0
+    asked: list = []
 
     def check(self, crate, texts, flags, kept):
-        Recorded.checks += 1
+        asked = [word for flag, word in zip(flags, flags[1:]) if flag == "--only"]
+        Recorded.asked.append(sorted(asked))
+        if "weak" in asked:
+            return subprocess.CompletedProcess([], 2, "rattle: `--only weak` fits no function\n")
         text = texts.get("src/lib.rt", SOURCE)
         if "unread" in text:
             return subprocess.CompletedProcess([], 1, "src/lib.rt:15:5: error: no `unread`\nlogic=not-proved\n")
@@ -231,7 +241,8 @@ class Recorded(mutation_scratch.Scratch):
             lines += ["note: src/lib.rt:8:5: it is not proved that what the function ensures holds"] * ("expected" in verdict)
             lines.append(f"fn tiny::{name}: {verdict}")
         is_proved = all(it == "proved" for it in said.values())
-        lines.append("logic=proved functions=3" if is_proved else "logic=not-proved")
+        last = f"only={len(asked)} proved={sum(said[it] == 'proved' for it in asked)}" if asked else "logic="
+        lines.append(last if asked else last + ("proved functions=3" if is_proved else "not-proved"))
         return subprocess.CompletedProcess([], 0 if is_proved else 1, "\n".join(lines) + "\n")
 
 
@@ -254,6 +265,10 @@ def of_a_run(report):
             report.check("a verdict", line.startswith(wanted), f"{line!r} and not {wanted!r}")
         report.check("verdicts", len(verdicts) == len(LINES), str(len(verdicts)))
         report.check("no record of a crate that failed", mutation_record.read(folder) == {})
+        rounds = sorted(it for it in Recorded.asked if it)
+        report.check("the functions that are asked for", rounds == ASKED, repr(rounds))
+        # the crate without edits, a check for each of the three rounds with `weak`, and four of edits alone
+        report.check("checks of the whole crate", Recorded.asked.count([]) == 8, repr(Recorded.asked))
 
 
 def of_a_real_run(report):
