@@ -8,6 +8,8 @@ from typing import Callable, Dict, List
 
 # A prover gains little from more jobs, and each costs more time of a processor.
 MOST_JOBS = 4
+# If so few tasks are left for each processor, fewer tasks than processors will soon run. Therefore each gets two jobs.
+LAST_TASKS = 2
 
 
 @dataclasses.dataclass(frozen=True)
@@ -51,15 +53,17 @@ class SideBySide:
         self.running: Dict[Future, tuple] = {}
 
     def start(self, pool: ThreadPoolExecutor) -> None:
-        """Starts the tasks that can start now, while there are idle processors."""
+        """Starts the tasks that can start now, while there are idle processors. The last tasks may share processors."""
         ready = [task for task in self.left if self.done.issuperset(task.waits_for)]
+        are_last = len(self.left) + len(self.running) <= LAST_TASKS * self.processors
         for at, task in enumerate(ready):
             idle = self.processors - sum(jobs for _, jobs in self.running.values())
-            if idle <= 0:
+            if idle <= 0 and not (are_last and len(self.running) < self.processors):
                 return
             others = [it for it in self.left if it is not task] + [it for it, _ in self.running.values()]
             leads = all(self.longest[task.name] >= self.longest[it.name] for it in others)
-            jobs = min(jobs_for(leads, idle, len(ready) - at, self.processors), task.most_jobs)
+            jobs = max(jobs_for(leads, idle, len(ready) - at, self.processors), 2 if are_last else 1)
+            jobs = min(jobs, task.most_jobs)
             self.left.remove(task)
             self.running[pool.submit(task.run, jobs)] = task, jobs
 
