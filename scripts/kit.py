@@ -75,6 +75,11 @@ def keep_stamps(crate: type) -> None:
     crate.stamp = stamp
 
 
+def jobs_in_memory(rt: ModuleType) -> int:
+    """Returns how many jobs of provers fit into memory, at least one."""
+    return max(1, int(rt.free() // MEMORY_OF_JOB))
+
+
 def processors(rt: ModuleType) -> int:
     """Returns how many provers can run side by side: the processors, or fewer if there is little memory."""
-    return max(1, min(rt.processors(), int(rt.free() // MEMORY_OF_JOB)))
+    return min(rt.processors(), jobs_in_memory(rt))

@@ -79,7 +79,7 @@ class Room:
 
     def work(self, tasks: List[Task]) -> bool:
         """Does the tasks side by side, and returns whether all succeeded."""
-        return SideBySide(tasks, kit.processors(self.rt)).run()
+        return SideBySide(tasks, kit.processors(self.rt), kit.jobs_in_memory(self.rt)).run()
 
 
 @contextlib.contextmanager

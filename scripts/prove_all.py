@@ -84,7 +84,7 @@ def libraries(rt: ModuleType, reports: Reports) -> bool:
 
     with locked(rt.rtlib, crates):
         tasks = [task(crate, built(crate)) for crate in crates if not crate.is_program]
-        return SideBySide(tasks, kit.processors(rt)).run()
+        return SideBySide(tasks, kit.processors(rt), kit.jobs_in_memory(rt)).run()
 
 
 def program(rt: ModuleType, reports: Reports) -> bool:

@@ -43,26 +43,27 @@ def jobs_for(leads: bool, idle: int, ready: int, processors: int) -> int:
 
 
 class SideBySide:
-    """A run of tasks on some processors. It starts no task after one has failed."""
+    """A run of tasks on some processors. At most `in_memory` jobs fit into memory. It starts no task after one has failed."""
 
-    def __init__(self, tasks: List[Task], processors: int) -> None:
-        self.left, self.processors = list(tasks), processors
+    def __init__(self, tasks: List[Task], processors: int, in_memory: int) -> None:
+        self.left, self.processors, self.in_memory = list(tasks), processors, in_memory
         self.longest = chains(tasks)
         self.left.sort(key=lambda task: -self.longest[task.name])
         self.done: set = set()
         self.running: Dict[Future, tuple] = {}
 
     def start(self, pool: ThreadPoolExecutor) -> None:
-        """Starts the tasks that can start now, while there are idle processors. The last tasks may share processors."""
+        """Starts the tasks that can start now, while there are idle processors. The last tasks share processors, if memory allows."""
         ready = [task for task in self.left if self.done.issuperset(task.waits_for)]
-        are_last = len(self.left) + len(self.running) <= LAST_TASKS * self.processors
+        has_memory = self.in_memory >= 2 * self.processors
+        may_share = has_memory and len(self.left) + len(self.running) <= LAST_TASKS * self.processors
         for at, task in enumerate(ready):
             idle = self.processors - sum(jobs for _, jobs in self.running.values())
-            if idle <= 0 and not (are_last and len(self.running) < self.processors):
+            if idle <= 0 and not (may_share and len(self.running) < self.processors):
                 return
             others = [it for it in self.left if it is not task] + [it for it, _ in self.running.values()]
             leads = all(self.longest[task.name] >= self.longest[it.name] for it in others)
-            jobs = max(jobs_for(leads, idle, len(ready) - at, self.processors), 2 if are_last else 1)
+            jobs = max(jobs_for(leads, idle, len(ready) - at, self.processors), 2 if may_share else 1)
             jobs = min(jobs, task.most_jobs)
             self.left.remove(task)
             self.running[pool.submit(task.run, jobs)] = task, jobs

@@ -171,18 +171,22 @@ def order(report):
         return side_by_side.Task(name, waits_for, work, lambda jobs: begun.append((name, jobs)) or works)
 
     chain = [task("low", [], 5), task("beside", [], 1), task("high", ["low"], 9), task("top", ["beside", "high"], 1)]
-    report.check("all tasks end well", side_by_side.SideBySide(chain, 4).run())
+    report.check("all tasks end well", side_by_side.SideBySide(chain, 4, 8).run())
     report.check("the chain is in order", [name for name, _ in begun if name != "beside"] == ["low", "high", "top"], repr(begun))
     report.check("the chain has more jobs", dict(begun)["low"] == 3 and dict(begun)["beside"] == 2 and dict(begun)["top"] == 4, repr(begun))
     begun.clear()
     many = [task(str(number), [], 20 - number) for number in range(12)]
-    report.check("many tasks end well", side_by_side.SideBySide(many, 4).run())
+    report.check("many tasks end well", side_by_side.SideBySide(many, 4, 8).run())
     jobs = [dict(begun)[str(number)] for number in range(12)]
     report.check("while many are left, only the longest has two jobs", jobs[:3] == [2, 1, 1], repr(begun))
     report.check("the last have two jobs each", min(jobs[-4:]) >= 2, repr(begun))
     begun.clear()
+    pair = [task("low", [], 5), task("beside", [], 1)]
+    report.check("tasks with little memory end well", side_by_side.SideBySide(pair, 2, 2).run())
+    report.check("in little memory each has one job", dict(begun) == {"low": 1, "beside": 1}, repr(begun))
+    begun.clear()
     chain[2] = task("high", ["low"], 9, works=False)
-    report.check("a failure is reported", not side_by_side.SideBySide(chain, 1).run())
+    report.check("a failure is reported", not side_by_side.SideBySide(chain, 1, 1).run())
     report.check("nothing starts after it", [name for name, _ in begun] in (["low", "high"], ["low", "beside", "high"]), repr(begun))
 
 
