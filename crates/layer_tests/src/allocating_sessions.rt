@@ -286,8 +286,8 @@ fn have_counts(names: &Names<IndexTable>, stops: u64, references: usize) -> bool
     names.stops() == stops && names.len(Sort::Reference) == references
 }
 
-/// Checks that a stop is renamed. If an allocation failed, the names must be unchanged, and the stop
-/// is renamed again.
+/// Checks that a stop is renamed. If an allocation failed, the names must be unchanged, and the
+/// stop is renamed again.
 fn has_stopped(
     rt: &impl Abort,
     alloc: Global,
