@@ -1,2 +1,1 @@
 pub mod LineTexts
-pub mod NotRejected

@@ -50,6 +50,33 @@ fn explain_value(
     }
 }
 
+/// Explains the rejection of the content of a record.
+fn explain_content(
+    lines: &mut Lines,
+    input: &[u8],
+    number: u64,
+    refused: Refused,
+    rules: &[MaskRule],
+    limits: Limits,
+) {
+    let Some(record) = record_numbered(input, number) else {
+        return;
+    };
+    if let Refused::Json(_) = refused {
+        explain_json(lines, record);
+    } else if let Some(message) = read_value(lines, record.content) {
+        explain_value(lines, input, record, &message, refused, rules, limits);
+    }
+}
+
+/// Adds the line about an input that is too long.
+fn add_too_long(lines: &mut Lines, limits: Limits) {
+    lines.write(format_args!(
+        "the limit of an input is {} bytes: record shorter sessions",
+        limits.input,
+    ));
+}
+
 /// Adds the lines about a rejection.
 fn add_refusal(
     lines: &mut Lines,
@@ -62,10 +89,7 @@ fn add_refusal(
     ensures { IsFailure refused → lines.new ≡ lines.old }
 {
     match refused {
-        Refused::InputTooLong(_) | Refused::TraceTooLong(_) => lines.write(format_args!(
-            "the limit of an input is {} bytes: record shorter sessions",
-            limits.input,
-        )),
+        Refused::InputTooLong(_) | Refused::TraceTooLong(_) => add_too_long(lines, limits),
         Refused::Record(number, cause) => {
             explain_record(lines, input, number, cause, limits.frame)
         }
@@ -81,16 +105,7 @@ fn add_refusal(
         | Refused::Message(number, _)
         | Refused::Rule(number, _)
         | Refused::TooManyIds(number)
-        | Refused::Grew(number) => {
-            let Some(record) = record_numbered(input, number) else {
-                return;
-            };
-            if let Refused::Json(_) = refused {
-                explain_json(lines, record);
-            } else if let Some(message) = read_value(lines, record.content) {
-                explain_value(lines, input, record, &message, refused, rules, limits);
-            }
-        }
+        | Refused::Grew(number) => { explain_content(lines, input, number, refused, rules, limits) }
         Refused::ReadFault | Refused::WriteFault | Refused::Memory => {}
     }
 }

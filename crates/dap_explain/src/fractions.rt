@@ -142,20 +142,31 @@ fn fault_of(text: &str) -> &'static str {
     }
 }
 
+/// Moves a path past a value. In an array, the next element follows.
+fn pass_value(path: &mut Vec<Step<'_>>) {
+    if let Some(Step::Element(index)) = path.last_mut() {
+        *index = index.saturating_add(1);
+    }
+}
+
+/// Moves a path to the member of the innermost object with this name.
+fn enter_member<'t>(path: &mut Vec<Step<'t>>, name: &'t str) {
+    if let Some(step) = path.last_mut() {
+        *step = Step::Member(name);
+    }
+}
+
 /// Moves a path past a token.
 fn take<'t>(path: &mut Vec<Step<'t>>, token: Token<'t>) -> Result<(), AllocError> {
     match token {
         Token::BeginObject => return Ok(path.push(Step::Member(""))?),
         Token::BeginArray => return Ok(path.push(Step::Element(0))?),
+        Token::Key(name) => enter_member(path, name),
         Token::EndObject | Token::EndArray => {
             path.pop();
+            pass_value(path);
         }
-        _ => {}
-    }
-    match (path.last_mut(), token) {
-        (Some(step), Token::Key(name)) => *step = Step::Member(name),
-        (Some(Step::Element(index)), _) => *index = index.saturating_add(1),
-        _ => {}
+        _ => pass_value(path),
     }
     Ok(())
 }

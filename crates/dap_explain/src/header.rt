@@ -32,10 +32,8 @@ pub(crate) fn split_frame(bytes: &[u8]) -> Option<(&[u8], &[u8])> {
 /// it. The piece may be incomplete.
 pub(crate) fn split_piece(bytes: &[u8]) -> Option<(&[u8], &[u8])> {
     let len = count_of(bytes)? as usize;
-    let rest = bytes
-        .get(first_line(bytes).len().saturating_add(1)..)
-        .unwrap_or(&[]);
-    Some(rest.split_at_checked(len).unwrap_or((rest, &[])))
+    let rest = after_first_line(bytes);
+    Some(rest.split_at(len.min(rest.len())))
 }
 
 /// Returns the first line of a header part that is not a field line, without its LF.
@@ -146,6 +144,12 @@ fn number_of(digits: &[u8]) -> Option<u64> {
 /// Returns whether a byte ends a line.
 pub(crate) fn is_lf(byte: &u8) -> bool {
     *byte == b'\n'
+}
+
+/// Returns the bytes after the first LF. There are none if there is no LF.
+fn after_first_line(bytes: &[u8]) -> &[u8] {
+    let after = first_line(bytes).len().saturating_add(1);
+    bytes.get(after..).unwrap_or(&[])
 }
 
 /// Returns the bytes before the first LF, or all bytes if there is no LF.

@@ -43,17 +43,20 @@ impl<'t> Shown<'t> {
     /// Updates the information for a token.
     fn note(&mut self, token: Token<'t>) {
         match token {
-            Token::BeginObject | Token::BeginArray => {
-                self.depth = self.depth.saturating_add(1);
-                if self.depth > MAX_DEPTH && self.fault.is_none() {
-                    self.fault = Some(TokenFault::Depth);
-                }
-            }
+            Token::BeginObject | Token::BeginArray => self.enter(),
             Token::EndObject | Token::EndArray => self.depth = self.depth.saturating_sub(1),
             Token::Key(name) if self.depth == 1 => self.member = name,
             Token::String(text) if self.depth == 1 => self.note_text(text),
             Token::Number(text) => self.note_number(text),
             _ => {}
+        }
+    }
+
+    /// Updates the information for the start of an array or an object.
+    fn enter(&mut self) {
+        self.depth = self.depth.saturating_add(1);
+        if self.depth > MAX_DEPTH && self.fault.is_none() {
+            self.fault = Some(TokenFault::Depth);
         }
     }
 
@@ -72,8 +75,7 @@ impl<'t> Shown<'t> {
         if self.depth == 1 && self.member == "request_seq" {
             self.request_seq = text.parse::<i64>().ok();
         }
-        let is_past_floats = matches!(text.parse::<f64>(), Ok(number) if number.is_infinite());
-        if is_past_floats && self.fault.is_none() {
+        if self.fault.is_none() && is_past_floats(text) {
             self.fault = Some(TokenFault::Number(text));
         }
     }
@@ -94,6 +96,14 @@ impl<'t> Shown<'t> {
             request_seq,
             is_success: false,
         })
+    }
+}
+
+/// Returns whether the absolute value of a number exceeds the largest 64-bit float.
+fn is_past_floats(text: &str) -> bool {
+    match text.parse::<f64>() {
+        Ok(number) => number.is_infinite(),
+        Err(_) => false,
     }
 }
 

@@ -4,8 +4,7 @@
 //! the rejected input again and returns the lines that may follow: which message the record
 //! contains, which value is at the position of the error, what is expected there, and what to do.
 //! [`explain_rules`] does the same for a file of rules, and [`explain_unreadable`] for a file that
-//! cannot be read. Each function that is named after a command does the work again on the bytes that
-//! the command read, finds the error and explains it. Its result is empty if nothing is rejected.
+//! cannot be read. `dap_explain_commands` first does the work of a command again to find the error.
 //!
 //! # What is proved
 //!
@@ -21,7 +20,6 @@
 //! explanation for each kind of rejection, except for the limits that only huge inputs reach.
 #![tactic(auto)]
 
-mod commands;
 mod explaining;
 mod fractions;
 mod frame_faults;
@@ -39,9 +37,5 @@ mod trace_faults;
 mod unanswered;
 mod words;
 
-pub use commands::{
-    explain_applying, explain_comparison, explain_golden, explain_job, explain_mask, explain_order,
-    explain_view,
-};
 pub use explaining::{explain, explain_masked, explain_unreadable};
 pub use rules_file::explain_rules;

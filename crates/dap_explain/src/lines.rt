@@ -3,6 +3,7 @@ ghost use Rattle.std.specs.Prelude.{◌≡◌, ◌≢◌, ◌<◌, ◌≤◌, tr
 ghost use Rattle.std.specs.Prelude.{string_bytes};
 ghost use Rattle.dap_explain.specs.Lines.{AreLines, IsPrinted};
 
+use crate::words::first_characters;
 use serde_json::Value;
 use std::alloc::{AllocError, Global};
 use std::fmt::Display;
@@ -107,13 +108,13 @@ impl Lines {
 fn printed(alloc: Global, text: &str) -> Result<String, AllocError>
     ensures { IfOk result (λ words. All IsPrinted (string_bytes words)) }
 {
+    let shown = first_characters(text, LONGEST);
     let mut words = String::new(alloc);
-    for (count, character) in text.chars().enumerate() {
-        if count == LONGEST {
-            words.push_str("...")?;
-            break;
-        }
+    for character in shown.chars() {
         push_printed(&mut words, character)?;
+    }
+    if shown.len() < text.len() {
+        words.push_str("...")?;
     }
     Ok(words)
 }

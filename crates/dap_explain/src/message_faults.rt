@@ -134,17 +134,26 @@ fn fault_of_list<'m>(
         return None;
     };
     for (index, element) in elements.iter().enumerate() {
-        let value = match (name, element) {
-            (None, _) => Some(element),
-            (Some(name), Value::Object(members)) => members.get(name),
-            _ => continue,
-        };
-        let fault = fault_at(row, index, value);
+        let fault = fault_of_element(row, index, element, name);
         if fault.is_some() {
             return fault;
         }
     }
     None
+}
+
+/// Returns the violation by an element of an array, or by its member with this name.
+fn fault_of_element<'m>(
+    row: &Row,
+    index: usize,
+    element: &'m Value,
+    name: Option<&str>,
+) -> Option<RowFault<'m>> {
+    match (name, element) {
+        (None, _) => fault_at(row, index, Some(element)),
+        (Some(name), Value::Object(members)) => fault_at(row, index, members.get(name)),
+        _ => None,
+    }
 }
 
 /// Returns the path of a row of the profile, with the index of the array element, in the notation

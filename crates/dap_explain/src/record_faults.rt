@@ -1,4 +1,5 @@
 //! Explains bytes that are not a record.
+ghost use Rattle.std.specs.Prelude.{◌≤◌, IfOk, length};
 ghost use Rattle.dap_frame.specs.Limits.{IsSound};
 
 use crate::frame_faults::{BadFrame, FrameName, explain_frame};
@@ -40,17 +41,34 @@ impl<'a> BadRecord<'a> {
         let Some((_, frame)) = self.format.split_marker(self.bytes) else {
             return Some(RecordCause::BadMarker);
         };
-        let used = match Framer::new(alloc, limits).feed(frame) {
-            Ok(fed) if fed.content.is_some() => fed.used,
-            Ok(_) => return Some(RecordCause::Cut),
-            Err(FrameFault::Memory) => return Some(RecordCause::Memory),
-            Err(fault) => return Some(RecordCause::Frame(fault)),
+        let used = match frame_len(alloc, frame, limits) {
+            Ok(used) => used,
+            Err(cause) => return Some(cause),
         };
         match (self.format, &frame[used..]) {
             (Format::Recording, []) => Some(RecordCause::Cut),
             (Format::Recording, [first, ..]) if *first != b'\n' => Some(RecordCause::NoLineEnd),
             _ => None,
         }
+    }
+}
+
+/// Returns the number of bytes of the frame at the start of the bytes.
+///
+/// # Errors
+///
+/// - `Cut`: the frame is incomplete.
+/// - `Frame`: the bytes do not start with a frame.
+/// - `Memory`: an allocation failed.
+fn frame_len(alloc: Global, bytes: &[u8], limits: FrameLimits) -> Result<usize, RecordCause>
+    requires { IsSound limits }
+    ensures { IfOk result (λ len. len ≤ length bytes.now) }
+{
+    match Framer::new(alloc, limits).feed(bytes) {
+        Ok(fed) if fed.content.is_some() => Ok(fed.used),
+        Ok(_) => Err(RecordCause::Cut),
+        Err(FrameFault::Memory) => Err(RecordCause::Memory),
+        Err(fault) => Err(RecordCause::Frame(fault)),
     }
 }
 

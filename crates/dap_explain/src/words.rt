@@ -48,13 +48,32 @@ pub(crate) struct Cut<'a>(pub(crate) &'a str);
 
 impl fmt::Display for Cut<'_> {
     fn fmt<W: fmt::Write>(&self, f: &mut fmt::Formatter<W>) -> fmt::Result {
-        match self.0.char_indices().nth(SHOWN_CHARACTERS) {
-            Some((end, _)) => {
-                f.write_str(self.0.get(..end).unwrap_or(self.0))?;
-                f.write_str("...")
-            }
-            None => f.write_str(self.0),
+        let shown = first_characters(self.0, SHOWN_CHARACTERS);
+        f.write_str(shown)?;
+        if shown.len() < self.0.len() {
+            f.write_str("...")?;
         }
+        Ok(())
+    }
+}
+
+/// Returns the first characters of a string, at most so many.
+pub(crate) fn first_characters(text: &str, count: usize) -> &str {
+    match text.char_indices().nth(count) {
+        Some((end, _)) => text.get(..end).unwrap_or(text),
+        None => text,
+    }
+}
+
+/// Returns the escape of a character that has one without digits.
+fn escape_of(character: char) -> Option<&'static str> {
+    match character {
+        '"' => Some("\\\""),
+        '\\' => Some("\\\\"),
+        '\n' => Some("\\n"),
+        '\r' => Some("\\r"),
+        '\t' => Some("\\t"),
+        _ => None,
     }
 }
 
@@ -64,18 +83,15 @@ fn write_escaped<W: fmt::Write>(
     character: char,
     is_byte: bool,
 ) -> fmt::Result {
-    let escape = match character {
-        '"' => "\\\"",
-        '\\' => "\\\\",
-        '\n' => "\\n",
-        '\r' => "\\r",
-        '\t' => "\\t",
-        ' '..='~' => return f.write_char(character),
-        _ if is_byte => return write!(f, "\\x{:02x}", u32::from(character)),
-        '\0'..='\u{1f}' => return write!(f, "\\u{:04x}", u32::from(character)),
-        _ => return f.write_char(character),
-    };
-    f.write_str(escape)
+    if let Some(escape) = escape_of(character) {
+        return f.write_str(escape);
+    }
+    match character {
+        ' '..='~' => f.write_char(character),
+        _ if is_byte => write!(f, "\\x{:02x}", u32::from(character)),
+        '\0'..='\u{1f}' => write!(f, "\\u{:04x}", u32::from(character)),
+        _ => f.write_char(character),
+    }
 }
 
 /// A step into a JSON value.

@@ -4,6 +4,7 @@
 
 mod apply_run;
 mod compare_run;
+mod devices;
 mod fault_line;
 mod files;
 mod mask_run;
@@ -16,12 +17,14 @@ mod rules_files;
 mod rules_texts;
 mod saving;
 mod status;
+mod targets;
 mod two_inputs;
 mod unopened_rules;
 mod whole_input;
 
 pub use apply_run::report_unapplied;
 pub use compare_run::{differ_line, run_compare, run_compare_with, same_line};
+pub use devices::Devices;
 pub use fault_line::{
     LINE, letter, refused_text, send, send_line, tell, tell_answer, tell_of_input,
 };
@@ -39,6 +42,7 @@ pub use rules_texts::{
 };
 pub use saving::{report_unsaved, save};
 pub use status::{DIFFERENT, DONE, FAULT, MEMORY, REFUSED, USAGE, refusal_status, refused_status};
+pub use targets::Targets;
 pub use two_inputs::{
     OpenStop, TwoFilesRun, are_both_standard, is_standard, open_both, report_open_stop,
 };

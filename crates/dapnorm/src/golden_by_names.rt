@@ -13,7 +13,6 @@ ghost use Rattle.dapnorm.specs.SavedRun.{unfound_status};
 
 use crate::golden_run::{report_line, run_golden};
 use crate::one_file::input_name;
-use crate::targets::Targets;
 use arrayvec::ArrayString;
 use dap_commands::Golden;
 use dap_device::{MemorySource, Replaceable, Sink, Source};
@@ -21,8 +20,8 @@ use dap_golden::{GoldenRequest, GoldenStop};
 use dap_input::Refused;
 use dap_mask::MaskRules;
 use dap_runs::{
-    FAULT, Files, LIMITS, NoRules, OpenFault, RulesFiles, UnreadInput, WholeInput, is_standard,
-    read_whole, report_no_rules, rules_of_name, tell_answer,
+    FAULT, Files, LIMITS, NoRules, OpenFault, RulesFiles, Targets, UnreadInput, WholeInput,
+    is_standard, read_whole, report_no_rules, rules_of_name, tell_answer,
 };
 use std::alloc::Global;
 

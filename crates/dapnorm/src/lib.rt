@@ -1,7 +1,6 @@
 //! Engines over frames and recordings of the Debug Adapter Protocol.
 #![tactic(auto)]
 
-mod devices;
 mod diff_all_run;
 mod diff_run;
 mod findings;
@@ -13,7 +12,6 @@ mod one_file;
 mod ruled_pair;
 mod run_job;
 mod saved_run;
-mod targets;
 mod task;
 mod two_files;
 mod view_run;
@@ -98,6 +96,7 @@ pub use dap_rules::mode_by;
 pub use dap_rules::order;
 pub use dap_rules::order_bytes;
 pub use dap_rules::read_by_rules;
+pub use dap_runs::Devices;
 pub use dap_runs::Files;
 pub use dap_runs::LIMITS;
 pub use dap_runs::NoRules;
@@ -109,6 +108,7 @@ pub use dap_runs::RulesOpenFault;
 pub use dap_runs::RulesRefused;
 pub use dap_runs::RulesStop;
 pub use dap_runs::TableMaker;
+pub use dap_runs::Targets;
 pub use dap_runs::TextsByRules;
 pub use dap_runs::TwoFilesRun;
 pub use dap_runs::UnreadInput;
@@ -134,7 +134,6 @@ pub use dap_show::show;
 pub use dap_show::show_faulty;
 pub use dap_show::show_record;
 pub use dap_show::show_with;
-pub use devices::Devices;
 pub use diff_all_run::run_diff_all;
 pub use diff_all_run::run_diff_all_with;
 pub use diff_run::run_diff;
@@ -154,7 +153,6 @@ pub use run_job::run_usage;
 pub use saved_run::SaveEnd;
 pub use saved_run::SavedRun;
 pub use saved_run::save_run;
-pub use targets::Targets;
 pub use task::Ruled;
 pub use task::StreamJob;
 pub use task::Task;

@@ -10,15 +10,14 @@ ghost use Rattle.dapnorm.specs.SavedRun.{EndTakes, Finishes, IsHeld, RunIsSaved,
 ghost use Rattle.dapnorm.specs.SavedRun.{unfound_status};
 
 use crate::one_file::{input_name, report_unopened};
-use crate::targets::Targets;
 use crate::task::{Task, TaskRun, run_task};
 use dap_device::{Replaceable, Sink, Source};
 use dap_input::Refused;
 use dap_rename::{NameTable, Tables};
 use dap_rules::TextSink;
 use dap_runs::{
-    DONE, FAULT, Files, LIMITS, MEMORY, OpenFault, RulesFiles, RulesOpenFault, is_standard,
-    report_parts, report_unsaved, save, tell,
+    DONE, FAULT, Files, LIMITS, MEMORY, OpenFault, RulesFiles, RulesOpenFault, Targets,
+    is_standard, report_parts, report_unsaved, save, tell,
 };
 use std::alloc::Global;
 

@@ -5,13 +5,12 @@ ghost use Rattle.dapnorm.specs.OneFile.{input_name};
 ghost use Rattle.dapnorm.specs.SavedRun.{EndTakes};
 ghost use Rattle.dapnorm.specs.WrittenRun.{RunIsWritten};
 
-use crate::devices::Devices;
 use crate::one_file::{input_name, report_unopened};
 use crate::saved_run::{SaveEnd, SavedRun, report_unfound};
 use crate::task::{Task, run_task};
 use dap_device::{Sink, Source};
 use dap_rename::{NameTable, Tables};
-use dap_runs::{Files, LIMITS, RulesFiles, is_standard};
+use dap_runs::{Devices, Files, LIMITS, RulesFiles, is_standard};
 use std::alloc::Global;
 
 /// Does a task over the input that a name leads to, under the limits of the program, and writes its

@@ -1,4 +1,1 @@
-pub mod Reasons
-pub mod RulesLines
-pub mod Values
-pub mod WordLines
+mod CommandRules

@@ -1,2 +1,2 @@
 pub mod Usage
-pub mod WordOption
+pub mod CommandRules

@@ -1,10 +1,9 @@
 //! Compares the recordings of two files, or prints how they differ.
-use crate::explaining::{explain_no_rules, print};
-use crate::files::OpenedInput;
-use crate::reports::{report_failure, report_reason};
+use crate::explaining::explain_no_rules;
 use crate::{REFUSED, Setting, tables};
 use dap_device::KeptInput;
-use dap_explain::{explain_applying, explain_comparison};
+use dap_explain_commands::{explain_applying, explain_comparison};
+use dap_system::{OpenedInput, print, report_failure, report_reason};
 use dapnorm::{
     Comparison, IndexNames, LIMITS, Mode, OpenFault, OpenStop, Printed, RuledPairRun, RulesStop,
     StdSink, TableMaker, Tables, TwoFilesRun, Which, compare_by_rules, compare_files,

@@ -1,21 +1,11 @@
 //! Prints explanations on standard error, after the line of a refusal.
-use crate::reports::report_reason;
 use dap_device::find_file;
-use dap_explain::{explain, explain_mask, explain_order, explain_rules};
-use dap_runs::send;
-use dapnorm::{
-    LIMITS, NoRules, Refused, Replaceable, RulesFault, RulesOpenFault, RulesRefused, StdSink,
-};
-use std::alloc::AllocError;
+use dap_explain::{explain, explain_rules};
+use dap_explain_commands::{explain_mask, explain_order};
+use dap_system::{print, report_reason};
+use dapnorm::{LIMITS, NoRules, Refused, Replaceable, RulesFault, RulesOpenFault, RulesRefused};
 use std::fs;
 use std::hash::RandomState;
-
-/// Prints an explanation. One that could not be made, or cannot be printed, is left out.
-pub fn print(rt: &HostRuntime, text: Result<String, AllocError>) {
-    if let Ok(text) = text {
-        send(&mut StdSink::new(rt.stderr()), text.as_str());
-    }
-}
 
 /// Explains why a golden file is rejected, which is read again.
 pub fn explain_file(rt: &HostRuntime, name: &str, refused: Refused, hasher: RandomState) {

@@ -1,9 +1,11 @@
 //! Compares a session with its golden file, or makes or renews the golden file.
-use crate::explaining::{explain_file, explain_no_rules, print};
-use crate::files::{OpenedInput, SystemFile, SystemFiles, SystemTargets};
-use crate::reports::{explain_unopened, explain_unread, report_reason};
+use crate::explaining::{explain_file, explain_no_rules};
 use crate::{Setting, USAGE};
-use dap_explain::explain_golden;
+use dap_explain_commands::explain_golden;
+use dap_system::{
+    OpenedInput, SystemFile, SystemFiles, SystemTargets, explain_unopened, explain_unread, print,
+    report_reason,
+};
 use dapnorm::{
     Golden, GoldenEnd, GoldenFilesRun, GoldenStop, LIMITS, MaskRules, StdSink, golden_files,
 };

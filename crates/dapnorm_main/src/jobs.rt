@@ -1,11 +1,13 @@
 //! Does the tasks of the command line, over their files.
 use crate::comparing::compare_two;
-use crate::explaining::{explain_mask_of, explain_order_of, print};
-use crate::files::{OpenedInput, SystemDevices, SystemFile, SystemTargets};
-use crate::reports::{explain_unopened, report_failure, report_reason};
+use crate::explaining::{explain_mask_of, explain_order_of};
 use crate::{REFUSED, Setting, tables};
 use dap_device::{KeptInput, is_standard};
-use dap_explain::{explain_job, explain_view};
+use dap_explain_commands::{explain_job, explain_view};
+use dap_system::{
+    OpenedInput, SystemDevices, SystemFile, SystemTargets, explain_unopened, print, report_failure,
+    report_reason,
+};
 use dapnorm::{
     FileRun, Job, LIMITS, Printed, Ruled, RulesOpenFault, SaveEnd, SavedRun, StdSink, StreamJob,
     Task, run_file, save_run, write_run,

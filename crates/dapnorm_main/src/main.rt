@@ -9,21 +9,19 @@ ghost use Rattle.dapnorm_main.specs.Usage.{IsUsageStatus};
 
 mod comparing;
 mod explaining;
-mod files;
 mod golden;
 mod jobs;
-mod reports;
 mod showing;
 mod suggesting;
 mod words;
 
 use crate::comparing::run_comparison;
-use crate::files::{SystemFiles, SystemRules};
 use crate::golden::keep_golden;
 use crate::jobs::{run_job, run_over_input};
 use crate::showing::show_recording;
 use crate::suggesting::suggest_rules;
 use crate::words::rules_given;
+use dap_system::{SystemFiles, SystemRules};
 use dapnorm::{
     Action, Command, IndexNames, Limits, Ruled, StdSink, Tables, Task, UsageFault, command,
     run_usage,

@@ -1,10 +1,9 @@
 //! Suggests rules that make the recordings of two files the same.
-use crate::explaining::{explain_no_rules, print};
-use crate::files::{OpenedInput, SystemFiles};
-use crate::reports::explain_unread;
+use crate::explaining::explain_no_rules;
 use crate::{REFUSED, Setting};
-use dap_explain::explain_comparison;
+use dap_explain_commands::explain_comparison;
 use dap_suggest::{SuggestEnd, SuggestFilesRun, suggest_files};
+use dap_system::{OpenedInput, SystemFiles, explain_unread, print};
 use dapnorm::{LIMITS, Mode, StdSink, Which};
 
 /// Explains why no rules are suggested.

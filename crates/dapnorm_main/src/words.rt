@@ -1,227 +1,25 @@
-//! The option `--word`, which adds words in the place of texts to the rules of a command.
-ghost use Rattle.std.specs.Prelude.{◌≡◌, ◌≢◌, ◌<◌, ◌+◌, ◌++◌, ◌∷◌, [], true, IfErr, IfOk, OnErr};
-ghost use Rattle.std.specs.Prelude.{Ok, OnOk, count_by, is_ok, length};
+//! The rules of a command that takes the option `--word`.
+ghost use Rattle.std.specs.Prelude.{◌≡◌, ◌<◌, true, IfErr, IfOk};
 ghost use Rattle.clap.specs.Walk.{texts};
 ghost use Rattle.clap.specs.Words.{subcommand_of, takes};
 ghost use Rattle.dap_commands.specs.CommandLine.{text_in};
 ghost use Rattle.dap_commands.specs.Commands.{program, words_named};
-ghost use Rattle.dap_mask.specs.Mask.{no_rules};
-ghost use Rattle.dap_mask.specs.RulesFile.{is_line_feed, rules_said};
-ghost use Rattle.dap_mask.specs.WordLines.{word_line};
-ghost use Rattle.dap_words.specs.Words.{pair_of, pairs_of};
-ghost use Rattle.dapnorm_main.specs.WordOption.{AreNamedBy, AreRulesOf, AreRulesWith, HasLinesOf};
-ghost use Rattle.dapnorm_main.specs.WordOption.{HasNoLines, HaveNoPairs, IsNamedBy, IsReportOf};
-ghost use Rattle.dapnorm_main.specs.WordOption.{IsValueOf, ReportsLine, line_end, reason_of};
-ghost use Rattle.dapnorm_main.specs.WordOption.{rules_name, takes_words, texts_of};
-ghost use Rattle.dapnorm_main.specs.WordOption.{with_word_lines};
+ghost use Rattle.dap_word_option.specs.WordOption.{texts_of};
+ghost use Rattle.dapnorm_main.specs.CommandRules.{AreRulesOf, AreRulesWith, rules_name, takes_words};
 
 use crate::explaining::explain_no_rules;
 use crate::report_usage;
-use crate::reports::is_out_of_memory;
 use dap_commands::words_given;
-use dap_mask::write_word;
 use dap_runs::report_no_rules;
-use dap_words::Word;
+use dap_system::is_out_of_memory;
+use dap_word_option::with_values;
 use dapnorm::{
-    Action, Job, MaskRules, NoRules, RulesCause, RulesFault, RulesOpenFault, RulesRefused, StdSink,
-    StdSource, Stop, UsageFault, read_all,
+    Action, Job, NoRules, RulesOpenFault, RulesRefused, StdSink, StdSource, Stop, read_all,
 };
-use std::alloc::{AllocError, Global};
 use std::fs;
 
 /// The maximum number of bytes of a rules file.
 const RULES: u64 = 65_536;
-
-/// What is reported of a value without `=`.
-const NO_EQUALS: &str = "write TEXT=WORD";
-
-/// What is reported of an empty TEXT.
-const EMPTY: &str = "TEXT is empty";
-
-/// What is reported of an empty WORD.
-const EMPTY_WORD: &str = "WORD is empty";
-
-/// What is reported of a TEXT that an earlier word replaces.
-const REPEATED: &str = "TEXT has a WORD already";
-
-/// What is reported of a WORD that overlaps a TEXT.
-const OVERLAP: &str = "a WORD and a TEXT overlap: take another WORD, such as <home>";
-
-/// What is reported of a word after a thousand rules.
-const TOO_MANY: &str = "there are more than 1,000 rules";
-
-/// What is reported of a word past the limit of the bytes.
-const TOO_LONG: &str = "the rules are longer than 65,536 bytes";
-
-/// Returns the text and the word of a value TEXT=WORD. TEXT ends at the first `=`. `None`: the
-/// value does not contain `=`.
-fn word_of(alloc: Global, value: &str) -> Result<Option<Word>, AllocError>
-    ensures { IfOk result (IsNamedBy value.now) }
-{
-    match value.split_once('=') {
-        None => Ok(None),
-        Some((text, word)) => {
-            let text = String::from_str(alloc, text)?;
-            let word = String::from_str(alloc, word)?;
-            Ok(Some(Word { text, word }))
-        }
-    }
-}
-
-/// Ends the last line of a text, if it does not end in a line feed.
-fn end_line(text: &mut Vec<u8>) -> Result<(), AllocError>
-    ensures ok { OnOk result (text.new.items ≡ text.old.items ++ line_end text.old.items) }
-    ensures err { OnErr result (0 < length text.old.items) }
-{
-    match text.as_slice().last().copied() {
-        None | Some(b'\n') => {}
-        Some(_) => text.push(b'\n')?,
-    }
-    Ok(())
-}
-
-/// Appends the line of a rules file for a word, with its line feed.
-fn push_line(alloc: Global, word: Word, text: &mut Vec<u8>) -> Result<(), AllocError>
-    ensures { OnOk result
-        (text.new.items ≡ text.old.items ++ (word_line (pair_of word) ++ 10 ∷ [])) }
-{
-    let mut line = Vec::new(alloc);
-    write_word(alloc, word, &mut line)?;
-    // The line follows a line feed.
-    text.extend_from_slice(&line.as_slice()[1..])?;
-    text.push(b'\n')?;
-    Ok(())
-}
-
-/// Returns the text of a rules file with a line for each word after it.
-fn with_word_lines(alloc: Global, text: Vec<u8>, words: Vec<Word>) -> Result<Vec<u8>, AllocError>
-    ensures ok { IfOk result
-        (λ joined. joined.items ≡ with_word_lines text.items (pairs_of words.items)) }
-    ensures err { OnErr result (0 < length text.items + length words.items) }
-{
-    let mut joined = text;
-    end_line(&mut joined)?;
-    for word in words {
-        push_line(alloc, word, &mut joined)?;
-    }
-    Ok(joined)
-}
-
-/// Returns what is reported of a value of the option.
-fn bad_value(alloc: Global, value: &str, why: &str) -> UsageFault
-    ensures { IsReportOf value.now why.now result }
-{
-    match format!(in alloc; "error: --word {value}: {why}\n") {
-        Ok(text) => UsageFault::Usage(text),
-        Err(_) => UsageFault::Memory,
-    }
-}
-
-/// Returns the words of the values of the option, in their order.
-///
-/// # Errors
-///
-/// - `Usage`: a value does not contain `=`.
-/// - `Memory`: an allocation failed.
-fn words_of(alloc: Global, values: &[&str]) -> Result<Vec<Word>, UsageFault>
-    ensures ok { IfOk result (λ words. AreNamedBy (texts_of values.now) (pairs_of words.items)) }
-    ensures err { IfErr result (HaveNoPairs (texts_of values.now)) }
-{
-    let mut words = Vec::new(alloc);
-    for value in values {
-        match word_of(alloc, value) {
-            Ok(Some(word)) => {
-                if words.push(word).is_err() {
-                    return Err(UsageFault::Memory);
-                }
-            }
-            Ok(None) => return Err(bad_value(alloc, value, NO_EQUALS)),
-            Err(_) => return Err(UsageFault::Memory),
-        }
-    }
-    Ok(words)
-}
-
-/// Returns why the rules do not accept a value of the option.
-fn reason_of(value: &str, cause: RulesCause) -> &'static str
-    ensures { (p : _) → IsValueOf p value.now → result.now ≡ reason_of p cause }
-{
-    match cause {
-        RulesCause::Repeated => REPEATED,
-        RulesCause::TooMany => TOO_MANY,
-        RulesCause::TooLong => TOO_LONG,
-        _ if value.starts_with('=') => EMPTY,
-        _ => match value.split_once('=') {
-            Some((_, word)) if word.is_empty() => EMPTY_WORD,
-            _ => OVERLAP,
-        },
-    }
-}
-
-/// Returns the number of line feeds.
-fn line_count(text: &[u8]) -> usize
-    ensures { result ≡ count_by is_line_feed text.now }
-{
-    text.iter().filter(|byte| **byte == b'\n').count()
-}
-
-/// Returns what is reported of the value whose line is rejected. The last lines of the rules are
-/// those of the values.
-fn refused_value(alloc: Global, rules: &[u8], values: &[&str], fault: RulesFault) -> UsageFault
-    ensures memory { fault.cause ≡ RulesCause.Memory → result ≡ UsageFault.Memory }
-    ensures line { ReportsLine (texts_of values.now) rules.now fault result }
-    ensures help { (said : _) → result ≢ UsageFault.Help said }
-{
-    if fault.cause == RulesCause::Memory {
-        return UsageFault::Memory;
-    }
-    let after = line_count(rules).saturating_sub(fault.line);
-    let index = values.len().saturating_sub(1).saturating_sub(after);
-    let value = values.get(index).copied().unwrap_or("");
-    bad_value(alloc, value, reason_of(value, fault.cause))
-}
-
-/// Returns whether a rules file of this text is accepted.
-fn is_accepted(alloc: Global, text: &[u8]) -> Result<bool, AllocError>
-    ensures ok { IfOk result (λ accepted. accepted ≡ is_ok (rules_said text.now)) }
-    ensures err { OnErr result (rules_said text.now ≢ Ok no_rules) }
-{
-    match MaskRules::read(alloc, text) {
-        Ok(_) => Ok(true),
-        Err(fault) => match fault.cause {
-            RulesCause::Memory => Err(AllocError),
-            _ => Ok(false),
-        },
-    }
-}
-
-/// Returns the text of the rules with a line for each value of the option. If the text alone is
-/// rejected, the command reports it.
-///
-/// # Errors
-///
-/// - `Usage`: a value does not contain `=`, or the rules do not accept its word.
-/// - `Memory`: an allocation failed.
-fn with_values(alloc: Global, text: Vec<u8>, values: &[&str]) -> Result<Vec<u8>, UsageFault>
-    ensures ok { IfOk result
-        (λ rules. HasLinesOf (texts_of values.now) text.items rules.items) }
-    ensures err { IfErr result (HasNoLines (texts_of values.now) text.items) }
-{
-    let words = words_of(alloc, values)?;
-    let Ok(is_accepted) = is_accepted(alloc, text.as_slice()) else {
-        return Err(UsageFault::Memory);
-    };
-    let Ok(rules) = with_word_lines(alloc, text, words) else {
-        return Err(UsageFault::Memory);
-    };
-    if !is_accepted {
-        return Ok(rules);
-    }
-    match MaskRules::read(alloc, rules.as_slice()) {
-        Ok(_) => Ok(rules),
-        Err(fault) => Err(refused_value(alloc, rules.as_slice(), values, fault)),
-    }
-}
 
 /// Reads the text of a rules file, with at most one byte past the limit.
 fn text_of(rt: &HostRuntime, name: &str) -> Result<Vec<u8>, NoRules> {

@@ -3,5 +3,5 @@ use Rattle.dap_explain.specs.Lines.{IsPrinted}
 use Rattle.dap_explain.proofs.lines.printed.Given as goal
 
 -- The characters appended so far are printed.
-abbrev pub invariant-loop-count : goal.invariant-loop-count
-invariant-loop-count l = All IsPrinted (string_bytes l.words)
+abbrev pub invariant-loop-character : goal.invariant-loop-character
+invariant-loop-character l = All IsPrinted (string_bytes l.words)

@@ -1,7 +1,7 @@
 use Rattle.std.proofs.Common.{subst}
 use Rattle.dap_commands.specs.CommandLine.{text_in}
-use Rattle.dapnorm_main.specs.WordOption.{HasLinesOf, texts_of}
-use Rattle.dapnorm_main.proofs.RulesLines.{rules_alone, rules_of_file}
+use Rattle.dap_word_option.specs.WordOption.{HasLinesOf, texts_of}
+use Rattle.dapnorm_main.proofs.CommandRules.{rules_alone, rules_of_file}
 use Rattle.dapnorm_main.proofs.words.rules_with.Goals as goal
 
 pub returns-in_default-clause-ok : goal.returns-in_default-clause-ok

@@ -1,0 +1,281 @@
+//! Explains why a command rejected its inputs: does its work again to find the error.
+ghost use Rattle.std.specs.Prelude.{◌≡◌, false, IfOk, None, string_bytes};
+ghost use Rattle.dap_explain.specs.Lines.{AreLines};
+ghost use Rattle.dap_explain.specs.Unexplained.{IsEmpty};
+ghost use Rattle.dap_explain_commands.specs.NotExplained.{IsApplyFailure, IsGoldenFailure};
+ghost use Rattle.dap_explain_commands.specs.NotExplained.{IsMaskedByFile, IsOrderedByFile};
+ghost use Rattle.dap_explain_commands.specs.NotExplained.{reads_input_alone};
+ghost use Rattle.dap_input.specs.Limits.{AreSound};
+ghost use Rattle.dap_normalise.specs.NameTables.{AreReady};
+ghost use Rattle.dap_rename.specs.IndexNames.{index_limit, index_numbers};
+
+use dap_commands::Job;
+use dap_compact::compact;
+use dap_compare::{CompareRefused, Which, compare_with};
+use dap_device::{MemorySource, StdSink};
+use dap_explain::{explain, explain_masked, explain_rules};
+use dap_golden::{GoldenRefused, recording_of};
+use dap_input::{Limits, Refused};
+use dap_mask::MaskRules;
+use dap_normalise::{check_with, normalise_with};
+use dap_record::record;
+use dap_rename::{IndexNames, Mode, Tables};
+use dap_rules::{ApplyRefused, mask_bytes, order_bytes};
+use dap_show::{ShowRequest, show, show_faulty, show_record, show_with};
+use std::alloc::{AllocError, Global};
+use std::hash::RandomState;
+use std::io;
+
+/// Explains why an input is rejected, if it is.
+fn explain_found(
+    alloc: Global,
+    input: &[u8],
+    found: Option<Refused>,
+    limits: Limits,
+) -> Result<String, AllocError>
+    requires { AreSound limits }
+    ensures lines { IfOk result (λ text. ∥ AreLines (string_bytes text) ∥₁) }
+    ensures nothing { found ≡ None → IsEmpty result }
+{
+    match found {
+        Some(refused) => explain(alloc, input, refused, limits),
+        None => Ok(String::new(alloc)),
+    }
+}
+
+/// Returns tables for the ids of a recording.
+fn tables(alloc: Global, limits: Limits, hasher: RandomState) -> Tables<IndexNames<RandomState>>
+    requires { AreSound limits }
+    ensures { AreReady index_numbers index_limit limits result }
+{
+    Tables::indexed(alloc, limits.ids, hasher)
+}
+
+/// Explains why `record`, `compact`, `show`, `normalise` or `check` rejected an input. Runs the job
+/// again to find the error, and discards its output. Returns an empty string for any other job.
+pub fn explain_job(
+    alloc: Global,
+    job: &Job<'_>,
+    input: &[u8],
+    limits: Limits,
+    hasher: RandomState,
+) -> Result<String, AllocError>
+    requires { AreSound limits }
+    ensures lines { IfOk result (λ text. ∥ AreLines (string_bytes text) ∥₁) }
+
+    // The result is empty for any other job.
+    ensures nothing { reads_input_alone job.now ≡ false → IsEmpty result }
+{
+    let found = refused_by_job(alloc, job, input, limits, hasher);
+    explain_found(alloc, input, found, limits)
+}
+
+/// Returns why a job rejects an input.
+fn refused_by_job(
+    alloc: Global,
+    job: &Job<'_>,
+    input: &[u8],
+    limits: Limits,
+    hasher: RandomState,
+) -> Option<Refused>
+    requires { AreSound limits }
+    ensures { reads_input_alone job.now ≡ false → result ≡ None }
+{
+    let mut reader = MemorySource::new(input);
+    let mut writer = StdSink::new(io::sink());
+    let outcome = match *job {
+        Job::Compact => compact(alloc, &mut reader, &mut writer, limits),
+        Job::Record => record(alloc, &mut reader, &mut writer, limits),
+        Job::Show => show(alloc, &mut reader, &mut writer, limits),
+        Job::Normalise { .. } => {
+            let tables = tables(alloc, limits, hasher);
+            normalise_with(alloc, &mut reader, &mut writer, limits, tables, job.mode())
+        }
+        Job::Check { complete, .. } => {
+            let tables = tables(alloc, limits, hasher);
+            return check_with(alloc, &mut reader, limits, complete, tables, job.mode()).err();
+        }
+        _ => Ok(()),
+    };
+    outcome.err()
+}
+
+/// Explains why an input was not shown, or why the first marked record was marked. Shows the input
+/// again to find the error, and discards the output.
+pub fn explain_view(
+    alloc: Global,
+    request: ShowRequest,
+    input: &[u8],
+    limits: Limits,
+) -> Result<String, AllocError>
+    requires { AreSound limits }
+    ensures { IfOk result (λ text. ∥ AreLines (string_bytes text) ∥₁) }
+{
+    let found = refused_by_view(alloc, request, input, limits);
+    explain_found(alloc, input, found, limits)
+}
+
+/// Returns why an input is not shown, or why the first marked record is marked.
+fn refused_by_view(
+    alloc: Global,
+    request: ShowRequest,
+    input: &[u8],
+    limits: Limits,
+) -> Option<Refused>
+    requires { AreSound limits }
+{
+    let mut reader = MemorySource::new(input);
+    let mut writer = StdSink::new(io::sink());
+    match request {
+        ShowRequest::Lines(detail) => {
+            show_with(alloc, &mut reader, &mut writer, limits, detail).err()
+        }
+        ShowRequest::Record(number) => {
+            show_record(alloc, &mut reader, &mut writer, limits, number).err()
+        }
+        ShowRequest::Faulty(detail) => {
+            match show_faulty(alloc, &mut reader, &mut writer, limits, detail) {
+                Ok(first) => first,
+                Err(refused) => Some(refused),
+            }
+        }
+    }
+}
+
+/// Explains why one of two inputs is rejected. Compares them again to find the error.
+pub fn explain_comparison(
+    alloc: Global,
+    a: &[u8],
+    b: &[u8],
+    limits: Limits,
+    mode: Mode,
+    hasher: RandomState,
+) -> Result<String, AllocError>
+    requires { AreSound limits }
+    ensures { IfOk result (λ text. ∥ AreLines (string_bytes text) ∥₁) }
+{
+    let refused = compare_with(
+        alloc,
+        &mut MemorySource::new(a),
+        &mut MemorySource::new(b),
+        limits,
+        tables(alloc, limits, hasher),
+        tables(alloc, limits, hasher),
+        mode,
+    )
+    .err();
+    match refused {
+        Some(CompareRefused::Input(Which::A, why)) => explain(alloc, a, why, limits),
+        Some(CompareRefused::Input(Which::B, why)) => explain(alloc, b, why, limits),
+        _ => Ok(String::new(alloc)),
+    }
+}
+
+/// Explains why a line of a file of rules is rejected, or why the rules cannot mask an input.
+pub fn explain_mask(
+    alloc: Global,
+    rules: &[u8],
+    input: &[u8],
+    limits: Limits,
+) -> Result<String, AllocError>
+    requires { AreSound limits }
+    ensures lines { IfOk result (λ text. ∥ AreLines (string_bytes text) ∥₁) }
+
+    // If the rules are accepted and mask the input, there is nothing to explain.
+    ensures accepted { IsMaskedByFile limits rules.now input.now → IsEmpty result }
+{
+    let rules = match MaskRules::read(alloc, rules) {
+        Ok(rules) => rules,
+        Err(fault) => return explain_rules(alloc, rules, fault),
+    };
+    match mask_bytes(alloc, &rules, input, limits) {
+        Ok(_) => Ok(String::new(alloc)),
+        Err(refused) => explain_masked(alloc, input, &rules, refused, limits),
+    }
+}
+
+/// Explains why a line of a file of rules is rejected, or why an input cannot be put in order.
+/// Returns an empty string for `Grew`: its record may be numbered in the text in order, not in the
+/// input.
+pub fn explain_order(
+    alloc: Global,
+    rules: &[u8],
+    input: &[u8],
+    limits: Limits,
+) -> Result<String, AllocError>
+    requires { AreSound limits }
+    ensures lines { IfOk result (λ text. ∥ AreLines (string_bytes text) ∥₁) }
+
+    // If the rules are accepted and put the input in order, there is nothing to explain.
+    ensures accepted { IsOrderedByFile limits rules.now input.now → IsEmpty result }
+{
+    let rules = match MaskRules::read(alloc, rules) {
+        Ok(rules) => rules,
+        Err(fault) => return explain_rules(alloc, rules, fault),
+    };
+    match order_bytes(alloc, rules.swaps(), input, limits, Mode::Whole) {
+        Ok(_) | Err(Refused::Grew(_)) => Ok(String::new(alloc)),
+        Err(refused) => explain(alloc, input, refused, limits),
+    }
+}
+
+/// Explains why rules cannot be applied to a recording. Masks it again if the masked recording is
+/// rejected. Returns an empty string if a read or an allocation failed, and for `Grew` and
+/// `TooManyIds` if some of the rules are for the order: their record may be numbered in the text in
+/// order, not in the masked recording.
+pub fn explain_applying(
+    alloc: Global,
+    recording: &[u8],
+    rules: &MaskRules,
+    refused: ApplyRefused,
+    limits: Limits,
+) -> Result<String, AllocError>
+    requires { AreSound limits }
+    ensures lines { IfOk result (λ text. ∥ AreLines (string_bytes text) ∥₁) }
+
+    // If a reader, a writer or an allocation failed, there is nothing to explain.
+    ensures nothing { IsApplyFailure refused → IsEmpty result }
+{
+    match refused {
+        ApplyRefused::Mask(why) => explain_masked(alloc, recording, rules, why, limits),
+        ApplyRefused::Order(Refused::Grew(_) | Refused::TooManyIds(_))
+            if !rules.swaps().is_empty() => { Ok(String::new(alloc)) }
+        ApplyRefused::Order(why) => match mask_bytes(alloc, rules, recording, limits) {
+            Ok(masked) => explain(alloc, masked.as_slice(), why, limits),
+            Err(_) => Ok(String::new(alloc)),
+        },
+        ApplyRefused::ReadFault | ApplyRefused::Memory => Ok(String::new(alloc)),
+    }
+}
+
+/// Explains why an input has no golden text. Creates the rejected recording again. Returns an empty
+/// string if the session has no records, or if an allocation failed.
+pub fn explain_golden(
+    alloc: Global,
+    input: &[u8],
+    rules: Option<&MaskRules>,
+    refused: GoldenRefused,
+    limits: Limits,
+) -> Result<String, AllocError>
+    requires { AreSound limits }
+    ensures lines { IfOk result (λ text. ∥ AreLines (string_bytes text) ∥₁) }
+
+    // If a reader, a writer or an allocation failed, or if the session has no records, there is
+    // nothing to explain.
+    ensures nothing { IsGoldenFailure refused → IsEmpty result }
+{
+    let why = match refused {
+        GoldenRefused::Trace(why) => return explain(alloc, input, why, limits),
+        GoldenRefused::Mask(why) => ApplyRefused::Mask(why),
+        GoldenRefused::Session(why) => ApplyRefused::Order(why),
+        GoldenRefused::NoRecords | GoldenRefused::Memory => return Ok(String::new(alloc)),
+    };
+    let Ok(recording) = recording_of(alloc, input, limits) else {
+        return Ok(String::new(alloc));
+    };
+    match (rules, why) {
+        (Some(rules), _) => explain_applying(alloc, recording.as_slice(), rules, why, limits),
+        (None, ApplyRefused::Order(why)) => explain(alloc, recording.as_slice(), why, limits),
+        _ => Ok(String::new(alloc)),
+    }
+}

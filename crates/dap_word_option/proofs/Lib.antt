@@ -1,0 +1,4 @@
+pub mod Reasons
+pub mod RulesLines
+pub mod Values
+pub mod WordLines

@@ -1,0 +1,20 @@
+use Rattle.std.proofs.Common.{◌≡◌, ◌++◌, [], ◌∷◌, arith, rules}
+use Rattle.std.proofs.lemmas.Grind.{common_steps}
+use Rattle.dap_words.specs.Words.{pairs_of}
+use Rattle.dap_word_option.proofs.Values.{named_more, none_named}
+use Rattle.dap_word_option.proofs.words.words_of.Goals as goal
+
+pub returns-in-Ok-None-clause-err : goal.returns-in-Ok-None-clause-err
+returns-in-Ok-None-clause-err c =
+    none_named c.args.values.now c.loop-value.value-index _ (pairs_of c.loop-value.words.items)
+    c.bad_value.result (omega arith) c.loop-value.invariant
+    (rw c.in-Ok-None.field-0-is at c.in-Ok-None.ensures) c.bad_value.ensures
+
+pub loop-value-preserved : goal.loop-value-preserved
+loop-value-preserved c =
+    let word = c.in-Ok-Some.word in
+    let pushed : c.push.new.self.items ≡ c.loop-value.words.items ++ word ∷ [] =
+    first_of (search rules, grind (arith, common_steps)) in
+    named_more c.args.values.now c.loop-value.value-index _ c.loop-value.words.items
+    c.push.new.self.items word (omega arith) c.loop-value.invariant
+    (rw c.in-Ok-Some.field-0-is at c.in-Ok-Some.ensures) pushed
