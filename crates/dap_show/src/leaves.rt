@@ -52,13 +52,13 @@ fn push_leaf(
     requires leaf { has_parts (view leaf.now) ≡ false }
     requires in_range { all_in_range (view leaf.now) ≡ true }
     ensures lines { OnOk result
-        (out.new.items ≡ out.old.items ++ leaf_line (path_of path.now) (view leaf.now)) }
+        (out.new.items ≡ out.old.items ++ leaf_lines (path_of path.now) (view leaf.now)) }
     ensures full { IsErrOf result LeafFault.Full → limit
-        < length out.old.items + length (leaf_line (path_of path.now) (view leaf.now)) }
+        < length out.old.items + length (leaf_lines (path_of path.now) (view leaf.now)) }
 {
-    if push_line(alloc, path, leaf, out).is_err() {
+    let Ok(()) = push_line(alloc, path, leaf, out) else {
         return Err(LeafFault::Memory);
-    }
+    };
     if limit < out.len() as u64 {
         return Err(LeafFault::Full);
     }
