@@ -9,6 +9,7 @@ use Rattle.std.specs.declared.alloc.Global.{Global}
 use Rattle.dap_tree.proofs.Booleans.{and_right}
 use Rattle.dap_tree.specs.Doc.{Doc, null, boolean, whole, text, list, object, id, no_items, item}
 use Rattle.dap_tree.specs.Doc.{no_members, member, all_in_range, items_in_range, members_in_range}
+use Rattle.dap_tree.specs.Json.{text_of}
 use Rattle.dap_tree.specs.Path.{Step, name, place}
 use Rattle.dap_tree.specs.View.{items_view, members_view, view}
 use Rattle.dap_tree.specs.declared.tree.Tree.{Tree}
@@ -17,6 +18,7 @@ use Rattle.dap_difference.specs.Shown.{path_of, step_of}
 use Rattle.dap_difference.specs.declared.difference.Step.{Step as CodeStep}
 use Rattle.dap_difference.specs.declared.difference.Step.TheVariants.{Member, Item}
 use Rattle.dap_show.specs.Indented.{indented, inner, item_texts, member_texts, next_line}
+use Rattle.dap_show.specs.Indented.{part_text}
 use Rattle.dap_show.specs.Leaves.{has_parts, item_lines, leaf_line, leaf_lines, member_lines}
 
 -- A nonempty list has a positive length.
@@ -167,6 +169,66 @@ members_rest key t left more next all =
     (sym (ap (λ ms. members_in_range (members_view ms)) next) ∙ all)
 
 -- ---- indented texts
+
+-- The text of one element was appended after a line start.
+one_shown : (before slice margin root out started shown : List ℕ) (d : Doc) → slice ≡ margin
+    → margin ≡ root → started ≡ out ++ (before ++ next_line slice)
+    → shown ≡ started ++ indented margin d → shown ≡ out ++ part_text before root (indented root d)
+one_shown before slice margin root out started shown d cut same begun appended =
+    appended
+    ∙ ap₂ (λ s m. s ++ indented m d)
+    (begun ∙ ap (λ m. out ++ (before ++ next_line m)) (cut ∙ same)) same
+    ∙ append_assoc out (before ++ next_line root) (indented root d)
+
+-- The name and the text of one member were appended after a line start.
+one_named : (before slice margin root out started named shown key known : List ℕ) (d : Doc)
+    → slice ≡ margin → margin ≡ root → key ≡ known → started ≡ out ++ (before ++ next_line slice)
+    → named ≡ started ++ (text_of (text key) ++ codes ": ") → shown ≡ named ++ indented margin d
+    → shown ≡ out ++ part_text before root (text_of (text known) ++ codes ": " ++ indented root d)
+one_named before slice margin root out started named shown key known d cut same is begun titled
+    appended =
+    appended
+    ∙ ap₂ (λ s m. s ++ indented m d)
+    (titled ∙ ap₂ (λ s k. s ++ (text_of (text k) ++ codes ": "))
+    (begun ∙ ap (λ m. out ++ (before ++ next_line m)) (cut ∙ same)) is) same
+    ∙ append_assoc (out ++ (before ++ next_line root)) (text_of (text known) ++ codes ": ")
+    (indented root d)
+    ∙ append_assoc out (before ++ next_line root)
+    (text_of (text known) ++ codes ": " ++ indented root d)
+
+-- The texts that remain after that of one element was appended.
+pub items_shown : (before slice margin root : List ℕ) (xs : List Tree) (i j : ℕ) (t : Tree)
+    (out started shown all : List ℕ) → j ≡ suc i → slice ≡ margin → margin ≡ root
+    → drop i xs ≡ t ∷ drop (suc i) xs
+    → out ++ item_texts before root (items_view (drop i xs)) ≡ all
+    → started ≡ out ++ (before ++ next_line slice) → shown ≡ started ++ indented margin (view t)
+    → shown ++ item_texts (codes ",") root (items_view (drop j xs)) ≡ all
+items_shown before slice margin root xs i j t out started shown all next cut same there was begun
+    appended =
+    rw next (one_part out shown (part_text before root (indented root (view t)))
+    (item_texts (codes ",") root (items_view (drop (suc i) xs)))
+    (item_texts before root (items_view (drop i xs))) all
+    (one_shown before slice margin root out started shown (view t) cut same begun appended)
+    (ap (λ ts. item_texts before root (items_view ts)) there) was)
+
+pub members_shown : (before slice margin root key : List ℕ) (k : String Global) (t : Tree)
+    (left more : List (String Global × Tree)) (out started named shown all : List ℕ)
+    → slice ≡ margin → margin ≡ root → key ≡ string_bytes k → left ≡ (k, t) ∷ more
+    → out ++ member_texts before root (members_view left) ≡ all
+    → started ≡ out ++ (before ++ next_line slice)
+    → named ≡ started ++ (text_of (text key) ++ codes ": ")
+    → shown ≡ named ++ indented margin (view t)
+    → shown ++ member_texts (codes ",") root (members_view more) ≡ all
+members_shown before slice margin root key k t left more out started named shown all cut same is
+    next was begun titled appended =
+    one_part out shown
+    (part_text before root
+    (text_of (text (string_bytes k)) ++ codes ": " ++ indented root (view t)))
+    (member_texts (codes ",") root (members_view more))
+    (member_texts before root (members_view left)) all
+    (one_named before slice margin root out started named shown key (string_bytes k) (view t) cut
+    same is begun titled appended)
+    (ap (λ ms. member_texts before root (members_view ms)) next) was
 
 -- All elements were appended.
 pub filled_items : (before margin inside : List ℕ) (xs ys : List Tree) (i : ℕ)
