@@ -1,7 +1,7 @@
 //! The actions that are tried at a place.
 use crate::confirming::read_rules;
 use crate::obstacle::Unsolved;
-use crate::words::{push_parts, push_quoted, text_at};
+use crate::words::{parts_of, push_parts, quoted, text_at};
 use dap_mask::{MaskRules, read_masked};
 use dap_tree::{Scratch, Tree};
 use std::alloc::{AllocError, Global};
@@ -28,6 +28,9 @@ const FIRST: &[u8] = b"event    x a";
 
 const SECOND: &[u8] = b"event    x b";
 
+/// The start of the event that has a pair of texts, up to the first text.
+const EVENT: &[u8] = b"{\"type\":\"event\",\"event\":\"x\",\"a\":";
+
 /// Appends a rule of each verb, for these messages and this place.
 fn push_rules(verbs: &[&str], target: &[u8], out: &mut Vec<u8>) -> Result<(), AllocError> {
     for verb in verbs {
@@ -53,8 +56,7 @@ pub fn push_commented(
 ) -> Result<(), AllocError> {
     out.extend_from_slice(comment.as_bytes())?;
     push_rules(verbs_of(candidate), target, out)?;
-    out.push(b'\n')?;
-    Ok(())
+    out.extend_from_slice(b"\n")
 }
 
 /// Returns the messages and the place of a rule that this module wrote.
@@ -62,26 +64,31 @@ pub fn target_of(line: &[u8]) -> &[u8] {
     line.get(7..).unwrap_or(line)
 }
 
+/// Returns the rules of a candidate by which a pair of texts is compared.
+fn test_of(alloc: Global, verbs: &[&str]) -> Result<MaskRules, Unsolved> {
+    let mut text = Vec::new(alloc);
+    push_rules(verbs, FIRST, &mut text)?;
+    push_rules(verbs, SECOND, &mut text)?;
+    read_rules(alloc, text.as_slice())
+}
+
 /// Returns for each candidate, in their order, the rules by which a pair of texts is compared.
 pub fn tests(alloc: Global) -> Result<Vec<MaskRules>, Unsolved> {
     let mut tests = Vec::new(alloc);
-    for verbs in CANDIDATES {
-        let mut text = Vec::new(alloc);
-        push_rules(verbs, FIRST, &mut text)?;
-        push_rules(verbs, SECOND, &mut text)?;
-        tests.push(read_rules(alloc, text.as_slice())?)?;
+    for verbs in CANDIDATES.iter() {
+        tests.push(test_of(alloc, verbs)?)?;
     }
     Ok(tests)
 }
 
 /// Returns the content of an event that has a pair of texts.
 pub fn event_of(alloc: Global, a: &str, b: &str) -> Result<Vec<u8>, AllocError> {
-    let mut out = Vec::from_slice(alloc, b"{\"type\":\"event\",\"event\":\"x\",\"a\":")?;
-    push_quoted(alloc, a, &mut out)?;
-    out.extend_from_slice(b",\"b\":")?;
-    push_quoted(alloc, b, &mut out)?;
-    out.push(b'}')?;
-    Ok(out)
+    let a = quoted(alloc, a)?;
+    let b = quoted(alloc, b)?;
+    parts_of(
+        alloc,
+        &[EVENT, a.as_bytes(), b",\"b\":", b.as_bytes(), b"}"],
+    )
 }
 
 /// Returns whether an event has a pair of equal texts.

@@ -17,17 +17,14 @@ use dap_rules::{ApplyRefused, mode_by};
 use std::alloc::Global;
 
 /// The last line of rules.
-const SAME: &str = "# with these rules: same\n";
+const SAME: &[u8] = b"# with these rules: same\n";
 
 /// The last line of rules that number ids from each stop.
-const SAME_PER_STOP: &str = "# with these rules and per-stop: same\n";
+const SAME_PER_STOP: &[u8] = b"# with these rules and per-stop: same\n";
 
 /// The last lines of rules that number ids from each stop only by a line of their own.
-const ADDED_PER_STOP: &str = "# without this line the ids differ
-per-stop
-
-# with these rules and per-stop: same
-";
+const ADDED_PER_STOP: &[u8] =
+    b"# without this line the ids differ\nper-stop\n\n# with these rules and per-stop: same\n";
 
 /// Returns the number of the record in which two different normal texts first differ.
 fn first_difference(text: &[u8], other: &[u8]) -> u64 {
@@ -112,12 +109,12 @@ fn suggested(
     alloc: Global,
     inputs: &Inputs<'_>,
     found: &[u8],
-    end: &str,
+    end: &[u8],
 ) -> Result<Suggestion, Unsolved>
     requires { AreSound inputs.now.limits }
     ensures { IfOk result (IsSuggestion inputs.now) }
 {
-    let rules = joined(alloc, found, end.as_bytes())?;
+    let rules = joined(alloc, found, end)?;
     let whole = joined(alloc, inputs.given, rules.as_slice())?;
     let mode = same_by(alloc, whole.as_slice(), inputs)?;
     Ok(Suggestion { rules, mode })

@@ -139,11 +139,11 @@ pub fn count_events(
     Ok(())
 }
 
-/// Appends the comment on the rule that drops events that have these counts.
-fn push_counts(alloc: Global, counts: &Counts, out: &mut Vec<u8>) -> Result<(), AllocError> {
+/// Appends the comment on the rule that drops events that have these counts, and the rule's verb.
+fn push_verb(alloc: Global, counts: &Counts, out: &mut Vec<u8>) -> Result<(), AllocError> {
     let (a, b) = (counts.a, counts.b);
-    let comment = format!(in alloc; "# {a} in A, {b} in B\n")?;
-    out.extend_from_slice(comment.as_bytes())
+    let start = format!(in alloc; "# {a} in A, {b} in B\ndrop   ")?;
+    out.extend_from_slice(start.as_bytes())
 }
 
 /// Appends the rule that drops the events of a name, or those of a category, after a comment.
@@ -154,8 +154,7 @@ fn push_drop(
     counts: &Counts,
     out: &mut Vec<u8>,
 ) -> Result<(), AllocError> {
-    push_counts(alloc, counts, out)?;
-    out.extend_from_slice(b"drop   ")?;
+    push_verb(alloc, counts, out)?;
     push_named(alloc, Kind::Event, name, out)?;
     if let Some(category) = category {
         out.extend_from_slice(b" category=")?;

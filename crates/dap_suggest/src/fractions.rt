@@ -66,7 +66,7 @@ fn search(
                 target.truncate(start);
             }
         }
-        _ => add_number(alloc, origin, value, target.as_slice(), comments)?,
+        _ => return add_number(alloc, origin, value, target.as_slice(), comments),
     }
     Ok(())
 }

@@ -82,8 +82,9 @@ fn exclude_rejected(
 /// No rules make some record the same, or an allocation failed.
 pub fn rules_for(alloc: Global, given: &[u8], matched: &Matched) -> Result<Vec<u8>, Unsolved> {
     let pairs = pairs_of(alloc, matched)?;
-    let mut spots = spots_of(alloc, pairs.as_slice())?;
-    let mut swaps = swaps_of(alloc, pairs.as_slice())?;
+    let pairs = pairs.as_slice();
+    let mut spots = spots_of(alloc, pairs)?;
+    let mut swaps = swaps_of(alloc, pairs)?;
     text_of(
         alloc,
         given,

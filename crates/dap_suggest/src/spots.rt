@@ -4,7 +4,7 @@ use crate::matched::Pair;
 use crate::obstacle::{Reason, Unsolved, unsolved_at};
 use crate::trial::Trial;
 use crate::walking::{Element, Found, compare_trees};
-use crate::words::{class_of, push_parts, push_quoted};
+use crate::words::{class_of, parts_of, push_parts, quoted};
 use dap_compare::Which;
 use dap_diff::Entry;
 use dap_mask::MaskRules;
@@ -102,12 +102,10 @@ fn part_targets(
     let list = target.get(..element.start).unwrap_or(&[]);
     // Two bytes are the brackets of the place.
     let after = target.get(element.start.saturating_add(2)..).unwrap_or(&[]);
+    let name = quoted(alloc, element.name)?;
     let mut part = Vec::from_slice(alloc, list)?;
-    part.push(b'[')?;
-    push_quoted(alloc, element.name, &mut part)?;
-    push_parts(&[b"]", after], &mut part)?;
-    let mut names = Vec::from_slice(alloc, list)?;
-    names.extend_from_slice(b"[].name")?;
+    push_parts(&[b"[", name.as_bytes(), b"]", after], &mut part)?;
+    let names = parts_of(alloc, &[list, b"[].name"])?;
     Ok((part, names))
 }
 

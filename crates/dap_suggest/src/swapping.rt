@@ -1,7 +1,7 @@
 //! The pairs that come in another order in B, and the rules that let them change places.
 use crate::matched::Pair;
 use crate::obstacle::{Reason, Unsolved, unsolved_at};
-use crate::words::{class_of, push_parts};
+use crate::words::{class_of, parts_of, push_parts};
 use dap_compare::Which;
 use dap_message::Message;
 use dap_order::{Half, SwapRule, is_free};
@@ -29,9 +29,7 @@ fn may_pass(x: &Message, y: &Message) -> bool {
 
 /// Returns the two halves of a rule.
 fn halves_of(alloc: Global, one: &[u8], another: &[u8]) -> Result<Vec<u8>, AllocError> {
-    let mut halves = Vec::new(alloc);
-    push_parts(&[one, b" ", another], &mut halves)?;
-    Ok(halves)
+    parts_of(alloc, &[one, b" ", another])
 }
 
 /// Returns the comment that names two records.
@@ -53,9 +51,9 @@ impl Swaps {
         alloc: Global,
         x: &Pair<'_>,
         y: &Pair<'_>,
-        classes: (&[u8], &[u8]),
+        one: &[u8],
+        another: &[u8],
     ) -> Result<(), AllocError> {
-        let (one, another) = classes;
         if self.has(alloc, one, another)? || self.has(alloc, another, one)? {
             return Ok(());
         }
@@ -98,7 +96,7 @@ fn add_inverted(
         if !may_pass(&before.a.message, &pair.a.message) {
             return Err(unsolved_at(alloc, Reason::OutOfOrder, Which::A, pair.a));
         }
-        swaps.add(alloc, before, pair, (earlier.as_slice(), class))?;
+        swaps.add(alloc, before, pair, earlier.as_slice(), class)?;
     }
     Ok(())
 }

@@ -67,14 +67,14 @@ fn is_kept(target: &[u8]) -> bool {
     target.ends_with(b" ") || target.ends_with(b"]")
 }
 
-/// Adds a place at which two messages differ.
+/// Adds a place at which two messages differ. Returns that a rule for it makes the values equal.
 fn add<'t>(
     a: &'t Tree,
     b: &'t Tree,
     element: Option<Element<'t>>,
     target: &Vec<u8>,
     found: &mut Vec<Found<'t>>,
-) -> Result<(), AllocError> {
+) -> Result<bool, AllocError> {
     let target = target.clone()?;
     found.push(Found {
         target,
@@ -82,7 +82,7 @@ fn add<'t>(
         a,
         b,
     })?;
-    Ok(())
+    Ok(true)
 }
 
 /// Compares two values that are not both lists or both objects, as [`compare_trees`] does.
@@ -99,8 +99,7 @@ fn compare_scalars<'t>(
     if !have_one_blank(a, b) {
         return Ok(false);
     }
-    add(a, b, element, target, found)?;
-    Ok(true)
+    add(a, b, element, target, found)
 }
 
 /// Adds the places at which two trees differ. The place of a list or an object is added in place of
@@ -116,21 +115,21 @@ pub fn compare_trees<'t>(
     found: &mut Vec<Found<'t>>,
 ) -> Result<bool, AllocError> {
     let start = found.len();
-    let is_enough = match (a, b) {
+    let compared = match (a, b) {
         (Tree::List(items), Tree::List(others)) => {
-            compare_items(alloc, items, others, element, target, found)?
+            compare_items(alloc, items, others, element, target, found)
         }
         (Tree::Object(members), Tree::Object(others)) => {
-            compare_members(alloc, members, others, element, target, found)?
+            compare_members(alloc, members, others, element, target, found)
         }
         _ => return compare_scalars(a, b, element, target, found),
     };
+    let is_enough = compared?;
     if is_enough || is_kept(target.as_slice()) {
         return Ok(is_enough);
     }
     found.truncate(start);
-    add(a, b, element, target, found)?;
-    Ok(true)
+    add(a, b, element, target, found)
 }
 
 #[cycle(compare_trees)]

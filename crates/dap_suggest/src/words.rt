@@ -28,6 +28,13 @@ pub fn push_parts(parts: &[&[u8]], out: &mut Vec<u8>) -> Result<(), AllocError> 
     Ok(())
 }
 
+/// Returns all parts, one after the other.
+pub fn parts_of(alloc: Global, parts: &[&[u8]]) -> Result<Vec<u8>, AllocError> {
+    let mut out = Vec::new(alloc);
+    push_parts(parts, &mut out)?;
+    Ok(out)
+}
+
 /// Appends a name, as it is or as a JSON string.
 pub fn push_name(alloc: Global, name: &str, out: &mut Vec<u8>) -> Result<(), AllocError> {
     push_path(alloc, &[Step::Member(name)], out)
@@ -78,10 +85,9 @@ fn json_of(alloc: Global, value: &Tree) -> Result<String, AllocError> {
     }
 }
 
-/// Appends a text as a JSON string.
-pub fn push_quoted(alloc: Global, text: &str, out: &mut Vec<u8>) -> Result<(), AllocError> {
-    let text = json_of(alloc, &Tree::Text(String::from_str(alloc, text)?))?;
-    out.extend_from_slice(text.as_bytes())
+/// Returns a text as a JSON string.
+pub fn quoted(alloc: Global, text: &str) -> Result<String, AllocError> {
+    json_of(alloc, &Tree::Text(String::from_str(alloc, text)?))
 }
 
 /// Returns the line of a comment that shows a part of a record.
