@@ -46,6 +46,7 @@ pub mod FirstPlace
 pub mod RankPlaces
 pub mod ReadyRanks
 pub mod Standing
+pub mod Releasing
 pub mod FollowerLists
 pub mod Pending
 pub mod PlanOrder

@@ -17,7 +17,7 @@ use Rattle.dap_order.specs.Plan.{IsWellFormed, IsPlan, place_count, group_of, fo
 use Rattle.dap_order.specs.Plan.{place_at_rank}
 use Rattle.dap_order.specs.Links.{AreLinks, entries_at, lists_of}
 use Rattle.dap_order.specs.Progress.{is_written, HasRank, IsReadyPlace, IsReleased, IsListed}
-use Rattle.dap_order.specs.Progress.{HasNoRank, Wrote, ConsideredFollowers}
+use Rattle.dap_order.specs.Progress.{HasNoRank, Wrote, UpdatedAfter}
 use Rattle.dap_order.specs.declared.plan.Plan.{Plan}
 use Rattle.dap_order.specs.declared.links.Links.{Links}
 use Rattle.dap_order.specs.declared.progress.Progress.{Progress}
@@ -25,7 +25,6 @@ use Rattle.dap_order.proofs.Least.{order-least}
 use Rattle.dap_order.proofs.Pending.{pending, pending-none, Between, between, IsNext}
 use Rattle.dap_order.proofs.Pending.{next_from_pending}
 use Rattle.dap_order.proofs.ReadyRanks.{stays_written}
-use Rattle.dap_order.proofs.Standing.{listed_stays}
 
 module _ (plan : Plan) where
   -- A ready place is released.
@@ -43,17 +42,16 @@ module _ (plan : Plan) where
 
   -- Each place remains listed after one is written and its followers are considered.
   pub listed_after : (links : Links) → AreLinks plan links → (old mid new : Progress) (place : ℕ)
-      → Wrote plan old mid place → ConsideredFollowers plan links mid new place
+      → Wrote plan old mid place → UpdatedAfter plan links mid new place
       → (other : ℕ) → other < place_count plan → IsListed plan links old other
       → IsListed plan links new other
-  listed_after links are old mid new place wrote considered other low was =
+  listed_after links are old mid new place wrote updated other low was =
       elim (cases_Bool (list_any (eqb place) (followed_by plan other))) [
         | inl there ↦ All-contains (IsListed plan links new)
-            (entries_at (lists_of links.followers) place) other considered.listed
+            (entries_at (lists_of links.followers) place) other updated.followers
             (are.followers.has place other low (Contains-from_any (λ x y. eqb-true x y) place
             (followed_by plan other) there))
-        | inr none ↦ listed_stays plan links mid new other considered.written considered.released
-            considered.kept (listed_mid none)
+        | inr none ↦ updated.listed other low (listed_mid none)
       ]
     where
       apart : list_any (eqb place) (followed_by plan other) ≡ false → (k d : ℕ)

@@ -119,6 +119,16 @@ module _ (plan : Plan) where
     pub kept : (rank : ℕ) → HasRank old.ready rank → HasRank new.ready rank
     pub listed : All (IsListed links new) (entries_at (lists_of links.followers) place)
 
+  -- After a place was written, its followers were considered, and places of all groups were
+  -- released. Nothing else changed.
+  pub record UpdatedAfter (links : Links) (old new : Progress) (place : ℕ) : Type 0 where
+    pub represents : Stands new
+    pub written : new.written.items ≡ old.written.items
+    pub done : (group : ℕ) → group < length plan.blocks.items → IsReleased new group
+    pub followers : All (IsListed links new) (entries_at (lists_of links.followers) place)
+    pub listed : (other : ℕ) → other < place_count plan → IsListed links old other
+        → IsListed links new other
+
   -- The ready place with the smallest rank was written, and its rank was removed.
   pub record Wrote (old new : Progress) (place : ℕ) : Type 0 where
     pub represents : Stands new

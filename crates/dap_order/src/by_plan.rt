@@ -1,11 +1,13 @@
 //! Puts places in order by a plan of their dependences.
-ghost use Rattle.std.specs.Prelude.{◌≡◌, ℕ, IfOk, IsOk};
+ghost use Rattle.std.specs.Prelude.{◌≡◌, ◌<◌, ℕ, false, length, replicate, IfOk, IsOk};
 ghost use Rattle.std.specs.List.{range_with_len};
 ghost use Rattle.dap_order.specs.Swaps.{Swaps, AreSwaps};
 ghost use Rattle.dap_order.specs.Order.{order};
 ghost use Rattle.dap_order.specs.Plan.{IsWellFormed, IsPlan, place_count};
+ghost use Rattle.dap_order.specs.Links.{AreLinks};
+ghost use Rattle.dap_order.specs.Progress.{Stands, IsReleased, IsListed};
 
-use crate::links::links_of;
+use crate::links::{Links, links_of};
 use crate::plan::Plan;
 use crate::progress::Progress;
 use std::alloc::{AllocError, Global};
@@ -28,12 +30,33 @@ pub fn order_of_places(alloc: Global, plan: &Plan) -> Result<Vec<usize>, AllocEr
     }
     let links = links_of(alloc, plan)?;
     let mut progress = Progress::new(alloc, plan)?;
-    let mut places = Vec::new(alloc);
     progress.release_all(plan, &links)?;
+    places_written(alloc, plan, &links, &mut progress)
+}
+
+/// Writes all places, and returns them in the order in which they were written. No place has been
+/// written before.
+fn places_written(
+    alloc: Global,
+    plan: &Plan,
+    links: &Links,
+    progress: &mut Progress,
+) -> Result<Vec<usize>, AllocError>
+    requires well_formed { IsWellFormed plan.now }
+    requires links { AreLinks plan.now links.now }
+    requires represents { Stands plan.now progress.old }
+    requires released { (group : ℕ) → group < length plan.now.blocks.items
+        → IsReleased plan.now progress.old group }
+    requires listed { (place : ℕ) → place < place_count plan.now
+        → IsListed plan.now links.now progress.old place }
+    requires unwritten { progress.old.written.items ≡ replicate (place_count plan.now) false }
+    ensures { (s : Swaps ℕ) → AreSwaps s → IsPlan s plan.now
+        → IfOk result (λ places. places.items ≡ order s (range_with_len 0 (place_count plan.now))) }
+{
+    let mut places = Vec::new(alloc);
     while let Some(place) = progress.write_next(plan) {
         places.push(place)?;
-        progress.consider_followers(plan, &links, place)?;
-        progress.release_all(plan, &links)?;
+        progress.update_after(plan, links, place)?;
     }
     Ok(places)
 }

@@ -7,7 +7,7 @@ ghost use Rattle.dap_order.specs.Links.{AreLinks};
 ghost use Rattle.dap_order.specs.Progress.{is_written, Stands, is_held};
 ghost use Rattle.dap_order.specs.Progress.{Considered, ConsideredFollowers, Released};
 ghost use Rattle.dap_order.specs.Progress.{ReleasedPlace, ReleasedBelow};
-ghost use Rattle.dap_order.specs.Progress.{Wrote, StartsAt, HasNoRank};
+ghost use Rattle.dap_order.specs.Progress.{Wrote, UpdatedAfter, StartsAt, HasNoRank};
 
 use crate::links::{Links, followers_at};
 use crate::plan::{Plan, blocks, followed_by};
@@ -167,7 +167,7 @@ impl Progress {
     }
 
     /// Adds the places that are ready because this place was written.
-    pub(crate) fn consider_followers(
+    fn consider_followers(
         &mut self,
         plan: &Plan,
         links: &Links,
@@ -184,5 +184,23 @@ impl Progress {
             self.consider(plan, links, *follower)?;
         }
         Ok(())
+    }
+
+    /// Releases the places that no group blocks, and adds those that are ready, after this place
+    /// was written.
+    pub(crate) fn update_after(
+        &mut self,
+        plan: &Plan,
+        links: &Links,
+        place: usize,
+    ) -> Result<(), AllocError>
+        requires well_formed { IsWellFormed plan.now }
+        requires links { AreLinks plan.now links.now }
+        requires represents { Stands plan.now self.old }
+        requires in_range { place < place_count plan.now }
+        ensures { OnOk result (UpdatedAfter plan.now links.now self.old self.new place) }
+    {
+        self.consider_followers(plan, links, place)?;
+        self.release_all(plan, links)
     }
 }

@@ -4,7 +4,7 @@ use Rattle.dap_order.specs.Plan.{IsPlan, place_count}
 use Rattle.dap_order.specs.Progress.{Stands, IsReleased, IsListed}
 use Rattle.dap_order.proofs.Pending.{pending}
 use Rattle.dap_order.proofs.PlanOrder.{Goes}
-use Rattle.dap_order.proofs.by_plan.order_of_places.Given as goal
+use Rattle.dap_order.proofs.by_plan.places_written.Given as goal
 
 abbrev pub invariant-loop-place : goal.invariant-loop-place
 invariant-loop-place l = record {
