@@ -34,7 +34,7 @@ use Rattle.dap_words.specs.Long.{long}
 use Rattle.dap_words.specs.Uuids.{uuid}
 use Rattle.dap_mask.specs.declared.rules.Verb.{Verb}
 use Rattle.dap_mask.specs.declared.rules.Verb.TheVariants.{Blank, Digits, Hex, Long, Uuid}
-use Rattle.dap_mask.proofs.Edited.{top-verb, at-edit, left-none, left_here}
+use Rattle.dap_mask.proofs.Edited.{top-verb, at-edit, left-none}
 use Rattle.dap_mask.proofs.ElementNames.{same_names}
 use Rattle.dap_mask.proofs.Matches.{both_apply}
 

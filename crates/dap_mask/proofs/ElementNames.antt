@@ -1,5 +1,5 @@
 -- A change leaves the names by which a place selects elements, unless its place is that of a name.
-use Rattle.std.proofs.Common.{◌≡◌, ◌⊎◌, inl, inr, ℕ, Bool, true, false, cond, ◌&&◌, ◌||◌, List, []}
+use Rattle.std.proofs.Common.{◌≡◌, ◌⊎◌, inl, inr, ℕ, Bool, true, false, cond, ◌&&◌, List, []}
 use Rattle.std.proofs.Common.{◌∷◌, Option, Some, None, option_map, option_and_then, codes, refl}
 use Rattle.std.proofs.Common.{sym, ap, ap₂, ◌∙◌, bytes_eq, true≢false}
 use Rattle.std.proofs.lemmas.Option.{none-some}

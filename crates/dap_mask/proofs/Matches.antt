@@ -1,6 +1,6 @@
 -- Two places that lead to one path, and two rules for one message.
 use Rattle.std.proofs.Common.{◌≡◌, ℕ, Bool, true, false, ◌&&◌, List, [], ◌∷◌, Option, Some, None}
-use Rattle.std.proofs.Common.{codes, option_and_then, refl, sym, ap, ◌∙◌, subst, bytes_eq, cond}
+use Rattle.std.proofs.Common.{codes, option_and_then, refl, sym, ◌∙◌, subst, bytes_eq, cond}
 use Rattle.std.proofs.lemmas.Slice.Eq.{bytes_eq-Decides}
 use Rattle.dap_tree.specs.Doc.{Doc, null, boolean, whole, text, list, object, id, get}
 use Rattle.dap_tree.specs.Path.{Step, name, place, step}

@@ -1,6 +1,6 @@
 -- Masking a masked document again does not change it.
 use Rattle.std.proofs.Common.{◌≡◌, ℕ, Bool, true, false, cond, not, ◌&&◌, List, [], ◌∷◌}
-use Rattle.std.proofs.Common.{Option, Some, None, option_map, codes, refl, sym, ◌∙◌, ap}
+use Rattle.std.proofs.Common.{Option, Some, None, option_map, refl, sym, ◌∙◌, ap}
 use Rattle.std.proofs.Common.{◌⊎◌, inl, inr, ◌||◌, true≢false}
 use Rattle.std.proofs.lemmas.Option.{none-some}
 use Rattle.dap_tree.specs.Doc.{Doc, null, boolean, whole, text, list, object, id, is_ordered}

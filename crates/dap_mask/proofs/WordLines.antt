@@ -1,14 +1,13 @@
 -- The line that is written for a word is read as that word.
-use Rattle.std.proofs.Common.{◌≡◌, ◌≢◌, ℕ, ◌<◌, ◌+◌, ◌/◌, ◌%◌, Bool, true, false, cond, not, ◌==◌}
-use Rattle.std.proofs.Common.{◌&&◌, ◌||◌, List, [], ◌∷◌, ◌++◌, nat_lt, refl, sym, ap, ap₂, ◌∙◌}
+use Rattle.std.proofs.Common.{◌≡◌, ◌≢◌, ℕ, ◌+◌, ◌/◌, ◌%◌, Bool, true, false, cond, not, ◌==◌}
+use Rattle.std.proofs.Common.{◌||◌, List, [], ◌∷◌, ◌++◌, nat_lt, refl, sym, ap, ◌∙◌}
 use Rattle.std.proofs.Common.{subst, true≢false, arith, append-nil, IsUtf8, Result, Ok, Err, OnOk}
 use lib.Utf8.{encode}
 use Rattle.std.proofs.lemmas.Bool.{eqb-true, ne_eqb, ltb-true, ltb-false}
 use Rattle.std.proofs.lemmas.Str.{IsUtf8-append, is_utf8-from_IsUtf8}
 use Rattle.std.specs.Char.{digit_char}
 use Rattle.std.specs.Prelude.{codes}
-use Rattle.std.specs.Str.{is_utf8}
-use Rattle.json.specs.Print.{escape_letter, escape_byte, escape, quoted as json_quoted}
+use Rattle.json.specs.Print.{escape_letter, escape_byte, escape}
 use Rattle.serde_json.specs.Data as json
 use Rattle.dap_tree.specs.Doc.{text as text_doc}
 use Rattle.dap_tree.specs.Json.{Reads, text_of}

@@ -205,9 +205,7 @@ pub(crate) fn is_telling_place(place: &[Step]) -> bool
 {
     match place {
         [] => true,
-        [step, rest @ ..] => match step {
-            Step::Member(name) => rest.is_empty() && is_telling(name.as_str()),
-            Step::Each | Step::Element(_) => false,
-        },
+        [Step::Member(name)] => is_telling(name.as_str()),
+        _ => false,
     }
 }

@@ -1,4 +1,5 @@
 use Rattle.std.proofs.Common.{◌∙◌, sym, ap, subst}
+use Rattle.dap_tree.specs.Doc.{is_sound}
 use Rattle.dap_tree.specs.View.{view}
 use Rattle.dap_mask.specs.KeptRules.{changes_of, words_of_mask}
 use Rattle.dap_mask.specs.Masked.{masked}
@@ -15,3 +16,31 @@ returns-then-sound-clause-masked c d read =
     let same = one_reading words bytes d (view c.in_ok-tree.tree) read c.in_ok-tree.ensures.ok in
     subst (IsMaskedAs rules d) (ap (masked rules) same ∙ sym c.mask.ensures.masked)
     (content_masked rules words bytes d list.safe list.settled list.leave read)
+
+pub returns-then-is_dropped-clause-ok : goal.returns-then-is_dropped-clause-ok
+returns-then-is_dropped-clause-ok c = (
+  view c.in_ok-tree.tree,
+  c.in_ok-tree.ensures.ok,
+  sym c.is_dropped.ensures ∙ c.if-is_dropped.true,
+)
+
+pub returns-then-sound-clause-ok : goal.returns-then-sound-clause-ok
+returns-then-sound-clause-ok c = (
+  view c.in_ok-tree.tree,
+  c.in_ok-tree.ensures.ok,
+  (
+    sym c.is_dropped.ensures ∙ c.if-is_dropped.false,
+    c.mask.ensures.masked,
+    sym c.sound.ensures ∙ c.if-sound.true,
+  ),
+)
+
+pub returns-else-sound-clause-err : goal.returns-else-sound-clause-err
+returns-else-sound-clause-err c = (
+  view c.in_ok-tree.tree,
+  c.in_ok-tree.ensures.ok,
+  (
+    sym c.is_dropped.ensures ∙ c.if-is_dropped.false,
+    ap is_sound (sym c.mask.ensures.masked) ∙ sym c.sound.ensures ∙ c.if-sound.false,
+  ),
+)

@@ -1,6 +1,5 @@
-use Rattle.std.proofs.Common.{◌≡◌, ℕ, suc, ◌-◌, List, Some, option_map, sym, ap, ◌∙◌, refl, rules}
+use Rattle.std.proofs.Common.{◌≡◌, ℕ, suc, ◌-◌, List, Some, option_map, sym, ap, ◌∙◌, refl}
 use Rattle.std.proofs.Common.{arith}
-use Rattle.std.proofs.lemmas.Grind.{common_steps}
 use Rattle.dap_mask.specs.RuleSteps.{RuleStep}
 use Rattle.dap_mask.specs.RuleText.{next_step, steps_from}
 use Rattle.dap_mask.specs.Rules.{step_of, place_of}
@@ -14,7 +13,7 @@ loop-left-preserved c =
     let behind = c.in-Some-2.behind.now in
     let p : RuleStep × List ℕ = (step_of step, behind) in
     let next : next_step l.rest.now ≡ Some p =
-    first_of (search rules, grind (arith, common_steps)) in
+    sym (rw c.in-Some-2.is at c.in_ok-step.ensures) in
     let left : l.left ≡ suc (l.left - 1) = omega arith in
     ap (λ ss. option_map (with_steps (place_of ss)) (steps_from (l.left - 1) behind))
     c.in_ok-push-in-Some-2.ensures.items

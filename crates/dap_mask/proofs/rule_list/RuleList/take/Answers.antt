@@ -2,7 +2,7 @@ use Rattle.std.proofs.Common.{◌≡◌, None, ◌∙◌, sym, ap, arith}
 use Rattle.std.proofs.lemmas.Grind.{common_steps}
 use Rattle.std.specs.Result.{is_ok}
 use Rattle.dap_mask.specs.Ids.{leave_ids}
-use Rattle.dap_mask.specs.Categories.{keep_categories, category_of}
+use Rattle.dap_mask.specs.Categories.{keep_categories}
 use Rattle.dap_mask.specs.ListedRules.{listed_mask, listed_changes, listed_categories}
 use Rattle.dap_mask.specs.Mask.{change, statement_of}
 use Rattle.dap_mask.specs.Rules.{rule_of, are_safe, are_idempotent}
