@@ -1,7 +1,6 @@
 -- Why no rules are suggested, from the steps that fail.
 use Rattle.std.proofs.Common.{◌≡◌, ◌≢◌, ℕ, ◌≤◌, Bool, true, false, cond, List, Ok, Err, arith}
-use Rattle.std.proofs.Common.{inl, inr, length, nat_lt, refl, sym, subst, take}
-use Rattle.dap_device.specs.declared.device.Sink.{Ghosts as Sink}
+use Rattle.std.proofs.Common.{length, nat_lt, refl, sym, subst, take}
 use Rattle.dap_mask.specs.Mask.{Mask, no_rules}
 use Rattle.dap_mask.specs.RulesFile.{last_line, rules_from, rules_said}
 use Rattle.dap_mask.specs.Runs.{lines_of}
@@ -14,8 +13,6 @@ use Rattle.dap_rules.specs.declared.fault.ApplyRefused.{ApplyRefused}
 use Rattle.dap_rules.specs.declared.fault.ApplyRefused.TheVariants.{Memory}
 use Rattle.dap_suggest.specs.NotSuggested.{IsNotSuggested, IsRulesRefusal, IsSearchRefusal}
 use Rattle.dap_suggest.specs.NotSuggested.{input_refusal}
-use Rattle.dap_runs.specs.ComparingRun.{IsPrinted}
-use Rattle.dap_suggest.specs.SuggestRun.{IsReported}
 use Rattle.dap_suggest.specs.Suggested.{IsOneRejected}
 use Rattle.dap_suggest.specs.declared.suggestion.SuggestRefused.{SuggestRefused}
 use Rattle.dap_suggest.specs.declared.suggestion.SuggestRefused.TheVariants as because
@@ -69,24 +66,3 @@ module _ (limits : Limits) (given a b : List ℕ) where
         → IsNotSuggested limits given a b result
     one_rejected which refused is result same = subst
         (IsNotSuggested limits given a b) (sym same) (named which refused is)
-
--- ---- the status of a failed allocation
-
-module _ {E : Type 0} (errors : Sink E) (silent spoken : E) (status : ℕ) (memory : status ≡ 5) where
-  -- It is not that of rules that are printed.
-  pub not_printed : {W : Type 0} (sink : Sink W) (text : List ℕ) (before after : W)
-      → IsPrinted sink errors text 0 before after silent spoken status → ⊥
-  not_printed sink text before after (inl (sent, kept, done)) = omega arith
-  not_printed sink text before after (inr (prefix, told, failed)) = omega arith
-
-  -- The rules that were given are not too long.
-  pub short_at_memory : (limits : Limits) (given a b : List ℕ) (refused : SuggestRefused)
-      → IsNotSuggested limits given a b refused
-      → IsReported errors given silent spoken status refused → length given ≤ 65536
-  short_at_memory limits given a b (because.Rules fault) is (sent, rejected) =
-      absurd (omega arith)
-  short_at_memory limits given a b (because.Input which refused) (mask, said, is) tells =
-      accepted_are_short given mask said
-  short_at_memory limits given a b (because.NoRules obstacle) (mask, said) tells =
-      accepted_are_short given mask said
-  short_at_memory limits given a b because.Memory short tells = short

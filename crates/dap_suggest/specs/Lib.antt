@@ -1,4 +1,2 @@
 pub mod NotSuggested
-pub mod SuggestFiles
-pub mod SuggestRun
 pub mod Suggested

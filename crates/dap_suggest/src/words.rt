@@ -4,7 +4,6 @@ ghost use Rattle.std.specs.Prelude.{◌≤◌, length};
 use dap_compare::Which;
 use dap_difference::{Step, push_path};
 use dap_message::{Kind, Message};
-use dap_runs::letter;
 use dap_tree::{Tree, write_tree};
 use std::alloc::{AllocError, Global};
 
@@ -92,7 +91,10 @@ pub fn quoted(alloc: Global, text: &str) -> Result<String, AllocError> {
 
 /// Returns the line of a comment that shows a part of a record.
 pub fn shown(alloc: Global, which: Which, number: u64, text: &str) -> Result<String, AllocError> {
-    let side = letter(which);
+    let side = match which {
+        Which::A => "A",
+        Which::B => "B",
+    };
     format!(in alloc; "# {side} record {number}: {text}\n")
 }
 

@@ -2,7 +2,7 @@
 use crate::explaining::explain_no_rules;
 use crate::{REFUSED, Setting};
 use dap_explain_commands::explain_comparison;
-use dap_suggest::{SuggestEnd, SuggestFilesRun, suggest_files};
+use dap_suggest_runs::{SuggestEnd, SuggestFilesRun, suggest_files};
 use dap_system::{OpenedInput, SystemFiles, explain_unread, print};
 use dapnorm::{LIMITS, Mode, StdSink, Which};
 

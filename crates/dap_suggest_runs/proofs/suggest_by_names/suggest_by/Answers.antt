@@ -1,5 +1,5 @@
 use Rattle.std.proofs.Common.{refl}
-use Rattle.dap_suggest.proofs.suggest_by_names.suggest_by.Goals as goal
+use Rattle.dap_suggest_runs.proofs.suggest_by_names.suggest_by.Goals as goal
 
 pub returns-clause-run : goal.returns-clause-run
 returns-clause-run g c = record {

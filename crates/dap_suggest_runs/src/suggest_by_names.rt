@@ -3,8 +3,8 @@ ghost use Rattle.std.specs.Prelude.{◌≡◌, ◌+◌, ◌<◌, ◌^◌};
 ghost use Rattle.dap_runs.specs.ComparingRun.{refusal_status};
 ghost use Rattle.dap_runs.specs.FaultLine.{compare_refused_text, fault_line};
 ghost use Rattle.dap_runs.specs.Reporting.{HasSent};
-ghost use Rattle.dap_suggest.specs.SuggestFiles.{EndTakes, EndsBy, HasGivenText};
-ghost use Rattle.dap_suggest.specs.SuggestFiles.{SuggestionIsRun, unread_as};
+ghost use Rattle.dap_suggest_runs.specs.SuggestFiles.{EndTakes, EndsBy, HasGivenText};
+ghost use Rattle.dap_suggest_runs.specs.SuggestFiles.{SuggestionIsRun, unread_as};
 
 use crate::run::run_suggest;
 use dap_compare::{CompareRefused, Which};

@@ -7,9 +7,9 @@ use Rattle.dap_input.specs.declared.limits.Limits.{Limits}
 use Rattle.dap_runs.specs.TwoInputs.{are_both_standard}
 use Rattle.dap_runs.specs.declared.files.OpenFault.{OpenFault}
 use Rattle.dap_runs.specs.declared.rules_files.RulesOpenFault.{RulesOpenFault}
-use Rattle.dap_suggest.specs.SuggestFiles.{EndsBy, GivenIs, SuggestEnds}
-use Rattle.dap_suggest.specs.declared.suggest_by_names.SuggestEnd.{SuggestEnd}
-use Rattle.dap_suggest.specs.declared.suggest_by_names.SuggestEnd.TheVariants as end
+use Rattle.dap_suggest_runs.specs.SuggestFiles.{EndsBy, GivenIs, SuggestEnds}
+use Rattle.dap_suggest_runs.specs.declared.suggest_by_names.SuggestEnd.{SuggestEnd}
+use Rattle.dap_suggest_runs.specs.declared.suggest_by_names.SuggestEnd.TheVariants as end
 
 module _ {I J W E : Type 0} (opened : List ℕ → I → Type 0)
     (unopened : List ℕ → OpenFault → Type 0) (opened_rules : List ℕ → J → Type 0)

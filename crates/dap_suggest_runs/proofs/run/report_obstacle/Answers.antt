@@ -1,5 +1,5 @@
 use Rattle.std.proofs.Common.{inl, inr, refl}
-use Rattle.dap_suggest.proofs.run.report_obstacle.Goals as goal
+use Rattle.dap_suggest_runs.proofs.run.report_obstacle.Goals as goal
 
 pub returns-in-Ok : goal.returns-in-Ok
 returns-in-Ok g c = inl ((_, c.report_parts.ensures), refl)

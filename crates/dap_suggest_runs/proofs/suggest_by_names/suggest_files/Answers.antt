@@ -1,7 +1,7 @@
 use Rattle.std.proofs.Common.{◌∙◌, sym}
 use Rattle.dap_runs.specs.declared.program_limits.TheConstants.{LIMITS}
-use Rattle.dap_suggest.proofs.SuggestRuns.{ends}
-use Rattle.dap_suggest.proofs.suggest_by_names.suggest_files.Goals as goal
+use Rattle.dap_suggest_runs.proofs.SuggestRuns.{ends}
+use Rattle.dap_suggest_runs.proofs.suggest_by_names.suggest_files.Goals as goal
 
 pub returns-clause-run : goal.returns-clause-run
 returns-clause-run g c =

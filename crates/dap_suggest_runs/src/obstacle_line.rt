@@ -1,9 +1,9 @@
 //! The line that says why no rules make two recordings the same.
-use crate::obstacle::{Obstacle, Reason};
 use dap_compare::Which;
 use dap_input::Refused;
 use dap_rules::ApplyRefused;
 use dap_runs::{letter, refused_text};
+use dap_suggest::{Obstacle, Reason};
 use std::alloc::{AllocError, Global};
 
 /// Returns what is wrong with a record.

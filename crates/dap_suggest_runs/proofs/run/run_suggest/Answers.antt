@@ -1,8 +1,8 @@
 use Rattle.std.proofs.Common.{◌∙◌, ℕ, List, Ok, Err, refl, subst}
 use Rattle.std.proofs.lemmas.List.{append-nil}
 use Rattle.dap_runs.specs.ComparingRun.{IsPrinted}
-use Rattle.dap_suggest.proofs.Refusals.{not_printed, short_at_memory}
-use Rattle.dap_suggest.proofs.run.run_suggest.Goals as goal
+use Rattle.dap_suggest_runs.proofs.MemoryStatus.{not_printed, short_at_memory}
+use Rattle.dap_suggest_runs.proofs.run.run_suggest.Goals as goal
 
 pub returns-in-Ok-clause-reported : goal.returns-in-Ok-clause-reported
 returns-in-Ok-clause-reported g c = record {

@@ -1,7 +1,7 @@
 use Rattle.std.proofs.Common.{subst}
 use Rattle.dap_runs.specs.FaultLine.{compare_refused_text, fault_line}
 use Rattle.dap_runs.specs.Reporting.{HasSent}
-use Rattle.dap_suggest.proofs.suggest_by_names.report_unread.Goals as goal
+use Rattle.dap_suggest_runs.proofs.suggest_by_names.report_unread.Goals as goal
 
 pub returns-clause-line : goal.returns-clause-line
 returns-clause-line g c =

@@ -28,10 +28,10 @@ use Rattle.dap_runs.specs.declared.two_inputs.OpenStop.TheVariants.{TwoStandard}
 use Rattle.dap_runs.specs.declared.whole_input.UnreadInput.{UnreadInput}
 use Rattle.dap_runs.specs.declared.whole_input.UnreadInput.TheVariants as unread
 use Rattle.dap_runs.specs.declared.whole_input.WholeInput.{WholeInput}
-use Rattle.dap_suggest.specs.SuggestRun.{SuggestionIsReported}
-use Rattle.dap_suggest.specs.declared.suggest_by_names.SuggestEnd.{SuggestEnd}
-use Rattle.dap_suggest.specs.declared.suggest_by_names.SuggestEnd.TheVariants as end
-use Rattle.dap_suggest.specs.declared.suggest_by_names.SuggestFilesRun.{SuggestFilesRun}
+use Rattle.dap_suggest_runs.specs.SuggestRun.{SuggestionIsReported}
+use Rattle.dap_suggest_runs.specs.declared.suggest_by_names.SuggestEnd.{SuggestEnd}
+use Rattle.dap_suggest_runs.specs.declared.suggest_by_names.SuggestEnd.TheVariants as end
+use Rattle.dap_suggest_runs.specs.declared.suggest_by_names.SuggestFilesRun.{SuggestFilesRun}
 
 -- ---- the rules that are given
 

@@ -1,19 +1,17 @@
 //! Suggests rules, and prints them: lines and a status.
 ghost use Rattle.std.specs.Prelude.{◌≡◌, ◌<◌, ◌≤◌, ◌^◌, length};
 ghost use Rattle.dap_input.specs.Limits.{AreSound};
-ghost use Rattle.dap_suggest.specs.SuggestRun.{IsObstacleReported, IsReported};
-ghost use Rattle.dap_suggest.specs.SuggestRun.{SuggestionIsReported, reported_refusal};
+ghost use Rattle.dap_suggest_runs.specs.SuggestRun.{IsObstacleReported, IsReported};
+ghost use Rattle.dap_suggest_runs.specs.SuggestRun.{SuggestionIsReported, reported_refusal};
 
-use crate::obstacle::Obstacle;
 use crate::obstacle_line::obstacle_line;
-use crate::suggesting::suggest;
-use crate::suggestion::SuggestRefused;
 use dap_device::Sink;
 use dap_input::Limits;
 use dap_rules::ApplyRefused;
 use dap_runs::{
     DIFFERENT, DONE, RulesRefused, print_found, report_parts, report_rules, report_unapplied,
 };
+use dap_suggest::{Obstacle, SuggestRefused, suggest};
 use std::alloc::Global;
 
 /// Returns how a rejected input is reported.

@@ -1,0 +1,2 @@
+pub mod MemoryStatus
+pub mod SuggestRuns

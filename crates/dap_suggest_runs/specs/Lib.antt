@@ -1,0 +1,2 @@
+pub mod SuggestFiles
+pub mod SuggestRun
