@@ -209,12 +209,56 @@ pub fn compare_texts_with<A: Source, B: Source, T: NameTable + Drop>(
     let Ok(mut records_a) = NormalRecords::new(alloc, limits, tables_a, mode) else {
         return Err(CompareRefused::Memory);
     };
+    let compared = compare_with_records(
+        alloc,
+        &mut records_a,
+        reader_a,
+        reader_b,
+        limits,
+        tables_b,
+        mode,
+        text_a,
+        text_b,
+    );
+    release(records_a);
+    compared
+}
+
+/// Compares the records of A with those of B, whose interning tables are `tables_b`. Nothing of
+/// either input has been read.
+fn compare_with_records<A: Source, B: Source, T: NameTable + Drop>(
+    alloc: Global,
+    records_a: &mut NormalRecords<T>,
+    reader_a: &mut A,
+    reader_b: &mut B,
+    limits: Limits,
+    tables_b: Tables<T>,
+    mode: Mode,
+    text_a: &mut Vec<u8>,
+    text_b: &mut Vec<u8>,
+) -> Result<Verdict, CompareRefused>
+    requires limits { AreSound limits }
+    requires stands_a { RepresentsBefore T.numbers T.limit limits mode [] records_a.old [] [] }
+    requires tables_b { AreReady T.numbers T.limit limits tables_b }
+    requires given_a { A.given reader_a.old < 2 ^ 62 }
+    requires given_b { B.given reader_b.old < 2 ^ 62 }
+    requires failures_a { A.failures reader_a.old < 2 ^ 62 }
+    requires failures_b { B.failures reader_b.old < 2 ^ 62 }
+    ensures outcome { Compares A.Source B.Source limits mode reader_a.old reader_a.new reader_b.old
+        reader_b.new result }
+    ensures taken_a { A.given reader_a.new ≤ A.given reader_a.old + limits.input + 1 }
+    ensures taken_b { B.given reader_b.new ≤ B.given reader_b.old + limits.input + 1 }
+    ensures text_a { LeavesDifference A.Source limits mode reader_a.old reader_a.new
+        text_a.new.items result }
+    ensures text_b { LeavesDifference B.Source limits mode reader_b.old reader_b.new
+        text_b.new.items result }
+{
     let Ok(mut records_b) = NormalRecords::new(alloc, limits, tables_b, mode) else {
         return Err(CompareRefused::Memory);
     };
-    compare_records(
+    let compared = compare_records(
         alloc,
-        &mut records_a,
+        records_a,
         reader_a,
         &mut records_b,
         reader_b,
@@ -222,8 +266,13 @@ pub fn compare_texts_with<A: Source, B: Source, T: NameTable + Drop>(
         mode,
         text_a,
         text_b,
-    )
+    );
+    release(records_b);
+    compared
 }
+
+/// Frees the buffers and the interning tables of an input.
+fn release<T: NameTable + Drop>(records: NormalRecords<T>) {}
 
 /// Compares the records of two inputs of which nothing has been read.
 fn compare_records<A: Source, B: Source, T: NameTable + Drop>(

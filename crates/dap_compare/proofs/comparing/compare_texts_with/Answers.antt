@@ -5,8 +5,3 @@ pub returns-in_default-clause-outcome : goal.returns-in_default-clause-outcome
 returns-in_default-clause-outcome g c =
     none_compared g.A.Source g.B.Source c.args.limits c.args.mode c.args.reader_a.now
     c.args.reader_b.now
-
-pub returns-in_default-new-clause-outcome : goal.returns-in_default-new-clause-outcome
-returns-in_default-new-clause-outcome g c =
-    none_compared g.A.Source g.B.Source c.args.limits c.args.mode c.args.reader_a.now
-    c.args.reader_b.now
