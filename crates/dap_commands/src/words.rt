@@ -319,30 +319,28 @@ fn golden_by<'a>(rows: &ArgMatches<'a>) -> Option<Command<'a>>
     })
 }
 
+/// Returns the command of a subcommand that selects a job, with its arguments.
+fn job_command_by<'a>(name: &str, rows: &ArgMatches<'a>) -> Option<Command<'a>>
+    ensures { option_map reported result
+        ≡ option_map (with_files (given rows.now)) (job_of name.now (given rows.now)) }
+{
+    let job = job_by(name, rows)?;
+    Some(with_files(job, rows))
+}
+
 /// Returns the command of a subcommand with its arguments.
 fn command_by<'a>(name: &str, rows: &ArgMatches<'a>) -> Option<Command<'a>>
     ensures { option_map reported result ≡ command_of name.now (given rows.now) }
 {
-    if name == "golden" {
-        return golden_by(rows);
+    match name {
+        "golden" => golden_by(rows),
+        "show" => Some(show_by(rows)),
+        "compare" => compare_by(rows),
+        "diff" => diff_by(rows),
+        "order" => order_by(rows),
+        "suggest" => suggest_by(rows),
+        _ => job_command_by(name, rows),
     }
-    if name == "show" {
-        return Some(show_by(rows));
-    }
-    if name == "compare" {
-        return compare_by(rows);
-    }
-    if name == "diff" {
-        return diff_by(rows);
-    }
-    if name == "order" {
-        return order_by(rows);
-    }
-    if name == "suggest" {
-        return suggest_by(rows);
-    }
-    let job = job_by(name, rows)?;
-    Some(with_files(job, rows))
 }
 
 /// Returns the command that the matches of the program select.
