@@ -6,13 +6,4 @@ pub mod Placing
 pub mod Canonical
 pub mod Ids
 pub mod Finding
-pub mod Document
-pub mod Places
-pub mod Judging
-pub mod Heads
-pub mod Marking
-pub mod Marked
-pub mod Typed
-pub mod Made
-pub mod FlatMessages
 pub mod Lengths

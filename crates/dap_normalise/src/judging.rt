@@ -1,13 +1,13 @@
 //! Checks the records of a recording one after another, for both `check` and `normalise`.
 ghost use Rattle.std.specs.Prelude.{◌≡◌, ◌≤◌, List, [], OnErr};
-ghost use Rattle.dap_flat.specs.FlatMessages.{flat_sent};
+ghost use Rattle.dap_flat_message.specs.FlatMessages.{flat_sent};
 ghost use Rattle.dap_message.specs.Message.{Sent};
 ghost use Rattle.dap_session.specs.Rules.{open_requests};
 ghost use Rattle.dap_input.specs.Limits.{AreSound};
 ghost use Rattle.dap_normalise.specs.NameTables.{AreReady};
 
 use crate::messages::{append_record, count_record, read_flat, read_message};
-use dap_flat::FlatMessage;
+use dap_flat_message::FlatMessage;
 use dap_input::{Limits, Refused};
 use dap_message::{AnyMessage, Side};
 use dap_recording::Record;

@@ -2,7 +2,7 @@
 ghost use Rattle.std.specs.Prelude.{◌≡◌, ◌<◌, ◌≤◌, ℕ, List, [], IfOk, IfErr, IfSome, OnErr, length};
 ghost use Rattle.std.specs.Prelude.{IsErrOf};
 ghost use Rattle.dap_tree.specs.Json.{text_of};
-ghost use Rattle.dap_flat.specs.FlatMessages.{flat_sent};
+ghost use Rattle.dap_flat_message.specs.FlatMessages.{flat_sent};
 ghost use Rattle.dap_message.specs.Message.{Sent, sent};
 ghost use Rattle.dap_normalise.specs.Accepting.{HoldsNoMessage, IsMessage, Rejects};
 ghost use Rattle.dap_normalise.specs.JudgingSteps.{Writes, record_of};
@@ -10,7 +10,8 @@ ghost use Rattle.dap_recording.specs.Recording.{record_text};
 ghost use Rattle.dap_input.specs.Limits.{AreSound};
 ghost use Rattle.dap_input.specs.Refusals.{RejectsPayload};
 
-use dap_flat::{FlatFault, FlatMessage, digit_count, read_flat_message};
+use dap_flat::digit_count;
+use dap_flat_message::{FlatFault, FlatMessage, read_flat_message};
 use dap_frame::FrameFault;
 use dap_input::{Limits, Refused};
 use dap_message::{Message, MessageFault, Side, typed};

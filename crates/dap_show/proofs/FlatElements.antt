@@ -19,11 +19,11 @@ use Rattle.dap_flat.specs.Finding.{FindsChild, Holds}
 use Rattle.dap_flat.specs.Pieces.{begin_list, begin_object, end_list, end_object, items_pieces}
 use Rattle.dap_flat.specs.Pieces.{Piece, leaf, members_pieces, name, piece_of, pieces}
 use Rattle.dap_flat.specs.Placing.{size}
-use Rattle.dap_flat.specs.Judging.{top_of}
+use Rattle.dap_flat_message.specs.Judging.{top_of}
 use Rattle.dap_flat.specs.declared.node.Node.{Node}
 use Rattle.dap_flat.specs.declared.node.Node.TheVariants as node
 use Rattle.dap_flat.proofs.Found.{first_part, second_part, size_there, stands_first}
-use Rattle.dap_flat.proofs.Judged.{found_there, list_inside, no_value_ends, value_then}
+use Rattle.dap_flat_message.proofs.Judged.{found_there, list_inside, no_value_ends, value_then}
 use Rattle.dap_show.specs.FlatElements.{AreElements, ElementsLeft, IsMemberValue, StartsElements}
 use Rattle.dap_show.specs.FlatElements.{StartsMember}
 use Rattle.dap_show.specs.FlatElements.{array_in, element_lines, lines_of_kind}

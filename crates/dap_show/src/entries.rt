@@ -2,7 +2,7 @@
 ghost use Rattle.std.specs.Prelude.{◌≡◌, ◌≢◌, ◌+◌, ◌<◌, ◌++◌, List, [], true, false};
 ghost use Rattle.std.specs.Prelude.{IfOk, IfSome, IsErrOf, None, OnOk, length};
 ghost use Rattle.dap_input.specs.Refusals.{RejectsPayload};
-ghost use Rattle.dap_flat.specs.FlatMessages.{flat_sent};
+ghost use Rattle.dap_flat_message.specs.FlatMessages.{flat_sent};
 ghost use Rattle.dap_message.specs.Message.{Sent, sent};
 ghost use Rattle.dap_normalise.specs.Accepting.{HoldsNoMessage, IsMessage};
 ghost use Rattle.dap_show.specs.ShowingSteps.{payload_of};
@@ -19,7 +19,8 @@ use crate::fault_words::{push_fault, push_untyped};
 use crate::flat_lines::flat_lines;
 use crate::leaves::{LeafFault, push_leaves};
 use crate::message_lines::{push_message, tree_lines};
-use dap_flat::{FlatMessage, Unread};
+use dap_flat::Unread;
+use dap_flat_message::FlatMessage;
 use dap_input::{Limits, Refused};
 use dap_message::{AnyMessage, Message};
 use dap_normalise::{read_flat, read_message};

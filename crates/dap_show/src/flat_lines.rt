@@ -2,8 +2,8 @@
 ghost use Rattle.std.specs.Prelude.{◌≡◌, ◌++◌, [], ◌∷◌, IfOk, IfSome, MatchOption, OnOk, Some};
 ghost use Rattle.std.specs.Prelude.{option_map};
 ghost use Rattle.dap_flat.specs.Finding.{Holds};
-ghost use Rattle.dap_flat.specs.FlatMessages.{flat_doc};
-ghost use Rattle.dap_flat.specs.Judging.{top_of};
+ghost use Rattle.dap_flat_message.specs.FlatMessages.{flat_doc};
+ghost use Rattle.dap_flat_message.specs.Judging.{top_of};
 ghost use Rattle.dap_flat.specs.Pieces.{Represents, piece_of};
 ghost use Rattle.dap_message.specs.Envelope.{text_value};
 ghost use Rattle.dap_message.specs.ViewItems.{frame_shown, scope_shown, variable_shown};
@@ -16,7 +16,8 @@ ghost use Rattle.dap_show.specs.Showing.{listed_lines};
 ghost use Rattle.dap_tree.specs.Doc.{Doc};
 
 use crate::message_lines::{push_frame, push_scope, push_variable};
-use dap_flat::{FlatMessage, Node, Unread, child, value_end};
+use dap_flat::{Node, Unread, child, value_end};
+use dap_flat_message::FlatMessage;
 use dap_message::{AnyMessage, FrameView, ScopeView, VariableView};
 use std::alloc::Global;
 

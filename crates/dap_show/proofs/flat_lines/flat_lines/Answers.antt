@@ -1,7 +1,7 @@
 use Rattle.std.proofs.Common.{◌++◌, ◌∙◌, ap, sym}
 use Rattle.std.proofs.Math.Logic.{∥∥₁_elim}
 use Rattle.std.proofs.Props.{props}
-use Rattle.dap_flat.specs.FlatMessages.{flat_doc}
+use Rattle.dap_flat_message.specs.FlatMessages.{flat_doc}
 use Rattle.dap_show.specs.FlatElements.{lines_of_kind}
 use Rattle.dap_show.proofs.flat_lines.flat_lines.Goals as goal
 

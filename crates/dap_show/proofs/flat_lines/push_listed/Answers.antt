@@ -1,7 +1,7 @@
 use Rattle.std.proofs.Common.{[], ◌≡◌, ◌++◌, ◌∙◌, IfSome, Some, ap, subst, sym}
 use Rattle.std.proofs.lemmas.Result.{on_ok_weaker}
 use Rattle.std.specs.Prelude.{unwrap_or}
-use Rattle.dap_flat.proofs.Heads.{holds_whole}
+use Rattle.dap_flat_message.proofs.Heads.{holds_whole}
 use Rattle.dap_message.specs.Places.{elements}
 use Rattle.dap_show.specs.FlatElements.{StartsElements, array_in, array_name, element_lines}
 use Rattle.dap_show.proofs.flat_lines.push_listed.Goals as goal

@@ -1,5 +1,5 @@
 use Rattle.std.proofs.Common.{IfSome, subst}
-use Rattle.dap_flat.specs.FlatMessages.{flat_sent}
+use Rattle.dap_flat_message.specs.FlatMessages.{flat_sent}
 use Rattle.dap_normalise.specs.Accepting.{IsMessage}
 use Rattle.dap_show.specs.ShowingSteps.{payload_of}
 use Rattle.dap_show.proofs.showing.append_flat.Goals as goal

@@ -2,7 +2,7 @@ use Rattle.std.proofs.Common.{◌≡◌, ◌<◌, [], length, ◌∙◌, ap, sym
 use Rattle.std.proofs.lemmas.Result.{err_from_is_err_and}
 use Rattle.dap_tree.specs.Ids.{with_ids}
 use Rattle.dap_tree.specs.Json.{text_of}
-use Rattle.dap_flat.specs.FlatMessages.{flat_sent}
+use Rattle.dap_flat_message.specs.FlatMessages.{flat_sent}
 use Rattle.dap_rename.specs.Messages.{with_numbers}
 use Rattle.dap_input.specs.declared.refused.Refused.TheVariants.{Grew}
 use Rattle.dap_normalise.specs.JudgingSteps.{record_of}

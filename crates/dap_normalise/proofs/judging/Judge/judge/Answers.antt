@@ -2,7 +2,7 @@ use Rattle.std.proofs.Common.{subst}
 use Rattle.std.specs.Prelude.{IfSome}
 use Rattle.std.proofs.lemmas.Result.{err_from_is_err_and}
 use Rattle.dap_message.specs.Message.{sent}
-use Rattle.dap_flat.specs.FlatMessages.{flat_sent}
+use Rattle.dap_flat_message.specs.FlatMessages.{flat_sent}
 use Rattle.dap_normalise.specs.Accepting.{IsMessage}
 use Rattle.dap_normalise.specs.JudgingSteps.{payload_of, judge_mode}
 use Rattle.dap_normalise.proofs.judging.Judge.judge.Goals as goal

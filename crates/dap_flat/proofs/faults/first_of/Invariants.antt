@@ -1,8 +1,0 @@
-use Rattle.std.proofs.Common.{drop, map}
-use Rattle.dap_profile.specs.ProfileRows.{row_of}
-use Rattle.dap_flat.specs.Heads.{AreRowsLeft}
-use Rattle.dap_flat.proofs.faults.first_of.Given as goal
-
-abbrev pub invariant-loop-row : goal.invariant-loop-row
-invariant-loop-row l =
-    AreRowsLeft l.nodes l.found (map row_of l.rows) (map row_of (drop l.row-index l.rows))

@@ -1,9 +1,0 @@
-use Rattle.std.proofs.Common.{◌∙◌}
-use Rattle.dap_flat.specs.declared.node.Node.TheVariants as node
-use Rattle.dap_flat.proofs.Tops.{text_value_there}
-use Rattle.dap_flat.proofs.members.text_at.Goals as goal
-
-pub returns : goal.returns
-returns c d h =
-    c.text_of.ensures
-    ∙ text_value_there c.args.nodes.now c.in-Some.at node.Null c.args.place d c.in-Some.is h

@@ -1,0 +1,11 @@
+pub mod Documents
+pub mod Tops
+pub mod Heads
+pub mod Located
+pub mod KeptPlaces
+pub mod Judged
+pub mod Named
+pub mod Replacing
+pub mod Shown
+pub mod Untold
+pub mod Told

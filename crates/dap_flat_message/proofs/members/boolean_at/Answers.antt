@@ -1,0 +1,9 @@
+use Rattle.std.proofs.Common.{◌∙◌}
+use Rattle.dap_flat.specs.declared.node.Node.TheVariants as node
+use Rattle.dap_flat_message.proofs.Tops.{boolean_value_there}
+use Rattle.dap_flat_message.proofs.members.boolean_at.Goals as goal
+
+pub returns : goal.returns
+returns c d h =
+    c.boolean_of.ensures
+    ∙ boolean_value_there c.args.nodes.now c.in-Some.at node.Null c.args.place d c.in-Some.is h
