@@ -57,7 +57,7 @@ impl fmt::Display for Cut<'_> {
     }
 }
 
-/// Returns the first characters of a string, at most so many.
+/// Returns at most this number of characters from the start of a string.
 pub(crate) fn first_characters(text: &str, count: usize) -> &str {
     match text.char_indices().nth(count) {
         Some((end, _)) => text.get(..end).unwrap_or(text),
