@@ -1,7 +1,8 @@
-//! The command `suggest`: it reads files by their names, and prints the rules or why there are none.
+//! The command `suggest`: it reads files by their names, and prints the rules or why there are
+//! none.
 //!
-//! [`run_suggest`] works on texts, and [`suggest_files`] on the files that names lead to. The search
-//! is that of `dap_suggest`.
+//! [`run_suggest`] works on texts, and [`suggest_files`] on the files that names lead to. The
+//! search is that of `dap_suggest`.
 #![tactic(auto)]
 
 mod obstacle_line;

@@ -1,6 +1,6 @@
 //! The values of the option `--word`, and the lines that they add to a text of rules.
-ghost use Rattle.std.specs.Prelude.{◌≡◌, ◌≢◌, ◌<◌, ◌+◌, ◌++◌, ◌∷◌, [], IfErr, IfOk, Ok, OnErr, OnOk};
-ghost use Rattle.std.specs.Prelude.{count_by, is_ok, length};
+ghost use Rattle.std.specs.Prelude.{◌≡◌, ◌≢◌, ◌<◌, ◌+◌, ◌++◌, ◌∷◌, [], IfErr, IfOk, Ok, OnErr};
+ghost use Rattle.std.specs.Prelude.{OnOk, count_by, is_ok, length};
 ghost use Rattle.dap_mask.specs.Mask.{no_rules};
 ghost use Rattle.dap_mask.specs.RulesFile.{is_line_feed, rules_said};
 ghost use Rattle.dap_mask.specs.WordLines.{word_line};

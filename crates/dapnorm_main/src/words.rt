@@ -5,7 +5,8 @@ ghost use Rattle.clap.specs.Words.{subcommand_of, takes};
 ghost use Rattle.dap_commands.specs.CommandLine.{text_in};
 ghost use Rattle.dap_commands.specs.Commands.{program, words_named};
 ghost use Rattle.dap_word_option.specs.WordOption.{texts_of};
-ghost use Rattle.dapnorm_main.specs.CommandRules.{AreRulesOf, AreRulesWith, rules_name, takes_words};
+ghost use Rattle.dapnorm_main.specs.CommandRules.{AreRulesOf, AreRulesWith, rules_name};
+ghost use Rattle.dapnorm_main.specs.CommandRules.{takes_words};
 
 use crate::explaining::explain_no_rules;
 use crate::report_usage;
