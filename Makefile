@@ -1,4 +1,5 @@
-# make            proves and builds bin/dapnorm; PROOFS=FILE builds it over that proof pack, PROOFS= without any
+# make            proves and builds bin/dapnorm; PROOFS=FILE builds it over that proof pack, PROOFS= without any;
+#                 KEEP=yes takes longer and keeps the work of the prover for rt check, make mutants and the next make
 # make proofs     proves all of it again from scratch and writes a proof pack, bin/dapnorm.proofs
 # make test       the gate and the runs around it
 # make mutants    tries all wrong bodies, also those that the gate leaves out; CRATES="a b" tries those of some crates
@@ -12,7 +13,7 @@
 PREFIX ?= /usr/local
 PROGRAM ?= bin/dapnorm
 # The proof pack to build over. An archive of the sources has one beside the Makefile, and a clone has none.
-PROOFS ?= $(wildcard dapnorm.proofs)
+PROOFS ?= $(if $(KEEP),,$(wildcard dapnorm.proofs))
 # The proof pack that make dist puts into its archive.
 PACK ?= bin/dapnorm.proofs
 BELOW = $(DESTDIR)$(PREFIX)
@@ -52,13 +53,14 @@ need-python:
 	@command -v python3 > /dev/null || { echo "python3 is not found: it runs the scripts of make"; exit 1; }
 
 # make without a pack proves a program that was built over one, since need-rt is never up to date. make install takes it as it is.
-TO_PROVE := $(if $(PROOFS),,$(and $(filter all bin/dapnorm proofs dist,$(or $(MAKECMDGOALS),all)),$(wildcard bin/over_pack)))
+# With KEEP=yes make always asks rt, which proves what it has kept no work of.
+TO_PROVE := $(if $(PROOFS),,$(and $(filter all bin/dapnorm proofs dist,$(or $(MAKECMDGOALS),all)),$(KEEP)$(wildcard bin/over_pack)))
 
 bin/dapnorm: $(SOURCES) $(PROOFS) $(if $(TO_PROVE),need-rt) | need-rt need-python
 	@mkdir -p bin
 ifeq ($(PROOFS),)
 	@echo "Proves the $(words $(CRATES)) crates of the program and builds it: about 30 minutes from scratch on 4 processors. Prints a line for each crate."
-	@python3 scripts/prove_all.py crates/dapnorm_main
+	@python3 scripts/prove_all.py crates/dapnorm_main$(if $(KEEP), --keep)
 	@cp crates/dapnorm_main/out/dapnorm_main bin/dapnorm
 	@rm -f bin/over_pack
 else
@@ -84,7 +86,7 @@ test: need-rt need-python
 TRIED = $(if $(findstring command,$(origin CRATES)),$(CRATES))
 
 mutants: need-rt need-python
-	@echo "Tries the wrong bodies of $(or $(TRIED),all crates): about an hour for all on 4 processors after make, longer if make has proved less."
+	@echo "Tries the wrong bodies of $(or $(TRIED),all crates): about an hour for all on 4 processors after make KEEP=yes, longer after make."
 	@python3 scripts/mutants.py $(TRIED)
 
 # Runs the program that make has built, if it exists.

@@ -14,7 +14,11 @@ NEEDED = ("checked", "free", "main", "must_fail", "need", "processors", "read_ed
 NEEDED_OF_LIBRARY = (
     "crates_below", "every", "guarded", "lock", "stop_on_links", "stop_on_text", "stop_on_unread", "Crate", "KIT", "RATTLE",
 )
-NEEDED_OF_CRATE = ("below", "build_rlib", "call", "count", "prove", "stamp", "words")
+NEEDED_OF_CRATE = ("below", "build_rlib", "call", "count", "has_kept", "prove", "stamp", "words")
+TARGET = "x86_64-unknown-linux-gnu"
+# The folder, below that of the program's crate, of the libraries that `make` builds without their proofs. rt accepts such files in no other
+# folder.
+LIBRARIES = os.path.join("out", "rlib")
 # The most memory that one job of a prover is likely to take, in bytes.
 MEMORY_OF_JOB = 1_600_000_000
 
@@ -83,3 +87,10 @@ def jobs_in_memory(rt: ModuleType) -> int:
 def processors(rt: ModuleType) -> int:
     """Returns how many provers can run side by side: the processors, or fewer if there is little memory."""
     return min(rt.processors(), jobs_in_memory(rt))
+
+
+def link(rt: ModuleType, crate: object, made: str, program: str) -> int:
+    """Links the object file of a program with the C library, and returns the status."""
+    folder = rt.rtlib.KIT
+    words = ["--target", TARGET, "--toolchain", f"{folder}/toolchain", "-o", program, made]
+    return crate.call(f"{folder}/bin/rattle-link", *words, f"{folder}/c/libos_c.a", f"{folder}/c/liblibc_c.a")

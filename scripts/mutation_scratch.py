@@ -1,6 +1,7 @@
 """A scratch copy of the repository, in which wrong bodies are tried by the toolchain's own functions.
 
 The sources are copied and what earlier checks kept is linked, so nothing in the repository changes while provers run."""
+import glob
 import os
 import shutil
 import signal
@@ -50,6 +51,7 @@ class Scratch:
         self.running: Dict[int, subprocess.Popen] = {}
         self.seconds: Dict[str, float] = {}
         self.is_stopped = False
+        self.is_kept_by_rt = False
         self.copies = 0
         self.crates: Dict[str, object] = {}
 
@@ -71,20 +73,34 @@ class Scratch:
         self.crates = {it.name: it for it in self.rt.rtlib.crates_below(self.folder)}
 
     def take_libraries(self, names: List[str]) -> None:
-        """Links the libraries below the crates, and builds those that no earlier run has left."""
+        """Links the libraries below the crates, and builds those that no earlier run has left.
+
+        They are those of rt, or those of `make` if rt lacks one: the libraries of `make` do not fit those of rt."""
         below = {it.name: it for name in names for it in self.crates[name].below()}
+        self.is_kept_by_rt = all(os.path.isfile(os.path.join(self.out(name), "rlib", "stamp")) for name in below)
         for crate in sorted(below.values(), key=lambda it: len(it.below())):
             self.take_library(crate)
 
-    def take_library(self, crate) -> None:
-        kept = os.path.join(self.top, "crates", crate.name, "out")
+    def out(self, name: str) -> str:
+        return os.path.join(self.top, "crates", name, "out")
+
+    def copy_library(self, crate) -> None:
+        """Links a library and the stamp of what it was made from, if an earlier run has left them."""
         made = os.path.dirname(crate.rlib)
-        if os.path.isfile(os.path.join(kept, "rlib", "stamp")):
-            shutil.copytree(os.path.join(kept, "rlib"), made, copy_function=link)
+        if self.is_kept_by_rt:
+            shutil.copytree(os.path.join(self.out(crate.name), "rlib"), made, copy_function=link)
+            return
+        for library in glob.glob(os.path.join(self.top, "crates", "*", kit.LIBRARIES, f"{crate.name}.rlib")):
+            if os.path.isfile(f"{library}.stamp"):
+                shutil.copytree(library, crate.rlib, copy_function=link)
+                link(f"{library}.stamp", os.path.join(made, "stamp"))
+
+    def take_library(self, crate) -> None:
+        self.copy_library(crate)
         if crate.is_built():
             return
-        print(f"{crate.name}: builds this library first, since its folder out/ has none of these sources; `make` keeps them", flush=True)
-        clone(os.path.join(kept, "incremental"), os.path.join(crate.folder, "out", "incremental"))
+        print(f"{crate.name}: builds this library first, since no run of `make` has left one of these sources", flush=True)
+        clone(os.path.join(self.out(crate.name), "incremental"), os.path.join(crate.folder, "out", "incremental"))
         said = self.build(crate)
         if said:
             sys.exit(f"{crate.name} is not proved, so no crate above it can be tried:\n{said}")
@@ -107,10 +123,10 @@ class Scratch:
         return "\n".join(printed[-12:]) if status else ""
 
     def is_proved(self, name: str) -> bool:
-        """Returns whether the folder out/ of the repository has a library of these very sources, and the work of its proof."""
-        kept = os.path.join(self.top, "crates", name, "out")
-        has_work = os.path.isdir(os.path.join(kept, "incremental")) and bool(os.listdir(os.path.join(kept, "incremental")))
-        return has_work and self.rt.rtlib.text_of(os.path.join(kept, "rlib", "stamp")) == self.crates[name].stamp()
+        """Returns whether rt has left a library of these very sources, and the work of its proof."""
+        kept = os.path.join(self.out(name), "incremental")
+        has_work = self.is_kept_by_rt and os.path.isdir(kept) and bool(os.listdir(kept))
+        return has_work and self.rt.rtlib.text_of(os.path.join(self.out(name), "rlib", "stamp")) == self.crates[name].stamp()
 
     def base(self, name: str) -> str:
         """Returns a folder with the work that earlier checks of the crate kept, made at the first call."""

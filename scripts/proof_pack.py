@@ -21,8 +21,6 @@ import pack_file
 from prove_all import Reports, crates_in_order, task
 from side_by_side import SideBySide, Task
 
-TARGET = "x86_64-unknown-linux-gnu"
-
 
 def without_logic(words: List[str]) -> List[str]:
     """Returns the words of a check without those that a build over a checked crate refuses."""
@@ -70,12 +68,8 @@ class Room:
         if not crate.is_program:
             return crate.call(rattle, "build", *words, "-o", library)
         made = f"{self.program()}.o"
-        return crate.call(rattle, "build", *words, "--toolchain", tools, "--backend", "llvm", "-o", made) or self.link(crate, made, tools)
-
-    def link(self, crate: object, made: str, tools: str) -> int:
-        folder = self.rt.rtlib.KIT
-        words = ["--target", TARGET, "--toolchain", tools, "-o", self.program(), made]
-        return crate.call(f"{folder}/bin/rattle-link", *words, f"{folder}/c/libos_c.a", f"{folder}/c/liblibc_c.a")
+        status = crate.call(rattle, "build", *words, "--toolchain", tools, "--backend", "llvm", "-o", made)
+        return status or kit.link(self.rt, crate, made, self.program())
 
     def work(self, tasks: List[Task]) -> bool:
         """Does the tasks side by side, and returns whether all succeeded."""

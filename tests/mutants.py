@@ -311,6 +311,41 @@ def of_an_interrupt(report):
         report.check("no file more", len(files) == len(REAL) + 2, repr(files))
 
 
+class Built:
+    """A crate with a library that is built already."""
+
+    def __init__(self, folder, name, below):
+        self.name, self.low = name, below
+        self.rlib = os.path.join(folder, "crates", name, "out", "rlib", f"{name}.rlib")
+
+    def below(self):
+        return self.low
+
+    def is_built(self):
+        return True
+
+
+def of_libraries(report):
+    """The libraries are those of rt, or those of `make` if rt lacks one."""
+    with tempfile.TemporaryDirectory() as top:
+        of_make = os.path.join(top, "crates", "top", "out", "rlib")
+        texts = {os.path.join(of_make, "low.rlib.stamp"): "of make", os.path.join(of_make, "low.rlib", "format"): "made"}
+        of_rt = os.path.join(top, "crates", "low", "out", "rlib")
+        of_both = {**texts, os.path.join(of_rt, "stamp"): "of rt", os.path.join(of_rt, "low.rlib", "format"): "kept"}
+        for wanted, files in ((["of make", "made"], texts), (["of rt", "kept"], of_both)):
+            for path, text in files.items():
+                os.makedirs(os.path.dirname(path), exist_ok=True)
+                with open(path, "w", encoding="utf-8") as file:
+                    file.write(text)
+            with mutation_scratch.Scratch(top) as scratch:
+                low = Built(scratch.folder, "low", [])
+                scratch.crates = {"low": low, "top": Built(scratch.folder, "top", [low])}
+                scratch.take_libraries(["top"])
+                paths = [os.path.join(os.path.dirname(low.rlib), "stamp"), os.path.join(low.rlib, "format")]
+                found = [open(path, encoding="utf-8").read() for path in paths]
+                report.check(f"the library is that with the stamp {wanted[0]!r}", found == wanted, repr(found))
+
+
 def of_words(report):
     """The command line: a crate that is not there."""
     script = os.path.join(TOP, "scripts", "mutants.py")
@@ -329,6 +364,7 @@ def main():
     of_a_run(report)
     of_a_real_run(report)
     of_an_interrupt(report)
+    of_libraries(report)
     of_words(report)
     return report.close()
 

@@ -205,6 +205,24 @@ def unproved(report, top):
     write(path, text)
 
 
+def proved_again(report, top):
+    """Without --keep the prover's work is not kept. With the word it is, later runs take it, and the program has the same bytes."""
+    program = os.path.join(top, "crates", "hello", "out", "hello")
+    library = os.path.join(top, "crates", "hello", "out", "rlib", "greeting.rlib")
+    work = os.path.join(top, "crates", "greeting", "out", "incremental")
+    first, made = read(program), os.stat(program).st_mtime_ns
+    report.check("a library of its own is built, and no work is kept", os.path.isdir(library) and not os.path.exists(work))
+    said = ended(started(top, "prove_all.py", "crates/hello"))
+    report.check("a second run proves nothing again", "hello is checked." in said and os.stat(program).st_mtime_ns == made, said)
+    shutil.rmtree(os.path.dirname(library))
+    for words in (["--keep"], []):
+        os.remove(program)
+        said = ended(started(top, "prove_all.py", "crates/hello", *words))
+        good = "hello is checked." in said and os.listdir(work) and not os.path.exists(library)
+        report.check(f"the work is kept, and is taken by prove_all.py {' '.join(words)}", good, said)
+        report.check("the program is the same", read(program) == first)
+
+
 def tried(report):
     order(report)
     with tempfile.TemporaryDirectory() as folder:
@@ -228,3 +246,4 @@ def tried(report):
         report.check("it runs", (answer.returncode, answer.stdout) == (0, b"hello\n"), repr(answer))
         damaged(built, folder)
         changed(built, folder)
+        proved_again(report, top)
