@@ -36,6 +36,14 @@ def version() -> str:
     return subprocess.run(["rt", "version"], stdout=subprocess.PIPE, text=True, check=True).stdout.strip()
 
 
+def link_file(source: str, to: str) -> None:
+    """Links a file, or copies it if the two folders are on different file systems. The provers replace files and never write into them."""
+    try:
+        os.link(source, to)
+    except OSError:
+        shutil.copyfile(source, to)
+
+
 def missing(rt: ModuleType) -> List[str]:
     """Returns the names that the scripts use and that this kit's rt lacks."""
     lacking = [name for name in NEEDED if not hasattr(rt, name)]
@@ -89,7 +97,7 @@ def processors(rt: ModuleType) -> int:
     return min(rt.processors(), jobs_in_memory(rt))
 
 
-def link(rt: ModuleType, crate: object, made: str, program: str) -> int:
+def link_program(rt: ModuleType, crate: object, made: str, program: str) -> int:
     """Links the object file of a program with the C library, and returns the status."""
     folder = rt.rtlib.KIT
     words = ["--target", TARGET, "--toolchain", f"{folder}/toolchain", "-o", program, made]

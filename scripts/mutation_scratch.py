@@ -19,18 +19,10 @@ class Interrupted(Exception):
     """The run was interrupted, so no further prover is started."""
 
 
-def link(source: str, to: str) -> None:
-    """Links a file, or copies it if the two folders are on different file systems. The provers replace files and never write into them."""
-    try:
-        os.link(source, to)
-    except OSError:
-        shutil.copyfile(source, to)
-
-
 def clone(source: str, to: str) -> None:
     """Makes a folder whose files are those of another one."""
     if os.path.isdir(source):
-        shutil.copytree(source, to, copy_function=link)
+        shutil.copytree(source, to, copy_function=kit.link_file)
     else:
         os.makedirs(to)
 
@@ -88,12 +80,12 @@ class Scratch:
         """Links a library and the stamp of what it was made from, if an earlier run has left them."""
         made = os.path.dirname(crate.rlib)
         if self.is_kept_by_rt:
-            shutil.copytree(os.path.join(self.out(crate.name), "rlib"), made, copy_function=link)
+            shutil.copytree(os.path.join(self.out(crate.name), "rlib"), made, copy_function=kit.link_file)
             return
         for library in glob.glob(os.path.join(self.top, "crates", "*", kit.LIBRARIES, f"{crate.name}.rlib")):
             if os.path.isfile(f"{library}.stamp"):
-                shutil.copytree(library, crate.rlib, copy_function=link)
-                link(f"{library}.stamp", os.path.join(made, "stamp"))
+                shutil.copytree(library, crate.rlib, copy_function=kit.link_file)
+                kit.link_file(f"{library}.stamp", os.path.join(made, "stamp"))
 
     def take_library(self, crate) -> None:
         self.copy_library(crate)

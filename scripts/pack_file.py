@@ -6,6 +6,8 @@ import os
 import tarfile
 from typing import Dict, Iterator, List, Optional
 
+from kit import link_file
+
 MANIFEST = "manifest.json"
 # The folder of what the prover recorded, one folder for each crate, and that of the libraries that it built.
 CHECKED, BUILT = "checked", "rlib"
@@ -116,10 +118,13 @@ def unpacked(archive: tarfile.TarFile, place: Optional[str]) -> dict:
         content = archive.extractfile(entry).read() if entry.isfile() else b""
         if hashlib.sha256(content).hexdigest() != entry.name or entry.name not in left:
             raise Refused(f"it is damaged: {entry.name[:80]} has another content")
-        for path in left.pop(entry.name):
-            os.makedirs(os.path.dirname(os.path.join(place, path)), exist_ok=True)
-            with open(os.path.join(place, path), "wb") as file:
-                file.write(content)
+        first, *others = [os.path.join(place, path) for path in left.pop(entry.name)]
+        for path in (first, *others):
+            os.makedirs(os.path.dirname(path), exist_ok=True)
+        with open(first, "wb") as file:
+            file.write(content)
+        for path in others:
+            link_file(first, path)
     if left:
         raise Refused(f"it is damaged: {min(left.values())[0]} is not in it")
     return said

@@ -69,7 +69,7 @@ class Room:
             return crate.call(rattle, "build", *words, "-o", library)
         made = f"{self.program()}.o"
         status = crate.call(rattle, "build", *words, "--toolchain", tools, "--backend", "llvm", "-o", made)
-        return status or kit.link(self.rt, crate, made, self.program())
+        return status or kit.link_program(self.rt, crate, made, self.program())
 
     def work(self, tasks: List[Task]) -> bool:
         """Does the tasks side by side, and returns whether all succeeded."""

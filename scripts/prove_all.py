@@ -139,7 +139,7 @@ class Afresh:
         words += ["--toolchain", os.path.join(self.rt.rtlib.KIT, "toolchain"), "--backend", "llvm", "-o", f"{made}.o"]
 
         def work() -> int:
-            return crate.prove(["build", *words]) or kit.link(self.rt, crate, f"{made}.o", made) or crate.call(made, "--help")
+            return crate.prove(["build", *words]) or kit.link_program(self.rt, crate, f"{made}.o", made) or crate.call(made, "--help")
 
         with locked(self.rt.rtlib, self.crates):
             return reports.ran(crate, jobs, lambda: self.once(crate, made, work))
