@@ -19,6 +19,7 @@ from types import ModuleType
 from typing import IO, Callable, Iterator, List
 
 import kit
+import pack_file
 from side_by_side import MOST_JOBS, SideBySide, Task
 
 
@@ -115,10 +116,14 @@ class Afresh:
         for crate in crates:
             crate.rlib = os.path.join(folder, f"{crate.name}.rlib")
 
+    def sum_of(self, made: str) -> str:
+        """Returns the sum of the bytes of a program, and nothing for a library, which is a folder."""
+        return pack_file.sum_of(made) if os.path.isfile(made) else ""
+
     def once(self, crate: object, made: str, work: Callable[[], int]) -> int:
         """Makes a library or a program, if it was not made of these sources, and returns the status."""
         kept, stamp = f"{made}.stamp", crate.stamp()
-        if os.path.exists(made) and self.rt.rtlib.text_of(kept) == stamp:
+        if os.path.exists(made) and self.rt.rtlib.text_of(kept) == stamp + self.sum_of(made):
             return 0
         with contextlib.suppress(FileNotFoundError):
             os.remove(kept)
@@ -126,7 +131,7 @@ class Afresh:
         # No stamp is written if a source changed during the proof.
         if status == 0 and stamp == crate.stamp():
             with open(kept, "w", encoding="utf-8") as file:
-                file.write(stamp)
+                file.write(stamp + self.sum_of(made))
         return status
 
     def library(self, crate: object, jobs: int) -> int:

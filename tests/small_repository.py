@@ -214,6 +214,9 @@ def proved_again(report, top):
     report.check("a library of its own is built, and no work is kept", os.path.isdir(library) and not os.path.exists(work))
     said = ended(started(top, "prove_all.py", "crates/hello"))
     report.check("a second run proves nothing again", "hello is checked." in said and os.stat(program).st_mtime_ns == made, said)
+    write(program, first + b"\n")
+    said = ended(started(top, "prove_all.py", "crates/hello"))
+    report.check("a program with other bytes is proved again", "hello is checked." in said and read(program) == first, said)
     shutil.rmtree(os.path.dirname(library))
     for words in (["--keep"], []):
         os.remove(program)
