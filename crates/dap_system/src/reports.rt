@@ -1,4 +1,7 @@
 //! What is reported of files that fail.
+ghost use Rattle.std.specs.Prelude.{◌≡◌, ◌↔◌, IsTrue, None};
+ghost use Rattle.std.specs.IoError.{error_kind, raw_os_error};
+
 use crate::files::OpenedInput;
 use dap_device::{KeptInput, StdSink, is_standard};
 use dap_explain::explain_unreadable;
@@ -11,7 +14,10 @@ const STANDARD_INPUT: &str = "standard input";
 
 /// Returns whether an allocation failed in the library. Such an error has no number of the
 /// operating system.
-pub fn is_out_of_memory(error: &Error) -> bool {
+pub fn is_out_of_memory(error: &Error) -> bool
+    ensures { IsTrue result
+        ↔ (error_kind error.now ≡ ErrorKind.OutOfMemory × raw_os_error error.now ≡ None) }
+{
     error.kind() == ErrorKind::OutOfMemory && error.raw_os_error().is_none()
 }
 
