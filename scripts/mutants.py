@@ -63,8 +63,7 @@ class CrateRun:
         self.scratch, self.report, self.name = scratch, report, name
         self.crate = scratch.crates[name]
         self.is_proved = scratch.is_proved(name)
-        # a check over kept work takes a third of the memory of one from scratch, as measured
-        self.need = scratch.rt.need(self.crate) // (2 if self.is_proved else 1)
+        self.need = scratch.need(name)
         self.lock = threading.Lock()
         self.left = 1
 

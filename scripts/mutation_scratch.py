@@ -120,6 +120,16 @@ class Scratch:
         has_work = self.is_kept_by_rt and os.path.isdir(kept) and bool(os.listdir(kept))
         return has_work and self.rt.rtlib.text_of(os.path.join(self.out(name), "rlib", "stamp")) == self.crates[name].stamp()
 
+    def need(self, name: str) -> int:
+        """Returns how much memory a check of a crate is likely to take, in bytes.
+
+        rt estimates it for libraries with their proofs. Over the libraries of `make`, which have none, a check takes less."""
+        whole = self.rt.need(self.crates[name])
+        if not self.is_kept_by_rt:
+            return min(whole, 2 * kit.MEMORY_OF_JOB)
+        # A check over kept work takes a third of the memory of one from scratch, as measured.
+        return whole // 2 if self.is_proved(name) else whole
+
     def base(self, name: str) -> str:
         """Returns a folder with the work that earlier checks of the crate kept, made at the first call."""
         folder = os.path.join(self.folder, "kept", name)

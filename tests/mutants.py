@@ -332,7 +332,9 @@ def of_libraries(report):
         texts = {os.path.join(of_make, "low.rlib.stamp"): "of make", os.path.join(of_make, "low.rlib", "format"): "made"}
         of_rt = os.path.join(top, "crates", "low", "out", "rlib")
         of_both = {**texts, os.path.join(of_rt, "stamp"): "of rt", os.path.join(of_rt, "low.rlib", "format"): "kept"}
-        for wanted, files in ((["of make", "made"], texts), (["of rt", "kept"], of_both)):
+        much = 100 * kit.MEMORY_OF_JOB
+        rows = ((["of make", "made"], texts, 2 * kit.MEMORY_OF_JOB), (["of rt", "kept"], of_both, much))
+        for wanted, files, need in rows:
             for path, text in files.items():
                 os.makedirs(os.path.dirname(path), exist_ok=True)
                 with open(path, "w", encoding="utf-8") as file:
@@ -344,6 +346,8 @@ def of_libraries(report):
                 paths = [os.path.join(os.path.dirname(low.rlib), "stamp"), os.path.join(low.rlib, "format")]
                 found = [open(path, encoding="utf-8").read() for path in paths]
                 report.check(f"the library is that with the stamp {wanted[0]!r}", found == wanted, repr(found))
+                scratch.rt.need = lambda crate: much
+                report.check(f"the memory of a check over a library {wanted[0]}", scratch.need("top") == need, repr(scratch.need("top")))
 
 
 def of_words(report):
