@@ -1,9 +1,14 @@
-"""The file of a proof pack: an archive whose manifest says what was proved, and then each content that the manifest names, once."""
+"""The file of a proof pack: an archive of a manifest, which says what was proved, and of one compressed archive for each crate.
+
+These have each content that the manifest names, once. They are written and read side by side."""
+import contextlib
 import hashlib
 import io
 import json
+import lzma
 import os
 import tarfile
+from concurrent.futures import ThreadPoolExecutor
 from typing import Dict, Iterator, List, Optional
 
 from kit import link_file
@@ -11,7 +16,7 @@ from kit import link_file
 MANIFEST = "manifest.json"
 # The folder of what the prover recorded, one folder for each crate, and that of the libraries that it built.
 CHECKED, BUILT = "checked", "rlib"
-FORM = "dapnorm proof pack 1"
+FORM = "dapnorm proof pack 2"
 PARTS = ("src", "specs", "proofs")
 TAKE = "take the pack of these sources and this kit, or prove them: make PROOFS="
 
@@ -76,16 +81,33 @@ def packed(archive: tarfile.TarFile, name: str, content: bytes) -> None:
     archive.addfile(entry, io.BytesIO(content))
 
 
-def write(pack: str, said: dict, place: str) -> None:
-    """Writes what the manifest says, and the records and libraries below a folder, to a pack."""
-    paths = [f"{part}/{it}" for part in (CHECKED, BUILT) for it in files_below(os.path.join(place, part))]
-    sums = {path: sum_of(os.path.join(place, path)) for path in paths}
-    with tarfile.open(f"{pack}.new", "w:xz") as archive:
-        packed(archive, MANIFEST, json.dumps({**said, "files": sums}, indent=1).encode())
-        # A record and its library share most of their bytes.
-        for total, path in {total: path for path, total in sums.items()}.items():
+def part_of(path: str) -> str:
+    """Returns the name of the archive that has the content of a path: that of its crate."""
+    return f"{path.split('/')[1].partition('.')[0]}.tar.xz"
+
+
+def compressed(place: str, contents: Dict[str, str]) -> bytes:
+    """Returns a compressed archive of files below a folder, given by the sums that name them in it."""
+    written = io.BytesIO()
+    with tarfile.open(fileobj=written, mode="w:xz") as archive:
+        for total, path in contents.items():
             with open(os.path.join(place, path), "rb") as file:
                 packed(archive, total, file.read())
+    return written.getvalue()
+
+
+def write(pack: str, said: dict, place: str) -> None:
+    """Writes what the manifest says, and the records and libraries below a folder, to a pack."""
+    paths = [f"{it}/{path}" for it in (CHECKED, BUILT) for path in files_below(os.path.join(place, it))]
+    parts: Dict[str, Dict[str, str]] = {}
+    with tarfile.open(f"{pack}.new", "w") as archive, ThreadPoolExecutor(os.cpu_count()) as pool:
+        sums = dict(zip(paths, pool.map(lambda path: sum_of(os.path.join(place, path)), paths)))
+        # A record and its library share most of their bytes.
+        for total, path in {total: path for path, total in sums.items()}.items():
+            parts.setdefault(part_of(path), {})[total] = path
+        packed(archive, MANIFEST, json.dumps({**said, "files": sums}, indent=1).encode())
+        for name, content in zip(parts, pool.map(lambda contents: compressed(place, contents), parts.values())):
+            packed(archive, name, content)
     os.replace(f"{pack}.new", pack)
 
 
@@ -99,8 +121,9 @@ def placed(said: dict) -> Dict[str, List[str]]:
     return found
 
 
-def said_by(entry: Optional[tarfile.TarInfo], archive: tarfile.TarFile) -> dict:
+def said_by(archive: tarfile.TarFile) -> dict:
     """Returns the manifest, which is the first entry of an archive."""
+    entry = archive.next()
     if entry is None or entry.name != MANIFEST or not entry.isfile():
         raise Refused("it is no proof pack")
     said = json.loads(archive.extractfile(entry).read())
@@ -109,39 +132,53 @@ def said_by(entry: Optional[tarfile.TarInfo], archive: tarfile.TarFile) -> dict:
     return said
 
 
-def unpacked(archive: tarfile.TarFile, place: Optional[str]) -> dict:
-    """Writes the contents of an archive below a folder, if one is given, and returns its manifest."""
-    entries = iter(archive)
-    said = said_by(next(entries, None), archive)
-    left = placed(said) if place else {}
-    for entry in entries if place else ():
-        content = archive.extractfile(entry).read() if entry.isfile() else b""
-        if hashlib.sha256(content).hexdigest() != entry.name or entry.name not in left:
-            raise Refused(f"it is damaged: {entry.name[:80]} has another content")
-        first, *others = [os.path.join(place, path) for path in left.pop(entry.name)]
-        for path in (first, *others):
-            os.makedirs(os.path.dirname(path), exist_ok=True)
-        with open(first, "wb") as file:
-            file.write(content)
-        for path in others:
-            link_file(first, path)
-    if left:
-        raise Refused(f"it is damaged: {min(left.values())[0]} is not in it")
-    return said
+def put_contents(content: bytes, left: Dict[str, List[str]], place: str) -> None:
+    """Writes the contents of one compressed archive below a folder, and removes their sums from those that are left."""
+    with tarfile.open(fileobj=io.BytesIO(lzma.decompress(content))) as archive:
+        for entry in archive:
+            text = archive.extractfile(entry).read() if entry.isfile() else b""
+            paths = left.pop(entry.name, None) if hashlib.sha256(text).hexdigest() == entry.name else None
+            if paths is None:
+                raise Refused(f"it is damaged: {entry.name[:80]} has another content")
+            first, *others = [os.path.join(place, path) for path in paths]
+            for path in (first, *others):
+                os.makedirs(os.path.dirname(path), exist_ok=True)
+            with open(first, "wb") as file:
+                file.write(text)
+            for path in others:
+                link_file(first, path)
 
 
-def read(pack: str, place: Optional[str] = None) -> dict:
-    """Returns the manifest of a pack, and writes its contents below a folder, if one is given."""
+@contextlib.contextmanager
+def opened(pack: str) -> Iterator[tarfile.TarFile]:
+    """Opens a pack, and raises `Refused` for all that goes wrong while it is read."""
     if not os.path.isfile(pack):
         raise Refused("there is no such file")
     try:
-        with tarfile.open(pack, "r:xz") as archive:
-            return unpacked(archive, place)
+        with tarfile.open(pack, "r:") as archive:
+            yield archive
     except Refused:
         raise
     except Exception as why:
         # What the libraries for archives raise at a damaged file is of many types.
         raise Refused(f"it is damaged: {why}") from why
+
+
+def read(pack: str) -> dict:
+    """Returns the manifest of a pack."""
+    with opened(pack) as archive:
+        return said_by(archive)
+
+
+def unpack(pack: str, place: str) -> None:
+    """Writes the contents of a pack below a folder."""
+    with opened(pack) as archive, ThreadPoolExecutor(os.cpu_count()) as pool:
+        left = placed(said_by(archive))
+        contents = [archive.extractfile(entry).read() for entry in archive if entry.name != MANIFEST]
+        for written in [pool.submit(put_contents, content, left, place) for content in contents]:
+            written.result()
+    if left:
+        raise Refused(f"it is damaged: {min(left.values())[0]} is not in it")
 
 
 def refuse(said: dict, top: str, program: str, kit: Optional[str] = None) -> None:

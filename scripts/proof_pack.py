@@ -131,7 +131,8 @@ def build(folder: str, pack: str, program: str) -> int:
     top, name = os.path.dirname(os.path.dirname(folder)), os.path.basename(folder)
     with place() as at, open(os.path.join(at, "log"), "w", encoding="utf-8") as log:
         try:
-            pack_file.refuse(pack_file.read(pack, at), top, name, kit.version())
+            pack_file.refuse(pack_file.read(pack), top, name, kit.version())
+            pack_file.unpack(pack, at)
         except pack_file.Refused as why:
             print(f"{pack} is refused: {why}")
             return 1

@@ -63,17 +63,31 @@ def ended(process):
     return process.communicate(timeout=900)[0]
 
 
-def altered(pack, path, change):
-    """Writes a copy of a pack, of which `change` has changed the manifest and the contents by their sums."""
-    with tarfile.open(pack, "r:xz") as archive:
-        found = {entry.name: archive.extractfile(entry).read() for entry in archive}
-    said = json.loads(found.pop(pack_file.MANIFEST))
-    change(said, found)
-    with tarfile.open(path, "w:xz") as archive:
-        for name, content in {pack_file.MANIFEST: json.dumps(said).encode(), **found}.items():
+def files_of(archive):
+    """The contents of an archive by their names."""
+    with tarfile.open(fileobj=io.BytesIO(archive)) as opened:
+        return {entry.name: opened.extractfile(entry).read() for entry in opened}
+
+
+def archive_of(files):
+    """An archive of contents by their names."""
+    written = io.BytesIO()
+    with tarfile.open(fileobj=written, mode="w") as archive:
+        for name, content in files.items():
             entry = tarfile.TarInfo(name)
             entry.size = len(content)
             archive.addfile(entry, io.BytesIO(content))
+    return written.getvalue()
+
+
+def altered(pack, path, change):
+    """Writes a copy of a pack, of which `change` has changed the manifest and the contents by their sums."""
+    parts = files_of(read(pack))
+    said = json.loads(parts.pop(pack_file.MANIFEST))
+    found = {name: content for part in parts.values() for name, content in files_of(lzma.decompress(part)).items()}
+    change(said, found)
+    files = {pack_file.MANIFEST: json.dumps(said).encode(), "all.tar.xz": lzma.compress(archive_of(found), preset=0)}
+    write(path, archive_of(files))
     return path
 
 
