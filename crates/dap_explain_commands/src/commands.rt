@@ -48,7 +48,7 @@ fn tables(alloc: Global, limits: Limits, hasher: RandomState) -> Tables<IndexNam
     requires { AreSound limits }
     ensures { AreReady index_numbers index_limit limits result }
 {
-    Tables::indexed(alloc, limits.ids, hasher)
+    IndexNames::tables(alloc, limits.ids, hasher)
 }
 
 /// Explains why `record`, `compact`, `show`, `normalise` or `check` rejected an input. Runs the job

@@ -16,5 +16,5 @@ pub fn index_tables(alloc: Global, limits: Limits) -> Tables<IndexNames<DefaultH
     requires { AreSound limits }
     ensures { AreReady index_numbers index_limit limits result }
 {
-    Tables::indexed(alloc, limits.ids, BuildHasherDefault::new())
+    IndexNames::tables(alloc, limits.ids, BuildHasherDefault::new())
 }

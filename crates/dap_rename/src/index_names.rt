@@ -3,7 +3,9 @@ ghost use Rattle.std.specs.Prelude.{◌≡◌, suc, ◌<◌, ◌≤◌, ◌^◌,
 ghost use Rattle.std.specs.Prelude.{MatchOption};
 ghost use Rattle.dap_rename.specs.Table.{has, place, AllDiffer};
 
+use crate::Tables;
 use crate::name_table::{NameFault, NameTable};
+use dap_tree::Sort;
 use indexmap::IndexSet;
 use std::alloc::Global;
 use std::hash::BuildHasher;
@@ -45,6 +47,31 @@ impl<S: BuildHasher + Drop> IndexNames<S> {
             × (i < length (index_numbers self.now))) }
     {
         self.items.get_index_of(&number)
+    }
+}
+
+// `Tables` does not make these, since each library whose interface names `Tables` would then hold
+// all that indexmap states.
+impl<S: BuildHasher + Copy + Drop> IndexNames<S> {
+    ghost use Rattle.dap_rename.specs.IndexNames.{index_numbers, index_limit};
+    ghost use Rattle.dap_rename.specs.Names.{AreEmpty};
+    ghost use Rattle.dap_rename.specs.Tables.{table_of};
+
+    /// Returns empty tables for all kinds of ids, each for at most `limit` numbers, which use
+    /// `hasher`. Does not allocate.
+    pub fn tables(alloc: Global, limit: usize, hasher: S) -> Tables<IndexNames<S>>
+        requires { limit < 2 ^ 31 }
+        ensures empty { AreEmpty index_numbers result }
+        ensures limits { (s : Sort) → index_limit (table_of result s) ≡ limit }
+    {
+        Tables {
+            client_seq: IndexNames::new(alloc, limit, hasher),
+            adapter_seq: IndexNames::new(alloc, limit, hasher),
+            frame: IndexNames::new(alloc, limit, hasher),
+            reference: IndexNames::new(alloc, limit, hasher),
+            thread: IndexNames::new(alloc, limit, hasher),
+            breakpoint: IndexNames::new(alloc, limit, hasher),
+        }
     }
 }
 

@@ -1,7 +1,6 @@
 //! One interning table for each kind of id.
 ghost use Rattle.std.specs.Prelude.{◌≡◌, ◌<◌, ◌≤◌, ◌^◌, false, Err, IfOk, OnOk, OnErr, length};
 ghost use Rattle.std.specs.Prelude.{take};
-ghost use Rattle.dap_rename.specs.IndexNames.{index_limit, index_numbers};
 ghost use Rattle.dap_rename.specs.PlainNames.{plain_limit, plain_numbers};
 ghost use Rattle.dap_rename.specs.Table.{has, place};
 ghost use Rattle.dap_rename.specs.Names.{AreEmpty};
@@ -9,10 +8,9 @@ ghost use Rattle.dap_rename.specs.Sorts.{EachSort};
 ghost use Rattle.dap_rename.specs.Tables.{table_of, lists, counts, added, added_all, names_from};
 ghost use Rattle.dap_rename.specs.Tables.{AllExtend, limits, AllFit, SomeExceedsLimit};
 
-use crate::{IndexNames, NameFault, NameTable, PlainNames};
+use crate::{NameFault, NameTable, PlainNames};
 use dap_tree::Sort;
 use std::alloc::Global;
-use std::hash::BuildHasher;
 
 /// A table for each kind of id.
 #[derive(Drop)]
@@ -56,25 +54,6 @@ impl Tables<PlainNames> {
             reference: PlainNames::new(alloc, limit),
             thread: PlainNames::new(alloc, limit),
             breakpoint: PlainNames::new(alloc, limit),
-        }
-    }
-}
-
-impl<S: BuildHasher + Copy + Drop> Tables<IndexNames<S>> {
-    /// Returns empty tables that look numbers up by hash, each for at most `limit` numbers. Does
-    /// not allocate.
-    pub fn indexed(alloc: Global, limit: usize, hasher: S) -> Tables<IndexNames<S>>
-        requires { limit < 2 ^ 31 }
-        ensures empty { AreEmpty index_numbers result }
-        ensures limits { (s : Sort) → index_limit (table_of result s) ≡ limit }
-    {
-        Tables {
-            client_seq: IndexNames::new(alloc, limit, hasher),
-            adapter_seq: IndexNames::new(alloc, limit, hasher),
-            frame: IndexNames::new(alloc, limit, hasher),
-            reference: IndexNames::new(alloc, limit, hasher),
-            thread: IndexNames::new(alloc, limit, hasher),
-            breakpoint: IndexNames::new(alloc, limit, hasher),
         }
     }
 }

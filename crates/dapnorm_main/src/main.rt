@@ -97,7 +97,7 @@ fn tables(alloc: Global, limits: Limits, hasher: RandomState) -> Tables<IndexNam
     requires { AreSound limits }
     ensures { AreReady index_numbers index_limit limits result }
 {
-    Tables::indexed(alloc, limits.ids, hasher)
+    IndexNames::tables(alloc, limits.ids, hasher)
 }
 
 /// Reports why the arguments request nothing that can be done.

@@ -403,7 +403,7 @@ fn indexed(alloc: Global, limits: Limits, hasher: RandomState) -> Tables<IndexNa
     requires { AreSound limits }
     ensures { AreReady index_numbers index_limit limits result }
 {
-    Tables::indexed(alloc, limits.ids, hasher)
+    IndexNames::tables(alloc, limits.ids, hasher)
 }
 
 /// Calls the function of a call.

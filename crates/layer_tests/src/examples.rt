@@ -23,7 +23,7 @@ pub fn index_tables(alloc: Global, ids: usize) -> Tables<IndexTable>
     requires { ids < 2 ^ 31 }
     ensures { AreEmpty index_numbers result }
 {
-    Tables::indexed(alloc, ids, BuildHasherDefault::new())
+    IndexNames::tables(alloc, ids, BuildHasherDefault::new())
 }
 
 /// Asserts that an allocation failed in this turn.
