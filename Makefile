@@ -59,7 +59,7 @@ TO_PROVE := $(if $(PROOFS),,$(and $(filter all bin/dapnorm proofs dist,$(or $(MA
 bin/dapnorm: $(SOURCES) $(PROOFS) $(if $(TO_PROVE),need-rt) | need-rt need-python
 	@mkdir -p bin
 ifeq ($(PROOFS),)
-	@echo "Proves the $(words $(CRATES)) crates of the program and builds it: about 30 minutes from scratch on 4 processors. Prints a line for each crate."
+	@echo "Proves the $(words $(CRATES)) crates of the program and builds it: about 25 minutes from scratch on 4 processors. Prints a line for each crate."
 	@python3 scripts/prove_all.py crates/dapnorm_main$(if $(KEEP), --keep)
 	@cp crates/dapnorm_main/out/dapnorm_main bin/dapnorm
 	@rm -f bin/over_pack
@@ -86,7 +86,7 @@ test: need-rt need-python
 TRIED = $(if $(findstring command,$(origin CRATES)),$(CRATES))
 
 mutants: need-rt need-python
-	@echo "Tries the wrong bodies of $(or $(TRIED),all crates): about an hour for all on 4 processors after make KEEP=yes, longer after make."
+	@echo "Tries the wrong bodies of $(or $(TRIED),all crates): about an hour for all on 4 processors."
 	@python3 scripts/mutants.py $(TRIED)
 
 # Runs the program that make has built, if it exists.
