@@ -86,7 +86,7 @@ test: need-rt need-python
 TRIED = $(if $(findstring command,$(origin CRATES)),$(CRATES))
 
 mutants: need-rt need-python
-	@echo "Tries the wrong bodies of $(or $(TRIED),all crates): about an hour for all on 4 processors."
+	@echo "Tries the wrong bodies of $(or $(TRIED),all crates): one to two hours for all on 4 processors."
 	@python3 scripts/mutants.py $(TRIED)
 
 # Runs the program that make has built, if it exists.
