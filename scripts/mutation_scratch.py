@@ -44,6 +44,7 @@ class Scratch:
         self.seconds: Dict[str, float] = {}
         self.is_stopped = False
         self.is_kept_by_rt = False
+        self.has_built = False
         self.copies = 0
         self.crates: Dict[str, object] = {}
 
@@ -93,6 +94,7 @@ class Scratch:
             return
         print(f"{crate.name}: builds this library first, since no run of `make` has left one of these sources", flush=True)
         clone(os.path.join(self.out(crate.name), "incremental"), os.path.join(crate.folder, "out", "incremental"))
+        self.has_built = True
         said = self.build(crate)
         if said:
             sys.exit(f"{crate.name} is not proved, so no crate above it can be tried:\n{said}")
@@ -123,9 +125,9 @@ class Scratch:
     def need(self, name: str) -> int:
         """Returns how much memory a check of a crate is likely to take, in bytes.
 
-        rt estimates it for libraries with their proofs. Over the libraries of `make`, which have none, a check takes less."""
+        rt estimates it for libraries with their proofs. Those of `make` have none, so a check over them alone takes less."""
         whole = self.rt.need(self.crates[name])
-        if not self.is_kept_by_rt:
+        if not self.is_kept_by_rt and not self.has_built:
             return min(whole, 2 * kit.MEMORY_OF_JOB)
         # A check over kept work takes a third of the memory of one from scratch, as measured.
         return whole // 2 if self.is_proved(name) else whole

@@ -348,6 +348,8 @@ def of_libraries(report):
                 report.check(f"the library is that with the stamp {wanted[0]!r}", found == wanted, repr(found))
                 scratch.rt.need = lambda crate: much
                 report.check(f"the memory of a check over a library {wanted[0]}", scratch.need("top") == need, repr(scratch.need("top")))
+                scratch.has_built = True
+                report.check("the memory of a check over a library that is built here", scratch.need("top") == much, repr(scratch.need("top")))
 
 
 def of_words(report):
