@@ -11,8 +11,8 @@ ghost use Rattle.dap_compare.specs.Verdicts.{Compares};
 use crate::verdict::{CompareRefused, Verdict, Which};
 use dap_device::Source;
 use dap_input::{Limits, Refused};
-use dap_normalise::{NormalRecords, index_tables};
-use dap_rename::{Mode, NameTable, Tables};
+use dap_normalise::NormalRecords;
+use dap_rename::{Mode, NameTable, Tables, index_tables};
 use std::alloc::Global;
 
 /// Returns the error of an input. An allocation failure belongs to neither input.
@@ -116,8 +116,8 @@ pub fn compare<A: Source, B: Source>(
         reader_a,
         reader_b,
         limits,
-        index_tables(alloc, limits),
-        index_tables(alloc, limits),
+        index_tables(alloc, limits.ids),
+        index_tables(alloc, limits.ids),
         mode,
     )
 }

@@ -11,8 +11,7 @@ use crate::reading::message_in;
 use dap_compare::{CompareRefused, Verdict, compare_texts_with};
 use dap_device::Source;
 use dap_input::Limits;
-use dap_normalise::index_tables;
-use dap_rename::{Mode, NameTable, Tables};
+use dap_rename::{Mode, NameTable, Tables, index_tables};
 use std::alloc::{AllocError, Global};
 
 /// Returns the lines for the stored records of A and of B.
@@ -71,8 +70,8 @@ pub fn diff<A: Source, B: Source>(
         reader_a,
         reader_b,
         limits,
-        index_tables(alloc, limits),
-        index_tables(alloc, limits),
+        index_tables(alloc, limits.ids),
+        index_tables(alloc, limits.ids),
         mode,
     )
 }

@@ -11,8 +11,7 @@ use crate::report::report_lines;
 use dap_compare::{CompareRefused, Which};
 use dap_device::Source;
 use dap_input::Limits;
-use dap_normalise::index_tables;
-use dap_rename::{Mode, NameTable, Tables};
+use dap_rename::{Mode, NameTable, Tables, index_tables};
 use std::alloc::Global;
 
 /// Returns the differences of two recordings in memory, which have two normal forms.
@@ -74,8 +73,8 @@ pub fn diff_all<A: Source, B: Source>(
         reader_a,
         reader_b,
         limits,
-        index_tables(alloc, limits),
-        index_tables(alloc, limits),
+        index_tables(alloc, limits.ids),
+        index_tables(alloc, limits.ids),
         mode,
     )
 }

@@ -9,8 +9,8 @@ ghost use Rattle.dap_golden.specs.NormalSession.{IsNormalSession};
 use dap_device::MemorySource;
 use dap_input::{Limits, Refused};
 use dap_message::Side;
-use dap_normalise::{Checked, NormalRecords, index_tables};
-use dap_rename::{Mode, NameTable, Tables};
+use dap_normalise::{Checked, NormalRecords};
+use dap_rename::{Mode, NameTable, Tables, index_tables};
 use std::alloc::Global;
 
 /// The normal text of a recording, and its counts.
@@ -36,7 +36,7 @@ pub fn normalise_session(
     ensures ok { IfOk result (IsNormalSession limits mode recording.now) }
     ensures err { IfErr result (RefusesBytes limits mode recording.now) }
 {
-    let tables = index_tables(alloc, limits);
+    let tables = index_tables(alloc, limits.ids);
     normalise_with(alloc, recording, limits, tables, mode)
 }
 

@@ -6,12 +6,11 @@ ghost use Rattle.dap_normalise.specs.NameTables.{AreReady};
 ghost use Rattle.dap_normalise.specs.NormalSteps.{RepresentsBefore};
 
 use crate::checked::Checked;
-use crate::default_tables::index_tables;
 use crate::normal_records::NormalRecords;
 use dap_device::Source;
 use dap_input::{Limits, Refused};
 use dap_message::Side;
-use dap_rename::{Mode, NameTable, Tables};
+use dap_rename::{Mode, NameTable, Tables, index_tables};
 use std::alloc::Global;
 
 /// Reads a recording and checks it: its records, their messages, the session rules, the number of
@@ -49,7 +48,7 @@ pub fn check<R: Source>(
     // It reads at most one byte beyond the limit.
     ensures taken { R.given reader.new ≤ R.given reader.old + limits.input + 1 }
 {
-    let tables = index_tables(alloc, limits);
+    let tables = index_tables(alloc, limits.ids);
     check_with(alloc, reader, limits, complete, tables, mode)
 }
 

@@ -3,7 +3,6 @@
 
 mod checked;
 mod checking;
-mod default_tables;
 mod judging;
 pub mod laws;
 mod messages;
@@ -14,7 +13,6 @@ mod same_recordings;
 
 pub use checked::Checked;
 pub use checking::{check, check_with};
-pub use default_tables::index_tables;
 pub use messages::{read_flat, read_message};
 pub use normal_records::NormalRecords;
 pub use normalised::Normalised;

@@ -6,12 +6,11 @@ ghost use Rattle.dap_normalise.specs.NormalSteps.{RepresentsBefore};
 ghost use Rattle.dap_normalise.specs.Normalising.{IsCanonical, RefusesBytes};
 ghost use Rattle.dap_normalise.specs.Streaming.{Ends, Flushes, HasGivenUpAt, Streams};
 
-use crate::default_tables::index_tables;
 use crate::normal_records::NormalRecords;
 use crate::normalised::Normalised;
 use dap_device::{MemorySource, Sink, Source, write_all};
 use dap_input::{Limits, Refused};
-use dap_rename::{Mode, NameTable, Tables};
+use dap_rename::{Mode, NameTable, Tables, index_tables};
 use std::alloc::Global;
 
 /// The length of buffered output at which it is written, even if the next record is buffered.
@@ -44,7 +43,7 @@ pub fn normalise_bytes(
     ensures err { IfErr result (λ refused. RefusesBytes limits mode bytes.now refused) }
     ensures mode { IfOk result (λ text. text.mode ≡ mode) }
 {
-    let tables = index_tables(alloc, limits);
+    let tables = index_tables(alloc, limits.ids);
     normalise_bytes_with(alloc, bytes, limits, tables, mode)
 }
 
@@ -159,7 +158,7 @@ pub fn normalise<R: Source, W: Sink>(
     // It reads at most one byte beyond the limit.
     ensures taken { R.given reader.new ≤ R.given reader.old + limits.input + 1 }
 {
-    let tables = index_tables(alloc, limits);
+    let tables = index_tables(alloc, limits.ids);
     normalise_with(alloc, reader, writer, limits, tables, mode)
 }
 

@@ -10,6 +10,7 @@
 #![tactic(auto)]
 
 mod carries;
+mod default_tables;
 mod index_names;
 pub mod laws;
 mod mode;
@@ -22,6 +23,7 @@ mod plain_names;
 mod renaming;
 mod tables;
 
+pub use default_tables::index_tables;
 pub use index_names::IndexNames;
 pub use mode::Mode;
 pub use name_table::{NameFault, NameTable};

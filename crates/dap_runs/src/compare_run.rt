@@ -16,8 +16,7 @@ use arrayvec::ArrayString;
 use dap_compare::{Verdict, compare_with};
 use dap_device::{DeviceFault, Sink, Source, write_all};
 use dap_input::{Limits, Refused};
-use dap_normalise::index_tables;
-use dap_rename::{Mode, NameTable, Pair, Tables};
+use dap_rename::{Mode, NameTable, Pair, Tables, index_tables};
 use dap_tree::Sort;
 use itoa::Buffer;
 use std::alloc::Global;
@@ -170,8 +169,8 @@ pub fn run_compare<A: Source, B: Source, W: Sink, E: Sink>(
         writer,
         errors,
         limits,
-        index_tables(alloc, limits),
-        index_tables(alloc, limits),
+        index_tables(alloc, limits.ids),
+        index_tables(alloc, limits.ids),
         mode,
     )
 }

@@ -8,8 +8,7 @@ use dap_compare::{CompareRefused, Which};
 use dap_device::MemorySource;
 use dap_diff::{Entry, Recording, match_records, read_recording};
 use dap_input::Limits;
-use dap_normalise::index_tables;
-use dap_rename::Mode;
+use dap_rename::{Mode, index_tables};
 use dap_rules::ApplyRefused;
 use std::alloc::Global;
 use std::collections::BTreeMap;
@@ -42,7 +41,7 @@ fn read_session(
 {
     let mut reader = MemorySource::new(session);
     let mut recording = Recording::new(alloc);
-    let tables = index_tables(alloc, limits);
+    let tables = index_tables(alloc, limits.ids);
     match read_recording(
         alloc,
         which,

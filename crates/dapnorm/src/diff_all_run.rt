@@ -7,8 +7,7 @@ ghost use Rattle.dapnorm.specs.DiffAllRun.{AllIsReported};
 use dap_device::{Sink, Source};
 use dap_diff::{AllDifferences, diff_all_with};
 use dap_input::Limits;
-use dap_normalise::index_tables;
-use dap_rename::{Mode, NameTable, Tables};
+use dap_rename::{Mode, NameTable, Tables, index_tables};
 use dap_runs::{DIFFERENT, DONE, print_found, report_refused, same_line};
 use std::alloc::Global;
 
@@ -54,8 +53,8 @@ pub fn run_diff_all<A: Source, B: Source, W: Sink, E: Sink>(
         writer,
         errors,
         limits,
-        index_tables(alloc, limits),
-        index_tables(alloc, limits),
+        index_tables(alloc, limits.ids),
+        index_tables(alloc, limits.ids),
         mode,
     )
 }

@@ -7,8 +7,7 @@ ghost use Rattle.dap_normalise.specs.NameTables.{AreReady};
 use dap_device::{Sink, Source};
 use dap_diff::{Diff, diff_with};
 use dap_input::Limits;
-use dap_normalise::index_tables;
-use dap_rename::{Mode, NameTable, Tables};
+use dap_rename::{Mode, NameTable, Tables, index_tables};
 use dap_runs::{DIFFERENT, DONE, differ_line, print_found, report_refused, same_line};
 use std::alloc::Global;
 
@@ -54,8 +53,8 @@ pub fn run_diff<A: Source, B: Source, W: Sink, E: Sink>(
         writer,
         errors,
         limits,
-        index_tables(alloc, limits),
-        index_tables(alloc, limits),
+        index_tables(alloc, limits.ids),
+        index_tables(alloc, limits.ids),
         mode,
     )
 }

@@ -9,9 +9,9 @@ use dap_commands::{Job, UsageFault};
 use dap_compact::compact;
 use dap_device::{Sink, Source, write_and_flush};
 use dap_input::{Limits, Refused};
-use dap_normalise::{Checked, check_with, index_tables, normalise_with};
+use dap_normalise::{Checked, check_with, normalise_with};
 use dap_record::record;
-use dap_rename::{NameTable, Tables};
+use dap_rename::{NameTable, Tables, index_tables};
 use dap_runs::{DONE, FAULT, LINE, MEMORY, USAGE, send, tell, tell_answer, tell_rows};
 use dap_show::show;
 use itoa::Buffer;
@@ -84,7 +84,7 @@ pub fn run_stream<R: Source, W: Sink, E: Sink>(
         writer,
         errors,
         limits,
-        index_tables(alloc, limits),
+        index_tables(alloc, limits.ids),
     )
 }
 

@@ -1,7 +1,9 @@
 //! Makes each allocation of name tables, and of the renaming between names, fail in turn.
-use crate::examples::{IndexTable, index_tables, was_wanted};
+use crate::examples::{IndexTable, was_wanted};
 use crate::lines::{Line, message};
-use dap_rename::{IndexNames, Mode, NameFault, NameTable, Names, PlainNames, Renaming};
+use dap_rename::{
+    IndexNames, Mode, NameFault, NameTable, Names, PlainNames, Renaming, index_tables,
+};
 use dap_tree::Side;
 use fault_injection::{refuse_growth, was_refused};
 use std::alloc::Global;

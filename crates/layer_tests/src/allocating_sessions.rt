@@ -1,13 +1,13 @@
 //! Makes each allocation of a record reader, a recorder, a session and names fail in turn. After a
 //! failed allocation each of them is unchanged, and accepts the same input again.
-use crate::examples::{IndexTable, LIMITS, index_tables, was_wanted};
+use crate::examples::{IndexTable, LIMITS, was_wanted};
 use crate::lines::{Line, message};
 use dap_frame::FrameFault;
 use dap_message::{Message, Side};
 use dap_recording::{
     FedRecord, Record, RecordCause, RecordReader, Recorder, RecorderFault, write_record,
 };
-use dap_rename::{Mode, NameFault, Names};
+use dap_rename::{Mode, NameFault, Names, index_tables};
 use dap_session::{Session, SessionFault};
 use dap_tree::{SORTS, Sort};
 use fault_injection::{refuse_growth, was_refused};
