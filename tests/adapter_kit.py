@@ -410,6 +410,107 @@ def proxy_starts(report, folder):
     report.check("the proxy listens on 127.0.0.1 unless told otherwise", proxy.address("4711") == ("127.0.0.1", 4711))
 
 
+class Proxied:
+    """A proxy that runs, without a client yet. Its standard error is read up to the line that has its port."""
+
+    def __init__(self, *words):
+        command = [sys.executable, "-m", "dapnorm.proxy", words[0], "0", *words[1:]]
+        self.process = subprocess.Popen(command, stderr=subprocess.PIPE, text=True, env={**os.environ, "PYTHONPATH": PACKAGE})
+        self.port = int(self.process.stderr.readline().rsplit(":", 1)[1])
+
+    def client(self):
+        return dapnorm.Adapter.connect("127.0.0.1", self.port, timeout=SLACK)
+
+    def ended(self):
+        """The status of the proxy and the rest of its standard error. A proxy that does not end is killed."""
+        try:
+            errors = self.process.communicate(timeout=SLACK)[1]
+        except subprocess.TimeoutExpired:
+            self.process.kill()
+            errors = self.process.communicate()[1]
+        return self.process.returncode, errors
+
+
+def proxy_alone(report, folder):
+    """Before a client connects, the proxy ends with its adapter and by a signal. A trace that cannot be written starts nothing."""
+    trace, port, marker = os.path.join(folder, "trace"), str(dapnorm.free_port()), os.path.join(folder, "started")
+    status, errors = Proxied(trace, port, "sh", "-c", "sleep 0.2; exit 3").ended()
+    good = status == 3 and errors == "dapnorm.proxy: the adapter ended with status 3 before a client was connected with it\n"
+    report.check("the proxy ends with an adapter that ends before a client connects", good, repr((status, errors)))
+    report.check("and leaves no trace", not os.path.exists(trace))
+    with open(trace, "wb") as file:
+        file.write(b"as it was")
+    for number in (signal.SIGTERM, signal.SIGINT):
+        for command in ([], ["sh", "-c", "exec sleep 60"]):
+            started = Proxied(trace, port, *command)
+            started.process.send_signal(number)
+            begun, (status, errors) = time.monotonic(), started.ended()
+            good = (status, errors) == (128 + number, "") and time.monotonic() - begun < SLACK
+            report.check(f"{number.name} ends the proxy with {command or 'no command'}", good, repr((status, errors)))
+    with open(trace, "rb") as file:
+        report.check("and an earlier trace is unchanged", file.read() == b"as it was")
+    for path in (os.path.join(folder, "no", "trace"), folder):
+        words = [sys.executable, "-m", "dapnorm.proxy", path, "0", port, "touch", marker]
+        try:
+            ran = subprocess.run(words, capture_output=True, text=True, timeout=SLACK, env={**os.environ, "PYTHONPATH": PACKAGE})
+            good = ran.returncode == 1 and path in ran.stderr and "listening" not in ran.stderr and not os.path.exists(marker)
+        except subprocess.TimeoutExpired:
+            good = False
+        report.check("without a trace no adapter is started", good)
+
+
+# A server for this number of sessions, which may run side by side.
+SERVER = f"""
+import socket, sys, threading
+sys.path.insert(0, {os.path.join(TOP, "tests")!r})
+from fake_adapter import serve
+def session(connection, first):
+    with connection, connection.makefile("rb") as source, connection.makefile("wb") as target:
+        serve(source, target, first)
+with socket.create_server(("127.0.0.1", int(sys.argv[1]))) as server:
+    threads = []
+    for number in range(int(sys.argv[2])):
+        threads.append(threading.Thread(target=session, args=(server.accept()[0], 100 * number)))
+        threads[-1].start()
+for it in threads:
+    it.join()
+"""
+
+
+def proxy_sessions(report, folder):
+    """Each client has its own trace, while another session runs and after it."""
+    port = str(dapnorm.free_port())
+    server = [sys.executable, "-c", SERVER, port]
+
+    def session(adapter, name):
+        adapter.request("initialize", adapterID=name)
+        adapter.request("disconnect")
+        adapter.close()
+
+    for name, command in (("own", [*server, "3"]), ("other", [])):
+        started = None if command else subprocess.Popen([*server, "3"])
+        proxy = Proxied(os.path.join(folder, f"{name}.trace"), port, *command)
+        with proxy.client() as first:
+            first.request("threads")
+            with proxy.client() as second:
+                session(second, "second")
+            session(first, "first")
+        if command:
+            with proxy.client() as third:
+                session(third, "third")
+        status, errors = proxy.ended()
+        told = "".join(f"dapnorm.proxy: client {it + 1} has the trace {folder}/{name}.{it}.trace\n" for it in range(1, 3 if command else 2))
+        report.check(f"further clients are passed on, with the adapter's {name} start", (status, errors) == (0, told), repr((status, errors)))
+        for path, client in ((f"{name}.trace", b"first"), (f"{name}.1.trace", b"second"), (f"{name}.2.trace", b"third")):
+            place = os.path.join(folder, path)
+            if command or client != b"third":
+                trace = read(place) if os.path.exists(place) else ""
+                report.check(f"{path} has the session of the {client.decode()} client", trace.count("adapterID") == 1 and client.decode() in trace, trace)
+        if started:
+            started.kill()
+            started.wait()
+
+
 SHIMS = ("trace_tee.py", "trace_proxy.py")
 
 
@@ -427,6 +528,10 @@ def shims(report, folder):
             ran = subprocess.run([sys.executable, os.path.join(at, name)], capture_output=True, text=True, env=environment, cwd="/", timeout=60)
             module = name.replace("trace_", "dapnorm.").replace(".py", "")
             report.check(f"{name} runs {module}", ran.returncode == 1 and f"python3 -m {module} session.trace" in ran.stderr, ran.stderr)
+            for option in ("-h", "--help"):
+                ran = subprocess.run([sys.executable, os.path.join(at, name), option], capture_output=True, text=True, env=environment, cwd="/", timeout=60)
+                good = (ran.returncode, ran.stderr) == (0, "") and f"python3 -m {module} session.trace" in ran.stdout
+                report.check(f"{name} {option} prints the help", good, ran.stdout + ran.stderr)
 
 
 RUNNER = """
@@ -532,8 +637,8 @@ def metadata(report, _folder):
 
 
 PARTS = (
-    frames, calls, failures, messages_of_failures, handlers, tcp, deaf, traces, words, tee_signals, proxy_starts, shims, runner, real_sessions,
-    types, metadata,
+    frames, calls, failures, messages_of_failures, handlers, tcp, deaf, traces, words, tee_signals, proxy_starts, proxy_alone,
+    proxy_sessions, shims, runner, real_sessions, types, metadata,
 )
 
 

@@ -17,7 +17,7 @@ import subprocess
 import sys
 import threading
 from types import FrameType
-from typing import Iterator, List, Optional, Sequence
+from typing import Iterable, Iterator, List, Optional, Sequence
 
 from .trace import ADAPTER, CLIENT, Trace
 
@@ -32,6 +32,14 @@ def own_name(module: str) -> str:
     return f"dapnorm.{module}" if name == f"{module}.py" else name
 
 
+def asks_for_help(arguments: List[str], text: str) -> bool:
+    """Prints the help if the first argument asks for it, and returns whether it does."""
+    is_asked = arguments[:1] in (["-h"], ["--help"])
+    if is_asked:
+        print(text.rstrip())
+    return is_asked
+
+
 def write_all(target: int, piece: bytes) -> None:
     """Writes a piece to a descriptor, which may be one that does not block."""
     rest = memoryview(piece)
@@ -42,13 +50,13 @@ def write_all(target: int, piece: bytes) -> None:
             select.select([], [target], [], 1)
 
 
-def pass_signals_on(process: "subprocess.Popen[bytes]") -> None:
-    """From now on the process gets the signals that this one gets."""
+def pass_signals_on(process: "subprocess.Popen[bytes]", numbers: Iterable[signal.Signals] = PASSED_ON) -> None:
+    """From now on the process gets the signals of these numbers that this one gets."""
     def pass_on(number: int, _frame: Optional[FrameType]) -> None:
         with contextlib.suppress(OSError):
             process.send_signal(number)
 
-    for number in PASSED_ON:
+    for number in numbers:
         signal.signal(number, pass_on)
 
 
@@ -96,6 +104,8 @@ def to_client(adapter: "subprocess.Popen[bytes]", trace: Trace) -> None:
 
 def main(words: Optional[Sequence[str]] = None) -> int:
     arguments: List[str] = list(sys.argv[1:] if words is None else words)
+    if asks_for_help(arguments, __doc__):
+        return 0
     if len(arguments) < 2:
         sys.exit(__doc__)
     try:
