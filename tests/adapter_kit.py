@@ -290,6 +290,103 @@ def tcp(report, folder):
     report.check("a trace may have a name", os.path.getsize(os.path.join(folder, "named.trace")) > 100)
 
 
+# An adapter that listens before it is ready, and that a client who connects before that ends. It prints to the stream of this name.
+EARLY = f"""
+import socket, sys
+sys.path.insert(0, {os.path.join(TOP, "tests")!r})
+from fake_adapter import serve_connection
+with socket.create_server(("127.0.0.1", int(sys.argv[1]))) as server:
+    server.settimeout(0.5)
+    try:
+        server.accept()
+        sys.exit("a client connected too early")
+    except socket.timeout:
+        server.settimeout(None)
+    print("wait for the debugger", file=getattr(sys, sys.argv[2]), flush=True)
+    serve_connection(server, 7)
+"""
+
+
+def readiness(report, _folder):
+    """`ready=` waits for a text of the adapter's output before it connects."""
+    def tried(ready, stream="stderr", command=(sys.executable, "-c", EARLY, "{port}"), timeout=SLACK):
+        with dapnorm.Adapter.connect("127.0.0.1", 0, [*command, stream], ready=ready, timeout=timeout) as adapter:
+            adapter.request("initialize", adapterID="x")
+            adapter.request("disconnect")
+
+    for stream in ("stdout", "stderr"):
+        error, _ = caught(lambda: tried("wait for the debugger", stream))
+        report.check(f"an adapter that listens too early is connected after its text on {stream}", error is None, repr(error))
+    error, _ = caught(lambda: tried(None))
+    report.check("without ready= such an adapter is red", "a client connected too early" in str(error), repr(error))
+    error, seconds = caught(lambda: tried("another text", command=("sh", "-c", "echo some text; exec sleep 60"), timeout=0.5))
+    good = isinstance(error, dapnorm.NotStarted) and str(error).startswith('the output of the adapter does not have "another text" within 0.5 seconds\n')
+    report.check("a text that does not come is red in time", good and "  some text" in str(error) and seconds < SLACK, repr(error))
+    error, seconds = caught(lambda: tried("another text", command=("sh", "-c", "echo some text; exit 4"), timeout=30))
+    good = 'the adapter ended with status 4, and its output does not have "another text"' in str(error) and seconds < SLACK
+    report.check("an adapter that ends before its text is red at once", good, repr(error))
+    try:
+        dapnorm.Adapter.connect("127.0.0.1", dapnorm.free_port(), ready="x")
+        told = "no error"
+    except ValueError as error:
+        told = str(error)
+    report.check("ready= needs a command", "no command is given" in told, told)
+
+
+def statuses(report, _folder):
+    """`status=` names the status that the adapter is to have, or several."""
+    rows = (
+        (3, "status=3", None), ((0, 3), "status=3", None), ((0, 3), "complains", None), (-signal.SIGSEGV, "crashes", None),
+        (3, "complains", "ended with status 0"), ((0, 3), "status=4", "ended with status 4"), (0, "status=3", "ended with status 3"),
+    )
+
+    def session(start, status, fault):
+        with start(status, fault) as adapter:
+            adapter.request("initialize", adapterID="x")
+            adapter.request("disconnect")
+
+    def over_tcp(status, fault):
+        return dapnorm.Adapter.connect("127.0.0.1", 0, [*ADAPTER, "7", fault, "listens={port}"], status=status, timeout=SLACK)
+
+    for name, start in (("start", lambda status, fault: started(fault, status=status)), ("connect", over_tcp)):
+        for status, fault, words in rows:
+            error, _ = caught(lambda: session(start, status, fault))
+            good = error is None if words is None else isinstance(error, dapnorm.AdapterFailed) and words in str(error)
+            report.check(f"{name} with status={status} and an adapter that has {fault}", good, repr(error))
+
+
+def any_event(report, _folder):
+    """`wait_for_any` returns the first of several events, and the others are not lost."""
+    with started() as adapter:
+        launched(adapter)
+        event, body = adapter.wait_for_any("terminated", "stopped")
+        report.check("one of several events is returned", (event, body.get("reason")) == ("stopped", "breakpoint"), repr((event, body)))
+        adapter.request("continue", threadId=1)
+        found = [adapter.wait_for_any("terminated", "exited")[0] for _ in range(2)]
+        report.check("the first of them comes first", found == ["exited", "terminated"], repr(found))
+        error, seconds = caught(lambda: adapter.wait_for_any("stopped", "exited", timeout=0.2))
+        good = isinstance(error, dapnorm.TimedOut) and str(error) == 'no event "stopped" or "exited" within 0.2 seconds' and seconds < SLACK
+        report.check("a timeout names all of them", good, repr(error))
+        adapter.request("disconnect")
+
+
+def timeouts(report, folder):
+    """`timeout=` of a call is for all waits of the call, and that of a session is for all others."""
+    with dapnorm.Adapter.start([sys.executable, "-c", "import time; time.sleep(60)"], timeout=60) as adapter:
+        error, seconds = caught(lambda: adapter.request("evaluate", expression="x" * 1_000_000, timeout=0.3))
+        good = 'request "evaluate" is not read by the adapter within 0.3 seconds' in str(error) and seconds < SLACK
+        report.check("a request that is not read has the timeout of the call", good, repr(error))
+        error, seconds = caught(lambda: adapter.close(timeout=0.3))
+        good = str(error).startswith("no end of the adapter within 0.3 seconds after the session") and seconds < SLACK
+        report.check("the end has the timeout of the call", good, repr(error))
+    os.environ["DAPNORM"] = sys.executable
+    with started() as adapter:
+        dapnorm.DapSession(folder)(adapter, "a.golden", timeout=7.5)
+        report.check("a session sets the timeout of an adapter that is started", adapter.timeout == 7.5, repr(adapter.timeout))
+        adapter.request("disconnect")
+    del os.environ["DAPNORM"]
+
+
 def is_running(path):
     with open(path, encoding="utf-8") as file:
         return os.path.exists(f"/proc/{file.read()}")
@@ -637,8 +734,8 @@ def metadata(report, _folder):
 
 
 PARTS = (
-    frames, calls, failures, messages_of_failures, handlers, tcp, deaf, traces, words, tee_signals, proxy_starts, proxy_alone,
-    proxy_sessions, shims, runner, real_sessions, types, metadata,
+    frames, calls, failures, messages_of_failures, handlers, tcp, readiness, statuses, any_event, timeouts, deaf, traces, words,
+    tee_signals, proxy_starts, proxy_alone, proxy_sessions, shims, runner, real_sessions, types, metadata,
 )
 
 

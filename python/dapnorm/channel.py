@@ -76,6 +76,19 @@ class Process:
             os.killpg(self.pid, signal.SIGKILL)
         self._process.wait()
 
+    def wait_for_output(self, text: str, timeout: float) -> None:
+        """Waits until the process has written this text. Raises `NotStarted` if it ends with an error, or does not write it in time."""
+        end, wanted = time.monotonic() + timeout, text.encode()
+        while True:
+            status, is_late = self.status(), time.monotonic() > end
+            if wanted in os.pread(self._errors.fileno(), os.fstat(self._errors.fileno()).st_size, 0):
+                return
+            if status:
+                raise NotStarted(f'the adapter ended with status {status}, and its output does not have "{text}"')
+            if is_late:
+                raise NotStarted(f'the output of the adapter does not have "{text}" within {timeout:g} seconds')
+            time.sleep(0.02)
+
     def errors(self) -> str:
         """The end of what the process wrote to standard error."""
         if self._errors.closed:
@@ -116,9 +129,11 @@ class Channel:
         return cls(source, target, None, process)
 
     @classmethod
-    def connect(cls, host: str, port: int, process: Optional[Process], timeout: float) -> Channel:
-        """Connects to an adapter as soon as it listens."""
+    def connect(cls, host: str, port: int, process: Optional[Process], timeout: float, ready: Optional[str] = None) -> Channel:
+        """Connects to an adapter as soon as it listens, and not before its output has the text `ready`."""
         end = time.monotonic() + timeout
+        if process is not None and ready is not None:
+            process.wait_for_output(ready, timeout)
         while True:
             try:
                 connection = connected(host, port, max(0.1, end - time.monotonic()))

@@ -11,7 +11,7 @@ import tempfile
 import time
 from collections import deque
 from types import TracebackType
-from typing import Any, Callable, Deque, Dict, List, Mapping, Optional, Type
+from typing import Any, Callable, Collection, Deque, Dict, List, Mapping, Optional, Sequence, Tuple, Type, Union
 
 from .channel import Channel, Command, Process, words_of
 from .errors import AdapterEnded, AdapterFailed, NotStarted, RequestFailed, SessionError, TimedOut, described
@@ -21,7 +21,8 @@ from .trace import ADAPTER, CLIENT, Trace
 
 Body = Dict[str, Any]
 Handler = Callable[[Body], Optional[Body]]
-# Seconds for each response, each event, the start and the end of an adapter. ADAPTER_TIMEOUT in the environment replaces it.
+Statuses = Union[int, Collection[int]]
+# Seconds for each wait. `Adapter` describes what replaces it.
 TIMEOUT = 4.0
 # Traces to remove, and adapters to kill, when Python ends.
 UNWANTED: Dict[str, None] = {}
@@ -42,6 +43,11 @@ def free_port(host: str = "127.0.0.1") -> int:
     with socket.create_server((host, 0), family=socket.AF_INET6 if ":" in host else socket.AF_INET) as server:
         port: int = server.getsockname()[1]
         return port
+
+
+def default_timeout(timeout: Optional[float]) -> float:
+    """A timeout, or if it is None, that of the environment or of this package."""
+    return float(os.environ.get("ADAPTER_TIMEOUT", TIMEOUT)) if timeout is None else timeout
 
 
 def matches(value: Any, that: Any) -> bool:
@@ -68,10 +74,19 @@ class Adapter:
 
     `handlers` has a function for each request that the adapter may send: it takes the arguments and returns the body of the response.
     A request without a function gets a response without success.
+
+    `timeout` is the number of seconds for each wait: for the adapter to start and listen, to read a request, to send a response or an
+    event, and to end. `timeout=` of a call is for the waits of that call; `timeout=` of `start`, of `connect` and of a session is for all
+    others. Without it, the variable ADAPTER_TIMEOUT in the environment has the number, or it is 4. `send` passes an argument `timeout` on.
+
+    `status` is the exit status that the adapter has after the session, or several that it may have: -15 if SIGTERM ends it.
     """
 
-    def __init__(self, channel: Channel, *, timeout: Optional[float] = None, trace: Optional[str] = None, server: bool = False) -> None:
-        self.timeout = float(os.environ.get("ADAPTER_TIMEOUT", TIMEOUT)) if timeout is None else timeout
+    def __init__(
+        self, channel: Channel, *, timeout: Optional[float] = None, trace: Optional[str] = None, server: bool = False, status: Statuses = 0,
+    ) -> None:
+        self.timeout = default_timeout(timeout)
+        self._statuses = {status} if isinstance(status, int) else set(status)
         self.handlers: Dict[str, Handler] = {}
         self.process = channel.process
         self.lines: List[str] = []
@@ -107,43 +122,46 @@ class Adapter:
     @classmethod
     def start(
         cls, command: Command, *, timeout: Optional[float] = None, trace: Optional[str] = None,
-        cwd: Optional[str] = None, env: Optional[Mapping[str, str]] = None,
+        cwd: Optional[str] = None, env: Optional[Mapping[str, str]] = None, status: Statuses = 0,
     ) -> Adapter:
         """Starts an adapter that speaks over its standard streams. The command is a list of words, or a text as for a shell."""
-        return cls(Channel.start(command, cwd, env), timeout=timeout, trace=trace)
+        return cls(Channel.start(command, cwd, env), timeout=timeout, trace=trace, status=status)
 
     @classmethod
     def connect(
-        cls, host: str, port: int, command: Optional[Command] = None, *, server: bool = False, timeout: Optional[float] = None,
-        trace: Optional[str] = None, cwd: Optional[str] = None, env: Optional[Mapping[str, str]] = None,
+        cls, host: str, port: int, command: Optional[Command] = None, *, ready: Optional[str] = None, server: bool = False,
+        timeout: Optional[float] = None, trace: Optional[str] = None, cwd: Optional[str] = None, env: Optional[Mapping[str, str]] = None,
+        status: Statuses = 0,
     ) -> Adapter:
         """Connects to an adapter that speaks TCP, as soon as it listens.
 
-        If a command is given, it is started first. With port 0 a free port is taken, and `{port}` in the command is that port.
-        After the session the command has to end with status 0; with `server=True` it may run on, and is ended by SIGTERM.
+        If a command is given, it is started first. With port 0 a free port is taken, and `{port}` in the command is that port. An adapter
+        that may listen before it can serve a client, such as rdbg, gets none until its standard output or standard error has the text
+        `ready`. After the session the command has to end with its status; with `server=True` it may run on, and is ended by SIGTERM.
         """
-        patience = float(os.environ.get("ADAPTER_TIMEOUT", TIMEOUT)) if timeout is None else timeout
+        if ready is not None and command is None:
+            raise ValueError("ready= is a text of the command's output, and no command is given")
         if port == 0:
             port = free_port(host)
         process = None
         if command is not None:
             process = Process([it.replace("{port}", str(port)) for it in words_of(command)], cwd, env)
         try:
-            channel = Channel.connect(host, port, process, patience)
+            channel = Channel.connect(host, port, process, default_timeout(timeout), ready)
         except NotStarted as error:
             if process is not None:
                 error.report = quoted("what it printed", process.errors())
                 process.close()
             raise
-        return cls(channel, timeout=timeout, trace=trace, server=server)
+        return cls(channel, timeout=timeout, trace=trace, server=server, status=status)
 
     def request(self, command: str, /, timeout: Optional[float] = None, **arguments: Any) -> Body:
         """Sends a request and returns the body of its response. Raises `RequestFailed` if the response has no success."""
-        return self.response(self.send(command, **arguments), timeout)
+        return self.response(self._send(timeout, type="request", command=command, arguments=arguments), timeout)
 
     def send(self, command: str, /, **arguments: Any) -> Message:
         """Sends a request without waiting for its response, and returns the request."""
-        return self._send(type="request", command=command, arguments=arguments)
+        return self._send(None, type="request", command=command, arguments=arguments)
 
     def response(self, request: Message, timeout: Optional[float] = None) -> Body:
         """Waits for the response to a request that was sent, and returns its body. Raises `RequestFailed` if it has no success."""
@@ -167,7 +185,13 @@ class Adapter:
 
         details = " and ".join(f"{name} {value!r}" for name, value in that.items())
         wanted = f'event "{event}"' + (f" with {details}" if that else "")
-        return self._wait(is_it, wanted, timeout, event).get("body") or {}
+        return self._wait(is_it, wanted, timeout, (event,)).get("body") or {}
+
+    def wait_for_any(self, *events: str, timeout: Optional[float] = None) -> Tuple[str, Body]:
+        """Waits for one of these events, unless one came before, and returns its name and its body. If several came, it is the first."""
+        wanted = "event " + " or ".join(f'"{it}"' for it in events)
+        message = self._wait(lambda it: it.get("event") in events, wanted, timeout, events)
+        return message["event"], message.get("body") or {}
 
     def run_in_terminal(self, arguments: Body) -> Body:
         """A handler for `runInTerminal`: starts the process, without a terminal. It is killed after the session."""
@@ -179,30 +203,31 @@ class Adapter:
         self._children.append(child)
         return {"processId": child.pid}
 
-    def close(self) -> None:
-        """Ends the session, and reads what still arrives. Raises `AdapterFailed` unless the adapter then ends with status 0."""
+    def close(self, timeout: Optional[float] = None) -> None:
+        """Ends the session, and reads what still arrives. Raises `AdapterFailed` unless the adapter then ends with its status."""
         if self._closed:
             return
-        end = time.monotonic() + self.timeout
+        patience = self.timeout if timeout is None else timeout
+        end = time.monotonic() + patience
         try:
             self._channel.end()
             while (left := end - time.monotonic()) > 0 and self._take(left):
                 self._dispatch()
             if self.process is not None:
-                self._check_end(self.process, end)
+                self._check_end(self.process, end, patience)
             elif self._end is None:
-                raise self._failed(TimedOut(f"the adapter does not end the session within {self.timeout:g} seconds"))
+                raise self._failed(TimedOut(f"the adapter does not end the session within {patience:g} seconds"))
         finally:
             self.kill()
 
-    def _check_end(self, process: Process, end: float) -> None:
+    def _check_end(self, process: Process, end: float, patience: float) -> None:
         """Waits for the end of the process, and checks its status."""
         if self._server:
             process.interrupt(signal.SIGTERM)
         status = process.status(max(1.0 if self._server else 0.05, end - time.monotonic()))
         if status is None:
-            raise self._failed(TimedOut(f"no end of the adapter within {self.timeout:g} seconds after the session"))
-        if status != 0 and not (self._server and status in (-signal.SIGTERM, 128 + signal.SIGTERM)):
+            raise self._failed(TimedOut(f"no end of the adapter within {patience:g} seconds after the session"))
+        if status not in self._statuses and not (self._server and status in (-signal.SIGTERM, 128 + signal.SIGTERM)):
             raise self._failed(AdapterFailed(f"after the session the adapter {described(status)}", status))
         if self._frames.unread:
             raise self._failed(AdapterEnded(f"the adapter ended within a message: {bytes(self._frames.unread[:100])!r}"))
@@ -251,7 +276,7 @@ class Adapter:
         """The end of what the adapter wrote to standard error. Over TCP also of what it wrote to standard output."""
         return self._errors if self._closed or self.process is None else self.process.errors()
 
-    def _wait(self, is_it: Callable[[Message], bool], wanted: str, timeout: Optional[float], event: str = "") -> Message:
+    def _wait(self, is_it: Callable[[Message], bool], wanted: str, timeout: Optional[float], events: Sequence[str] = ()) -> Message:
         patience = self.timeout if timeout is None else timeout
         end, is_late = time.monotonic() + patience, False
         while True:
@@ -259,21 +284,21 @@ class Adapter:
             for at, message in enumerate(self._pending):
                 if is_it(message):
                     return self._pending.pop(at)
-                if event and message.get("success") is False:
+                if events and message.get("success") is False:
                     text = f'no {wanted}: request "{message.get("command")}" failed: {failure_of(message)}{self._refused()}'
                     raise self._failed(RequestFailed(text, message))
-                if event == "stopped" and message.get("event") == "terminated":
+                if set(events) == {"stopped"} and message.get("event") == "terminated":
                     raise self._failed(AdapterEnded(f'no {wanted}: the adapter sent {as_line("<", message)}'))
             if self._end is not None:
                 raise self._failed(AdapterEnded(f"no {wanted}: the adapter {self._end}"))
             has_more = not is_late and (self._take(end - time.monotonic()) or self._end is not None)
             if not has_more:
-                raise self._failed(TimedOut(f"no {wanted} within {patience:g} seconds{self._instead(event)}"))
+                raise self._failed(TimedOut(f"no {wanted} within {patience:g} seconds{self._instead(events)}"))
             is_late = time.monotonic() >= end
 
-    def _instead(self, event: str) -> str:
+    def _instead(self, events: Sequence[str]) -> str:
         """What arrived in place of an event: the same event with another body, a part of a message, or a request without a handler."""
-        came = [as_line("<", it) for it in self._pending if event and it.get("event") == event]
+        came = [as_line("<", it) for it in self._pending if it.get("event") in events]
         unread = bytes(self._frames.unread[:80])
         notes = [f"; instead there came {', '.join(came[-3:])}"] if came else []
         return "".join([*notes, f"; the adapter sent a part of a message: {unread!r}" if unread else ""]) + self._refused()
@@ -287,10 +312,11 @@ class Adapter:
         error.trace = self.keep()
         return error
 
-    def _send(self, **message: Any) -> Message:
+    def _send(self, timeout: Optional[float], /, **message: Any) -> Message:
         if self._closed:
             raise SessionError("the session is closed")
-        end = time.monotonic() + self.timeout
+        patience = self.timeout if timeout is None else timeout
+        end = time.monotonic() + patience
         while self._take(0) and time.monotonic() < end:
             pass  # what has arrived is noted before what is sent
         self._seq += 1
@@ -298,9 +324,9 @@ class Adapter:
         piece = frame(message)
         self._trace.note(CLIENT, piece)
         self.lines.append(as_line(">", message))
-        if not self._channel.send(piece, self.timeout, self._came):
+        if not self._channel.send(piece, patience, self._came):
             name = message["command"]
-            raise self._failed(TimedOut(f'{message["type"]} "{name}" is not read by the adapter within {self.timeout:g} seconds'))
+            raise self._failed(TimedOut(f'{message["type"]} "{name}" is not read by the adapter within {patience:g} seconds'))
         return message
 
     def _take(self, timeout: float) -> bool:
@@ -349,11 +375,11 @@ class Adapter:
         handler = self.handlers.get(command)
         if handler is None:
             self._unhandled.append(command)
-            self._send(**response, success=False, message=f'the test has no handler for "{command}"')
+            self._send(None, **response, success=False, message=f'the test has no handler for "{command}"')
             return
         try:
             body = handler(request.get("arguments") or {})
         except Exception as error:
-            self._send(**response, success=False, message=str(error) or type(error).__name__)
+            self._send(None, **response, success=False, message=str(error) or type(error).__name__)
             raise
-        self._send(**response, success=True, body=body or {})
+        self._send(None, **response, success=True, body=body or {})

@@ -33,7 +33,7 @@ class AdapterEnded(SessionError):
 
 
 class AdapterFailed(SessionError):
-    """The adapter ended after the session with a status other than 0, or by a signal."""
+    """The adapter ended after the session with a status that is not expected, or by a signal."""
 
     def __init__(self, text: str, status: int) -> None:
         super().__init__(text)

@@ -206,6 +206,8 @@ class GoldenSession:
                 adapter.kill()
             raise
         self.adapter = adapter if isinstance(adapter, Adapter) else Adapter.start(adapter, timeout=timeout)
+        if timeout is not None:
+            self.adapter.timeout = timeout
 
     def __enter__(self) -> Adapter:
         return self.adapter

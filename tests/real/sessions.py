@@ -129,14 +129,14 @@ def delve():
 
 
 def ruby_steps(adapter, go):
-    """rdbg: a breakpoint, a look at the structures, a step, an expression, and the end."""
+    """rdbg: a breakpoint, a look at the structures, a step, an expression, and the end.
+
+    After `disconnect` the program continues, and rdbg ends with it. The program waits for the response, which could be lost otherwise.
+    """
     adapter.request("initialize", adapterID="rdbg", linesStartAt1=True, columnsStartAt1=True, pathFormat="path")
     adapter.wait_for("initialized")
-    adapter.wait_for("stopped", reason="pause")
     adapter.request("launch")
     configured(adapter, "prices.rb", "result += item.price")
-    with open(go, "wb"):
-        pass
     thread = adapter.wait_for("stopped", reason="breakpoint")["threadId"]
     adapter.request("threads")
     frame = looked_at(adapter, thread, 2)
@@ -146,13 +146,17 @@ def ruby_steps(adapter, go):
     adapter.request("continue", threadId=thread)
     adapter.wait_for("stopped", reason="breakpoint")
     adapter.request("disconnect", terminateDebuggee=False)
+    with open(go, "wb"):
+        pass
 
 
 def rdbg():
-    """Without --nonstop rdbg stops at once, and may print that before it knows that the client speaks DAP."""
+    """rdbg listens before it is ready for a client: one that connects too early ends it. It prints that it waits as soon as it is ready."""
     go = os.path.join(tempfile.mkdtemp(dir=built()), "go")
-    command = [rdbg_command(), "--open", "--nonstop", "--host", HOST, "--port", "{port}", "--", program("prices.rb")]
-    adapter = dapnorm.Adapter.connect(HOST, 0, command, timeout=PATIENCE, env={**os.environ, "GO": go})
+    command = [rdbg_command(), "--open", "--host", HOST, "--port", "{port}", "--", program("prices.rb")]
+    adapter = dapnorm.Adapter.connect(
+        HOST, 0, command, ready="wait for debugger connection", timeout=PATIENCE, env={**os.environ, "GO": go},
+    )
     return adapter, lambda: ruby_steps(adapter, go)
 
 

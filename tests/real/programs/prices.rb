@@ -1,4 +1,4 @@
-# The program that the session with rdbg debugs. It waits until the client has set its breakpoint, and made the file GO.
+# The program that the session with rdbg debugs. It ends after the client has its last response, and has made the file GO.
 Item = Struct.new(:name, :price)
 
 def total(items)
@@ -9,5 +9,5 @@ def total(items)
   result
 end
 
-sleep 0.01 until File.exist?(ENV.fetch('GO'))
 puts "total #{total([Item.new('tea', 3), Item.new('milk', 4)])}"
+sleep 0.01 until File.exist?(ENV.fetch('GO'))
