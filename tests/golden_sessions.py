@@ -217,6 +217,27 @@ def regressions(report, folder, environment):
         report.check(f"the test is green if the adapter {harmless}", status == 0, output)
 
 
+def suggested(report, folder, environment):
+    """The report of a session that differs has the complete command that prints rules for it; with them the session is the same."""
+    author = Author(folder, environment)
+    author.update(f"{FAKE} 1000")
+    for has_rules in (True, False):
+        if not has_rules:
+            edit(author.script, (', rules="session.rules"', ""))
+        status, output = author.test(f"{FAKE} 7 changes")
+        found = re.search(r"^to allow it in each run: .*\n  (dapnorm suggest (--rules session\.rules )?session\.golden \S+\.rec)$", output, re.MULTILINE)
+        good = status == 1 and found is not None and (found[2] is not None) == has_rules
+        if report.check(f"a difference names the command that suggests rules, rules: {has_rules}", good, output) and has_rules:
+            ran = subprocess.run(["sh", "-c", found[1]], cwd=folder, env=author.environment, capture_output=True, text=True, timeout=60)
+            report.check("the command prints rules", ran.returncode == 0 and ran.stdout.count("\nblank  response variables") == 3, ran.stdout + ran.stderr)
+            with open(os.path.join(folder, "session.rules"), "a", encoding="utf-8") as file:
+                file.write(ran.stdout)
+            author.update(f"{FAKE} 7")
+            report.check("with them and a new golden file both sessions are the same", author.test(f"{FAKE} 7 changes")[1] == "same\n")
+            shutil.copy(os.path.join(EXAMPLES, "session.rules"), folder)
+            author.update(f"{FAKE} 1000")
+
+
 def no_process_is_left(report, folder, environment):
     """After a failure the adapter, and what it has started, are killed."""
     author = Author(folder, environment)
@@ -579,4 +600,4 @@ def rules(report, _folder):
         report.check(f"{name} has at most {limit} lines", lines <= limit, str(lines))
 
 
-PARTS = (golden, regressions, no_process_is_left, handlers, waits, over_tcp, library, plugin, tutorial)
+PARTS = (golden, regressions, suggested, no_process_is_left, handlers, waits, over_tcp, library, plugin, tutorial)

@@ -60,8 +60,15 @@ class Comparison(NamedTuple):
         further = [self._command("show", "--faulty" if ran.status == 2 else None, recording)]
         if ran.status == 1:
             further.insert(0, self._command("diff", "--all", *self.options(), self.golden, recording))
+        allow = self._allow(recording) if ran.status == 1 and ran.lines[0].startswith("differ ") else []
         accept = [f"to accept it: pytest --dapnorm-update, python3 -m dapnorm --update, UPDATE_GOLDEN=1, or\n  {self._command('golden', '--update', *options, self.golden, recording)}"]
-        raise GoldenFailed("\n".join([text, *look_further(path, further), *(accept if ran.status in (1, 4) else [])]), ran.status)
+        raise GoldenFailed("\n".join([text, *look_further(path, further), *allow, *(accept if ran.status in (1, 4) else [])]), ran.status)
+
+    def _allow(self, recording: str) -> List[str]:
+        """How to allow what differs in each run: the command that prints rules for it."""
+        rules = ["--rules", self.rules] if self.rules else []
+        place = f"add the rules that this prints to {name_of(self.rules)}" if self.rules else "write the rules that this prints to a file for rules="
+        return [f"to allow it in each run: {place}, and update the golden file", f"  {self._command('suggest', *rules, self.golden, recording)}"]
 
     def _note(self, line: str) -> None:
         """Notes in the file DAPNORM_COMPARED, if the environment names one, that the golden file was compared."""
