@@ -8,7 +8,7 @@
 # make bench      speed and memory; SIZE=small takes seconds, FIGURES=FOLDER also writes the figures there as JSON
 # make dist       the sources of the last commit, their proof pack and two Debian packages, in dist/
 # make install    puts program, man page, completions, guides, examples and the Python package under DESTDIR and PREFIX; make uninstall removes them
-# make real       installs four debuggers and Emacs (Debian), and runs their sessions ten times each; not a part of make test
+# make real       installs what is missing of four debuggers and Emacs (Debian), and runs their sessions ten times each; not a part of make test
 
 PREFIX ?= /usr/local
 PROGRAM ?= bin/dapnorm
@@ -143,7 +143,8 @@ dist: need-commit need-python $(PROGRAM) $(PACK)
 	@python3 scripts/make_package.py "$(PROGRAM)" "$(PACK)" dist
 
 real: need-python $(PROGRAM)
-	@echo "Installs debugpy, lldb, delve, Go, Ruby, Emacs and dap-mode by apt-get, and runs each session ten times: about three minutes."
+	@echo "Installs by apt-get what is missing of debugpy, lldb, delve, Go, Ruby, Emacs and dap-mode, and removes nothing."
+	@echo "Then it runs each session ten times: about three minutes."
 	@python3 tests/real/run.py --install "$(PROGRAM)"
 
 clean:

@@ -685,8 +685,31 @@ def real_sessions(report, folder):
     skipped = re.findall(r"^(\w+): skipped: .* not installed$", ran.stdout, re.MULTILINE)
     good = ran.returncode == 1 and skipped == ["lldb", "delve", "rdbg"] and ran.stdout.endswith("FAILED some session was compared\n0 passed, 1 failed\n")
     report.check("it names what is not installed, and is red if it compared nothing", good, ran.stdout + ran.stderr)
+    installs(report, folder, words)
     ran = subprocess.run([*words, "other"], capture_output=True, text=True, timeout=60)
     report.check("it rejects an unknown session", ran.returncode == 1 and "no session is named other" in ran.stderr, ran.stderr)
+
+
+def installs(report, folder, words):
+    """`--install`, with a fake apt-get: what is there is not installed, and nothing is removed."""
+    tools, calls = os.path.join(folder, "tools"), os.path.join(folder, "calls")
+    os.makedirs(tools)
+    # This apt-get cannot install lldb, and its ruby has rdbg.
+    lines = f'#!/bin/sh\nfor it; do :; done\necho "$*" >> {calls}\n[ "$it" != lldb ] || {{ echo "E: it is held" >&2; exit 100; }}\n'
+    lines += f'[ "$it" != ruby ] || {{ printf "#!/bin/sh\\nexit 1\\n" > {tools}/rdbg; /bin/chmod +x {tools}/rdbg; }}\n'
+    for name, text in (("apt-get", lines), ("sudo", '#!/bin/sh\nexec "$@"\n'), *((it, "#!/bin/sh\nexit 1\n") for it in ("dlv", "emacs"))):
+        with open(os.path.join(tools, name), "w", encoding="utf-8") as file:
+            file.write(text)
+        os.chmod(file.name, 0o755)
+    ran = subprocess.run([*words[:2], "--install", *words[2:], "lldb"], env={**os.environ, "PATH": tools}, capture_output=True, text=True, timeout=60)
+    made = [it.split() for it in read(calls).splitlines()] if os.path.exists(calls) else []
+    there = [it[-1] for it in made if it[0] == "install"]
+    report.check("make real removes no package", there and all("--no-remove" in it for it in made if it[0] == "install"), repr(made))
+    wanted = ["lldb", "golang-go", "gcc", "libc6-dev", "ruby", "elpa-dap-mode"]
+    report.check("it installs what is missing only", [it for it in there if it != "python3-debugpy"] == wanted, repr(there))
+    named = re.findall(r"^installs (\S+) \(\d+ of \d+\)$", ran.stdout, re.MULTILINE)
+    report.check("it names each package before it installs it", named == there, ran.stdout + ran.stderr)
+    report.check("it names a package that cannot be installed", "lldb is not installed: E: it is held\n" in ran.stdout, ran.stdout)
 
 
 def types(report, _folder):

@@ -3,7 +3,7 @@
     python3 tests/real/run.py [--install] [--update] [--times N] PROGRAM [NAME..]
 
 PROGRAM is dapnorm, and NAME a session: debugpy, debugpy-terminal, lldb, delve, rdbg, emacs. `--install` installs what they need by apt-get.
-`--update` makes the golden files by the first run. What is not installed is named as skipped. The golden files have the version of the
+It installs a package only if what it has is missing, and removes none. `--update` makes the golden files by the first run. What is not installed is named as skipped. The golden files have the version of the
 adapter in their names: another version needs its own. `make real` calls this. The traces of runs that are not the same are kept in
 bin/real. The last line is 'N passed, M failed': a session passes if each of its runs is the same.
 """
@@ -21,7 +21,6 @@ from sessions import PROGRAMS, REAL, TOP, dapnorm
 sys.path.append(os.path.join(TOP, "tests"))
 from report import Report
 
-PACKAGES = ("python3-debugpy", "lldb", "delve", "golang-go", "gcc", "libc6-dev", "ruby-debug", "ruby", "emacs-nox", "elpa-dap-mode")
 RULES = os.path.join(TOP, "examples", "rules")
 GOLDEN = os.path.join(REAL, "golden")
 # The programs that are compiled, the files of Emacs, and the traces that are kept.
@@ -135,15 +134,37 @@ SESSIONS = [
 ]
 
 
+def has_headers():
+    """Whether the C compiler finds the headers of the C library."""
+    words = ["cc", "-E", "-x", "c", "-include", "stdio.h", os.devnull]
+    return shutil.which("cc") and subprocess.run(words, capture_output=True).returncode == 0
+
+
+# The packages, in the order in which they are installed, and what finds here what each of them has.
+PACKAGES = (
+    ("python3-debugpy", sessions.python_with_debugpy), ("lldb", sessions.lldb_command), ("delve", lambda: shutil.which("dlv")),
+    ("golang-go", lambda: shutil.which("go")), ("gcc", lambda: shutil.which("cc")), ("libc6-dev", has_headers),
+    ("ruby", lambda: shutil.which("ruby")), ("ruby-debug", sessions.rdbg_command),
+    ("emacs-nox", lambda: shutil.which("emacs")), ("elpa-dap-mode", has_dap_mode),
+)
+
+
 def install():
-    """Installs the packages that this system has. What is missing then is named as skipped."""
-    if shutil.which("apt-get") is None:
-        print("apt-get is not found: nothing is installed", flush=True)
-        return
+    """Installs the packages that this system has and that are missing. A package that could only replace another one is not installed."""
+    missing = [package for package, found in PACKAGES if not found()]
     prefix = [] if os.geteuid() == 0 else ["sudo"]
+    lacking = [it for it in (*prefix, "apt-get") if shutil.which(it) is None]
+    if lacking or not missing:
+        print("all that the sessions need is here" if not missing else f"{lacking[0]} is not found: nothing is installed", flush=True)
+        return
+    print(f"reads the lists of packages, since {', '.join(missing)} may be missing", flush=True)
     subprocess.run([*prefix, "apt-get", "update", "-q"], stdout=subprocess.DEVNULL)
-    for package in PACKAGES:
-        words = [*prefix, "apt-get", "install", "-q", "-y", "--no-install-recommends", package]
+    found_by = dict(PACKAGES)
+    for number, package in enumerate(missing, 1):
+        if found_by[package]():
+            continue  # another package has brought it
+        print(f"installs {package} ({number} of {len(missing)})", flush=True)
+        words = [*prefix, "apt-get", "install", "-q", "-y", "--no-remove", "--no-install-recommends", package]
         ran = subprocess.run(words, env={**os.environ, "DEBIAN_FRONTEND": "noninteractive"}, capture_output=True, text=True)
         if ran.returncode != 0:
             print(f"{package} is not installed: {(ran.stderr.strip().splitlines() or ['no reason'])[-1]}", flush=True)
@@ -168,6 +189,7 @@ def tried(report, session, times, update):
         return
     words = {REAL: "REAL", BUILT: "BUILT", sessions.python_with_debugpy() or "python3": "PYTHON"}
     golden, rules, same, begun, told = session.golden(), session.rules_file(), 0, time.monotonic(), []
+    print(f"{session.name}: runs {times} times, each compared with {os.path.basename(golden)}", flush=True)
     for number in range(times):
         try:
             trace = session.run()
