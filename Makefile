@@ -9,6 +9,8 @@
 # make dist       the sources of the last commit, their proof pack and two Debian packages, in dist/
 # make install    puts program, man page, completions, guides, examples and the Python package under DESTDIR and PREFIX; make uninstall removes them
 # make real       installs what is missing of four debuggers and Emacs (Debian), and runs their sessions ten times each; not a part of make test
+# make clean      removes all that is built
+# make help       lists these targets
 
 PREFIX ?= /usr/local
 PROGRAM ?= bin/dapnorm
@@ -42,21 +44,31 @@ SHELL := bash
 CRATES := $(filter dap%,$(shell sed -n 's/^\([a-z0-9_]*\)[ :].*/\1/p' crates.txt))
 SOURCES := crates.txt $(shell find $(addprefix crates/,$(CRATES)) -type f -not -path '*/out/*' -not -path '*/must-fail/*' -not -path '*/mutants/*')
 
-.PHONY: all proofs test mutants try bench documents dist install uninstall real clean need-rt need-python need-commit
+.PHONY: all help proofs test mutants try bench documents dist install uninstall real clean need-rt need-python need-commit
 
 all: bin/dapnorm
 
+# The head of this file.
+help:
+	@sed -n '/^#/!q; s/^# \{0,1\}//p' "$(firstword $(MAKEFILE_LIST))"
+
+HAS_RT = command -v rt > /dev/null || { echo "rt, the command of the Rattle toolchain, is not found: put its folder bin on PATH"; exit 1; }
+HAS_PYTHON = command -v python3 > /dev/null || { echo "python3 is not found: it runs the scripts of make"; exit 1; }
+
 need-rt:
-	@command -v rt > /dev/null || { echo "rt, the command of the Rattle toolchain, is not found: put its folder bin on PATH"; exit 1; }
+	@$(HAS_RT)
 
 need-python:
-	@command -v python3 > /dev/null || { echo "python3 is not found: it runs the scripts of make"; exit 1; }
+	@$(HAS_PYTHON)
 
 # make without a pack proves a program that was built over one, since need-rt is never up to date. make install takes it as it is.
 # With KEEP=yes make always asks rt, which proves what it has kept no work of.
 TO_PROVE := $(if $(PROOFS),,$(and $(filter all bin/dapnorm proofs dist,$(or $(MAKECMDGOALS),all)),$(KEEP)$(wildcard bin/over_pack)))
 
-bin/dapnorm: $(SOURCES) $(PROOFS) $(if $(TO_PROVE),need-rt) | need-rt need-python
+# A program that is newer than its sources needs no rt: sudo make install resets PATH.
+bin/dapnorm: $(SOURCES) $(PROOFS) $(if $(TO_PROVE),need-rt)
+	@$(HAS_RT)
+	@$(HAS_PYTHON)
 	@mkdir -p bin
 ifeq ($(PROOFS),)
 	@echo "Proves the $(words $(CRATES)) crates of the program and builds it: about 25 minutes from scratch on 4 processors. Prints a line for each crate."

@@ -120,6 +120,38 @@ def build(report, scratch):
     os.utime(source, (0, 0))
 
 
+def install_by_root(report, scratch):
+    """`make install` of a built program needs no `rt`: `sudo` replaces PATH. With a source that is newer than the program it does."""
+    path, staged = "/usr/bin:/bin", os.path.join(scratch.figures, "staged")
+    if shutil.which("rt", path=path) or not shutil.which("python3", path=path):
+        print("make install without rt is not tried, since PATH of sudo has rt or lacks python3", flush=True)
+        return
+    words = ["make", "--no-print-directory", "install", "PREFIX=/usr", f"DESTDIR={staged}"]
+
+    def tried():
+        environment = {**scratch.environment, "PATH": path}
+        return subprocess.run(words, cwd=scratch.tree, env=environment, capture_output=True, text=True, timeout=60)
+
+    ran = tried()
+    good = ran.returncode == 0 and os.path.exists(os.path.join(staged, "usr", "bin", "dapnorm"))
+    report.check("make install of a built program needs no rt", good, output_of(ran))
+    source = scratch.path("crates", "dap_device", "src", "lib.rt")
+    os.utime(source, (time.time() + 60,) * 2)
+    ran = tried()
+    report.check("make install of an older program needs rt", ran.returncode != 0 and "rt, the command" in ran.stdout, output_of(ran))
+    os.utime(source, (0, 0))
+    shutil.rmtree(staged)
+
+
+def help_lists(report, scratch):
+    """`make help` lists each target that a user runs."""
+    ran = scratch.make("help")
+    listed = set(re.findall(r"\bmake (\w+)", ran.stdout)) | {"all", "test"}
+    wanted = {it for it in targets() if "/" not in it} | {"test"}
+    report.check("make help lists the targets", ran.returncode == 0 and listed >= wanted, repr(wanted - listed) + output_of(ran))
+    report.check("make help prints no comment sign", "#" not in ran.stdout, ran.stdout)
+
+
 def documents(report, scratch):
     """`make documents` writes what the documents of the sources have."""
     paths = [os.path.join("docs", name) for name in sorted(os.listdir(os.path.join(TOP, "docs")))]
@@ -323,8 +355,8 @@ SCRIPTS = {
 # The function that runs a target, or the test that does.
 TARGETS = {
     "all": build, "bin/dapnorm": build, "bench": bench, "try": first_look, "clean": clean,
-    "documents": documents,
-    "install": "manual.py", "uninstall": "manual.py",
+    "documents": documents, "help": help_lists,
+    "install": install_by_root, "uninstall": "manual.py",
     "dist": "package.py", "proofs": "package.py", "bin/dapnorm.proofs": "package.py",
     "mutants": "mutants.py",
     "real": "adapter_kit.py",
