@@ -170,12 +170,12 @@ def ci(report, folder, environment):
         report.check(f"the CI recipe says {word!r}", ran.returncode == wanted and word in output, repr((ran.returncode, output)))
         return output
 
-    tried(1, "no golden file below")
+    tried(1, f"no golden file below {tests}: it looks for files *.golden\n")
     author = Author(tests, good)
     author.update(fake)
     script = read(author.script)
     os.remove(author.script)
-    tried(1, "no golden test below")
+    tried(1, "the 1 golden files:\n  it looks for golden_test.py, *_golden_test.py and test_*golden*.py\n")
     write(author.script, script)
     tried(1, "python3 has no pytest", without)
     tried(1, "dapnorm is not on PATH", PATH=tests)

@@ -9,7 +9,7 @@ from typing import List, Optional
 
 HERE = os.path.dirname(os.path.abspath(__file__))
 # Files whose lines are not those of a test.
-OTHERS = re.compile(r"/contextlib\.py$|/_pytest/|/pluggy/")
+OTHERS = re.compile(r"/contextlib\.py$|/_pytest/|/pluggy/|/unittest/")
 
 
 def quoted(title: str, text: str, most: int = 10) -> str:
