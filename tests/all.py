@@ -105,6 +105,7 @@ def main():
             ("hostile inputs and failing devices", "hostile.py"),
             ("the test kit for adapters", "adapter_kit.py"),
             ("the examples", "examples.py"),
+            ("the how-to pages", "how_to.py"),
             ("the man page, completions and installation", "manual.py"),
             ("the synopses and the completions", "usage.py"),
             ("the packages", "package.py"),

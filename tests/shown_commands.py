@@ -1,5 +1,6 @@
-"""Runs each block of dapnorm's commands that the README, the man page, COMMANDS.md, RULES.md and the help show: as it is written, with each of its input
-files damaged, and with each of its commands failing. No golden file may come out of it that the block as it is written would not write."""
+"""Runs each block of dapnorm's commands that the README, the man page, COMMANDS.md, HOWTO.md, RULES.md and the help show: as it is written, with
+each of its input files damaged, and with each of its commands failing. No golden file may come out of it that the block as it is written would
+not write."""
 import os
 import re
 import shutil
@@ -17,7 +18,7 @@ INPUTS = {
     "session.trace": os.path.join(CAPTURES, "dlv-l-stopentry.3.trace"), "later.trace": os.path.join(CAPTURES, "dlv-l-stopentry.5.trace"),
     "session.rec": os.path.join(CAPTURES, "dlv-l-stopentry.3.rec"), "later.rec": os.path.join(CAPTURES, "dlv-l-stopentry.5.rec"),
     "session.frames": os.path.join(EXAMPLES, "debugpy-adapter.frames"),
-    "lldb.rules": os.path.join(EXAMPLES, "rules", "lldb.rules"),
+    "lldb.rules": os.path.join(EXAMPLES, "rules", "lldb.rules"), "delve.rules": os.path.join(EXAMPLES, "rules", "delve.rules"),
     "examples/rules/debugpy.rules": os.path.join(EXAMPLES, "rules", "debugpy.rules"),
 }
 GOLDEN = "session.golden"
@@ -54,7 +55,7 @@ def blocks():
     """The blocks of which each line is a command of dapnorm, each with the document that shows it."""
     manual = read(os.path.join(TOP, "docs", "dapnorm.1")).decode()
     shown = [("the README", it) for it in indented(os.path.join(TOP, "README.md"))]
-    shown += [(name, it) for name in ("COMMANDS.md", "RULES.md") for it in indented(os.path.join(TOP, "docs", name))]
+    shown += [(name, it) for name in ("COMMANDS.md", "HOWTO.md", "RULES.md") for it in indented(os.path.join(TOP, "docs", name))]
     shown += [("the man page", it.strip()) for it in re.findall(r"^\.Bd -literal.*\n((?:.*\n)*?)\.Ed", manual, re.MULTILINE)]
     shown += [(f"the help of {it}", re.search(r"^Example: (.*)$", run([it, "--help"])[1].decode(), re.MULTILINE)[1]) for it in COMMANDS]
     return [(where, it) for where, it in shown if all(line.startswith("dapnorm ") for line in it.splitlines())]

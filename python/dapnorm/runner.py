@@ -42,6 +42,8 @@ def tests_of_class(kind: Type[Any]) -> Iterator[Tuple[str, Test]]:
             continue
         elif lacking:
             yield name, not_run(f"{kind.__name__}.{lacking[0]}")
+        elif not is_unittest and inspect.iscoroutinefunction(value):
+            yield name, not_run("an async test")
         elif is_unittest:
             yield name, unittest.TestSuite([kind(name)]).debug
         else:
