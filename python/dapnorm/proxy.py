@@ -14,7 +14,8 @@ and its bytes. A piece is written before it is passed on, so no response precede
 Without a command the proxy ends when the first session has ended and no other session runs. ADAPTER is a command that starts the
 adapter. Its streams are those of this program, and signals go to it. Clients may then connect until the adapter ends. If it runs on for
 5 seconds after the last session, it gets SIGTERM. The status is that of the adapter; if a signal killed it, 128 and the number of the
-signal. If the adapter ends before a client connects, the proxy ends too. SIGTERM and SIGINT end the proxy and its adapter at once.
+signal. If the adapter ends before a client connects, the proxy ends too. SIGTERM and SIGINT end the proxy and its adapter at once; an
+adapter that runs on after them for 5 seconds is killed.
 
 An earlier trace is replaced when its session starts. A trace that cannot be written is an error before the adapter is started.
 """
