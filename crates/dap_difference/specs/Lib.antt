@@ -1,5 +1,6 @@
 pub mod Differences
 pub mod Telling
+pub mod Windows
 pub mod Lines
 pub mod Shown
 pub mod TellingSteps

@@ -1,7 +1,7 @@
 -- Differences as lines. Source: own. A path is written like a path of a mask rule, with the index
 -- of an item in brackets.
-use Rattle.std.specs.Prelude.{ℕ, ◌-◌, ◌==◌, Bool, true, false, cond, not, ◌&&◌, ◌||◌, nat_lt, List}
-use Rattle.std.specs.Prelude.{[], ◌∷◌, ◌++◌, length, Option, Some, None, codes, decimal}
+use Rattle.std.specs.Prelude.{ℕ, ◌==◌, Bool, true, false, ◌&&◌, ◌||◌, List}
+use Rattle.std.specs.Prelude.{[], ◌∷◌, ◌++◌, Option, Some, None, codes, decimal}
 use Rattle.std.specs.Prelude.{if◌then◌else◌}
 use Rattle.std.specs.Char.{is_ascii_alphanumeric}
 use Rattle.std.specs.List.{flat_map}
@@ -9,6 +9,7 @@ use Rattle.dap_tree.specs.Doc.{Doc, text, is_sound}
 use Rattle.dap_tree.specs.Json.{text_of}
 use Rattle.dap_tree.specs.Path.{Step, name, place}
 use Rattle.dap_difference.specs.Differences.{Difference}
+use Rattle.dap_difference.specs.Windows.{cut, window}
 
 -- A byte of a name that is printed without quoting: a letter, a digit, `_`, `-` or `$`.
 abbrev pub is_plain : ℕ → Bool
@@ -37,32 +38,23 @@ path_text [] = codes "."
 path_text (name k ∷ p) = name_text k ++ flat_map step_text p
 path_text (place n ∷ p) = flat_map step_text (place n ∷ p)
 
--- A continuation byte (UTF-8): it belongs to the same character as the byte before it.
-abbrev pub goes_on : ℕ → Bool
-goes_on b = not (nat_lt b 128) && nat_lt b 192
+-- The JSON text of a value, at most 200 characters of it. If the other document has a value at the
+-- path, the text is cut round the first difference.
+abbrev pub value_text : Doc → Option Doc → List ℕ
+value_text d None = cut 200 (text_of d)
+value_text d (Some e) = window 200 (text_of d) (text_of e)
 
--- The bytes of the first n characters.
-abbrev pub first_characters : ℕ → List ℕ → List ℕ
-first_characters n [] = []
-first_characters n (b ∷ s) =
-    cond (goes_on b) (b ∷ first_characters n s)
-    (cond (nat_lt 0 n) (b ∷ first_characters (n - 1) s) [])
-
--- A string, truncated after 200 characters with `...`.
-abbrev pub cut : List ℕ → List ℕ
-cut s = first_characters 200 s
-    ++ (if nat_lt (length (first_characters 200 s)) (length s) then codes "..." else [])
-
--- The line for the value of one document at a path, or no line if it has no value there.
-abbrev pub value_line : List ℕ → List Step → Option Doc → List ℕ
-value_line side p None = []
-value_line side p (Some d) =
-    side ++ codes " " ++ path_text p ++ codes " " ++ cut (text_of d) ++ codes "\n"
+-- The line for the value of one document at a path, or no line if it has no value there; then the
+-- value of the other document.
+abbrev pub value_line : List ℕ → List Step → Option Doc → Option Doc → List ℕ
+value_line side p None other = []
+value_line side p (Some d) other =
+    side ++ codes " " ++ path_text p ++ codes " " ++ value_text d other ++ codes "\n"
 
 -- The lines of a difference: the value of A, and the value of B.
 abbrev pub difference_lines : Difference → List ℕ
 difference_lines x =
-    value_line (codes "A") x.path x.of_a ++ value_line (codes "B") x.path x.of_b
+    value_line (codes "A") x.path x.of_a x.of_b ++ value_line (codes "B") x.path x.of_b x.of_a
 
 -- The values of a difference can be written.
 abbrev pub is_sound_value : Option Doc → Bool

@@ -1,19 +1,20 @@
 //! Prints differences as lines for human readers.
-ghost use Rattle.std.specs.Prelude.{◌≡◌, ◌++◌, ◌≤◌, [], true, Some, length, take, IfOk, IsOk};
-ghost use Rattle.std.specs.Prelude.{OnOk};
+ghost use Rattle.std.specs.Prelude.{◌≡◌, ◌++◌, [], true, Some, None, codes, string_bytes, IfOk};
+ghost use Rattle.std.specs.Prelude.{IsOk, OnOk};
 ghost use Rattle.std.specs.List.{flat_map};
 ghost use Rattle.dap_tree.specs.Doc.{is_sound};
 ghost use Rattle.dap_tree.specs.Json.{text_of};
 ghost use Rattle.dap_tree.specs.View.{view};
-ghost use Rattle.dap_difference.specs.Lines.{are_plain, cut, difference_lines, first_characters};
-ghost use Rattle.dap_difference.specs.Lines.{goes_on};
+ghost use Rattle.dap_difference.specs.Lines.{are_plain, difference_lines};
 ghost use Rattle.dap_difference.specs.Lines.{is_plain, is_plain_name, is_sound_difference};
 ghost use Rattle.dap_difference.specs.Lines.{are_sound};
 ghost use Rattle.dap_difference.specs.Lines.{name_text, path_text, step_text, value_line};
 ghost use Rattle.dap_difference.specs.Shown.{at_path, path_of, step_of, shown_differences};
 ghost use Rattle.dap_difference.specs.Telling.{differences, same_scalar};
+ghost use Rattle.dap_difference.specs.Windows.{window};
 
-use crate::{Difference, Step, Values, differences};
+use crate::windows::push_cut;
+use crate::{Difference, Step, Values, differences, push_window};
 use dap_tree::{Tree, write_tree};
 use itoa::Buffer;
 use std::alloc::{AllocError, Global};
@@ -110,44 +111,35 @@ pub fn push_path(alloc: Global, path: &[Step<'_>], out: &mut Vec<u8>) -> Result<
     }
 }
 
-/// Returns whether a byte belongs to the same character as the byte before it.
-fn goes_on(byte: u8) -> bool
-    ensures { result ≡ goes_on byte }
+/// Returns the JSON text of a value.
+fn text_of(alloc: Global, tree: &Tree) -> Result<String, AllocError>
+    requires { is_sound (view tree.now) ≡ true }
+    ensures { IfOk result (λ text. string_bytes text ≡ text_of (view tree.now)) }
 {
-    byte >= 128 && byte < 192
-}
-
-/// Returns the length in bytes of the characters that are printed of a string.
-fn shown_length(text: &[u8]) -> usize
-    ensures front { take result text.now ≡ first_characters 200 text.now }
-    ensures within { result ≤ length text.now }
-{
-    let mut left = SHOWN;
-    for (i, byte) in text.iter().enumerate() {
-        if !goes_on(*byte) {
-            if left == 0 {
-                return i;
-            }
-            left -= 1;
-        }
+    match write_tree(alloc, tree) {
+        Ok(text) => Ok(text),
+        Err(_) => Err(AllocError),
     }
-    text.len()
 }
 
-/// Appends a string, truncated if it is long.
-fn push_cut(text: &[u8], out: &mut Vec<u8>) -> Result<(), AllocError>
-    ensures { OnOk result (out.new.items ≡ out.old.items ++ cut text.now) }
+/// Appends the side and the path of a line.
+fn push_place(
+    alloc: Global,
+    side: &str,
+    path: &[Step<'_>],
+    out: &mut Vec<u8>,
+) -> Result<(), AllocError>
+    ensures { OnOk result (out.new.items
+        ≡ out.old.items ++ side.now ++ codes " " ++ path_text (path_of path.now) ++ codes " ") }
 {
-    let shown = shown_length(text);
-    out.extend_from_slice(&text[..shown])?;
-    if shown < text.len() {
-        out.extend_from_slice(b"...")?;
-    }
-    Ok(())
+    out.extend_from_slice(side.as_bytes())?;
+    out.extend_from_slice(b" ")?;
+    push_path(alloc, path, out)?;
+    out.extend_from_slice(b" ")
 }
 
-/// Appends the line for the value of one side at a path.
-fn push_line(
+/// Appends the line for a value that only this side has.
+fn push_alone(
     alloc: Global,
     side: &str,
     path: &[Step<'_>],
@@ -156,17 +148,50 @@ fn push_line(
 ) -> Result<(), AllocError>
     requires { is_sound (view tree.now) ≡ true }
     ensures { OnOk result (out.new.items
-        ≡ out.old.items ++ value_line side.now (path_of path.now) (Some (view tree.now))) }
+        ≡ out.old.items ++ value_line side.now (path_of path.now) (Some (view tree.now)) None) }
 {
-    let Ok(text) = write_tree(alloc, tree) else {
-        return Err(AllocError);
-    };
-    out.extend_from_slice(side.as_bytes())?;
-    out.extend_from_slice(b" ")?;
-    push_path(alloc, path, out)?;
-    out.extend_from_slice(b" ")?;
-    push_cut(text.as_bytes(), out)?;
+    let text = text_of(alloc, tree)?;
+    push_place(alloc, side, path, out)?;
+    push_cut(text.as_bytes(), SHOWN, out)?;
     out.extend_from_slice(b"\n")
+}
+
+/// Appends the line for a value of one side, with that of the other side.
+fn push_beside(
+    alloc: Global,
+    side: &str,
+    path: &[Step<'_>],
+    text: &str,
+    other: &str,
+    out: &mut Vec<u8>,
+) -> Result<(), AllocError>
+    ensures { OnOk result (out.new.items ≡ out.old.items ++ side.now ++ codes " "
+        ++ path_text (path_of path.now) ++ codes " " ++ window 200 text.now other.now
+        ++ codes "\n") }
+{
+    push_place(alloc, side, path, out)?;
+    push_window(text, other, SHOWN, out)?;
+    out.extend_from_slice(b"\n")
+}
+
+/// Appends the lines for two values that differ.
+fn push_both(
+    alloc: Global,
+    path: &[Step<'_>],
+    a: &Tree,
+    b: &Tree,
+    out: &mut Vec<u8>,
+) -> Result<(), AllocError>
+    requires a { is_sound (view a.now) ≡ true }
+    requires b { is_sound (view b.now) ≡ true }
+    ensures { OnOk result (out.new.items ≡ out.old.items
+        ++ value_line (codes "A") (path_of path.now) (Some (view a.now)) (Some (view b.now))
+        ++ value_line (codes "B") (path_of path.now) (Some (view b.now)) (Some (view a.now))) }
+{
+    let text = text_of(alloc, a)?;
+    let other = text_of(alloc, b)?;
+    push_beside(alloc, "A", path, text.as_str(), other.as_str(), out)?;
+    push_beside(alloc, "B", path, other.as_str(), text.as_str(), out)
 }
 
 /// Appends the lines for the values of the trees at a path.
@@ -181,20 +206,19 @@ fn push_values(
         (out.new.items ≡ out.old.items ++ difference_lines (at_path path.now values.entry)) }
 {
     match values {
-        Values::OnlyA(tree) => push_line(alloc, "A", path, tree, out),
-        Values::OnlyB(tree) => push_line(alloc, "B", path, tree, out),
-        Values::Both(a, b) => {
-            push_line(alloc, "A", path, a, out)?;
-            push_line(alloc, "B", path, b, out)
-        }
+        Values::OnlyA(tree) => push_alone(alloc, "A", path, tree, out),
+        Values::OnlyB(tree) => push_alone(alloc, "B", path, tree, out),
+        Values::Both(a, b) => push_both(alloc, path, a, b, out),
     }
 }
 
 /// Returns the differences of two sound trees as lines, in the order of their paths.
 ///
-/// A line consists of `A` or `B`, the path, and the JSON text of that tree's value there, truncated
-/// after 200 characters with `...`. A path is, for example, `body.stackFrames[2].line`. A value
-/// that exists in only one of the trees has only one line. Does not allocate for two equal scalars.
+/// A line consists of `A` or `B`, the path, and the JSON text of that tree's value there, of which
+/// at most 200 characters are printed. A longer text is cut as by [`push_window`], or after 200
+/// characters if the other tree has no value there. A path is, for example,
+/// `body.stackFrames[2].line`. A value that exists in only one of the trees has only one line. Does
+/// not allocate for two equal scalars.
 ///
 /// # Errors
 ///
