@@ -9,3 +9,4 @@ pub mod PutIn
 pub mod Steps
 pub mod TreeSteps
 pub mod SoundValues
+pub mod WindowsApart

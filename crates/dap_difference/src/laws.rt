@@ -1,9 +1,14 @@
 //! Theorems about differences. Each function is empty: calling it makes its `ensures` clauses
 //! available to the caller's proof.
-ghost use Rattle.dap_difference.specs.Laws.{NoneWhereSame};
+ghost use Rattle.dap_difference.specs.Laws.{NoneWhereSame, PrintedApart};
 
 /// States that two documents whose members are in order have no differences if and only if they are
 /// equal.
 pub fn nothing_differs_where_they_are_the_same()
     ensures { NoneWhereSame }
+{}
+
+/// States that the windows of two values differ, if their JSON texts do.
+pub fn different_values_are_printed_differently()
+    ensures { PrintedApart }
 {}
