@@ -49,12 +49,12 @@ fn verbs_of(candidate: Option<usize>) -> &'static [&'static str] {
 
 /// Appends the rules of a candidate, or the rule that blanks the value, after a comment.
 pub fn push_commented(
-    comment: &str,
+    comment: &[u8],
     candidate: Option<usize>,
     target: &[u8],
     out: &mut Vec<u8>,
 ) -> Result<(), AllocError> {
-    out.extend_from_slice(comment.as_bytes())?;
+    out.extend_from_slice(comment)?;
     push_rules(verbs_of(candidate), target, out)?;
     out.extend_from_slice(b"\n")
 }

@@ -15,7 +15,7 @@ use std::alloc::{AllocError, Global};
 use std::collections::BTreeMap;
 
 /// The comments on rules, by the messages and the places of the rules.
-type Comments = BTreeMap<Vec<u8>, String>;
+type Comments = BTreeMap<Vec<u8>, Vec<u8>>;
 
 /// A record, as comments name it.
 #[derive(Clone, Copy)]
@@ -178,7 +178,7 @@ fn accepted_rules(alloc: Global, given: &[u8], comments: &Comments) -> Result<Ve
     let mut out = Vec::from_slice(alloc, missing_end(given))?;
     for (target, comment) in comments.iter() {
         let length = out.len();
-        push_commented(comment.as_str(), None, target.as_slice(), &mut out)?;
+        push_commented(comment.as_slice(), None, target.as_slice(), &mut out)?;
         let whole = joined(alloc, given, out.as_slice())?;
         if fault_of(alloc, whole.as_slice())?.is_some() {
             out.truncate(length);

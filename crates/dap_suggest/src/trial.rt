@@ -2,8 +2,7 @@
 use crate::candidates::{are_equal_by, event_of, push_commented};
 use crate::matched::Pair;
 use crate::walking::Found;
-use crate::words::shown_value;
-use dap_compare::Which;
+use crate::words::shown_values;
 use dap_mask::MaskRules;
 use dap_tree::Tree;
 use std::alloc::{AllocError, Global};
@@ -13,7 +12,7 @@ use std::alloc::{AllocError, Global};
 pub struct Trial {
     works: Vec<bool>,
     /// The comment that shows the first pair of values.
-    comment: String,
+    comment: Vec<u8>,
 }
 
 impl Trial {
@@ -25,7 +24,8 @@ impl Trial {
         found: &Found<'_>,
     ) -> Result<Trial, AllocError> {
         let works = vec![in alloc; true; tests.len()]?;
-        let comment = comment_of(alloc, pair, found)?;
+        let (a, b) = ((pair.a.number, found.a), (pair.b.number, found.b));
+        let comment = shown_values(alloc, a, b)?;
         let mut trial = Trial { works, comment };
         trial.try_at(alloc, tests, found)?;
         Ok(trial)
@@ -77,14 +77,6 @@ impl Trial {
 
     /// Appends the rules for a place, after their comment.
     pub fn push(&self, target: &[u8], out: &mut Vec<u8>) -> Result<(), AllocError> {
-        push_commented(self.comment.as_str(), self.candidate(), target, out)
+        push_commented(self.comment.as_slice(), self.candidate(), target, out)
     }
-}
-
-/// Returns the comment that shows a pair of values.
-fn comment_of(alloc: Global, pair: &Pair<'_>, found: &Found<'_>) -> Result<String, AllocError> {
-    let mut comment = shown_value(alloc, Which::A, pair.a.number, found.a)?;
-    let end = shown_value(alloc, Which::B, pair.b.number, found.b)?;
-    comment.push_str(end.as_str())?;
-    Ok(comment)
 }

@@ -2,12 +2,12 @@
 ghost use Rattle.std.specs.Prelude.{◌≤◌, length};
 
 use dap_compare::Which;
-use dap_difference::{Step, push_path};
+use dap_difference::{Step, push_path, push_window};
 use dap_message::{Kind, Message};
 use dap_tree::{Tree, write_tree};
 use std::alloc::{AllocError, Global};
 
-/// How many bytes of a value a comment has at most.
+/// How many characters of a value a comment has at most.
 const SHOWN: usize = 120;
 
 /// Returns the word for a kind, with spaces after it up to one length.
@@ -89,27 +89,61 @@ pub fn quoted(alloc: Global, text: &str) -> Result<String, AllocError> {
     json_of(alloc, &Tree::Text(String::from_str(alloc, text)?))
 }
 
-/// Returns the line of a comment that shows a part of a record.
-pub fn shown(alloc: Global, which: Which, number: u64, text: &str) -> Result<String, AllocError> {
+/// Returns the start of the comment that shows a part of a record.
+fn shown_record(alloc: Global, which: Which, number: u64) -> Result<String, AllocError> {
     let side = match which {
         Which::A => "A",
         Which::B => "B",
     };
-    format!(in alloc; "# {side} record {number}: {text}\n")
+    format!(in alloc; "# {side} record {number}: ")
 }
 
-/// Returns the line of a comment that shows a value as JSON, cut if it is long. No character is
-/// split.
-pub fn shown_value(
+/// Returns the line of a comment that shows a part of a record.
+pub fn shown(alloc: Global, which: Which, number: u64, text: &str) -> Result<Vec<u8>, AllocError> {
+    let record = shown_record(alloc, which, number)?;
+    parts_of(alloc, &[record.as_bytes(), text.as_bytes(), b"\n"])
+}
+
+/// A value, and the number of its record.
+pub type Shown<'v> = (u64, &'v Tree);
+
+/// Appends the line of a comment that shows a value as JSON, and what differs from the other value
+/// if it is long.
+fn push_shown(
     alloc: Global,
     which: Which,
     number: u64,
-    value: &Tree,
-) -> Result<String, AllocError> {
-    let mut text = json_of(alloc, value)?;
-    if text.len() > SHOWN {
-        text.truncate(text.floor_char_boundary(SHOWN));
-        text.push_str("...")?;
-    }
-    shown(alloc, which, number, text.as_str())
+    (text, other): (&str, &str),
+    out: &mut Vec<u8>,
+) -> Result<(), AllocError> {
+    let record = shown_record(alloc, which, number)?;
+    out.extend_from_slice(record.as_bytes())?;
+    push_window(text, other, SHOWN, out)?;
+    out.extend_from_slice(b"\n")
+}
+
+/// Returns the comment that shows a value of A and a value of B.
+pub fn shown_values(
+    alloc: Global,
+    (number_a, a): Shown<'_>,
+    (number_b, b): Shown<'_>,
+) -> Result<Vec<u8>, AllocError> {
+    let a = json_of(alloc, a)?;
+    let b = json_of(alloc, b)?;
+    let mut out = Vec::new(alloc);
+    push_shown(
+        alloc,
+        Which::A,
+        number_a,
+        (a.as_str(), b.as_str()),
+        &mut out,
+    )?;
+    push_shown(
+        alloc,
+        Which::B,
+        number_b,
+        (b.as_str(), a.as_str()),
+        &mut out,
+    )?;
+    Ok(out)
 }
