@@ -2,6 +2,7 @@
 import itertools
 import json
 import os
+import re
 import sys
 
 from report import TOP, Report, run
@@ -66,8 +67,31 @@ def messages(name):
         return [(MARKERS[side], json.loads(content)) for side, _, content in records(normalised(file.read()))]
 
 
-def cut(line):
-    return line if len(line) <= 200 else line[:200] + "..."
+# What starts a sign in the bytes of a JSON text: an escape sequence, or a character.
+SIGN = re.compile(rb"\\u[0-9a-f]{4}|\\.|[\x00-\x7f\xc0-\xff]")
+
+
+def cut(value, limit=200):
+    return value if len(value) <= limit else value[:limit] + "..."
+
+
+def window(value, other, limit=200):
+    """A text as it is printed beside another: a long one from the last 16 signs that start before the first byte that differs."""
+    whole = value.encode()
+    shared = len(os.path.commonprefix([whole, other.encode()]))
+    starts = [sign.start() for sign in SIGN.finditer(whole)]
+    before = sum(start < shared for start in starts) - 16
+    if len(value) <= limit or before <= 0:
+        return cut(value, limit)
+    return "..." + cut(whole[starts[before]:].decode(), limit)
+
+
+def leaf_lines(a, b):
+    """The lines of the leaves at which two messages differ."""
+    for path, values in leaves(a, b):
+        texts = [text(value) for _, value in values]
+        shown = [cut(texts[0])] if len(texts) == 1 else [window(*texts), window(*reversed(texts))]
+        yield from (f"{which} {path_text(path)} {it}" for (which, _), it in zip(values, shown))
 
 
 def told(ours, theirs):
@@ -78,7 +102,7 @@ def told(ours, theirs):
         lines = [f"differ {number}"]
         if a is not None and b is not None and head(a) == head(b):
             lines.append(head(a))
-            lines += [f"{which} {path_text(path)} {cut(text(value))}" for path, values in leaves(a[1], b[1]) for which, value in values]
+            lines += leaf_lines(a[1], b[1])
         else:
             lines += [f"{which} {head(it) if it else 'ends'}" for which, it in (("A", a), ("B", b))]
         return 1, "".join(line + "\n" for line in lines)

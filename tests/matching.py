@@ -7,7 +7,7 @@ import os
 import sys
 import tempfile
 
-from differing import CAPTURES, EXAMPLES, cut, head, leaves, path_text, text
+from differing import CAPTURES, EXAMPLES, head, leaf_lines
 from report import TOP, Report, run
 from worked_runs import (
     BEGUN, CONFIGURED, DONE, DONE_RESPONSE, FRAME, FRAMES, INITIALIZE, INITIALIZED, NEW_FRAME, OUTPUT, RESPONSE, STACK, STOPPED, THREADS,
@@ -47,6 +47,7 @@ NAMED = STACKED[:3] + [STACKED[3].replace('"name":"g"', '"name":"h"')]
 ONE_FRAME = [*BEGUN, STACK, FRAME % (1000, 2, 2)]
 STEP, HIT = [*BEGUN, STOPPED], [*BEGUN, STOPPED.replace("step", "breakpoint")]
 ANSWERED = [*BEGUN, INITIALIZED, DONE, DONE_RESPONSE]
+LONG_OUTPUTS = [[*BEGUN, output(2, "x" * 997 + it)] for it in "AB"]
 TWO_OUTPUTS = [INITIALIZE, output(5, "a"), RESPONSE.replace('"seq":1,"success"', '"seq":6,"success"'), output(7, "b")]
 
 # Two recordings, the option `--per-stop` or none, and the status and the output of `diff --all`.
@@ -56,6 +57,10 @@ WORKED = {
     "frames exchanged": (STACKED, EXCHANGED, [], SAME),
     "another reason": (
         STEP, HIT, [], (1, 'differ: 1 paired, 0 only in A, 0 only in B\n3/3 < event "stopped"\nA body.reason "step"\nB body.reason "breakpoint"\n'),
+    ),
+    "long texts that differ in their last character": (
+        LONG_OUTPUTS[0], LONG_OUTPUTS[1], [],
+        (1, 'differ: 1 paired, 0 only in A, 0 only in B\n3/3 < event "output"\n' + "".join(f'{it} body.output ...{"x" * 16}{it}"\n' for it in "AB")),
     ),
     "another name of a frame": (
         STACKED, NAMED, [],
@@ -249,7 +254,7 @@ def report_of(ours, theirs):
             lines.append(place)
             continue
         one, other = joint.numbered("A", ours[a][1]), joint.numbered("B", theirs[b][1])
-        found = [f"{which} {path_text(path)} {cut(text(value))}" for path, values in leaves(one, other) for which, value in values]
+        found = list(leaf_lines(one, other))
         if found:
             counts["pairs"] += 1
             lines += [place, *found]

@@ -145,6 +145,9 @@ def worked(report):
         wanted = f"# A record 3: {json.dumps(a)}\n# B record 3: {json.dumps(b)}\n{rules}\n"
         answer = asked(started(1, a), started(1, b))
         report.check(f"{name} is masked by the least action", answer == (0, (wanted + same).encode(), b""), repr(answer))
+    answer = asked(started(1, "x" * 300 + "1"), started(1, "x" * 300 + "2" * 200))
+    wanted = (head % (f'...{"x" * 16}1"', f'...{"x" * 16}{"2" * 104}...', "digits", "name") + same).encode()
+    report.check("of long values the part that differs is shown", answer == (0, wanted, b""), repr(answer))
     answer = asked(started(1, "a"), started(2, "a"))
     report.check("a process id is blanked", answer == (0, (head % (1, 2, "blank ", "systemProcessId") + same).encode(), b""), repr(answer))
     answer = asked(started(1, "a", 1), started(1, "a", 2))

@@ -1,9 +1,9 @@
 -- The windows of two different JSON texts differ.
 use Rattle.std.proofs.Common.{◌≡◌, ◌≢◌, ℕ, suc, ◌+◌, ◌-◌, ◌*◌, ◌<◌, ◌≤◌, Bool, true, false, cond}
-use Rattle.std.proofs.Common.{not, ◌⊎◌, inl, inr, List, [], ◌∷◌, ◌++◌, length, take, nat_eq}
+use Rattle.std.proofs.Common.{not, inl, inr, List, [], ◌∷◌, ◌++◌, length, take, nat_eq}
 use Rattle.std.proofs.Common.{refl, sym, ◌∙◌, ap, arith, ltb, eqb, eq-eqb, zero-add}
 use Rattle.std.proofs.lemmas.Bool.{ne_eqb, eqb-true, eqb-false, lt-ltb, le-ltb, and_from, and_left}
-use Rattle.std.proofs.lemmas.Bool.{and_right, cases_lt}
+use Rattle.std.proofs.lemmas.Bool.{and_right, cases_Bool, cases_lt}
 use Rattle.std.proofs.Common.{ℤ, pos, negsuc, zero, ◌/◌, ◌%◌, codes, decimal}
 use Rattle.std.proofs.lemmas.Bool.Decides.{nat_tests}
 use Rattle.std.proofs.lemmas.List.{append_cancel_left}
@@ -13,22 +13,14 @@ use Rattle.std.specs.List.{common_prefix_len}
 use Rattle.dap_tree.specs.Doc.{Doc, null, boolean, text, list, object, id}
 use Rattle.dap_tree.specs.Doc.{whole as whole_number}
 use Rattle.dap_tree.specs.Json.{text_of}
-use Rattle.dap_difference.specs.Laws.{PrintedApart}
-use Rattle.dap_difference.specs.Windows.{goes_on, is_long, cut, left_after}
+use Rattle.dap_difference.specs.Laws.{PrintedApart, PrintedWhole, WindowsAreShort}
+use Rattle.dap_difference.specs.Windows.{goes_on, characters, is_long, cut}
+use Rattle.dap_difference.specs.Windows.{left_after}
 use Rattle.dap_difference.specs.Windows.{starts_sign, signs_from, signs, after_signs_from}
 use Rattle.dap_difference.specs.Windows.{after_signs, shared, signs_before, window}
 
-bool_cases : (b : Bool) → (b ≡ true) ⊎ (b ≡ false)
-bool_cases true = inl refl
-bool_cases false = inr refl
-
 ltb_suc : (a b : ℕ) → ltb (suc a) (suc b) ≡ ltb a b
 ltb_suc a b = grind (arith, nat_tests)
-
--- how many characters start in a text
-abbrev characters : List ℕ → ℕ
-characters [] = 0
-characters (b ∷ s) = cond (goes_on b) 0 1 + characters s
 
 -- two texts that differ from their start
 abbrev DifferAtOnce : List ℕ → List ℕ → Type 0
@@ -36,6 +28,20 @@ DifferAtOnce [] [] = ⊥
 DifferAtOnce [] (b ∷ y) = Unit {0}
 DifferAtOnce (a ∷ x) [] = Unit {0}
 DifferAtOnce (a ∷ x) (b ∷ y) = a ≢ b
+
+characters_goes_on : (b : ℕ) (s : List ℕ) → goes_on b ≡ true → characters (b ∷ s) ≡ characters s
+characters_goes_on b s g = simp g (zero-add _)
+
+characters_starts : (b : ℕ) (s : List ℕ) → goes_on b ≡ false
+    → characters (b ∷ s) ≡ 1 + characters s
+characters_starts b s g = simp g
+
+characters_more : (b : ℕ) (s : List ℕ) → characters (b ∷ s) ≤ 1 + characters s
+characters_more b s =
+    elim (cases_Bool (goes_on b)) [
+      | inl g ↦ let e = characters_goes_on b s g in omega arith
+      | inr g ↦ let e = characters_starts b s g in omega arith
+    ]
 
 -- ---- a text that is cut, from its start
 
@@ -48,9 +54,14 @@ cut_starts n b s g some =
     let more : ltb 0 n ≡ true = lt-ltb 0 n some in
     simp (g, more, ltb_suc)
 
+cut_none : (n b : ℕ) (s : List ℕ) → goes_on b ≡ false → n ≤ 0 → cut n (b ∷ s) ≡ codes "..."
+cut_none n b s g none =
+    let more : ltb 0 n ≡ false = le-ltb 0 n none in
+    simp (g, more, lt-ltb 0 (suc (length s)) (omega arith))
+
 cut_first : (n b : ℕ) (s : List ℕ) → 0 < n → (r : List ℕ) × (cut n (b ∷ s) ≡ b ∷ r)
 cut_first n b s some =
-    elim (bool_cases (goes_on b)) [
+    elim (cases_Bool (goes_on b)) [
       | inl g ↦ (cut n s, cut_goes_on n b s g)
       | inr g ↦ (cut (n - 1) s, cut_starts n b s g some)
     ]
@@ -72,7 +83,7 @@ cut_apart [] (a ∷ x) (b ∷ y) n few differ same =
     let e : a ∷ one.0 ≡ b ∷ other.0 = sym one.1 ∙ same ∙ other.1 in
     differ cc
 cut_apart (d ∷ c) x y n few differ same =
-    elim (bool_cases (goes_on d)) [
+    elim (cases_Bool (goes_on d)) [
       | inl g ↦
           let e : d ∷ cut n (c ++ x) ≡ d ∷ cut n (c ++ y) =
           sym (cut_goes_on n d (c ++ x) g) ∙ same ∙ cut_goes_on n d (c ++ y) g in
@@ -119,34 +130,41 @@ signs_no : (n b : ℕ) (s : List ℕ) → starts_sign n b ≡ false
     → signs_from n (b ∷ s) ≡ signs_from (left_after n b) s
 signs_no n b s h = simp h (zero-add _)
 
+-- inside an escape sequence, one byte less of it is left after each byte
+few_inside : (n b : ℕ) (s : List ℕ) → 0 < n
+    → characters s ≤ 6 * signs_from (left_after n b) s + left_after n b
+    → characters (b ∷ s) ≤ 6 * signs_from n (b ∷ s) + n
+few_inside n b s some rest =
+    let less = left_less n b some in
+    let none = signs_no n b s (starts_not n b some) in
+    let one : characters (b ∷ s) ≤ 1 + characters s = characters_more b s in
+    omega arith
+
+few_outside : (n b : ℕ) (s : List ℕ) → n ≤ 0
+    → characters s ≤ 6 * signs_from (left_after n b) s + left_after n b
+    → characters (b ∷ s) ≤ 6 * signs_from n (b ∷ s) + n
+few_outside n b s outside rest =
+    elim (cases_Bool (goes_on b)) [
+      | inl g ↦
+          let e : n ≡ 0 = omega arith in
+          let same : left_after n b ≡ 0 = ap (λ x. left_after x b) e ∙ left_goes_on b g in
+          let none = signs_no n b s (goes_on_not n b g) in
+          let no_more = characters_goes_on b s g in
+          omega arith
+      | inr g ↦
+          let small : left_after n b ≤ 5 = left_small n b (omega arith) in
+          let more = signs_yes n b s (starts_at n b outside g) in
+          let one = characters_starts b s g in
+          omega arith
+    ]
+
 characters_few : (s : List ℕ) (n : ℕ) → n ≤ 5 → characters s ≤ 6 * signs_from n s + n
 characters_few [] n few = omega arith
 characters_few (b ∷ s) n few =
-    let m = left_after n b in
-    let small : m ≤ 5 = left_small n b few in
-    let rest : characters s ≤ 6 * signs_from m s + m = characters_few s m small in
-    elim (bool_cases (goes_on b)) [
-      | inl g ↦
-          let one : characters (b ∷ s) ≡ characters s = simp g (zero-add _) in
-          let none : signs_from n (b ∷ s) ≡ signs_from m s = signs_no n b s (goes_on_not n b g) in
-          elim (cases_lt 0 n) [
-            | inl some ↦ let less : m < n = left_less n b some in omega arith
-            | inr least ↦
-                let e : n ≡ 0 = omega arith in
-                let same : m ≡ 0 = ap (λ x. left_after x b) e ∙ left_goes_on b g in
-                omega arith
-          ]
-      | inr g ↦
-          let one : characters (b ∷ s) ≡ 1 + characters s = simp g in
-          elim (cases_lt 0 n) [
-            | inl some ↦
-                let less : m < n = left_less n b some in
-                let none : signs_from n (b ∷ s) ≡ signs_from m s = signs_no n b s (starts_not n b some) in
-                omega arith
-            | inr least ↦
-                let more : signs_from n (b ∷ s) ≡ 1 + signs_from m s = signs_yes n b s (starts_at n b least g) in
-                omega arith
-          ]
+    let rest = characters_few s (left_after n b) (left_small n b few) in
+    elim (cases_lt 0 n) [
+      | inl some ↦ few_inside n b s some rest
+      | inr outside ↦ few_outside n b s outside rest
     ]
 
 -- ---- the text after some signs
@@ -167,7 +185,7 @@ after_append : (c x : List ℕ) (n k : ℕ) → k < signs_from n c
     → after_signs_from n k (c ++ x) ≡ after_signs_from n k c ++ x
 after_append [] x n k few = absurd (omega arith)
 after_append (b ∷ c) x n k few =
-    elim (bool_cases (starts_sign n b)) [
+    elim (cases_Bool (starts_sign n b)) [
       | inl h ↦ elim (cases_lt 0 k) [
         | inl some ↦
             let more = signs_yes n b c h in
@@ -188,7 +206,7 @@ after_count : (c : List ℕ) (n k : ℕ) → k < signs_from n c
     → signs_from 0 (after_signs_from n k c) + k ≡ signs_from n c
 after_count [] n k few = absurd (omega arith)
 after_count (b ∷ c) n k few =
-    elim (bool_cases (starts_sign n b)) [
+    elim (cases_Bool (starts_sign n b)) [
       | inl h ↦
           let more = signs_yes n b c h in
           elim (cases_lt 0 k) [
@@ -254,7 +272,7 @@ splits (a ∷ s) [] ne = record {
   in_t = refl;
 }
 splits (a ∷ s) (b ∷ t) ne =
-    elim (bool_cases (eqb a b)) [
+    elim (cases_Bool (eqb a b)) [
       | inl h ↦
           let e : a ≡ b = eqb-true a b h in
           let back : eqb b a ≡ true = eq-eqb b a (sym e) in
@@ -303,7 +321,7 @@ long_at_none n b s g none =
 whole : (s : List ℕ) (n : ℕ) → is_long n s ≡ false → cut n s ≡ s
 whole [] n short = refl
 whole (b ∷ s) n short =
-    elim (bool_cases (goes_on b)) [
+    elim (cases_Bool (goes_on b)) [
       | inl g ↦ cut_goes_on n b s g
           ∙ ap (λ r. b ∷ r) (whole s n (sym (long_goes_on n b s g) ∙ short))
       | inr g ↦ elim (cases_lt 0 n) [
@@ -390,12 +408,12 @@ windows_apart n s t enough plain_s plain_t ne same =
           let of_s = window_near n s t (omega arith) in
           let of_t = window_near n t s (omega arith) in
           near_apart n s t p enough near (sym of_s ∙ same ∙ of_t)
-      | inl far ↦ elim (bool_cases (is_long n s)) [
+      | inl far ↦ elim (cases_Bool (is_long n s)) [
         | inl long_s ↦
             let of_s : window n s t ≡ codes "..." ++ cut n (after_signs m s) =
             window_far n s t long_s (omega arith)
             ∙ ap (λ k. codes "..." ++ cut n (after_signs k s)) before_s in
-            elim (bool_cases (is_long n t)) [
+            elim (cases_Bool (is_long n t)) [
               | inl long_t ↦
                   let of_t : window n t s ≡ codes "..." ++ cut n (after_signs m t) =
                   window_far n t s long_t (omega arith)
@@ -408,7 +426,7 @@ windows_apart n s t enough plain_s plain_t ne same =
             ]
         | inr short_s ↦
             let of_s = window_short n s t short_s in
-            elim (bool_cases (is_long n t)) [
+            elim (cases_Bool (is_long n t)) [
               | inl long_t ↦
                   let of_t = window_far n t s long_t (omega arith) in
                   dot_apart n _ s some plain_s (sym of_t ∙ sym same ∙ of_s)
@@ -429,7 +447,7 @@ digits_start : (k n : ℕ) (after : List ℕ) → has_dot after ≡ false
 digits_start zero n after h = h
 digits_start (suc k) n after h =
     let glyph = glyph_no_dot (n % 10) in
-    elim (bool_cases (eqb (n / 10) 0)) [
+    elim (cases_Bool (eqb (n / 10) 0)) [
       | inl last ↦ simp last glyph
       | inr more ↦ simp more (digits_start k (n / 10) (digit_glyph false (n % 10) ∷ after) glyph)
     ]
@@ -455,3 +473,62 @@ text_start (id s z) = number_start z
 pub printed_apart : PrintedApart
 printed_apart limit d e enough ne =
     windows_apart limit (text_of d) (text_of e) enough (text_start d) (text_start e) ne
+
+-- ---- the length of a window
+
+short_not_long : (s : List ℕ) (n : ℕ) → characters s ≤ n → is_long n s ≡ false
+short_not_long [] n short = refl
+short_not_long (b ∷ s) n short =
+    elim (cases_Bool (goes_on b)) [
+      | inl g ↦
+          let same = characters_goes_on b s g in
+          long_goes_on n b s g ∙ short_not_long s n (omega arith)
+      | inr g ↦
+          let more = characters_starts b s g in
+          long_starts n b s g (omega arith) ∙ short_not_long s (n - 1) (omega arith)
+    ]
+
+pub printed_whole : PrintedWhole
+printed_whole limit s t short =
+    let not_long = short_not_long s limit short in
+    window_short limit s t not_long ∙ whole s limit not_long
+
+characters_cut : (s : List ℕ) (n : ℕ) → characters (cut n s) ≤ n + 3
+characters_cut [] n = omega arith
+characters_cut (b ∷ s) n =
+    elim (cases_Bool (goes_on b)) [
+      | inl g ↦
+          let e = ap characters (cut_goes_on n b s g) in
+          let same = characters_goes_on b (cut n s) g in
+          let rest = characters_cut s n in
+          omega arith
+      | inr g ↦ elim (cases_lt 0 n) [
+        | inl some ↦
+            let e = ap characters (cut_starts n b s g some) in
+            let more = characters_starts b (cut (n - 1) s) g in
+            let rest = characters_cut s (n - 1) in
+            omega arith
+        | inr none ↦
+            let e = ap characters (cut_none n b s g none) in
+            omega arith
+      ]
+    ]
+
+pub windows_are_short : WindowsAreShort
+windows_are_short limit s t =
+    elim (cases_lt 0 (signs_before s t)) [
+      | inr near ↦
+          let e = ap characters (window_near limit s t near) in
+          let few = characters_cut s limit in
+          omega arith
+      | inl far ↦ elim (cases_Bool (is_long limit s)) [
+        | inl long ↦
+            let e = ap characters (window_far limit s t long far) in
+            let few = characters_cut (after_signs (signs_before s t) s) limit in
+            omega arith
+        | inr short ↦
+            let e = ap characters (window_short limit s t short) in
+            let few = characters_cut s limit in
+            omega arith
+      ]
+    ]

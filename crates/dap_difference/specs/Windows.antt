@@ -1,17 +1,17 @@
 -- What is printed of a long JSON text. Source: own.
 --
--- A text is cut by its characters (UTF-8). A sign is one character, or one escape sequence of a
--- JSON string, such as `\n` or `\u001b`. A part that is left out is replaced by `...`.
+-- A text is cut by its characters (UTF-8), and `...` replaces each part that is left out. A sign is
+-- one character, or one escape sequence of a JSON string, such as `\n` or `\u001b`.
 --
--- Let s and t be two different texts with the limit 200, and let s have more than 200 characters.
--- * They differ at the 901st sign: 884 signs of s are left out. The next 200 characters are printed,
---   the first 16 of which are also in t.
--- * They differ at the first sign, or at the 17th: the first 200 characters are printed.
--- * They differ at the 18th sign: the first sign is left out.
--- * They differ at the last sign of s, or s ends where they differ: the last 17 or 16 signs of s are
---   printed, with nothing left out after them.
--- * The text after the signs that are left out never starts in the middle of a character or of an
---   escape sequence. It may end in the middle of an escape sequence: no sequence has a `.`.
+-- Worked cases: s has more than 200 characters, the limit is 200, and the other text differs from
+-- s. By the number of signs of s that start before the first byte that differs:
+-- * 16 or fewer: the first 200 characters of s are printed.
+-- * 17: one sign is left out, and the next 200 characters are printed.
+-- * 900: 884 signs are left out, and the next 200 characters are printed. The first 16 of these
+--   signs are also in the other text; the last of them may be the one in which both texts differ.
+-- * All signs of s, since the other text continues: the last 16 signs are printed.
+-- So a window never starts inside a character or an escape sequence. It may end inside an escape
+-- sequence: the dots after it are not part of one.
 use Rattle.std.specs.Prelude.{ℕ, ◌+◌, ◌-◌, ◌==◌, Bool, cond, not, ◌&&◌, nat_eq, nat_lt, List}
 use Rattle.std.specs.Prelude.{[], ◌∷◌, ◌++◌, take, length, codes, if◌then◌else◌}
 use Rattle.std.specs.List.{common_prefix_len}
@@ -19,6 +19,11 @@ use Rattle.std.specs.List.{common_prefix_len}
 -- A continuation byte (UTF-8): it belongs to the same character as the byte before it.
 abbrev pub goes_on : ℕ → Bool
 goes_on b = not (nat_lt b 128) && nat_lt b 192
+
+-- How many characters start in the text.
+abbrev pub characters : List ℕ → ℕ
+characters [] = 0
+characters (b ∷ s) = cond (goes_on b) 0 1 + characters s
 
 -- The bytes of the first n characters.
 abbrev pub first_characters : ℕ → List ℕ → List ℕ
@@ -68,12 +73,13 @@ after_signs k s = after_signs_from 0 k s
 abbrev pub shared : List ℕ → List ℕ → List ℕ
 shared s t = take (common_prefix_len nat_eq s t) s
 
--- How many signs precede the window: all that start before the first byte that differs, but 16.
+-- How many signs precede the window: all that start before the first byte that differs, except for
+-- the last 16.
 abbrev pub signs_before : List ℕ → List ℕ → ℕ
 signs_before s t = signs (shared s t) - 16
 
--- What is printed of the text s, if t is the other text. If s is longer than the limit, its window
--- begins 16 signs before the first difference.
+-- What is printed of the text s, if t is the other text. If s has more characters than the limit,
+-- its window begins with the last 16 signs that start before the first byte that differs.
 abbrev pub window : ℕ → List ℕ → List ℕ → List ℕ
 window limit s t =
     if is_long limit s && nat_lt 0 (signs_before s t)

@@ -1,8 +1,8 @@
 //! The differences of two trees: the leaves that differ, each with its path and the value of each
 //! tree there.
 //!
-//! [`differences`] finds them, and [`difference_text`] prints them in lines, which have long values in
-//! part, as [`push_window`] prints them. `specs/` defines all three.
+//! [`differences`] finds them, and [`difference_text`] prints them in lines. [`push_window`] prints
+//! the part of a long value in which it differs from the other value. `specs/` defines all three.
 #![tactic(auto)]
 
 mod difference;

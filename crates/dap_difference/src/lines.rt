@@ -215,8 +215,8 @@ fn push_values(
 /// Returns the differences of two sound trees as lines, in the order of their paths.
 ///
 /// A line consists of `A` or `B`, the path, and the JSON text of that tree's value there, of which
-/// at most 200 characters are printed. A longer text is cut as by [`push_window`], or after 200
-/// characters if the other tree has no value there. A path is, for example,
+/// at most 200 characters are printed. A longer text is cut as by [`push_window`], or, if only one
+/// tree has a value there, after 200 characters. A path is, for example,
 /// `body.stackFrames[2].line`. A value that exists in only one of the trees has only one line. Does
 /// not allocate for two equal scalars.
 ///

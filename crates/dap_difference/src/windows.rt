@@ -1,4 +1,4 @@
-//! Prints long JSON texts in part, so that what differs is visible.
+//! Prints the part of a long JSON text in which it differs from another text.
 ghost use Rattle.std.specs.Prelude.{◌≡◌, ◌++◌, ◌≤◌, drop, length, nat_eq, take, OnOk};
 ghost use Rattle.std.specs.List.{common_prefix_len};
 ghost use Rattle.dap_difference.specs.Windows.{after_signs, cut, first_characters, goes_on};
@@ -135,11 +135,11 @@ pub fn push_cut(text: &[u8], limit: usize, out: &mut Vec<u8>) -> Result<(), Allo
     Ok(())
 }
 
-/// Appends a JSON text, or a part of it that shows where it differs from the other text.
+/// Appends a JSON text, or a part of it in which it differs from the other text.
 ///
-/// If the text has more characters than the limit, at most so many are printed. They begin 16
-/// characters or escape sequences before the first difference. `...` replaces what is left out
-/// before them, and what is left out after them.
+/// At most `limit` characters are printed. If the text has more, they begin with the last 16
+/// characters or escape sequences that start before the first byte that differs. `...` replaces the
+/// part that is left out before them, and the part that is left out after them.
 ///
 /// # Errors
 ///

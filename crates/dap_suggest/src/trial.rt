@@ -2,7 +2,8 @@
 use crate::candidates::{are_equal_by, event_of, push_commented};
 use crate::matched::Pair;
 use crate::walking::Found;
-use crate::words::shown_values;
+use crate::words::{json_of, push_shown};
+use dap_compare::Which;
 use dap_mask::MaskRules;
 use dap_tree::Tree;
 use std::alloc::{AllocError, Global};
@@ -24,8 +25,7 @@ impl Trial {
         found: &Found<'_>,
     ) -> Result<Trial, AllocError> {
         let works = vec![in alloc; true; tests.len()]?;
-        let (a, b) = ((pair.a.number, found.a), (pair.b.number, found.b));
-        let comment = shown_values(alloc, a, b)?;
+        let comment = comment_of(alloc, pair, found)?;
         let mut trial = Trial { works, comment };
         trial.try_at(alloc, tests, found)?;
         Ok(trial)
@@ -79,4 +79,22 @@ impl Trial {
     pub fn push(&self, target: &[u8], out: &mut Vec<u8>) -> Result<(), AllocError> {
         push_commented(self.comment.as_slice(), self.candidate(), target, out)
     }
+}
+
+/// Returns the comment that shows a pair of values.
+fn comment_of(alloc: Global, pair: &Pair<'_>, found: &Found<'_>) -> Result<Vec<u8>, AllocError> {
+    let a = json_of(alloc, found.a)?;
+    let b = json_of(alloc, found.b)?;
+    let mut comment = Vec::new(alloc);
+    let (first, second) = (pair.a.number, pair.b.number);
+    push_shown(alloc, Which::A, first, a.as_str(), b.as_str(), &mut comment)?;
+    push_shown(
+        alloc,
+        Which::B,
+        second,
+        b.as_str(),
+        a.as_str(),
+        &mut comment,
+    )?;
+    Ok(comment)
 }

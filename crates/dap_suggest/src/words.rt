@@ -74,7 +74,7 @@ pub fn text_at<'t>(tree: &'t Tree, name: &str) -> Option<&'t str> {
 }
 
 /// Returns a value as JSON. An id is its number.
-fn json_of(alloc: Global, value: &Tree) -> Result<String, AllocError> {
+pub fn json_of(alloc: Global, value: &Tree) -> Result<String, AllocError> {
     if !value.sound() {
         return Ok(String::new(alloc));
     }
@@ -104,46 +104,18 @@ pub fn shown(alloc: Global, which: Which, number: u64, text: &str) -> Result<Vec
     parts_of(alloc, &[record.as_bytes(), text.as_bytes(), b"\n"])
 }
 
-/// A value, and the number of its record.
-pub type Shown<'v> = (u64, &'v Tree);
-
-/// Appends the line of a comment that shows a value as JSON, and what differs from the other value
-/// if it is long.
-fn push_shown(
+/// Appends the line of a comment that shows the JSON text of a value, or the part of a long text in
+/// which it differs from the other text.
+pub fn push_shown(
     alloc: Global,
     which: Which,
     number: u64,
-    (text, other): (&str, &str),
+    text: &str,
+    other: &str,
     out: &mut Vec<u8>,
 ) -> Result<(), AllocError> {
     let record = shown_record(alloc, which, number)?;
     out.extend_from_slice(record.as_bytes())?;
     push_window(text, other, SHOWN, out)?;
     out.extend_from_slice(b"\n")
-}
-
-/// Returns the comment that shows a value of A and a value of B.
-pub fn shown_values(
-    alloc: Global,
-    (number_a, a): Shown<'_>,
-    (number_b, b): Shown<'_>,
-) -> Result<Vec<u8>, AllocError> {
-    let a = json_of(alloc, a)?;
-    let b = json_of(alloc, b)?;
-    let mut out = Vec::new(alloc);
-    push_shown(
-        alloc,
-        Which::A,
-        number_a,
-        (a.as_str(), b.as_str()),
-        &mut out,
-    )?;
-    push_shown(
-        alloc,
-        Which::B,
-        number_b,
-        (b.as_str(), a.as_str()),
-        &mut out,
-    )?;
-    Ok(out)
 }
