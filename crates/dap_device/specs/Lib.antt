@@ -1,6 +1,8 @@
+pub mod CachedFile
 pub mod Calls
 pub mod Crash
 pub mod MemoryFile
+pub mod Past
 pub mod Replacing
 pub mod Counts
 pub mod Device

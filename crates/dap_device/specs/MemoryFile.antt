@@ -1,7 +1,8 @@
 -- The model of a file in memory. Source: own.
-use Rattle.std.specs.Prelude.{◌≡◌, ◌⊎◌, ℕ, List, [], ◌∷◌, Option, drop, length}
+use Rattle.std.specs.Prelude.{◌≡◌, ◌⊎◌, ℕ, List, Option, drop, length}
 use mathlib.Core.Logic.{inl, inr}
 use Rattle.dap_device.specs.Crash.{Content}
+use Rattle.dap_device.specs.Past.{OneOf, none_since}
 use Rattle.dap_device.specs.declared.file.Step.{Step}
 
 -- The two files, the earlier contents under the name from the oldest on, the number of calls that
@@ -13,21 +14,12 @@ pub record MemoryState : Type 0 where
   pub failures : ℕ
   pub failed_at : Option Step
 
--- One of these contents is c.
-abbrev pub HadBeen : List Content → Content → Type 0
-HadBeen [] c = ⊥
-HadBeen (earlier ∷ past) c = (c ≡ earlier) ⊎ HadBeen past c
-
 -- The contents that a crash since t could have left: the current one, or one that was under the
 -- name since t.
 abbrev pub MightHaveLeft : MemoryState → ℕ → Content → Type 0
-MightHaveLeft m t c = (c ≡ m.target) ⊎ HadBeen (drop t m.past) c
-
-none_since : (past : List Content) (c : Content) → HadBeen (drop (length past) past) c → ⊥
-none_since [] c had = had
-none_since (earlier ∷ past) c had = none_since past c had
+MightHaveLeft m t c = (c ≡ m.target) ⊎ OneOf (λ earlier. c ≡ earlier) (drop t m.past)
 
 -- The current content is the only one since now.
 pub only_target : (m : MemoryState) (c : Content) → MightHaveLeft m (length m.past) c → c ≡ m.target
 only_target m c (inl now) = now
-only_target m c (inr had) = absurd (none_since m.past c had)
+only_target m c (inr had) = absurd (none_since (λ earlier. c ≡ earlier) m.past had)

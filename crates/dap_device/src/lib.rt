@@ -9,15 +9,19 @@
 //! [`replace`] replaces a file as a whole: at every moment the name has either the old content or
 //! the new content, whatever fails, whenever the process is killed, and whenever the power fails.
 //! It creates a temporary file in the same folder, writes it, syncs it, renames it to the name of
-//! the file and syncs the folder. It works on every [`Replaceable`] file: [`MemoryFile`] is in
-//! memory, and its contracts describe its content; [`FileAt`] is a file of the operating system,
-//! whose content is outside all contracts.
+//! the file and syncs the folder. It works on every [`Replaceable`] file:
+//!
+//! - [`MemoryFile`] is in memory, and each of its calls takes effect at once.
+//! - [`CachedFile`] is in memory over a cache: a crash loses what is not synced.
+//! - [`FileAt`] is a file of the operating system, whose content is outside all contracts.
 //!
 //! [`open_input`] and [`open_output`] open the inputs and outputs of a program by the names that
 //! its user gave. They are tested, not proved.
 #![tactic(auto)]
 
+mod cached_file;
 mod device;
+mod failing;
 mod failures;
 mod file;
 mod file_at;
@@ -33,6 +37,7 @@ mod std_device;
 mod system;
 mod writing;
 
+pub use cached_file::CachedFile;
 pub use device::{DeviceFault, Sink, Source};
 pub use file::{FileFault, ReadFault, Replaceable, Step};
 pub use file_at::FileAt;

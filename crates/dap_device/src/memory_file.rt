@@ -1,50 +1,15 @@
 //! Implements a file in memory whose calls can be made to fail.
-ghost use Rattle.std.specs.Prelude.{◌≡◌, ◌+◌, ◌<◌, ◌≤◌, ◌++◌, ◌^◌, [], None, Some, IfSome, IsErr};
-ghost use Rattle.std.specs.Prelude.{length, take, ⊤};
-ghost use Rattle.std.specs.Option.{option_copied, option_map};
+ghost use Rattle.std.specs.Prelude.{◌≡◌, ◌+◌, ◌<◌, ◌^◌, [], None, Some, IsErr, length, ⊤};
+ghost use Rattle.std.specs.Option.{option_copied};
 ghost use Rattle.std.proofs.Common.{inl, refl};
 ghost use Rattle.dap_device.specs.Calls.{content_of};
 ghost use Rattle.dap_device.specs.MemoryFile.{MemoryState, MightHaveLeft, only_target};
 
+use crate::failing::{Failing, append, read_copy};
 use crate::file::{FileFault, ReadFault, Replaceable, Step};
 use std::alloc::Global;
 use std::marker::Model;
 use std::ops::Range;
-
-/// The calls of a file that fail, by their numbers from 0 on.
-#[derive(Clone, Copy)]
-struct Failing {
-    next: u64,
-    start: u64,
-    end: u64,
-}
-
-impl Failing {
-    /// Counts one call and returns whether it fails.
-    fn next_fails(&mut self) -> bool {
-        let number = self.next;
-        self.next = number.saturating_add(1);
-        self.start <= number && number < self.end
-    }
-}
-
-/// Appends at most `most` of the bytes to a file, and returns how many. Returns `None` if that is
-/// no byte of several, if there is no file, or if an allocation fails.
-fn append(file: &mut Option<Vec<u8>>, bytes: &[u8], most: usize) -> Option<usize>
-    ensures within { IfSome result (λ count. count ≤ length bytes.now) }
-    ensures some { IfSome result (λ count. 0 < length bytes.now → 0 < count) }
-    ensures appended { IfSome result (λ count. content_of file.new
-        ≡ option_map (λ written. written ++ take count bytes.now) (content_of file.old)) }
-{
-    let count = bytes.len().min(most);
-    if count == 0 && !bytes.is_empty() {
-        return None;
-    }
-    match file.as_mut()?.extend_from_slice(&bytes[..count]) {
-        Ok(()) => Some(count),
-        Err(_) => None,
-    }
-}
 
 /// A file in memory. Each call takes effect at once, so a crash leaves the current content.
 #[derive(Drop)]
@@ -99,11 +64,7 @@ impl MemoryFile {
             target: content,
             temporary: None,
             past: Vec::new(alloc),
-            failing: Failing {
-                next: 0,
-                start: failing.start,
-                end: failing.end,
-            },
+            failing: Failing::new(failing),
             longest_write,
             failures: 0,
             failed_at: None,
@@ -175,19 +136,7 @@ impl Replaceable for MemoryFile {
             self.failures += 1;
             return Err(ReadFault::Failed);
         }
-        let Some(bytes) = &self.target else {
-            return Ok(None);
-        };
-        if bytes.is_empty() {
-            return Ok(Some(Vec::new(alloc)));
-        }
-        if bytes.len() as u64 > limit {
-            return Err(ReadFault::TooLong);
-        }
-        match bytes.to_vec(alloc) {
-            Ok(bytes) => Ok(Some(bytes)),
-            Err(_) => Err(ReadFault::Memory),
-        }
+        read_copy(alloc, &self.target, limit)
     }
 
     fn create(&mut self) -> Result<(), FileFault> {
