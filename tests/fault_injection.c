@@ -13,16 +13,20 @@
    TAKES_NOTHING  1: there it takes nothing in place of failing
    NO_WORDS       1: there are no random words
    KILLED_AT      the process is killed before its n-th call on files is made
-   FAILS_AT       its n-th call on files fails */
+   FAILS_AT       its n-th call on files fails
+   FAILS_AGAIN_AT its n-th call on files fails for another reason
+   LOSES          1: before the process is killed, and at its end, what is not synced is lost: a file that it wrote and did not sync
+                  afterwards is emptied, and a rename whose folder it did not sync afterwards is undone */
 typedef unsigned long size_t;
 typedef long ssize_t;
 extern void *__libc_malloc(size_t), *__libc_realloc(void *, size_t);
 extern char *getenv(const char *);
 extern long syscall(long, ...);
 extern int *__errno_location(void);
-enum { ASK = 0x5eed0000, TELL = 0x5eedffff, SYS_GETRANDOM = 318, INTERRUPT = 4, FAULT = 5, SIGNAL_KILL = 9 };
+enum { ASK = 0x5eed0000, TELL = 0x5eedffff, SYS_GETRANDOM = 318, INTERRUPT = 4, FAULT = 5, DENIED = 13, SIGNAL_KILL = 9 };
 enum { SYS_READ = 0, SYS_WRITE = 1, SYS_OPEN = 2, SYS_GETPID = 39, SYS_KILL = 62, SYS_FSYNC = 74, SYS_RENAME = 82, SYS_UNLINK = 87 };
-enum { SYS_READLINK = 89, SYS_FCHMOD = 91, SYS_STATX = 332 };
+enum { SYS_TRUNCATE = 76, SYS_LINK = 86, SYS_READLINK = 89, SYS_FCHMOD = 91, SYS_STATX = 332 };
+enum { PATH = 4096, OPENED = 64, RENAMED = 16 };
 static long left, came, begun, interrupted_reads, interrupted_writes, given, taken, calls;
 
 /* The number that the environment has behind this name, or -1. */
@@ -58,21 +62,145 @@ void *realloc(void *block, size_t size) { return fails(size) ? 0 : __libc_reallo
 
 static ssize_t refused(int error) { *__errno_location() = error; return -1; }
 
-/* Counts a call on files. Kills the process if it is to end here, and returns whether the call fails. */
-static int stops(void) {
-  calls++;
-  if (asked("FAULT_INJECTION_KILLED_AT") == calls) syscall(SYS_KILL, syscall(SYS_GETPID), SIGNAL_KILL);
-  return asked("FAULT_INJECTION_FAILS_AT") == calls;
+/* The files that were opened, by their present paths, and the renames, each with a link to the file that had the name before. */
+static struct opened { char path[PATH]; int file, is_written; } opened[OPENED];
+static struct renamed { char from[PATH], to[PATH], old[PATH]; int has_old, is_synced; } renamed[RENAMED];
+static long opens, renames;
+
+static int loses(void) { return asked("FAULT_INJECTION_LOSES") == 1; }
+
+static int is_same(const char *one, const char *other) {
+  for (; *one && *one == *other; one++) other++;
+  return *one == *other;
 }
 
-int open(const char *path, int flags, unsigned mode) { return stops() ? (int)refused(FAULT) : (int)syscall(SYS_OPEN, path, flags, mode); }
-int fsync(int file) { return stops() ? (int)refused(FAULT) : (int)syscall(SYS_FSYNC, file); }
-int rename(const char *from, const char *to) { return stops() ? (int)refused(FAULT) : (int)syscall(SYS_RENAME, from, to); }
-int unlink(const char *path) { return stops() ? (int)refused(FAULT) : (int)syscall(SYS_UNLINK, path); }
-int fchmod(int file, unsigned mode) { return stops() ? (int)refused(FAULT) : (int)syscall(SYS_FCHMOD, file, mode); }
-ssize_t readlink(const char *path, char *bytes, size_t size) { return stops() ? refused(FAULT) : syscall(SYS_READLINK, path, bytes, size); }
+/* Appends a text at this place of a path, and returns the end. */
+static size_t put(char *path, size_t at, const char *text) {
+  for (; *text && at < PATH - 1; at++) path[at] = *text++;
+  path[at] = 0;
+  return at;
+}
+
+/* Whether this is the folder of the path, as the program writes both. */
+static int is_folder_of(const char *folder, const char *path) {
+  char own[PATH];
+  size_t end = put(own, 0, path);
+  while (end && own[end - 1] != '/') end--;
+  if (end) own[end > 1 ? end - 1 : end] = 0;
+  return is_same(folder, end ? own : ".");
+}
+
+static void note_open(const char *path, int file) {
+  if (!loses() || file < 0 || opens == OPENED) return;
+  for (long at = 0; at < opens; at++) if (opened[at].file == file) opened[at].file = -1;
+  put(opened[opens].path, 0, path);
+  opened[opens++].file = file;
+}
+
+static void note_write(int file) {
+  for (long at = 0; at < opens; at++) if (opened[at].file == file) opened[at].is_written = 1;
+}
+
+/* A file is synced or removed: it has nothing to lose. */
+static void settle(const char *path) {
+  for (long at = 0; at < opens; at++) if (is_same(opened[at].path, path)) opened[at].is_written = 0;
+}
+
+static void note_sync(int file) {
+  long at = 0;
+  while (at < opens && opened[at].file != file) at++;
+  if (at == opens) return;
+  settle(opened[at].path);
+  for (long it = 0; it < renames; it++) {
+    if (renamed[it].is_synced || !is_folder_of(opened[at].path, renamed[it].to)) continue;
+    renamed[it].is_synced = 1;
+    if (renamed[it].has_old) syscall(SYS_UNLINK, renamed[it].old);
+  }
+}
+
+/* A file has another name. */
+static void move(const char *from, const char *to) {
+  for (long at = 0; at < opens; at++) if (is_same(opened[at].path, from)) put(opened[at].path, 0, to);
+}
+
+/* Renames a file, and keeps the file that had the name before until the folder is synced. */
+static int rename_kept(const char *from, const char *to) {
+  struct renamed *it = &renamed[renames];
+  if (!loses() || renames == RENAMED) return (int)syscall(SYS_RENAME, from, to);
+  put(it->from, 0, from);
+  put(it->to, 0, to);
+  put(it->old, put(it->old, 0, to), ".old");
+  it->has_old = syscall(SYS_LINK, to, it->old) == 0;
+  if (syscall(SYS_RENAME, from, to) != 0) {
+    int error = *__errno_location();
+    if (it->has_old) syscall(SYS_UNLINK, it->old);
+    return (int)refused(error);
+  }
+  settle(to);
+  move(from, to);
+  renames++;
+  return 0;
+}
+
+/* Loses what is not synced. */
+__attribute__((destructor)) static void lose(void) {
+  for (; renames > 0; renames--) {
+    struct renamed *it = &renamed[renames - 1];
+    if (it->is_synced) continue;
+    syscall(SYS_RENAME, it->to, it->from);
+    move(it->to, it->from);
+    if (it->has_old) syscall(SYS_RENAME, it->old, it->to);
+  }
+  for (; opens > 0; opens--) if (opened[opens - 1].is_written) syscall(SYS_TRUNCATE, opened[opens - 1].path, 0);
+}
+
+/* Counts a call on files. Kills the process if it is to end here, and returns the error with which the call fails, or 0. */
+static int stops(void) {
+  calls++;
+  if (asked("FAULT_INJECTION_KILLED_AT") == calls) {
+    lose();
+    syscall(SYS_KILL, syscall(SYS_GETPID), SIGNAL_KILL);
+  }
+  if (asked("FAULT_INJECTION_FAILS_AT") == calls) return FAULT;
+  return asked("FAULT_INJECTION_FAILS_AGAIN_AT") == calls ? DENIED : 0;
+}
+
+int open(const char *path, int flags, unsigned mode) {
+  int error = stops(), file = error ? (int)refused(error) : (int)syscall(SYS_OPEN, path, flags, mode);
+  note_open(path, file);
+  return file;
+}
+
+int fsync(int file) {
+  int error = stops(), status = error ? (int)refused(error) : (int)syscall(SYS_FSYNC, file);
+  if (status == 0) note_sync(file);
+  return status;
+}
+
+int unlink(const char *path) {
+  int error = stops(), status = error ? (int)refused(error) : (int)syscall(SYS_UNLINK, path);
+  if (status == 0) settle(path);
+  return status;
+}
+
+int rename(const char *from, const char *to) {
+  int error = stops();
+  return error ? (int)refused(error) : rename_kept(from, to);
+}
+
+int fchmod(int file, unsigned mode) {
+  int error = stops();
+  return error ? (int)refused(error) : (int)syscall(SYS_FCHMOD, file, mode);
+}
+
+ssize_t readlink(const char *path, char *bytes, size_t size) {
+  int error = stops();
+  return error ? refused(error) : syscall(SYS_READLINK, path, bytes, size);
+}
+
 int statx(int folder, const char *path, int flags, unsigned mask, void *found) {
-  return stops() ? (int)refused(FAULT) : (int)syscall(SYS_STATX, folder, path, flags, mask, found);
+  int error = stops();
+  return error ? (int)refused(error) : (int)syscall(SYS_STATX, folder, path, flags, mask, found);
 }
 
 /* Whether this call is interrupted: every other one. */
@@ -83,8 +211,9 @@ static size_t least(size_t size, long most) { return most >= 0 && size > (size_t
 ssize_t read(int file, void *bytes, size_t size) {
   long fails_at = asked("FAULT_INJECTION_READ_FAILS"), fails_of = asked("FAULT_INJECTION_READ_OF");
   ssize_t count;
+  int error;
   begin(1);
-  if (stops()) return refused(FAULT);
+  if ((error = stops())) return refused(error);
   if (interrupts(&interrupted_reads)) return refused(INTERRUPT);
   if (file != (fails_of < 0 ? 0 : fails_of)) fails_at = -1;
   if (fails_at >= 0 && given >= fails_at) return refused(FAULT);
@@ -98,12 +227,14 @@ ssize_t read(int file, void *bytes, size_t size) {
 ssize_t write(int file, const void *bytes, size_t size) {
   long fails_at = file == 1 ? asked("FAULT_INJECTION_WRITE_FAILS") : -1;
   ssize_t count;
-  if (stops()) return refused(FAULT);
+  int error = stops();
+  if (error) return refused(error);
   if (interrupts(&interrupted_writes)) return refused(INTERRUPT);
   if (fails_at >= 0 && taken >= fails_at) return asked("FAULT_INJECTION_TAKES_NOTHING") == 1 ? 0 : refused(FAULT);
   size = least(size, asked("FAULT_INJECTION_WRITE"));
   if (fails_at >= 0) size = least(size, fails_at - taken);
   count = syscall(SYS_WRITE, file, bytes, size);
+  if (count > 0) note_write(file);
   if (fails_at >= 0 && count > 0) taken += count;
   return count;
 }

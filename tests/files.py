@@ -74,26 +74,29 @@ def bad_files(report):
 
 
 def killed(report):
-    """An output is the old one or the new one, whole, if the process is killed at each of its calls on files, or one of them fails."""
+    """An output is the old one or the new one, whole, if the process is killed at each of its calls on files, or one of them fails; also if what
+    is not synced is lost."""
     with tempfile.TemporaryDirectory() as place:
         shim = build_shim(place)
 
         def ended(case):
-            how, number = case
+            how, loses, number = case
             with Folder(given=recording(CONFIGURED), out=b"old") as folder:
-                environment = {"LD_PRELOAD": shim, f"FAULT_INJECTION_{how}": str(number)}
+                environment = {"LD_PRELOAD": shim, f"FAULT_INJECTION_{how}": str(number), "FAULT_INJECTION_LOSES": str(loses)}
                 ran = subprocess.run(["dapnorm", "normalise", "given", "-o", "out"], executable=PROGRAM, capture_output=True, cwd=folder.path, env=environment)
                 return ran.returncode, folder.read("out"), [name for name in folder.names() if name not in ("given", "out")], ran.stderr
 
-        for how in ("KILLED_AT", "FAILS_AT"):
-            cases = [(how, number) for number in range(1, 50)]
+        for how, loses in (("KILLED_AT", 0), ("FAILS_AT", 0), ("KILLED_AT", 1), ("FAILS_AT", 1)):
+            cases = [(how, loses, number) for number in range(1, 50)]
+            told = f"{how}, loses {loses}"
             found = side_by_side(ended, cases)
-            report.check(f"{how}: some calls end the run", len([it for it in found if it[0] != 0]) > 6)
-            report.check(f"{how}: a last run meets no such call", found[-1][:2] == (0, NORMAL), repr(found[-1]))
-            for (_, number), (status, content, left, errors) in zip(cases, found):
-                report.check(f"{how} {number}: the output is the old or the new one", content in (b"old", NORMAL), repr(content))
-                report.check(f"{how} {number}: a run that ends well has written it", status != 0 or content == NORMAL, repr((status, errors)))
-                report.check(f"{how} {number}: no temporary file is left", how == "KILLED_AT" or left == [] or b"temporary" in errors, repr((left, errors)))
+            report.check(f"{told}: some calls end the run", len([it for it in found if it[0] != 0]) > 6)
+            report.check(f"{told}: a last run meets no such call", found[-1] == (0, NORMAL, [], b""), repr(found[-1]))
+            for (_, _, number), (status, content, left, errors) in zip(cases, found):
+                report.check(f"{told} {number}: the output is the old or the new one", content in (b"old", NORMAL), repr(content))
+                report.check(f"{told} {number}: a run that ends well has written it", status != 0 or content == NORMAL, repr((status, errors)))
+                is_told = how == "KILLED_AT" or left == [] or b"temporary" in errors
+                report.check(f"{told} {number}: no temporary file is left", is_told or loses == 1, repr((left, errors)))
 
 
 def main():

@@ -260,32 +260,36 @@ def at_once(report):
         report.check("no temporary file is left by them", [name for name in folder.names() if name.startswith(".")] == [])
 
 
-def ended_at(folder, shim, number, how):
+def ended_at(shim, number, how, **asked):
     """One update of an old golden file, ended at a system call, or with that call refused: what it left."""
     with Folder(session=CONFIGURATION, g=b"old") as place:
         words = ["dapnorm", "golden", "--update", "g", "session"]
-        environment = {"LD_PRELOAD": shim, f"FAULT_INJECTION_{how}": str(number)}
-        ran = subprocess.run(words, executable=PROGRAM, capture_output=True, cwd=place.path, timeout=120, env=environment)
+        environment = {f"FAULT_INJECTION_{name.upper()}": str(value) for name, value in {how: number, **asked}.items()}
+        ran = subprocess.run(words, executable=PROGRAM, capture_output=True, cwd=place.path, timeout=120, env={"LD_PRELOAD": shim, **environment})
         left = [name for name in place.names() if name not in ("g", "session")]
         return ran.returncode, ran.stdout, ran.stderr, place.read("g"), left
 
 
 def killed(report):
-    """The process is killed at each of its system calls, and each of its system calls fails."""
+    """The process is killed at each of its system calls, and each of its system calls fails; also if what is not synced is lost."""
     with tempfile.TemporaryDirectory() as folder:
         shim = build_shim(folder)
-        for how in ("KILLED_AT", "FAILS_AT"):
-            runs = side_by_side(lambda number, how=how: ended_at(folder, shim, number, how), range(1, 60))
+        for how, loses in (("KILLED_AT", 0), ("FAILS_AT", 0), ("KILLED_AT", 1), ("FAILS_AT", 1)):
+            runs = side_by_side(lambda number, how=how, loses=loses: ended_at(shim, number, how, loses=loses), range(1, 60))
+            told = f"{how}, loses {loses}"
             ended = [run for run in runs if run[0] != 0]
-            report.check(f"{how}: some calls end the run", len(ended) > 8, repr(len(ended)))
-            report.check(f"{how}: a last run meets no such call", runs[-1][:2] == (0, b"wrote g (5 records)\n"), repr(runs[-1]))
+            report.check(f"{told}: some calls end the run", len(ended) > 8, repr(len(ended)))
+            last = (0, b"wrote g (5 records)\n", b"", NORMAL, [])
+            report.check(f"{told}: a last run meets no such call", runs[-1] == last, repr(runs[-1]))
             for number, (status, output, errors, content, left) in enumerate(runs, 1):
-                report.check(f"{how} {number}: the golden file is the old or the new one", content in (b"old", NORMAL), repr(content))
+                report.check(f"{told} {number}: the golden file is the old or the new one", content in (b"old", NORMAL), repr(content))
                 if how == "FAILS_AT":
-                    report.check(f"{how} {number}: no temporary file is left", left == [] or b"temporary" in errors, repr((left, errors)))
-                    report.check(f"{how} {number}: the status says so", (status == 0) == (content == NORMAL and output != b"") or status == 4, repr((status, errors)))
+                    is_told = left == [] or b"temporary" in errors
+                    report.check(f"{told} {number}: no temporary file is left", is_told or loses == 1, repr((left, errors)))
+                    is_new = content == NORMAL and output != b""
+                    report.check(f"{told} {number}: the status says so", (status == 0) == is_new or status == 4, repr((status, errors)))
                 if status == 0 and output:
-                    report.check(f"{how} {number}: a run that ends well has written", content == NORMAL)
+                    report.check(f"{told} {number}: a run that ends well has written", content == NORMAL, repr(content))
 
 
 def main():
