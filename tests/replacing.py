@@ -1,4 +1,4 @@
-"""Runs `dapnorm golden --update` and `-o` on files that are hard to replace: links, permissions and temporary files."""
+"""Runs `dapnorm golden --update` and `-o` on files that are hard to replace: links, permissions, temporary files, two failures in one run."""
 import os
 import pwd
 import shutil
@@ -157,6 +157,28 @@ def by_another_user(report):
         report.check("it keeps its permissions", mode_of(folder.at("g")) == 0o600, shown(mode_of(folder.at("g"))))
 
 
+def two_failures(report, shim):
+    """Two calls on files fail, such as a write and then the removal of the temporary file. The reason of the first is reported."""
+    def failed_at(case):
+        first, second = case
+        with Folder(session=CONFIGURATION, g=b"old") as folder:
+            answer = run_under(shim, folder, "golden", "--update", "g", "session", fails_at=first, fails_again_at=second)
+            return (*answer, folder.read("g"), [name for name in folder.names() if name not in ("g", "session")])
+
+    cases = [(first, first + more) for first in range(1, 30) for more in (1, 2, 3)]
+    runs = side_by_side(failed_at, cases)
+    for (first, second), (status, output, errors, content, left) in zip(cases, runs):
+        told = f"calls {first} and {second} fail"
+        report.check(f"{told}: the golden file is the old or the new one", content in (b"old", NORMAL), repr(content))
+        report.check(f"{told}: the status says so", status == 4 or (status, content) == (0, NORMAL), repr((status, output, errors)))
+        if left:
+            report.check(f"{told}: a temporary file is left, and the run fails", status == 4 and content == b"old", repr((status, left)))
+            is_first = b"Input/output error" in errors and b"Permission denied" not in errors
+            report.check(f"{told}: the reason is that of the first failure", is_first, repr(errors))
+    count = sum(bool(left) for *_, left in runs)
+    report.check("a removal fails after a write, a change of permissions, a sync and a rename that failed", count == 4, repr(count))
+
+
 def long_inputs(report):
     """An input that is read in several chunks is explained from its first byte on."""
     events = 3000
@@ -181,7 +203,7 @@ def main():
         test(report)
     with tempfile.TemporaryDirectory() as folder:
         shim = build_shim(folder)
-        for test in (temporary_files, unreadable):
+        for test in (temporary_files, unreadable, two_failures):
             test(report, shim)
     return report.close()
 
