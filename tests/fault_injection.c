@@ -26,7 +26,7 @@ extern int *__errno_location(void);
 enum { ASK = 0x5eed0000, TELL = 0x5eedffff, SYS_GETRANDOM = 318, INTERRUPT = 4, FAULT = 5, DENIED = 13, SIGNAL_KILL = 9 };
 enum { SYS_READ = 0, SYS_WRITE = 1, SYS_OPEN = 2, SYS_GETPID = 39, SYS_KILL = 62, SYS_FSYNC = 74, SYS_RENAME = 82, SYS_UNLINK = 87 };
 enum { SYS_TRUNCATE = 76, SYS_LINK = 86, SYS_READLINK = 89, SYS_FCHMOD = 91, SYS_STATX = 332 };
-enum { PATH = 4096, OPENED = 64, RENAMED = 16 };
+enum { SYS_STAT = 4, SYS_FSTAT = 5, PATH = 4096, OPENED = 64, RENAMED = 16, STAT = 32 };
 static long left, came, begun, interrupted_reads, interrupted_writes, given, taken, calls;
 
 /* The number that the environment has behind this name, or -1. */
@@ -81,13 +81,19 @@ static size_t put(char *path, size_t at, const char *text) {
   return at;
 }
 
-/* Whether this is the folder of the path, as the program writes both. */
-static int is_folder_of(const char *folder, const char *path) {
-  char own[PATH];
-  size_t end = put(own, 0, path);
-  while (end && own[end - 1] != '/') end--;
-  if (end) own[end > 1 ? end - 1 : end] = 0;
-  return is_same(folder, end ? own : ".");
+/* Whether an open file is the one at this path, by the numbers of its device and of its inode. */
+static int is_at(int file, const char *path) {
+  unsigned long one[STAT], other[STAT];
+  return syscall(SYS_FSTAT, file, one) == 0 && syscall(SYS_STAT, path, other) == 0 && one[0] == other[0] && one[1] == other[1];
+}
+
+/* Whether an open file is the folder of this path. */
+static int is_folder_of(int file, const char *path) {
+  char folder[PATH];
+  size_t end = put(folder, 0, path);
+  while (end && folder[end - 1] != '/') end--;
+  folder[end] = 0;
+  return is_at(file, end ? folder : ".");
 }
 
 static void note_open(const char *path, int file) {
@@ -101,20 +107,17 @@ static void note_write(int file) {
   for (long at = 0; at < opens; at++) if (opened[at].file == file) opened[at].is_written = 1;
 }
 
-/* A file is synced or removed: it has nothing to lose. */
-static void settle(const char *path) {
+/* A file is removed: it has nothing to lose. */
+static void forget(const char *path) {
   for (long at = 0; at < opens; at++) if (is_same(opened[at].path, path)) opened[at].is_written = 0;
 }
 
 static void note_sync(int file) {
-  long at = 0;
-  while (at < opens && opened[at].file != file) at++;
-  if (at == opens) return;
-  settle(opened[at].path);
-  for (long it = 0; it < renames; it++) {
-    if (renamed[it].is_synced || !is_folder_of(opened[at].path, renamed[it].to)) continue;
-    renamed[it].is_synced = 1;
-    if (renamed[it].has_old) syscall(SYS_UNLINK, renamed[it].old);
+  for (long at = 0; at < opens; at++) if (opened[at].is_written && is_at(file, opened[at].path)) opened[at].is_written = 0;
+  for (long at = 0; at < renames; at++) {
+    if (renamed[at].is_synced || !is_folder_of(file, renamed[at].to)) continue;
+    renamed[at].is_synced = 1;
+    if (renamed[at].has_old) syscall(SYS_UNLINK, renamed[at].old);
   }
 }
 
@@ -136,7 +139,7 @@ static int rename_kept(const char *from, const char *to) {
     if (it->has_old) syscall(SYS_UNLINK, it->old);
     return (int)refused(error);
   }
-  settle(to);
+  forget(to);
   move(from, to);
   renames++;
   return 0;
@@ -179,7 +182,7 @@ int fsync(int file) {
 
 int unlink(const char *path) {
   int error = stops(), status = error ? (int)refused(error) : (int)syscall(SYS_UNLINK, path);
-  if (status == 0) settle(path);
+  if (status == 0) forget(path);
   return status;
 }
 

@@ -108,6 +108,21 @@ def temporary_files(report, shim):
         report.check(f"{shown(mode)}: then it has the permissions of the old file", set(found) == {shown(0o600), shown(mode)}, repr(found))
 
 
+def new_files(report, shim):
+    """A file that did not exist is whole, or does not exist, if the process is killed at each of its calls and what is not synced is lost."""
+    def killed_at(number):
+        with Folder(session=CONFIGURATION) as folder:
+            os.mkdir(folder.at("one"))
+            status, output, _ = run_under(shim, folder, "golden", "--update", "one/g", "session", killed_at=number, loses=1)
+            return status, output, folder.read("one/g")
+
+    runs = side_by_side(killed_at, range(1, 40))
+    report.check("a last run makes the new file", runs[-1] == (0, wrote(CONFIGURED, "one/g")[1], NORMAL), repr(runs[-1]))
+    for number, (status, output, content) in enumerate(runs, 1):
+        is_right = content == NORMAL or content is None and status != 0
+        report.check(f"a new file is whole, or there is none, in a run that is killed at call {number}", is_right, repr((status, output, content)))
+
+
 def unreadable(report, shim):
     """A golden file that cannot be read is not one that does not exist."""
     for words in (["golden", "g", "session"], ["golden", "--update", "g", "session"]):
@@ -203,7 +218,7 @@ def main():
         test(report)
     with tempfile.TemporaryDirectory() as folder:
         shim = build_shim(folder)
-        for test in (temporary_files, unreadable, two_failures):
+        for test in (temporary_files, new_files, unreadable, two_failures):
             test(report, shim)
     return report.close()
 
