@@ -2,7 +2,9 @@
 ghost use Rattle.std.specs.Prelude.{◌≡◌, None, IfOk};
 
 use crate::texts::is_printed;
-use dap_device::{FileAt, MemoryFile, ReadFault, ReplaceFault, Replaceable, Step, replace};
+use dap_device::{
+    CachedFile, FileAt, MemoryFile, ReadFault, ReplaceFault, Replaceable, Step, replace,
+};
 use std::alloc::{AllocError, Global};
 use std::ops::Range;
 use std::os::unix::fs::{PermissionsExt, symlink};
@@ -108,6 +110,41 @@ fn fails(alloc: Global, row: &Failed) -> bool {
 fn each_call_fails_in_turn(rt: HostRuntime) {
     for row in &FAILED {
         assert!(rt; fails(rt.alloc(), row));
+    }
+}
+
+/// Replacements of a file that loses what is not synced, in which one call fails: its number, and
+/// whether a crash afterwards may leave the old content, or the new one.
+const CRASHED: [(u64, bool, bool); 8] = [
+    (0, true, false),
+    (1, true, false),
+    (2, true, false),
+    (3, true, false),
+    (4, true, false),
+    (5, true, false),
+    (6, true, true),
+    (7, false, true),
+];
+
+/// Returns whether a crash after the replacement may leave these contents and no other one.
+fn is_lost(alloc: Global, row: &(u64, bool, bool)) -> bool {
+    let (number, leaves_old, leaves_new) = *row;
+    let Ok(content) = OLD.to_vec(alloc) else {
+        return false;
+    };
+    let failing = number..number.saturating_add(1);
+    let mut file = CachedFile::new(alloc, Some(content), failing, 3);
+    replace(&mut file, NEW).is_ok() == (number == 7)
+        && file.may_leave(Some(OLD)) == leaves_old
+        && file.may_leave(Some(NEW)) == leaves_new
+        && !file.may_leave(Some(b"the"))
+        && !file.may_leave(None)
+}
+
+#[test]
+fn a_crash_loses_what_is_not_synced(rt: HostRuntime) {
+    for row in &CRASHED {
+        assert!(rt; is_lost(rt.alloc(), row));
     }
 }
 
