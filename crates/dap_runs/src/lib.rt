@@ -40,7 +40,7 @@ pub use rules_texts::{
     NoRules, RuledPairRun, RulesStop, TableMaker, TextsByRules, is_either_standard,
     report_no_rules, report_rules_stop, rules_of_name, texts_by_rules,
 };
-pub use saving::{report_unsaved, save};
+pub use saving::{report_unsaved, save, unsaved_words};
 pub use status::{DIFFERENT, DONE, FAULT, MEMORY, REFUSED, USAGE, refusal_status, refused_status};
 pub use targets::Targets;
 pub use two_inputs::{
