@@ -1,19 +1,21 @@
 -- The effect of `golden` on its input and its golden file, and its result. Source: own.
 use Rattle.std.specs.Prelude.{◌≡◌, ◌≢◌, ◌⊎◌, ℕ, ◌+◌, Bool, true, false, List, Option, Some, None}
-use Rattle.std.specs.Prelude.{Result, Ok, Err}
+use Rattle.std.specs.Prelude.{Result, Ok, Err, if◌then◌else◌}
 use Rattle.dap_device.specs.declared.device.Source.{Ghosts as Source}
 use Rattle.dap_device.specs.declared.reading.Stop.{Stop}
 use Rattle.dap_device.specs.declared.reading.Stop.TheVariants.{Failed}
 use Rattle.dap_device.specs.Reading.{HasReadInput, HasReadPartly}
-use Rattle.dap_device.specs.Calls.{IsLonger, KeepsTarget}
+use Rattle.dap_device.specs.Calls.{HasBytes, IsLonger, KeepsTarget}
 use Rattle.dap_device.specs.Crash.{Content}
 use Rattle.dap_device.specs.Replacing.{HasFailedAt, HasReplaced}
 use Rattle.dap_device.specs.declared.file.Replaceable.{Ghosts as Replaceable}
+use Rattle.dap_device.specs.declared.replacing.ReplaceFault.{ReplaceFault}
 use Rattle.dap_input.specs.declared.limits.Limits.{Limits}
 use Rattle.dap_mask.specs.Mask.{Mask}
 use Rattle.dap_rename.specs.declared.mode.Mode.{Mode}
 use Rattle.dap_golden.specs.Golden.{IsGolden, IsRefusedGolden, mode_given}
 use Rattle.dap_golden.specs.GoldenFiles.{IsGoldenVerdict, IsRefusedFile}
+use Rattle.dap_golden.specs.TraceHead.{CanBecomeGolden}
 use Rattle.dap_golden.specs.declared.golden.GoldenText.{GoldenText}
 use Rattle.dap_golden.specs.declared.updates.GoldenDone.{GoldenDone}
 use Rattle.dap_golden.specs.declared.updates.GoldenDone.TheVariants as done
@@ -57,6 +59,12 @@ module _ {I : Type 0} (source : Source I) (limits : Limits) (mask : Option Mask)
 
 -- ---- the golden file
 
+-- A golden file with this content may be replaced by these bytes: it does not exist, or it has
+-- other bytes and can become a golden file.
+abbrev pub IsReplaceable : List ℕ → Content → Type 0
+IsReplaceable bytes None = Unit {0}
+IsReplaceable bytes (Some other) = (other ≢ bytes) × CanBecomeGolden other
+
 module _ {F : Type 0} (file : Replaceable F) (old new : F) where
   -- The golden file is unchanged, and a crash leaves only contents that it could leave before.
   abbrev pub IsKept : Type 0
@@ -87,28 +95,39 @@ module _ {F : Type 0} (file : Replaceable F) (old new : F) where
   Compares limits mode text (Err stop.Memory) = IsOnlyRead
   Compares limits mode text _ = ⊥
 
-  -- Whether the golden file has these bytes.
-  abbrev pub Finds : List ℕ → Result Bool GoldenStop → Type 0
-  Finds bytes (Ok true) = Had (Some bytes) × IsOnlyRead
-  Finds bytes (Ok false) = (file.is_known old → file.target old ≢ Some bytes) × IsOnlyRead
-  Finds bytes (Err stop.GoldenUnread) = HasFailed × IsKept
-  Finds bytes (Err stop.Memory) = IsOnlyRead
-  Finds bytes _ = ⊥
+  -- Whether the golden file has these bytes. If not, it may be replaced.
+  abbrev pub Finds : ℕ → List ℕ → Result Bool GoldenStop → Type 0
+  Finds limit bytes (Ok true) = Had (Some bytes) × IsOnlyRead
+  Finds limit bytes (Ok false) =
+      (file.is_known old → IsReplaceable bytes (file.target old)) × IsOnlyRead
+  Finds limit bytes (Err stop.GoldenUnread) = HasFailed × IsKept
+  Finds limit bytes (Err stop.GoldenTooLong) =
+      (file.is_known old → IsLonger limit (file.target old)) × IsOnlyRead
+  Finds limit bytes (Err stop.NotRecording) = (other : List ℕ) × Had (Some other)
+      × ¬ CanBecomeGolden other × IsOnlyRead
+  Finds limit bytes (Err stop.Memory) =
+      (file.is_known old → HasBytes (file.target old)) × IsOnlyRead
+  Finds limit bytes _ = ⊥
 
-  -- The golden file had another content. Now it has this text, and a crash leaves no other content.
+  -- The golden file could be replaced. Now it has this text, and a crash leaves no other content.
   pub record IsWritten (bytes : List ℕ) : Type 0 where
-    pub other : file.is_known old → file.target old ≢ Some bytes
+    pub other : file.is_known old → IsReplaceable bytes (file.target old)
     pub replaced : file.is_known old → HasReplaced file new bytes
 
-  -- The text is written to the golden file, unless the file already has it.
-  abbrev pub Updates : GoldenText → Result GoldenDone GoldenStop → Type 0
-  Updates text (Ok done.Unchanged) = Had (Some text.bytes.items) × IsOnlyRead
-  Updates text (Ok (done.Written records)) = (records ≡ text.records) × IsWritten text.bytes.items
-  Updates text (Err stop.GoldenUnread) = HasFailed × IsKept
-  Updates text (Err (stop.Unwritten fault)) =
-      file.is_known old → HasFailedAt file fault.step old new text.bytes.items
-  Updates text (Err stop.Memory) = IsOnlyRead
-  Updates text _ = ⊥
+  -- A step of the replacement failed. The temporary file is removed, unless that failed too.
+  pub record IsUnwritten (fault : ReplaceFault) (bytes : List ℕ) : Type 0 where
+    pub failed : file.is_known old → HasFailedAt file fault.step old new bytes
+    pub removed : file.is_known old → fault.is_left ≡ false → file.temporary new ≡ None
+    pub counted : file.failures new ≡ file.failures old + (if fault.is_left then 2 else 1)
+
+  -- The text is written to the golden file, unless the file already has it or may not be replaced.
+  abbrev pub Updates : ℕ → GoldenText → Result GoldenDone GoldenStop → Type 0
+  Updates limit text (Ok done.Unchanged) = Had (Some text.bytes.items) × IsOnlyRead
+  Updates limit text (Ok (done.Written records)) =
+      (records ≡ text.records) × IsWritten text.bytes.items
+  Updates limit text (Err (stop.Unwritten fault)) = IsUnwritten fault text.bytes.items
+  Updates limit text (Err why) = Finds limit text.bytes.items (Err why)
+  Updates limit text _ = ⊥
 
 -- ---- input and golden file
 
@@ -116,7 +135,7 @@ module _ {I F : Type 0} (source : Source I) (file : Replaceable F) (limits : Lim
     (mask : Option Mask) (request : GoldenRequest) (old_input new_input : I) where
   -- Updates the golden file with the golden text of the input, or compares the two.
   abbrev pub RunsOn : Bool → GoldenText → F → F → Result GoldenDone GoldenStop → Type 0
-  RunsOn true text old new result = Updates file old new text result
+  RunsOn true text old new result = Updates file old new limits.input text result
   RunsOn false text old new result = Compares file old new limits request.mode text result
 
   -- The input has no golden text and the golden file is not touched; or it has one, and the golden

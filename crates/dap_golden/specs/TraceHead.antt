@@ -1,9 +1,10 @@
--- The first bytes of a trace. Source: own. A trace starts with a marker and the line of a count,
--- and a recording starts with a marker and the name of a header field. Therefore the first bytes of
--- an input decide which of the two it is.
-use Rattle.std.specs.Prelude.{◌≡◌, ◌<◌, ◌⊎◌, ℕ, true, List, [], ◌∷◌, ◌++◌, length}
+-- The first bytes of a trace and of a recording. Source: own. A trace starts with a marker and the
+-- line of a count, and a recording starts with a marker and the name of a header field. Therefore
+-- the first bytes of an input decide which of the two it is.
+use Rattle.std.specs.Prelude.{◌≡◌, ◌<◌, ◌⊎◌, ℕ, true, List, [], ◌∷◌, ◌++◌, codes, length, take}
 use Rattle.std.specs.Char.{is_ascii_digit}
 use Rattle.std.specs.List.{list_all}
+use Rattle.std.specs.Str.{str_eq_ignore_ascii_case}
 use Rattle.dap_recording.specs.Marker.{marker}
 use Rattle.dap_tree.specs.declared.side.Side.{Side}
 
@@ -31,3 +32,20 @@ pub record IsTraceHead (input : List ℕ) : Type 0 where
   pub split : input ≡ byte ∷ rest
   pub is_marker : IsMarker byte
   pub count : StartsWithCount rest
+
+-- The bytes start with the name of a header field that starts with `Content-`, in letters of any
+-- case. The protocol defines the field `Content-Length`.
+abbrev pub StartsWithField : List ℕ → Type 0
+StartsWithField bytes = str_eq_ignore_ascii_case (take 8 bytes) (codes "Content-") ≡ true
+
+-- The bytes start like a recording: with the marker of a side and a header field.
+pub record IsRecordingHead (bytes : List ℕ) : Type 0 where
+  pub byte : ℕ
+  pub rest : List ℕ
+  pub split : bytes ≡ byte ∷ rest
+  pub is_marker : IsMarker byte
+  pub field : StartsWithField rest
+
+-- A file with these bytes can become a golden file: it is empty or starts like a recording.
+abbrev pub CanBecomeGolden : List ℕ → Type 0
+CanBecomeGolden bytes = (bytes ≡ []) ⊎ IsRecordingHead bytes

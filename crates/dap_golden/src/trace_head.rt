@@ -1,8 +1,12 @@
-//! Recognises a trace by its first bytes.
+//! Recognises a trace and a recording by their first bytes.
 ghost use Rattle.std.specs.Prelude.{◌≡◌, ◌≤◌, ◌↔◌, IsTrue, length};
 ghost use Rattle.std.specs.Char.{is_ascii_digit};
 ghost use Rattle.std.specs.List.{prefix_len};
-ghost use Rattle.dap_golden.specs.TraceHead.{IsLineEnd, IsMarker, IsTraceHead, StartsWithCount};
+ghost use Rattle.dap_golden.specs.TraceHead.{CanBecomeGolden, IsLineEnd, IsMarker, IsTraceHead};
+ghost use Rattle.dap_golden.specs.TraceHead.{StartsWithCount, StartsWithField};
+
+/// How the names of the header fields of a message start.
+const FIELD: &[u8] = b"Content-";
 
 /// Returns whether the byte is the marker of a side.
 fn is_marker(byte: u8) -> bool
@@ -47,5 +51,23 @@ pub fn is_trace(input: &[u8]) -> bool
     match input {
         [] => false,
         [byte, rest @ ..] => is_marker(*byte) && starts_with_count(rest),
+    }
+}
+
+/// Returns whether the bytes start with the name of a header field of a message.
+fn starts_with_field(bytes: &[u8]) -> bool
+    ensures { IsTrue result ↔ StartsWithField bytes.now }
+{
+    bytes[..bytes.len().min(FIELD.len())].eq_ignore_ascii_case(FIELD)
+}
+
+/// Returns whether a file with these bytes can become a golden file: it is empty or starts like a
+/// recording.
+pub(crate) fn can_become_golden(bytes: &[u8]) -> bool
+    ensures { IsTrue result ↔ CanBecomeGolden bytes.now }
+{
+    match bytes {
+        [] => true,
+        [byte, rest @ ..] => is_marker(*byte) && starts_with_field(rest),
     }
 }

@@ -11,6 +11,7 @@ ghost use Rattle.dap_golden.specs.GoldenUpdates.{Updates, request_by};
 use crate::comparing::{GoldenVerdict, compare_golden};
 use crate::fault::{GoldenFault, GoldenRefused};
 use crate::golden::{GoldenText, golden_text_in, mode_given};
+use crate::trace_head::can_become_golden;
 use dap_device::{ReadFault, ReplaceFault, Replaceable, Source, Stop, read_all, replace};
 use dap_input::{Limits, Refused};
 use dap_mask::MaskRules;
@@ -56,6 +57,8 @@ pub enum GoldenStop {
     GoldenTooLong,
     /// The golden file is not an accepted recording.
     Golden(Refused),
+    /// The golden file is neither empty nor a recording, so it is not replaced.
+    NotRecording,
     /// The golden file could not be written.
     Unwritten(ReplaceFault),
     /// An allocation failed.
@@ -130,7 +133,7 @@ fn compare_file<F: Replaceable>(
     }
 }
 
-/// Returns whether the golden file has these bytes.
+/// Returns whether the golden file has these bytes. If not, it may be replaced by them.
 fn has_bytes<F: Replaceable>(
     alloc: Global,
     file: &mut F,
@@ -139,7 +142,7 @@ fn has_bytes<F: Replaceable>(
 ) -> Result<bool, GoldenStop>
     requires short { length bytes.now ≤ limits.input }
     requires few { F.failures file.old < 2 ^ 62 }
-    ensures finds { Finds F.Replaceable file.old file.new bytes.now result }
+    ensures finds { Finds F.Replaceable file.old file.new limits.input bytes.now result }
     ensures few { F.failures file.new ≤ F.failures file.old + 1 }
     ensures known { F.is_known file.new ↔ F.is_known file.old }
     ensures temporary { F.is_known file.old → F.temporary file.new ≡ F.temporary file.old }
@@ -147,14 +150,23 @@ fn has_bytes<F: Replaceable>(
         → LeavesOnly F.moment F.left_since (F.may_leave file.old) file.old file.new }
 {
     match file.read(alloc, limits.input) {
-        Ok(Some(found)) => Ok(found.as_slice() == bytes),
-        Ok(None) | Err(ReadFault::TooLong) => Ok(false),
+        Ok(None) => Ok(false),
+        Ok(Some(found)) => {
+            let has_bytes = found.as_slice() == bytes;
+            if has_bytes || can_become_golden(found.as_slice()) {
+                Ok(has_bytes)
+            } else {
+                Err(GoldenStop::NotRecording)
+            }
+        }
         Err(ReadFault::Failed) => Err(GoldenStop::GoldenUnread),
+        Err(ReadFault::TooLong) => Err(GoldenStop::GoldenTooLong),
         Err(ReadFault::Memory) => Err(GoldenStop::Memory),
     }
 }
 
-/// Writes the text of the session to the golden file, unless the file already has it.
+/// Writes the text of the session to the golden file, unless the file already has it or may not be
+/// replaced.
 fn update_file<F: Replaceable>(
     alloc: Global,
     file: &mut F,
@@ -164,7 +176,7 @@ fn update_file<F: Replaceable>(
     requires short { length text.now.bytes.items ≤ limits.input }
     requires few { F.failures file.old < 2 ^ 61 }
     requires none { F.is_known file.old → F.temporary file.old ≡ None }
-    ensures updates { Updates F.Replaceable file.old file.new text.now result }
+    ensures updates { Updates F.Replaceable file.old file.new limits.input text.now result }
     ensures any_moment { F.is_known file.old
         → LeavesOnly F.moment F.left_since
         (IsOldOrNew F.Replaceable file.old text.now.bytes.items) file.old file.new }
@@ -225,7 +237,8 @@ fn golden_file_in<I: Source, F: Replaceable>(
 ///
 /// The input is a trace or a recording, as [`golden_text`] describes. It is read to its end before
 /// the golden file is opened. With `update`, the golden file is replaced as a whole, as [`replace`]
-/// describes, unless it already has the text.
+/// describes, unless it already has the text. A file that is neither empty nor a recording is not
+/// replaced: it is not a golden file.
 ///
 /// # Errors
 ///
@@ -233,8 +246,9 @@ fn golden_file_in<I: Source, F: Replaceable>(
 /// - `Input`: the input has no golden text. The golden file is not opened.
 /// - `Missing`: the golden file does not exist, and `update` is not set.
 /// - `GoldenUnread`: a read of the golden file failed.
-/// - `GoldenTooLong`: the golden file has more than `limits.input` bytes, and `update` is not set.
+/// - `GoldenTooLong`: the golden file has more than `limits.input` bytes.
 /// - `Golden`: the golden file was rejected, and `update` is not set.
+/// - `NotRecording`: the golden file is neither empty nor a recording, and `update` is set.
 /// - `Unwritten`: the golden file could not be replaced.
 /// - `Memory`: an allocation failed.
 pub fn golden_file<I: Source, F: Replaceable>(

@@ -21,6 +21,7 @@ use Rattle.dap_mask.specs.Mask.{Mask}
 use Rattle.dap_runs.specs.ComparingRun.{differ_line, same_line}
 use Rattle.dap_runs.specs.FaultLine.{fault_line, refused_text}
 use Rattle.dap_runs.specs.Reporting.{HasSent}
+use Rattle.dap_runs.specs.Saving.{unsaved_words}
 use Rattle.dapnorm.specs.declared.golden_run.GoldenRun.{GoldenRun}
 
 -- ---- what was done
@@ -72,7 +73,9 @@ stop_words has_rules stop.Missing = codes " does not exist: --update makes it"
 stop_words has_rules stop.GoldenUnread = codes ": read fault"
 stop_words has_rules stop.GoldenTooLong = codes ": InputTooLong"
 stop_words has_rules (stop.Golden why) = codes ": "
-stop_words has_rules (stop.Unwritten fault) = codes ": write fault"
+stop_words has_rules stop.NotRecording =
+    codes ": not replaced, since it is not a recording: remove it first"
+stop_words has_rules (stop.Unwritten fault) = unsaved_words fault.step
 stop_words has_rules stop.Memory = codes "out of memory"
 
 -- and last why an input or the golden file is rejected
@@ -105,6 +108,7 @@ stop_status stop.Missing = 4
 stop_status stop.GoldenUnread = 4
 stop_status stop.GoldenTooLong = 2
 stop_status (stop.Golden why) = 2
+stop_status stop.NotRecording = 2
 stop_status (stop.Unwritten fault) = 4
 stop_status stop.Memory = 5
 

@@ -19,7 +19,7 @@ use dap_input::{Limits, Refused};
 use dap_mask::MaskRules;
 use dap_runs::{
     DIFFERENT, DONE, FAULT, LINE, MEMORY, REFUSED, differ_line, refused_text, report_parts,
-    same_line, send_parts, tell,
+    same_line, send_parts, tell, unsaved_words,
 };
 use itoa::Buffer;
 use std::alloc::Global;
@@ -95,6 +95,7 @@ fn stop_status(stop: GoldenStop) -> u8
     match stop {
         GoldenStop::Input(GoldenRefused::Memory) | GoldenStop::Memory => MEMORY,
         GoldenStop::Input(_) | GoldenStop::GoldenTooLong | GoldenStop::Golden(_) => REFUSED,
+        GoldenStop::NotRecording => REFUSED,
         GoldenStop::Unread | GoldenStop::Missing => FAULT,
         GoldenStop::GoldenUnread | GoldenStop::Unwritten(_) => FAULT,
     }
@@ -124,7 +125,8 @@ fn stop_words(has_rules: bool, stop: GoldenStop) -> &'static str
         GoldenStop::GoldenUnread => ": read fault",
         GoldenStop::GoldenTooLong => ": InputTooLong",
         GoldenStop::Golden(_) => ": ",
-        GoldenStop::Unwritten(_) => ": write fault",
+        GoldenStop::NotRecording => ": not replaced, since it is not a recording: remove it first",
+        GoldenStop::Unwritten(fault) => unsaved_words(fault.step),
     }
 }
 
