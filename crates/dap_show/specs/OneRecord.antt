@@ -15,16 +15,22 @@ use Rattle.dap_input.specs.Validation.{Validation}
 use Rattle.dap_input.specs.ReadTo.{IsReadTo, so_far}
 use Rattle.dap_input.specs.declared.limits.Limits.{Limits}
 use Rattle.dap_input.specs.declared.refused.Refused.{Refused}
-use Rattle.dap_input.specs.declared.refused.Refused.TheVariants.{Fraction, Json, WriteFault}
+use Rattle.dap_input.specs.declared.refused.Refused.TheVariants.{WriteFault}
 use Rattle.dap_normalise.specs.Accepting.{Payload}
 use Rattle.dap_show.specs.Indented.{indented}
 use Rattle.dap_show.specs.Stopping.{StopsAt}
 use Rattle.dap_show.specs.declared.one_record.RecordShown.{RecordShown}
 use Rattle.dap_show.specs.declared.one_record.RecordShown.TheVariants.{Shown, Missing}
 
--- The indented text of a content, with the final LF.
+-- The indented text of a document, with the final LF.
 abbrev pub content_text : Doc → List ℕ
 content_text d = indented [] d ++ codes "\n"
+
+-- The text that is printed of a content: the indented text of its document, or, if it is not JSON
+-- or has a number that is not an integer, the content itself with a final LF.
+abbrev pub PrintsContent : List ℕ → List ℕ → Type 0
+PrintsContent content text = ((d : Doc) × IsRead content d × (text ≡ content_text d))
+    ⊎ ((HasNoReading content ⊎ HasFraction content) × (text ≡ content ++ codes "\n"))
 
 -- The bytes are a recording of these records, whose contents are not checked.
 pub record IsFramed (limits : Limits) (bytes : List ℕ) (values : List Payload) : Type 0 where
@@ -76,11 +82,10 @@ module _ {R : Type 0} (limits : Limits) (source : Source R) where
     pub early : IsSought number stops.number
 
   module _ {W : Type 0} (sink : Sink W) (number : ℕ) where
-    -- The content is JSON of this document. Its text was written, or if the writer failed, a prefix
-    -- of it.
+    -- The text of the content was written, or if the writer failed, a prefix of it.
     abbrev pub Writes : R → R → (List ℕ → Type 0) → Type 0
-    Writes old new Written = (content : List ℕ) × (d : Doc) × HasRecord old new number content
-        × IsRead content d × Written (content_text d)
+    Writes old new Written = (content text : List ℕ) × HasRecord old new number content
+        × PrintsContent content text × Written text
 
     abbrev pub ShowsRecord : R → R → W → W → Result RecordShown Refused → Type 0
     ShowsRecord old new before after (Ok Shown) = Writes old new (AllSent sink before after)
@@ -88,11 +93,5 @@ module _ {R : Type 0} (limits : Limits) (source : Source R) where
         HasNoRecord old new number count × (after ≡ before)
     ShowsRecord old new before after (Err WriteFault) =
         Writes old new (PrefixWritten sink before after)
-    ShowsRecord old new before after (Err (Json n)) = (n ≡ number)
-        × ((content : List ℕ) × HasRecord old new number content × HasNoReading content)
-        × (after ≡ before)
-    ShowsRecord old new before after (Err (Fraction n)) = (n ≡ number)
-        × ((content : List ℕ) × HasRecord old new number content × HasFraction content)
-        × (after ≡ before)
     ShowsRecord old new before after (Err refused) =
         StopsBefore old new number refused × (after ≡ before)

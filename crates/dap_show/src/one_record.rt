@@ -1,10 +1,10 @@
 //! Prints the content of one record.
-ghost use Rattle.std.specs.Prelude.{◌≡◌, ◌+◌, ◌<◌, ◌≤◌, ◌^◌, IfOk, true};
+ghost use Rattle.std.specs.Prelude.{◌≡◌, ◌+◌, ◌<◌, ◌≤◌, ◌^◌, ◌++◌, IfOk, codes, true};
 ghost use Rattle.dap_input.specs.ItemReading.{RepresentsRecord};
 ghost use Rattle.dap_input.specs.Limits.{AreSound};
 ghost use Rattle.dap_input.specs.RecordSteps.{IsAtStart};
-ghost use Rattle.dap_show.specs.OneRecord.{ShowsRecord, content_text};
-ghost use Rattle.dap_show.specs.OneRecordSteps.{Finds, TextIsMade};
+ghost use Rattle.dap_show.specs.OneRecord.{PrintsContent, ShowsRecord, content_text};
+ghost use Rattle.dap_show.specs.OneRecordSteps.{Finds};
 ghost use Rattle.dap_tree.specs.Doc.{all_in_range};
 ghost use Rattle.dap_tree.specs.View.{view};
 
@@ -68,19 +68,23 @@ fn indented_text(alloc: Global, tree: &Tree) -> Result<Vec<u8>, AllocError>
     Ok(text)
 }
 
-/// Returns the indented text of the content of the record with this number.
-fn text_of(alloc: Global, number: u64, content: &[u8]) -> Result<Vec<u8>, Refused>
-    ensures { TextIsMade number content.now result }
+/// Returns a content with a final LF.
+fn plain_text(alloc: Global, content: &[u8]) -> Result<Vec<u8>, AllocError>
+    ensures { IfOk result (λ text. text.items ≡ content.now ++ codes "\n") }
 {
-    let tree = match read_tree(alloc, content) {
-        Ok(tree) => tree,
-        Err(TreeFault::Json) => return Err(Refused::Json(number)),
-        Err(TreeFault::Fraction) => return Err(Refused::Fraction(number)),
-        Err(TreeFault::Memory) => return Err(Refused::Memory),
-    };
-    match indented_text(alloc, &tree) {
-        Ok(text) => Ok(text),
-        Err(_) => Err(Refused::Memory),
+    let mut plain = Vec::from_slice(alloc, content)?;
+    plain.extend_from_slice(b"\n")?;
+    Ok(plain)
+}
+
+/// Returns the text that is printed of a content.
+fn text_of(alloc: Global, content: &[u8]) -> Result<Vec<u8>, AllocError>
+    ensures { IfOk result (λ text. PrintsContent content.now text.items) }
+{
+    match read_tree(alloc, content) {
+        Ok(tree) => indented_text(alloc, &tree),
+        Err(TreeFault::Json | TreeFault::Fraction) => plain_text(alloc, content),
+        Err(TreeFault::Memory) => Err(AllocError),
     }
 }
 
@@ -88,14 +92,14 @@ fn text_of(alloc: Global, number: u64, content: &[u8]) -> Result<Vec<u8>, Refuse
 ///
 /// The output is indented by two spaces per level. It has one line for each scalar, for each empty
 /// array or object, and for each bracket of any other array or object. Members are in the byte
-/// order of their names. The output ends with LF. The contents of earlier records are not checked,
-/// and the input after this record is ignored: at most 65,536 bytes past it are read.
+/// order of their names. The output ends with LF. A content that is not JSON, or contains a number
+/// that is not an integer from -2^63 to 2^64 - 1, is written unchanged, with LF after it. The
+/// contents of earlier records are not checked, and the input after this record is ignored: at most
+/// 65,536 bytes past it are read.
 ///
 /// # Errors
 ///
 /// - `InputTooLong` or `Record`: the framing of this record or of an earlier one is invalid.
-/// - `Json` or `Fraction`: the content of this record is not JSON, or contains a number that is not
-///   an integer from -2^63 to 2^64 - 1.
 /// - `ReadFault`: the reader failed before the end of this record.
 /// - `WriteFault`: the writer failed.
 /// - `Memory`: an allocation failed.
@@ -128,9 +132,8 @@ pub fn show_record<R: Source, W: Sink>(
         Ok(Found::Missing(count)) => return Ok(RecordShown::Missing(count)),
         Err(refused) => return Err(refused),
     };
-    let text = match text_of(alloc, number, whole.content.as_slice()) {
-        Ok(text) => text,
-        Err(refused) => return Err(refused),
+    let Ok(text) = text_of(alloc, whole.content.as_slice()) else {
+        return Err(Refused::Memory);
     };
     match write_and_flush(writer, text.as_slice()) {
         Ok(()) => Ok(RecordShown::Shown),
