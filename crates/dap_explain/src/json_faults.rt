@@ -129,6 +129,41 @@ fn offset_of(text: &str, error: &Error) -> usize {
     start.saturating_add(error.column()).saturating_sub(1)
 }
 
+/// Returns the number of an escape such as `\ud800`, with which the string starts.
+fn code_unit(escape: &str) -> Option<u32> {
+    let digits = escape.strip_prefix("\\u")?.get(..4)?;
+    u32::from_str_radix(digits, 16).ok()
+}
+
+/// Returns the first escape of a surrogate without its other half, in a JSON string that starts
+/// with its quote. `None`: there is none before the end of the string or an invalid escape.
+fn lone_surrogate(string: &str) -> Option<&str> {
+    let mut rest = string.get(1..)?;
+    for _ in 0..string.len() {
+        let escape = rest.get(rest.find(['"', '\\'])?..)?;
+        let length = match code_unit(escape) {
+            None if escape.starts_with('"') || escape.starts_with("\\u") => return None,
+            None => 2,
+            Some(0xD800..=0xDBFF) => match escape.get(6..).and_then(code_unit) {
+                Some(0xDC00..=0xDFFF) => 12,
+                _ => return escape.get(..6),
+            },
+            Some(0xDC00..=0xDFFF) => return escape.get(..6),
+            Some(_) => 6,
+        };
+        rest = escape.get(length..)?;
+    }
+    None
+}
+
+/// Adds the lines about a string that contains half of a character.
+fn add_surrogate(lines: &mut Lines, number: u64, escape: &str) {
+    lines.write(format_args!(
+        "record {number} has the escape {escape}, a surrogate alone: JSON allows it, but no Unicode text has it",
+    ));
+    lines.add("let the program that sent it write both halves of the character, or \\ufffd");
+}
+
 /// Adds the lines about a string that is not JSON.
 fn add_syntax(lines: &mut Lines, record: Part<'_>, text: &str, error: &Error) {
     let number = record.number;
@@ -139,6 +174,9 @@ fn add_syntax(lines: &mut Lines, record: Part<'_>, text: &str, error: &Error) {
         ));
     } else {
         let offset = offset_of(text, error);
+        if let Some(escape) = text.get(offset..).and_then(lone_surrogate) {
+            return add_surrogate(lines, number, escape);
+        }
         let near = text.as_bytes().get(offset.saturating_sub(BEFORE)..);
         lines.write(format_args!(
             "the content of record {number} is not JSON near byte {offset}: {}",

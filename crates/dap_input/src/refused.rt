@@ -20,7 +20,7 @@ pub enum Refused {
     /// The bytes of this record are not a record.
     #[error("record {0}: {1}")]
     Record(u64, RecordCause),
-    /// The content of this record is not JSON, or nests more than 127 lists and objects.
+    /// The content of this record is not JSON, or nests more than 127 arrays and objects.
     #[error("record {0}: Json")]
     Json(u64),
     /// The content of this record has a number that is not an integer from -2^63 to 2^64 - 1.

@@ -12,7 +12,7 @@ use thiserror::Error;
 pub enum MessageFault {
     /// The content is JSON, but not an object.
     ///
-    /// - Cause: the sender sent a list or a single value.
+    /// - Cause: the sender sent an array or a single value.
     /// - Fix: fix the sender.
     #[error("NotObject")]
     NotObject,
