@@ -15,9 +15,10 @@ use std::rt::Files;
 
 /// A file of the operating system, found by its path. No clause describes its content.
 ///
-/// A replacement creates a new file: it belongs to the user and group of the process. It has the
-/// access permissions of the old file, but no extended attributes. Other hard links to the old file
-/// retain the old content.
+/// A replacement creates a new file. It has the access permissions of the old file, and its owner
+/// and group if the process may set them, but no extended attributes. If the process may not set
+/// the group, the new file gives its group no permissions. Other hard links to the old file retain
+/// the old content.
 pub struct FileAt<'a, R: Files> {
     rt: &'a R,
     place: Place,
@@ -52,13 +53,14 @@ impl<'a, R: Files> FileAt<'a, R> {
     /// target of the link and leaves the link. Creates nothing.
     ///
     /// The temporary file is in the folder of the file. Its name is a dot, the name of the file,
-    /// `.dapnorm-` and the 16 hexadecimal digits of `tag`. On file systems that limit a name to 255
-    /// bytes, the name of the file is therefore limited to 229 bytes.
+    /// `.dapnorm-` and the 16 hexadecimal digits of `tag`. If the name of the file has more than
+    /// 229 bytes, it is left out, since file systems limit a name to 255 bytes.
     ///
     /// # Errors
     ///
     /// - `IsADirectory`: the path is that of a folder, or ends in a slash.
-    /// - `InvalidInput`: the file is a device, a pipe or a socket, or the path has no file name.
+    /// - `InvalidInput`: the file is a device, a pipe or a socket, an open stream such as
+    ///   `/dev/stdout`, or the path has no file name.
     /// - `FilesystemLoop`: the path leads through more than 40 symbolic links.
     /// - `OutOfMemory`: an allocation failed.
     /// - Any other: reported by the operating system.
@@ -68,6 +70,23 @@ impl<'a, R: Files> FileAt<'a, R> {
         Ok(FileAt {
             rt,
             place: Place::find(alloc, rt, path, tag)?,
+            temporary: None,
+            failures: Failures::none(),
+        })
+    }
+
+    /// Returns a file that is only read, by its path as it is. It may be a pipe or a device. Each
+    /// step of a replacement fails.
+    ///
+    /// # Errors
+    ///
+    /// `OutOfMemory`: an allocation failed.
+    pub fn to_read(alloc: Global, rt: &'a R, path: &str) -> io::Result<FileAt<'a, R>>
+        ensures { IfOk result (λ file. file ≡ record { failures = 0; failed_at = None }) }
+    {
+        Ok(FileAt {
+            rt,
+            place: Place::to_read(alloc, path)?,
             temporary: None,
             failures: Failures::none(),
         })
@@ -123,7 +142,7 @@ impl<'a, R: Files> Replaceable for FileAt<'a, R> {
     }
 
     fn sync(&mut self) -> Result<(), FileFault> {
-        let synced = sync_temporary(&self.temporary, self.place.mode);
+        let synced = sync_temporary(self.rt, &self.place, &self.temporary);
         self.failures.note(Step::Sync, synced)
     }
 

@@ -2,22 +2,12 @@
 use std::alloc::Global;
 use std::fs::{self, File};
 use std::io::{self, Error, Read, Stdin};
-use std::os::fd::AsRawFd;
-
-/// The file descriptor of standard input.
-const STANDARD_INPUT_NUMBER: i32 = 0;
 
 /// An input: a file, or standard input.
 #[derive(Drop)]
 pub enum OpenInput {
     File(File),
     Standard(Stdin),
-}
-
-impl OpenInput {
-    pub fn is_standard(&self) -> bool {
-        matches!(self, OpenInput::Standard(_))
-    }
 }
 
 impl Read for OpenInput {
@@ -47,10 +37,6 @@ impl KeptInput {
             bytes: if is_kept { Some(Vec::new(alloc)) } else { None },
             failure: None,
         }
-    }
-
-    pub fn is_standard(&self) -> bool {
-        self.input.is_standard()
     }
 
     /// Returns the bytes that were read, or `None` if they are not stored or an allocation failed.
@@ -106,10 +92,4 @@ pub fn open_input(rt: &HostRuntime, name: Option<&str>, is_kept: bool) -> io::Re
         _ => OpenInput::Standard(rt.stdin()),
     };
     Ok(KeptInput::new(rt.alloc(), input, is_kept))
-}
-
-/// Returns whether the system gave a file the descriptor of standard input, which means that
-/// standard input is closed.
-pub fn shows_closed_input(file: &File) -> bool {
-    file.as_raw_fd() == STANDARD_INPUT_NUMBER
 }

@@ -15,8 +15,8 @@
 //! - [`CachedFile`] is in memory over a cache: a crash loses what is not synced.
 //! - [`FileAt`] is a file of the operating system, whose content is outside all contracts.
 //!
-//! [`open_input`] and [`open_output`] open the inputs and outputs of a program by the names that
-//! its user gave. They are tested, not proved.
+//! [`open_input`] and [`find_file`] find the inputs and outputs of a program by the names that its
+//! user gave. They are tested, not proved.
 #![tactic(auto)]
 
 mod cached_file;
@@ -26,6 +26,7 @@ mod failures;
 mod file;
 mod file_at;
 mod inputs;
+mod links;
 mod memory;
 mod memory_file;
 mod outputs;
@@ -34,6 +35,7 @@ mod place;
 mod reading;
 mod replacing;
 mod std_device;
+mod streams;
 mod system;
 mod writing;
 
@@ -41,12 +43,13 @@ pub use cached_file::CachedFile;
 pub use device::{DeviceFault, Sink, Source};
 pub use file::{FileFault, ReadFault, Replaceable, Step};
 pub use file_at::FileAt;
-pub use inputs::{KeptInput, OpenInput, is_standard, open_input, shows_closed_input};
+pub use inputs::{KeptInput, OpenInput, is_standard, open_input};
 pub use memory::{MemorySink, MemorySource};
 pub use memory_file::MemoryFile;
-pub use outputs::{Output, find_file, open_output};
+pub use outputs::find_file;
 pub use pieces::Pieces;
 pub use reading::{Input, Stop, read_all};
 pub use replacing::{ReplaceFault, replace};
 pub use std_device::{StdSink, StdSource};
+pub use streams::{hold_closed_streams, stream_number};
 pub use writing::{write_all, write_and_flush};

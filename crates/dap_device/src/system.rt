@@ -1,16 +1,19 @@
 //! Calls the file system of the operating system.
 ghost use Rattle.std.specs.Prelude.{◌<◌, ◌≤◌, length, IfOk, IfSome};
 
-use crate::place::Place;
+use crate::place::{Attributes, Place};
 use std::alloc::Global;
 use std::fs::{OpenFile, OpenOptions, Permissions};
 use std::io::{Error, ErrorKind, Read, Write};
-use std::os::unix::fs::{OpenOptionsExt, PermissionsExt};
+use std::os::unix::fs::{MetadataExt, OpenOptionsExt, PermissionsExt};
 use std::rt::Files;
 use std::{fs, io};
 
 /// The initial mode of a temporary file: only the user has access.
 const OWN_MODE: u32 = 0o600;
+
+/// The permissions of the user and of others, without those of the group.
+const WITHOUT_GROUP: u32 = 0o707;
 
 /// Creates the temporary file. If it is to get the permissions of an existing file, only the user
 /// has access until then.
@@ -21,10 +24,10 @@ pub(crate) fn create_temporary<R: Files>(
 ) -> io::Result<()> {
     let mut options = OpenOptions::new();
     options.write(true).create_new(true);
-    if place.mode.is_some() {
+    if place.old.is_some() {
         options.mode(OWN_MODE);
     }
-    *temporary = Some(options.open(rt, place.temporary.as_str())?);
+    *temporary = Some(options.open(rt, place.temporary()?)?);
     Ok(())
 }
 
@@ -57,16 +60,46 @@ pub(crate) fn write_temporary<W: Write>(
     }
 }
 
-/// Gives the temporary file the permissions of the file and syncs it.
-pub(crate) fn sync_temporary<F: OpenFile>(
-    temporary: &Option<F>,
-    mode: Option<u32>,
+/// Gives a file the owner and the group of an old one, or only its group if the user may not set
+/// the owner. Returns whether it has the group.
+fn keep_group<R: Files>(rt: &R, path: &str, file: &R::File, old: Attributes) -> io::Result<bool> {
+    let found = file.metadata()?;
+    if (found.uid(), found.gid()) == (old.user, old.group) {
+        return Ok(true);
+    }
+    Ok(
+        rt.lchown(path, Some(old.user), Some(old.group)).is_ok()
+            || rt.lchown(path, None, Some(old.group)).is_ok(),
+    )
+}
+
+/// Gives a file the owner, the group and the permissions of an old one. A file that cannot have the
+/// group gets no permissions for its group.
+fn keep_attributes<R: Files>(
+    rt: &R,
+    path: &str,
+    file: &R::File,
+    old: Attributes,
+) -> io::Result<()> {
+    let mode = if keep_group(rt, path, file, old)? {
+        old.mode
+    } else {
+        old.mode & WITHOUT_GROUP
+    };
+    file.set_permissions(Permissions::from_mode(mode))
+}
+
+/// Gives the temporary file the attributes of the file and syncs it.
+pub(crate) fn sync_temporary<R: Files>(
+    rt: &R,
+    place: &Place,
+    temporary: &Option<R::File>,
 ) -> io::Result<()> {
     let Some(file) = temporary else {
         return Err(ErrorKind::NotFound.into());
     };
-    if let Some(mode) = mode {
-        file.set_permissions(Permissions::from_mode(mode))?;
+    if let Some(old) = place.old {
+        keep_attributes(rt, place.temporary()?, file, old)?;
     }
     file.sync_all()
 }
@@ -80,7 +113,7 @@ pub(crate) fn rename_temporary<R: Files>(
     if temporary.is_none() {
         return Err(ErrorKind::NotFound.into());
     }
-    fs::rename(rt, place.temporary.as_str(), place.target.as_str())?;
+    fs::rename(rt, place.temporary()?, place.target.as_str())?;
     *temporary = None;
     Ok(())
 }
@@ -120,7 +153,7 @@ pub(crate) fn remove_temporary<R: Files>(
     temporary: &mut Option<R::File>,
 ) -> io::Result<()> {
     if temporary.is_some() {
-        remove_at(rt, place.temporary.as_str())?;
+        remove_at(rt, place.temporary()?)?;
         *temporary = None;
     }
     Ok(())

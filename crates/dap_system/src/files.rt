@@ -1,19 +1,29 @@
 //! The files and the standard input of the operating system.
+ghost use Rattle.std.specs.Prelude.{◌≡◌, IfOk};
+
+use crate::output::OpenOutput;
 use crate::reports::is_out_of_memory;
+use arrayvec::ArrayVec;
 use dap_device::{
     DeviceFault, FileAt, FileFault, KeptInput, ReadFault, Replaceable, Source, StdSink, StdSource,
-    find_file, open_input, shows_closed_input,
+    find_file, is_standard, open_input, stream_number,
 };
+use dap_golden::is_trace;
 use dap_runs::{Devices, Files, OpenFault, RulesFiles, RulesOpenFault, Targets};
 use std::alloc::Global;
 use std::fs::{self, File, OpenOptions};
 use std::hash::RandomState;
-use std::io::Error;
+use std::io::{self, Error, ErrorKind};
+use std::os::unix::fs::MetadataExt;
+
+/// The number of first bytes of an input that are stored. The first line of a trace is shorter.
+const HEAD: usize = 32;
 
 /// An input that was opened. It counts what it gave and how often it failed.
 #[derive(Drop)]
 pub struct OpenedInput {
     input: KeptInput,
+    head: ArrayVec<u8, HEAD>,
     given: u64,
     failures: u64,
 }
@@ -22,6 +32,20 @@ impl OpenedInput {
     /// Returns the input, with the bytes that it gave if they are kept.
     pub fn kept(&self) -> &KeptInput {
         &self.input
+    }
+
+    /// Returns whether the first bytes that were read are those of a trace.
+    pub fn is_trace(&self) -> bool {
+        is_trace(self.head.as_slice())
+    }
+}
+
+/// Stores the first bytes of an input.
+fn note_head(head: &mut ArrayVec<u8, HEAD>, bytes: &[u8]) {
+    for byte in bytes.iter().take(HEAD) {
+        if head.try_push(*byte).is_err() {
+            break;
+        }
     }
 }
 
@@ -37,6 +61,7 @@ impl Source for OpenedInput {
     fn read(&mut self, buffer: &mut [u8]) -> Result<usize, DeviceFault> {
         match StdSource::new(&mut self.input).read(buffer) {
             Ok(count) => {
+                note_head(&mut self.head, &buffer[..count]);
                 self.given += count as u64;
                 Ok(count)
             }
@@ -73,6 +98,7 @@ impl Files<OpenedInput> for SystemFiles<'_> {
         match open_input(self.rt, Some(name), self.is_kept) {
             Ok(input) => Ok(OpenedInput {
                 input,
+                head: ArrayVec::new(),
                 given: 0,
                 failures: 0,
             }),
@@ -80,6 +106,15 @@ impl Files<OpenedInput> for SystemFiles<'_> {
             Err(error) => Err(OpenFault::Unread(error)),
         }
     }
+}
+
+/// Opens a rules file. A folder is not a file.
+pub fn open_rules_file(rt: &HostRuntime, name: &str) -> io::Result<File> {
+    let file = fs::open(rt, name)?;
+    if file.metadata()?.is_dir() {
+        return Err(ErrorKind::IsADirectory.into());
+    }
+    Ok(file)
 }
 
 /// Rules that are read from a file or a text. It counts what it gave and how often it failed.
@@ -148,7 +183,7 @@ impl<'a> RulesFiles<RulesInput<'a>> for SystemRules<'a> {
     fn open_rules(
         &self,
         name: &str,
-        is_input_standard: bool,
+        _is_input_standard: bool,
     ) -> Result<RulesInput<'a>, RulesOpenFault> {
         if let Some(text) = self.text {
             return Ok(RulesInput {
@@ -158,14 +193,11 @@ impl<'a> RulesFiles<RulesInput<'a>> for SystemRules<'a> {
                 failures: 0,
             });
         }
-        let file = match fs::open(self.rt, name) {
+        let file = match open_rules_file(self.rt, name) {
             Ok(file) => file,
             Err(error) if is_out_of_memory(&error) => return Err(RulesOpenFault::Memory),
             Err(error) => return Err(RulesOpenFault::Unread(error)),
         };
-        if is_input_standard && shows_closed_input(&file) {
-            return Err(RulesOpenFault::ClosedInput);
-        }
         Ok(RulesInput {
             file: Some(file),
             rest: &[],
@@ -179,9 +211,15 @@ impl<'a> RulesFiles<RulesInput<'a>> for SystemRules<'a> {
 #[derive(Drop)]
 pub struct SystemFile<'a> {
     file: FileAt<'a, HostRuntime>,
+    is_left: bool,
 }
 
 impl SystemFile<'_> {
+    /// Returns whether the temporary file could not be removed.
+    pub fn is_left(&self) -> bool {
+        self.is_left
+    }
+
     /// Returns the reason of the last failure, or `None` before the first one.
     pub fn reason(&self) -> Option<&Error> {
         self.file.reason()
@@ -240,7 +278,9 @@ impl Replaceable for SystemFile<'_> {
     }
 
     fn remove(&mut self) -> Result<(), FileFault> {
-        self.file.remove()
+        let removed = self.file.remove();
+        self.is_left = removed.is_err();
+        removed
     }
 
     fn failures(&self) -> u64 {
@@ -248,12 +288,25 @@ impl Replaceable for SystemFile<'_> {
     }
 }
 
-/// The files of the operating system that are replaced as a whole.
+/// The files of the operating system that are replaced as a whole, or only read.
 #[derive(Clone, Copy)]
 pub struct SystemTargets<'a> {
     pub rt: &'a HostRuntime,
-    /// Random words for the names of temporary files.
-    pub hasher: RandomState,
+    /// Random words for the names of temporary files. `None`: the files are only read, so they may
+    /// be pipes.
+    pub hasher: Option<RandomState>,
+}
+
+impl<'a> SystemTargets<'a> {
+    /// Finds a file.
+    fn file(&self, name: &str) -> io::Result<FileAt<'a, HostRuntime>>
+        ensures { IfOk result (λ file. file.failures ≡ 0) }
+    {
+        match self.hasher {
+            Some(hasher) => find_file(self.rt, name, hasher),
+            None => FileAt::to_read(self.rt.alloc(), self.rt, name),
+        }
+    }
 }
 
 impl<'a> Targets<SystemFile<'a>> for SystemTargets<'a> {
@@ -262,27 +315,76 @@ impl<'a> Targets<SystemFile<'a>> for SystemTargets<'a> {
     ghost unfound = { λ targets name fault. Unit {0} };
 
     fn find(&self, name: &str) -> Result<SystemFile<'a>, OpenFault> {
-        match find_file(self.rt, name, self.hasher) {
-            Ok(file) => Ok(SystemFile { file }),
+        match self.file(name) {
+            Ok(file) => Ok(SystemFile {
+                file,
+                is_left: false,
+            }),
             Err(error) if is_out_of_memory(&error) => Err(OpenFault::Memory),
             Err(error) => Err(OpenFault::Unread(error)),
         }
     }
 }
 
-/// The devices and pipes of the operating system.
+/// The path of standard input, as Linux names it.
+const STANDARD_INPUT: &str = "/proc/self/fd/0";
+
+/// Returns whether two names lead to one file. The second is that of an input: without a name, and
+/// with `-`, it is the file from which standard input comes.
+pub fn are_same(rt: &HostRuntime, name: &str, input: Option<&str>) -> bool {
+    let input = match input {
+        Some(input) if !is_standard(input) => input,
+        _ => STANDARD_INPUT,
+    };
+    match (fs::metadata(rt, name), fs::metadata(rt, input)) {
+        (Ok(a), Ok(b)) => a.dev() == b.dev() && a.ino() == b.ino(),
+        _ => false,
+    }
+}
+
+/// Returns whether a name leads to an output that is written directly: a device, a pipe or an open
+/// stream.
+pub fn is_device(rt: &HostRuntime, name: &str) -> bool {
+    if !matches!(stream_number(rt.alloc(), rt, name), Ok(None)) {
+        return true;
+    }
+    match fs::metadata(rt, name) {
+        Ok(found) => !found.is_file() && !found.is_dir(),
+        Err(_) => false,
+    }
+}
+
+/// Opens an output that is written directly. A stream other than standard output and standard error
+/// is opened only if it is a device or a pipe: a file would be written from its start.
+fn open_output(rt: &HostRuntime, name: &str) -> io::Result<OpenOutput> {
+    match stream_number(rt.alloc(), rt, name)? {
+        Some(1) => return Ok(OpenOutput::Standard(rt.stdout())),
+        Some(2) => return Ok(OpenOutput::Errors(rt.stderr())),
+        Some(_) if fs::metadata(rt, name)?.is_file() => {
+            return Err(Error::new(
+                ErrorKind::InvalidInput,
+                "is an open file: redirect standard output to it, such as >&3",
+            ));
+        }
+        _ => {}
+    }
+    let file = OpenOptions::new().write(true).open(rt, name)?;
+    Ok(OpenOutput::File(file))
+}
+
+/// The devices, pipes and open streams of the operating system.
 #[derive(Clone, Copy)]
 pub struct SystemDevices<'a> {
     pub rt: &'a HostRuntime,
 }
 
-impl Devices<StdSink<File>> for SystemDevices<'_> {
+impl Devices<StdSink<OpenOutput>> for SystemDevices<'_> {
     ghost opened = { λ devices name device. Unit {0} };
 
     ghost unopened = { λ devices name fault. Unit {0} };
 
-    fn open_device(&self, name: &str) -> Result<StdSink<File>, OpenFault> {
-        match OpenOptions::new().write(true).open(self.rt, name) {
+    fn open_device(&self, name: &str) -> Result<StdSink<OpenOutput>, OpenFault> {
+        match open_output(self.rt, name) {
             Ok(device) => Ok(StdSink::new(device)),
             Err(error) if is_out_of_memory(&error) => Err(OpenFault::Memory),
             Err(error) => Err(OpenFault::Unread(error)),

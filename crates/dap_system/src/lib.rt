@@ -5,11 +5,17 @@
 #![tactic(auto)]
 
 mod files;
+mod output;
 mod reports;
 
 pub use files::{
     OpenedInput, RulesInput, SystemDevices, SystemFile, SystemFiles, SystemRules, SystemTargets,
+    are_same, is_device, open_rules_file,
+};
+pub use output::{
+    Errors, Escaped, LineOutput, OpenOutput, ShownOutput, errors, line_output, shown_output,
 };
 pub use reports::{
-    explain_unopened, explain_unread, is_out_of_memory, print, report_failure, report_reason,
+    explain_unopened, explain_unread, is_out_of_memory, print, report_failure, report_file,
+    report_input, report_reason, report_terminal, report_trace,
 };

@@ -1,12 +1,11 @@
 //! Compares the recordings of two files, or prints how they differ.
 use crate::explaining::explain_no_rules;
 use crate::{REFUSED, Setting, tables};
-use dap_device::KeptInput;
 use dap_explain_commands::{explain_applying, explain_comparison};
-use dap_system::{OpenedInput, print, report_failure, report_reason};
+use dap_system::{OpenedInput, errors, line_output, print, report_input, report_reason};
 use dapnorm::{
     Comparison, IndexNames, LIMITS, Mode, OpenFault, OpenStop, Printed, RuledPairRun, RulesStop,
-    StdSink, TableMaker, Tables, TwoFilesRun, Which, compare_by_rules, compare_files,
+    TableMaker, Tables, TwoFilesRun, Which, compare_by_rules, compare_files,
 };
 use std::alloc::Global;
 use std::hash::RandomState;
@@ -15,15 +14,15 @@ use std::hash::RandomState;
 fn explain(
     rt: &HostRuntime,
     names: (&str, &str),
-    inputs: (&KeptInput, &KeptInput),
+    inputs: (&OpenedInput, &OpenedInput),
     status: u8,
     mode: Mode,
     setting: Setting<'_>,
 ) {
     let (a, b) = inputs;
-    report_failure(rt, Some(names.0), a);
-    report_failure(rt, Some(names.1), b);
-    if let (Some(a), Some(b)) = (a.bytes(), b.bytes())
+    report_input(rt, Some(names.0), a, status == REFUSED);
+    report_input(rt, Some(names.1), b, status == REFUSED);
+    if let (Some(a), Some(b)) = (a.kept().bytes(), b.kept().bytes())
         && status == REFUSED
     {
         print(
@@ -46,7 +45,7 @@ fn explain_open_stop(rt: &HostRuntime, names: (&str, &str), stop: &OpenStop) {
     }
 }
 
-/// Explains a comparison of two files if explanations are requested, and returns its status.
+/// Explains a comparison of two files, and returns its status.
 fn explained(
     rt: &HostRuntime,
     names: (&str, &str),
@@ -54,11 +53,8 @@ fn explained(
     mode: Mode,
     setting: Setting<'_>,
 ) -> u8 {
-    if !setting.explain {
-        return run.status;
-    }
     match &run.inputs {
-        Ok((a, b)) => explain(rt, names, (a.kept(), b.kept()), run.status, mode, setting),
+        Ok((a, b)) => explain(rt, names, (a, b), run.status, mode, setting),
         Err(stop) => explain_open_stop(rt, names, stop),
     }
     run.status
@@ -80,8 +76,8 @@ pub fn compare_two(
         &setting.system_files(rt),
         a,
         b,
-        &mut StdSink::new(rt.stdout()),
-        &mut StdSink::new(rt.stderr()),
+        &mut line_output(rt),
+        &mut errors(rt),
         tables(alloc, LIMITS, setting.hasher),
         tables(alloc, LIMITS, setting.hasher),
         mode,
@@ -120,8 +116,8 @@ fn print_by_rules(
         rules,
         comparison.a,
         comparison.b,
-        &mut StdSink::new(rt.stdout()),
-        &mut StdSink::new(rt.stderr()),
+        &mut line_output(rt),
+        &mut errors(rt),
         &maker,
         comparison.mode(),
     )
@@ -148,9 +144,8 @@ fn explain_rules_stop(
                 Which::A => comparison.a,
                 Which::B => comparison.b,
             };
-            let input = input.kept();
-            if let Some(bytes) = input.bytes() {
-                report_failure(rt, Some(name), input);
+            report_input(rt, Some(name), input, true);
+            if let Some(bytes) = input.kept().bytes() {
                 print(
                     rt,
                     explain_applying(rt.alloc(), bytes, rules, *refused, LIMITS),
@@ -167,9 +162,7 @@ pub fn run_comparison(rt: &HostRuntime, comparison: &Comparison<'_>, setting: Se
         return compare_two(rt, a, b, comparison.mode(), comparison.printed, setting);
     };
     let run = print_by_rules(rt, comparison, rules, setting);
-    if let Some(stop) = &run.stop
-        && setting.explain
-    {
+    if let Some(stop) = &run.stop {
         explain_rules_stop(rt, comparison, rules, setting.rules, stop);
     }
     run.status

@@ -3,23 +3,11 @@ use crate::explaining::{explain_file, explain_no_rules};
 use crate::{Setting, USAGE};
 use dap_explain_commands::explain_golden;
 use dap_system::{
-    OpenedInput, SystemFile, SystemFiles, SystemTargets, explain_unopened, explain_unread, print,
-    report_reason,
+    OpenedInput, SystemFile, SystemFiles, SystemTargets, are_same, errors, explain_unopened,
+    explain_unread, print, report_file, report_terminal, shown_output,
 };
-use dapnorm::{
-    Golden, GoldenEnd, GoldenFilesRun, GoldenStop, LIMITS, MaskRules, StdSink, golden_files,
-};
-use std::fs;
+use dapnorm::{Golden, GoldenEnd, GoldenFilesRun, GoldenStop, LIMITS, MaskRules, golden_files};
 use std::hash::RandomState;
-use std::os::unix::fs::MetadataExt;
-
-/// Returns whether two names are of one file.
-fn are_same(rt: &HostRuntime, one: &str, other: &str) -> bool {
-    match (fs::metadata(rt, one), fs::metadata(rt, other)) {
-        (Ok(a), Ok(b)) => a.dev() == b.dev() && a.ino() == b.ino(),
-        _ => false,
-    }
-}
 
 /// Explains a stop in lines for people.
 fn explain_stop(
@@ -39,11 +27,7 @@ fn explain_stop(
             );
         }
         GoldenStop::Golden(refused) => explain_file(rt, name, refused, hasher),
-        GoldenStop::GoldenUnread | GoldenStop::Unwritten(_) => {
-            if let Some(reason) = file.reason() {
-                report_reason(rt, name, reason);
-            }
-        }
+        GoldenStop::GoldenUnread | GoldenStop::Unwritten(_) => report_file(rt, name, file),
         _ => {}
     }
 }
@@ -86,7 +70,11 @@ fn run_golden<'a>(
 ) -> GoldenFilesRun<OpenedInput, SystemFile<'a>> {
     let targets = SystemTargets {
         rt,
-        hasher: setting.hasher,
+        hasher: if golden.update {
+            Some(setting.hasher)
+        } else {
+            None
+        },
     };
     let golden = Golden {
         rules: setting.rules_name(golden.rules),
@@ -99,9 +87,20 @@ fn run_golden<'a>(
         &targets,
         &golden,
         input,
-        &mut StdSink::new(rt.stdout()),
-        &mut StdSink::new(rt.stderr()),
+        &mut shown_output(rt),
+        &mut errors(rt),
     )
+}
+
+/// Returns what else the golden file is, if it is a file that an update would have to read.
+fn read_as(rt: &HostRuntime, golden: &Golden<'_>, input: Option<&str>) -> Option<&'static str> {
+    if are_same(rt, golden.golden, input) {
+        return Some("input");
+    }
+    match golden.rules {
+        Some(rules) if are_same(rt, golden.golden, Some(rules)) => Some("rules file"),
+        _ => None,
+    }
 }
 
 /// Does what `golden` requests.
@@ -112,14 +111,18 @@ pub fn keep_golden(
     setting: Setting<'_>,
 ) -> u8 {
     if golden.update
-        && let Some(name) = input
-        && are_same(rt, golden.golden, name)
+        && let Some(other) = read_as(rt, golden, input)
     {
-        let _ = eprintln!(rt;
-            "dapnorm: golden: the golden file and the input are the same file: {name}"
+        let name = golden.golden;
+        print(
+            rt,
+            format!(in rt.alloc();
+                "dapnorm: golden: the golden file and the {other} are the same file: {name}\n"
+            ),
         );
         return USAGE;
     }
+    report_terminal(rt, input);
     let run = run_golden(rt, golden, input, setting);
     explain_end(rt, golden, input, &run.end, setting);
     run.status

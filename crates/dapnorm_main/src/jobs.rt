@@ -1,18 +1,18 @@
 //! Does the tasks of the command line, over their files.
 use crate::comparing::compare_two;
 use crate::explaining::{explain_mask_of, explain_order_of};
-use crate::{REFUSED, Setting, tables};
-use dap_device::{KeptInput, is_standard};
+use crate::{REFUSED, Setting, USAGE, tables};
+use dap_device::is_standard;
 use dap_explain_commands::{explain_job, explain_view};
 use dap_system::{
-    OpenedInput, SystemDevices, SystemFile, SystemTargets, explain_unopened, print, report_failure,
-    report_reason,
+    OpenOutput, OpenedInput, SystemDevices, SystemFile, SystemTargets, are_same, errors,
+    explain_unopened, is_device, print, report_failure, report_file, report_input, report_reason,
+    report_terminal,
 };
 use dapnorm::{
     FileRun, Job, LIMITS, Printed, Ruled, RulesOpenFault, SaveEnd, SavedRun, StdSink, StreamJob,
     Task, run_file, save_run, write_run,
 };
-use std::fs::{self, File};
 
 /// Explains why a task refused an input.
 fn explain_refusal(rt: &HostRuntime, task: Task<'_>, input: &[u8], setting: Setting<'_>) {
@@ -39,20 +39,38 @@ fn explain_rules(rt: &HostRuntime, task: Task<'_>, unopened: Option<RulesOpenFau
     }
 }
 
-/// Explains why a task ended with this status.
+/// Reports why an input could not be read, or that a rejected one is a trace.
+fn report_of(
+    rt: &HostRuntime,
+    task: Task<'_>,
+    name: Option<&str>,
+    input: &OpenedInput,
+    status: u8,
+) {
+    match task {
+        Task::Job(StreamJob::Record) => report_failure(rt, name, input.kept()),
+        _ => report_input(rt, name, input, status == REFUSED),
+    }
+}
+
+/// Explains why a task ended with this status. Without a request for explanations, it explains why
+/// rules are rejected, and not why an input is.
 fn explain(
     rt: &HostRuntime,
     task: Task<'_>,
     name: Option<&str>,
-    input: &KeptInput,
+    input: &OpenedInput,
     status: u8,
     setting: Setting<'_>,
 ) {
-    report_failure(rt, name, input);
-    if let Some(bytes) = input.bytes()
-        && status == REFUSED
-    {
-        explain_refusal(rt, task, bytes, setting);
+    report_of(rt, task, name, input, status);
+    if status != REFUSED {
+        return;
+    }
+    match (input.kept().bytes(), task) {
+        (Some(bytes), _) => explain_refusal(rt, task, bytes, setting),
+        (None, Task::Apply { .. }) => explain_refusal(rt, task, &[], setting),
+        _ => {}
     }
 }
 
@@ -70,13 +88,12 @@ fn print_task(
         &task,
         name,
         &mut StdSink::new(rt.stdout()),
-        &mut StdSink::new(rt.stderr()),
+        &mut errors(rt),
         tables(rt.alloc(), LIMITS, setting.hasher),
     )
 }
 
-/// Explains a task whose output went to standard output, and returns its status. Why an input did
-/// not open is always explained.
+/// Explains a task whose output went to standard output, and returns its status.
 fn explained(
     rt: &HostRuntime,
     task: Task<'_>,
@@ -87,32 +104,22 @@ fn explained(
     let status = run.task.status;
     match &run.input {
         Ok(input) => {
-            if setting.explain {
-                explain_rules(rt, task, run.task.unopened_rules);
-                explain(rt, task, name, input.kept(), status, setting);
-            }
+            explain_rules(rt, task, run.task.unopened_rules);
+            explain(rt, task, name, input, status, setting);
         }
         Err(fault) => explain_unopened(rt, name, fault),
     }
     status
 }
 
-/// Returns whether a file exists that is neither a regular file nor a folder.
-fn is_device(rt: &HostRuntime, name: &str) -> bool {
-    match fs::metadata(rt, name) {
-        Ok(found) => !found.is_file() && !found.is_dir(),
-        Err(_) => false,
-    }
-}
-
-/// Does a task over one input, and writes its output to a device or a pipe as it is.
+/// Does a task over one input, and writes its output to a device, a pipe or an open stream.
 fn write_task(
     rt: &HostRuntime,
     task: Task<'_>,
     name: Option<&str>,
     output: &str,
     setting: Setting<'_>,
-) -> SavedRun<OpenedInput, StdSink<File>> {
+) -> SavedRun<OpenedInput, StdSink<OpenOutput>> {
     write_run(
         rt.alloc(),
         &setting.system_files(rt),
@@ -121,7 +128,7 @@ fn write_task(
         &task,
         name,
         output,
-        &mut StdSink::new(rt.stderr()),
+        &mut errors(rt),
         tables(rt.alloc(), LIMITS, setting.hasher),
     )
 }
@@ -136,7 +143,7 @@ fn save_task<'a>(
 ) -> SavedRun<OpenedInput, SystemFile<'a>> {
     let targets = SystemTargets {
         rt,
-        hasher: setting.hasher,
+        hasher: Some(setting.hasher),
     };
     save_run(
         rt.alloc(),
@@ -146,13 +153,12 @@ fn save_task<'a>(
         &task,
         name,
         output,
-        &mut StdSink::new(rt.stderr()),
+        &mut errors(rt),
         tables(rt.alloc(), LIMITS, setting.hasher),
     )
 }
 
-/// Explains a task whose output goes to a file or a device, and returns its status. Why a file did
-/// not open is always explained.
+/// Explains a task whose output goes to a file or a device, and returns its status.
 fn explained_end<O>(
     rt: &HostRuntime,
     task: Task<'_>,
@@ -169,10 +175,8 @@ fn explained_end<O>(
             unopened_rules,
             ..
         } => {
-            if setting.explain {
-                explain_rules(rt, task, *unopened_rules);
-                explain(rt, task, name, input.kept(), run.status, setting);
-            }
+            explain_rules(rt, task, *unopened_rules);
+            explain(rt, task, name, input, run.status, setting);
         }
     }
     run.status
@@ -180,10 +184,16 @@ fn explained_end<O>(
 
 /// Reports the reason of a file that was not replaced.
 fn explain_unsaved(rt: &HostRuntime, name: &str, end: &SaveEnd<OpenedInput, SystemFile<'_>>) {
-    if let SaveEnd::Ran { output, .. } = end
-        && let Some(reason) = output.reason()
-    {
-        report_reason(rt, name, reason);
+    if let SaveEnd::Ran { output, .. } = end {
+        report_file(rt, name, output);
+    }
+}
+
+/// Returns the rules file of a task that would be lost if its output were saved under this name.
+fn lost_rules<'a>(rt: &HostRuntime, task: Task<'a>, output: &str) -> Option<&'a str> {
+    match task {
+        Task::Apply { rules, .. } if are_same(rt, output, Some(rules)) => Some(rules),
+        _ => None,
     }
 }
 
@@ -195,11 +205,23 @@ pub fn run_over_input(
     output: Option<&str>,
     setting: Setting<'_>,
 ) -> u8 {
+    if !matches!(task, Task::Job(StreamJob::Rows { .. })) {
+        report_terminal(rt, input);
+    }
     match output {
         Some(name) if !is_standard(name) => {
             if is_device(rt, name) {
                 let run = write_task(rt, task, input, name, setting);
                 return explained_end(rt, task, input, name, &run, setting);
+            }
+            if let Some(rules) = lost_rules(rt, task, name) {
+                print(
+                    rt,
+                    format!(in rt.alloc();
+                        "dapnorm: the output and the rules file are the same file: {rules}\n"
+                    ),
+                );
+                return USAGE;
             }
             let run = save_task(rt, task, input, name, setting);
             explain_unsaved(rt, name, &run.end);

@@ -21,7 +21,8 @@ use crate::jobs::{run_job, run_over_input};
 use crate::showing::show_recording;
 use crate::suggesting::suggest_rules;
 use crate::words::rules_given;
-use dap_system::{SystemFiles, SystemRules};
+use dap_device::hold_closed_streams;
+use dap_system::{SystemFiles, SystemRules, errors};
 use dapnorm::{
     Action, Command, IndexNames, Limits, Ruled, StdSink, Tables, Task, UsageFault, command,
     run_usage,
@@ -105,8 +106,7 @@ fn report_usage(rt: &HostRuntime, fault: &UsageFault) -> u8
     ensures { IsUsageStatus fault.now result }
 {
     let mut writer = StdSink::new(rt.stdout());
-    let mut errors = StdSink::new(rt.stderr());
-    run_usage(fault, &mut writer, &mut errors)
+    run_usage(fault, &mut writer, &mut errors(rt))
 }
 
 /// Reads the arguments and does what they request.
@@ -123,7 +123,7 @@ fn run_words(rt: &HostRuntime, alloc: Global, words: &[String]) -> u8 {
         Err(fault) => return report_usage(rt, &fault),
     };
     let explain = command.explain || requests_explanations(rt);
-    let rules = match rules_given(rt, &command.action, words.as_slice(), explain) {
+    let rules = match rules_given(rt, &command.action, words.as_slice()) {
         Ok(rules) => rules,
         Err(status) => return status,
     };
@@ -180,7 +180,11 @@ fn report_no_words(rt: &HostRuntime, error: &Error) -> u8 {
     }
 }
 
+/// Runs the program, with a device in place of each standard stream that is closed.
 fn run(rt: &HostRuntime) -> u8 {
+    let Ok(_held) = hold_closed_streams(rt) else {
+        return report_unread(rt);
+    };
     let alloc = rt.alloc();
     let args = match env::args(rt) {
         Ok(args) => args,

@@ -1,10 +1,23 @@
 //! Suggests rules that make the recordings of two files the same.
 use crate::explaining::explain_no_rules;
 use crate::{REFUSED, Setting};
-use dap_explain_commands::explain_comparison;
+use dap_explain_commands::{explain_comparison, explain_mask};
+use dap_golden::is_trace;
 use dap_suggest_runs::{SuggestEnd, SuggestFilesRun, suggest_files};
-use dap_system::{OpenedInput, SystemFiles, explain_unread, print};
-use dapnorm::{LIMITS, Mode, StdSink, Which};
+use dap_system::{
+    OpenedInput, SystemFiles, errors, explain_unread, line_output, print, report_trace,
+};
+use dapnorm::{LIMITS, Mode, Which};
+
+/// Reports which of two rejected inputs are traces.
+fn report_traces(rt: &HostRuntime, files: (&str, &str), a: &[u8], b: &[u8]) {
+    if is_trace(a) {
+        report_trace(rt, Some(files.0));
+    }
+    if is_trace(b) {
+        report_trace(rt, Some(files.1));
+    }
+}
 
 /// Explains why no rules are suggested.
 fn explain_end(
@@ -24,8 +37,17 @@ fn explain_end(
         SuggestEnd::Unread(Which::A, why) => explain_unread(rt, Some(files.0), why),
         SuggestEnd::Unread(Which::B, why) => explain_unread(rt, Some(files.1), why),
         SuggestEnd::Ran { given, a, b } => {
-            if run.status == REFUSED && given.is_empty() {
-                let (a, b) = (a.bytes.as_slice(), b.bytes.as_slice());
+            let (a, b) = (a.bytes.as_slice(), b.bytes.as_slice());
+            if run.status != REFUSED {
+                return;
+            }
+            if !setting.explain {
+                report_traces(rt, files, a, b);
+            }
+            if !given.is_empty() {
+                return print(rt, explain_mask(rt.alloc(), given.as_slice(), &[], LIMITS));
+            }
+            if setting.explain {
                 print(
                     rt,
                     explain_comparison(rt.alloc(), a, b, LIMITS, Mode::Whole, setting.hasher),
@@ -50,11 +72,9 @@ pub fn suggest_rules(
         setting.rules_name(rules),
         files.0,
         files.1,
-        &mut StdSink::new(rt.stdout()),
-        &mut StdSink::new(rt.stderr()),
+        &mut line_output(rt),
+        &mut errors(rt),
     );
-    if setting.explain {
-        explain_end(rt, files, rules, &run, setting);
-    }
+    explain_end(rt, files, rules, &run, setting);
     run.status
 }

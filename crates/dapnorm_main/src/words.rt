@@ -12,19 +12,16 @@ use crate::explaining::explain_no_rules;
 use crate::report_usage;
 use dap_commands::words_given;
 use dap_runs::report_no_rules;
-use dap_system::is_out_of_memory;
+use dap_system::{errors, is_out_of_memory, open_rules_file};
 use dap_word_option::with_values;
-use dapnorm::{
-    Action, Job, NoRules, RulesOpenFault, RulesRefused, StdSink, StdSource, Stop, read_all,
-};
-use std::fs;
+use dapnorm::{Action, Job, NoRules, RulesOpenFault, RulesRefused, StdSource, Stop, read_all};
 
 /// The maximum number of bytes of a rules file.
 const RULES: u64 = 65_536;
 
 /// Reads the text of a rules file, with at most one byte past the limit.
 fn text_of(rt: &HostRuntime, name: &str) -> Result<Vec<u8>, NoRules> {
-    let file = match fs::open(rt, name) {
+    let file = match open_rules_file(rt, name) {
         Ok(file) => file,
         Err(error) if is_out_of_memory(&error) => {
             return Err(NoRules::Unopened(RulesOpenFault::Memory));
@@ -65,12 +62,7 @@ fn rules_name<'a>(action: &Action<'a>) -> Option<&'a str>
 
 /// Returns the text of the rules of an action with the words of the option, which are checked
 /// before the rules file is opened.
-fn rules_with(
-    rt: &HostRuntime,
-    name: Option<&str>,
-    values: &[&str],
-    explain: bool,
-) -> Result<Vec<u8>, u8>
+fn rules_with(rt: &HostRuntime, name: Option<&str>, values: &[&str]) -> Result<Vec<u8>, u8>
     ensures ok { IfOk result
         (λ rules. AreRulesWith (text_in name.entry) (texts_of values.now) rules.items) }
     ensures err { IfErr result (λ status. 0 < status) }
@@ -88,10 +80,8 @@ fn rules_with(
             Err(fault) => Err(report_usage(rt, &fault)),
         },
         Err(why) => {
-            let status = report_no_rules(&mut StdSink::new(rt.stderr()), why);
-            if explain {
-                explain_no_rules(rt, name, None, &why);
-            }
+            let status = report_no_rules(&mut errors(rt), why);
+            explain_no_rules(rt, name, None, &why);
             Err(status)
         }
     }
@@ -103,7 +93,6 @@ pub fn rules_given(
     rt: &HostRuntime,
     action: &Action<'_>,
     arguments: &[&str],
-    explain: bool,
 ) -> Result<Option<Vec<u8>>, u8>
     // The values are those that the model of clap finds in the arguments.
     ensures ok { IfOk result
@@ -122,7 +111,7 @@ pub fn rules_given(
     if values.is_empty() {
         return Ok(None);
     }
-    match rules_with(rt, rules_name(action), values.as_slice(), explain) {
+    match rules_with(rt, rules_name(action), values.as_slice()) {
         Ok(rules) => Ok(Some(rules)),
         Err(status) => Err(status),
     }
