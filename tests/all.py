@@ -74,6 +74,7 @@ def main():
             ("commands that apply rules", "ruled.py"),
             ("rules that are suggested", "suggest.py"),
             ("inputs and outputs in files", "files.py"),
+            ("files that must not be lost", "kept_files.py"),
             ("links, permissions and temporary files", "replacing.py"),
             ("all differences of recordings", "matching.py"),
             ("explanations of refusals", "explaining.py"),

@@ -24,6 +24,7 @@ RECORD = "a record begins with > (client) or < (adapter), and nothing is between
 TYPES = 'a message has the type "request", "response" or "event"'
 PRINTED = ["a program may have printed text between two frames", "let it print to standard error, or send output events instead"]
 NOTHING_CHANGES = "no rule of a mask changes it: let the program that sent it write an integer"
+BOTH_HALVES = "let the program that sent it write both halves of the character, or \\ufffd"
 IN_RANGE = "let the program that sent it write a number of that range"
 DROPPED = "drop event *\n"
 STATISTICS = '<{"seq":2,"type":"event","event":"terminated","statistics":{"all":0.50,"one":[1,-0]}}'
@@ -109,6 +110,14 @@ CONTENTS = {
     "no JSON": (
         third(EVENT % "nil"), None, "record 3: Json",
         [IS_EVENT, 'the content of record 3 is not JSON near byte 58: "t\\",\\"body\\":{\\"output\\":nil}}"', FIX_ADAPTER],
+    ),
+    "half of a character": (
+        third(EVENT % '"a\\n\\u0041\\ud83d\\ude00\\ud83d\\n"'), None, "record 3: Json",
+        [IS_EVENT, "record 3 has the escape \\ud83d, a surrogate alone: JSON allows it, but no Unicode text has it", BOTH_HALVES],
+    ),
+    "the other half": (
+        third(EVENT % '"\\uDC00\\ud83d"'), None, "record 3: Json",
+        [IS_EVENT, "record 3 has the escape \\uDC00, a surrogate alone: JSON allows it, but no Unicode text has it", BOTH_HALVES],
     ),
     "an end inside JSON": (
         third(THREADS[:-1]), None, "record 3: Json",

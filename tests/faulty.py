@@ -4,7 +4,7 @@ import subprocess
 from concurrent.futures import ThreadPoolExecutor
 from threading import Lock
 
-from report import PROGRAM, TOP, toolchain
+from report import PROGRAM, TOP, first_line, toolchain
 
 
 def build_shim(folder):
@@ -43,13 +43,13 @@ class Faulty:
             return self.places[key]
 
     def run(self, run, passed=(), **asked):
-        """The status, the output and the errors of a run under what is asked of the shim, as `read_fails=3`."""
+        """The status, the output and the first line of the errors of a run under what is asked of the shim, as `read_fails=3`."""
         environment = {f"FAULT_INJECTION_{name.upper()}": str(number) for name, number in asked.items()}
         ran = subprocess.run(
             ["dapnorm", *run.arguments], executable=PROGRAM, input=run.given, capture_output=True, cwd=self.place(run.files), pass_fds=passed,
             timeout=120, env={"LD_PRELOAD": self.shim, **environment},
         )
-        return ran.returncode, ran.stdout, ran.stderr
+        return ran.returncode, ran.stdout, first_line(ran.stderr)
 
     def run_refused(self, run, turn, **asked):
         """The same with the growth of this turn refused, and whether it was."""

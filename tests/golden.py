@@ -1,12 +1,13 @@
 """Runs `dapnorm golden` on the worked sessions and on files that it cannot read or write, and ends it at each of its system calls."""
 import os
+import re
 import stat
 import subprocess
 import sys
 import tempfile
 
 from faulty import build_shim, side_by_side
-from report import PROGRAM, Report
+from report import PROGRAM, Report, first_line
 from worked_runs import (
     BEGUN, COMPARED, CONFIGURED, DIFFERENCES, FILLED, FRAME, INITIALIZE, LAUNCH, NEW_FRAME, NORMAL_CONFIGURED, NORMAL_STOPS, OUTPUT, PER_STOP,
     REFUSED_BYTES, REFUSED_LINES, REFUSED_RULES, SESSIONS, STOPPED, TRACES, frame, recording, refusal,
@@ -16,6 +17,8 @@ SAME, UNCHANGED = (0, b"same\n"), (0, b"unchanged\n")
 NOT_NORMAL = b"the session is the same, but the golden file is not in normal form: --update rewrites it\n"
 CONFIGURATION = recording(CONFIGURED)
 NORMAL = recording(NORMAL_CONFIGURED)
+# An old golden file: another recording.
+OLD = recording(BEGUN)
 
 
 class Folder:
@@ -53,9 +56,7 @@ class Folder:
     def run(self, *words, given=b"", **environment):
         """The status, the output and the first line of the errors. Each later line has to begin with two spaces."""
         ran = subprocess.run(["dapnorm", *words], executable=PROGRAM, input=given, capture_output=True, cwd=self.path, timeout=120, env=environment)
-        first, *others = ran.stderr.splitlines(keepends=True) or [b""]
-        assert all(line.startswith(b"  ") for line in others), ran.stderr
-        return ran.returncode, ran.stdout, first
+        return ran.returncode, ran.stdout, first_line(ran.stderr)
 
 
 def golden_refusal(text):
@@ -95,10 +96,10 @@ def sessions(report):
                 report.check(f"{name}, {form}, does not write its golden file again", kept)
                 report.check(f"no other file is left by {name}, {form}", folder.names() == ["g", "session"])
         if any(is_open):
-            with Folder(session=given, g=b"old") as folder:
+            with Folder(session=given, g=OLD) as folder:
                 answer = (2, b"", golden_refusal("incomplete: {} client, {} adapter".format(*is_open)))
                 report.check(f"{name} has open requests", folder.run("golden", "--update", "g", "session") == answer)
-                report.check(f"{name} with open requests writes nothing", folder.read("g") == b"old")
+                report.check(f"{name} with open requests writes nothing", folder.read("g") == OLD)
 
 
 def per_stop(report):
@@ -121,7 +122,7 @@ def refusals(report):
     cases.update({"an empty input": (b"", "no records"), "a trace without frames": (b">0\n", "no records"), "text": (b"hello\n", "record 1: BadMarker")})
     for name, (given, told) in cases.items():
         for words in ([], ["--update"]):
-            for old in (None, b"old"):
+            for old in (None, OLD):
                 with Folder(session=given, **({} if old is None else {"g": old})) as folder:
                     answer = folder.run("golden", *words, "g", "session")
                     report.check(f"golden {words} of {name} is refused", answer == (2, b"", golden_refusal(told)), repr(answer))
@@ -150,7 +151,10 @@ def differences(report):
             status, output, errors = folder.run("golden", "g", "session")
             is_told = (status, errors) == (2, golden_refusal(f"g: {told}")) or (status == 1 and output.startswith(b"differ "))
             report.check(f"a golden file with {name}", is_told, repr((status, output, errors)))
-            report.check(f"--update replaces a golden file with {name}", folder.run("golden", "--update", "g", "session") == wrote(CONFIGURED))
+            is_golden = re.match(b"[<>]content-", folder.read("g"), re.IGNORECASE) is not None
+            refused = (2, b"", golden_refusal("g: not replaced, since it is not a recording: remove it first"))
+            answer = folder.run("golden", "--update", "g", "session")
+            report.check(f"--update replaces a golden file with {name} if it is a recording", answer == (wrote(CONFIGURED) if is_golden else refused), repr(answer))
 
 
 def rules(report):
@@ -185,7 +189,7 @@ def links_and_modes(report):
         os.symlink("away/target", folder.at("g"))
         report.check("a link to a file that does not exist", folder.run("golden", "--update", "g", "session") == wrote(CONFIGURED))
         report.check("the link stays, and its target is made", os.path.islink(folder.at("g")) and folder.read("away/target") == NORMAL)
-        folder.write("away/target", b"old")
+        folder.write("away/target", OLD)
         os.chmod(folder.at("away/target"), 0o640)
         report.check("a link to a file", folder.run("golden", "--update", "g", "session") == wrote(CONFIGURED))
         mode = stat.S_IMODE(os.stat(folder.at("away/target")).st_mode)
@@ -199,7 +203,7 @@ def links_and_modes(report):
 
 def bad_files(report):
     """Files that cannot be read or written: a line that says so, the status of the table, and nothing lost."""
-    with Folder(session=CONFIGURATION, other=b"old") as folder:
+    with Folder(session=CONFIGURATION, other=OLD) as folder:
         os.mkdir(folder.at("folder"))
         os.symlink("loop", folder.at("loop"))
         cases = [
@@ -230,12 +234,12 @@ def full_disk(report):
             print("a full disk is not tried: no file system can be mounted here", flush=True)
             return
         try:
-            folder.write("disk/g", b"old")
+            folder.write("disk/g", OLD)
             with open(folder.at("disk/filler"), "wb") as file:
                 file.write(b"x" * 4096)
             answer = folder.run("golden", "--update", "disk/g", "session")
             report.check("golden on a full disk", answer == (4, b"", refusal("golden: disk/g: write fault")), repr(answer))
-            report.check("the golden file on the full disk is the old one", folder.read("disk/g") == b"old")
+            report.check("the golden file on the full disk is the old one", folder.read("disk/g") == OLD)
             report.check("no temporary file is on the full disk", sorted(os.listdir(folder.at("disk"))) == ["filler", "g"])
         finally:
             subprocess.run(["umount", folder.at("disk")], check=True)
@@ -262,7 +266,7 @@ def at_once(report):
 
 def ended_at(shim, number, how, **asked):
     """One update of an old golden file, ended at a system call, or with that call refused: what it left."""
-    with Folder(session=CONFIGURATION, g=b"old") as place:
+    with Folder(session=CONFIGURATION, g=OLD) as place:
         words = ["dapnorm", "golden", "--update", "g", "session"]
         environment = {f"FAULT_INJECTION_{name.upper()}": str(value) for name, value in {how: number, **asked}.items()}
         ran = subprocess.run(words, executable=PROGRAM, capture_output=True, cwd=place.path, timeout=120, env={"LD_PRELOAD": shim, **environment})
@@ -282,7 +286,7 @@ def killed(report):
             last = (0, b"wrote g (5 records)\n", b"", NORMAL, [])
             report.check(f"{told}: a last run meets no such call", runs[-1] == last, repr(runs[-1]))
             for number, (status, output, errors, content, left) in enumerate(runs, 1):
-                report.check(f"{told} {number}: the golden file is the old or the new one", content in (b"old", NORMAL), repr(content))
+                report.check(f"{told} {number}: the golden file is the old or the new one", content in (OLD, NORMAL), repr(content))
                 if how == "FAILS_AT":
                     is_told = left == [] or b"temporary" in errors
                     report.check(f"{told} {number}: no temporary file is left", is_told or loses == 1, repr((left, errors)))

@@ -7,7 +7,7 @@ import sys
 import tempfile
 
 from faulty import Faulty, side_by_side
-from report import PROGRAM, Report
+from report import PROGRAM, Report, first_line
 from worked_runs import (
     BEGUN, CONFIGURED, NORMAL_BEGUN, NORMAL_CONFIGURED, OUTPUT, RECORDED, RULES, SESSIONS, THREADS, TRACE, Run, all_runs, masked, record,
     recording, refusal,
@@ -129,7 +129,7 @@ def cuts(report, faulty):
 def system_run(run, folder, **streams):
     """A run over the system's own streams."""
     ran = subprocess.run([PROGRAM, *run.arguments], cwd=folder, timeout=120, **streams)
-    return ran.returncode, ran.stdout, ran.stderr
+    return ran.returncode, ran.stdout, first_line(ran.stderr)
 
 
 def system_devices(report, faulty):
@@ -158,7 +158,7 @@ def system_devices(report, faulty):
         os.close(source)
         report.check(f"{name} of a folder", answer == (4, b"", READ_FAULT), repr(answer))
         ran = subprocess.run(["sh", "-c", 'exec "$0" "$@" <&-', PROGRAM, *run.arguments], cwd=folder, **piped)
-        answer = (ran.returncode, ran.stdout, ran.stderr)
+        answer = (ran.returncode, ran.stdout, first_line(ran.stderr))
         report.check(f"{name} with <&-", answer == (4, b"", READ_FAULT), repr(answer))
 
 

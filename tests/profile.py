@@ -18,7 +18,7 @@ WANTS = {
     "Whole": "integer",
     "Text": "string",
     "Object": "object",
-    "List": "list",
+    "List": "array",
     "OwnSeq": "sequence number of the sender",
     "OtherSeq": "sequence number of the other side",
     "Frame": "frame id",

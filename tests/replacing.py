@@ -8,7 +8,7 @@ import sys
 import tempfile
 
 from faulty import build_shim, side_by_side
-from golden import CONFIGURATION, NORMAL, Folder, golden_refusal, wrote
+from golden import CONFIGURATION, NORMAL, OLD, Folder, golden_refusal, wrote
 from report import PROGRAM, Report
 from worked_runs import BEGUN, CONFIGURED, LAUNCH, OUTPUT, recording
 
@@ -19,6 +19,10 @@ MODES = [0o600, 0o640, 0o644, 0o755, 0o711, 0o500, 0o400]
 
 def shown(mode):
     return f"mode {mode:04o}"
+
+
+def shown_content(content):
+    return "no file" if content is None else "a file"
 
 
 def mode_of(path):
@@ -41,19 +45,19 @@ def updated(report, name, links, named, target, old):
         if old is not None:
             folder.write(target, old)
         answer = folder.run("golden", "--update", named, "session")
-        report.check(f"{name} over {old}: the run ends well", answer == wrote(CONFIGURED, named), repr(answer))
-        report.check(f"{name} over {old}: the last file is replaced", folder.read(target) == NORMAL and not os.path.islink(folder.at(target)))
+        report.check(f"{name} over {shown_content(old)}: the run ends well", answer == wrote(CONFIGURED, named), repr(answer))
+        report.check(f"{name} over {shown_content(old)}: the last file is replaced", folder.read(target) == NORMAL and not os.path.islink(folder.at(target)))
         left = {path: os.readlink(folder.at(path)) for path in links if os.path.islink(folder.at(path))}
-        report.check(f"{name} over {old}: the links stay", left == links, repr(left))
+        report.check(f"{name} over {shown_content(old)}: the links stay", left == links, repr(left))
         names, wanted = all_names(folder), {"session", *links, os.path.relpath(folder.at(target), folder.path)}
-        report.check(f"{name} over {old}: there is no other file", set(names) == {it for it in wanted if not it.startswith("..")}, repr(names))
+        report.check(f"{name} over {shown_content(old)}: there is no other file", set(names) == {it for it in wanted if not it.startswith("..")}, repr(names))
 
 
 def links(report):
     """A link is followed from its own folder, and links may lead to links."""
     chain = {"first": "one/second", "one/second": "deep/third", "one/deep/third": "../../two/fourth", "two/fourth": "../one/g"}
     long_chain = {f"link{number}": f"link{number + 1}" for number in range(39)}
-    for old in (None, b"old"):
+    for old in (None, OLD):
         updated(report, "a link in another folder", {"one/link": "g"}, "one/link", "one/g", old)
         updated(report, "a link to a file in another folder", {"one/link": "../two/g"}, "one/link", "two/g", old)
         updated(report, "a link with a folder inside its own", {"one/link": "deep/g"}, "one/link", "one/deep/g", old)
@@ -68,7 +72,7 @@ def modes(report):
     """A file that is replaced keeps its permissions."""
     for mode in MODES:
         for words in (["golden", "--update", "g", "session"], ["normalise", "session", "-o", "g"]):
-            with Folder(session=CONFIGURATION, g=b"old") as folder:
+            with Folder(session=CONFIGURATION, g=OLD) as folder:
                 os.chmod(folder.at("g"), mode)
                 status = folder.run(*words)[0]
                 found = mode_of(folder.at("g"))
@@ -94,7 +98,7 @@ def temporary_files(report, shim):
                 for name in ("one", "two"):
                     os.mkdir(folder.at(name))
                 os.symlink("../two/g", folder.at("one/link"))
-                folder.write("two/g", b"old")
+                folder.write("two/g", OLD)
                 os.chmod(folder.at("two/g"), mode)
                 run_under(shim, folder, "golden", "--update", "one/link", "session", killed_at=number)
                 left = [name for name in all_names(folder) if name not in ("session", "one/link", "two/g")]
@@ -127,14 +131,14 @@ def unreadable(report, shim):
     """A golden file that cannot be read is not one that does not exist."""
     for words in (["golden", "g", "session"], ["golden", "--update", "g", "session"]):
         def failed_at(number, words=words):
-            with Folder(session=CONFIGURATION, g=b"old") as folder:
+            with Folder(session=CONFIGURATION, g=OLD) as folder:
                 return (*run_under(shim, folder, *words, fails_at=number), folder.read("g"))
 
         runs = side_by_side(failed_at, range(1, 30))
         report.check(f"{words}: a read of the golden file fails", sum(b"g: read fault" in errors for _, _, errors, _ in runs) > 1)
         for number, (status, output, errors, content) in enumerate(runs, 1):
             report.check(f"{words}: call {number} that fails hides no file", b"does not exist" not in errors, repr(errors))
-            is_whole = content == b"old" or "--update" in words and content == NORMAL
+            is_whole = content == OLD or "--update" in words and content == NORMAL
             report.check(f"{words}: call {number} that fails loses nothing", is_whole, repr((status, output, content)))
     by_another_user(report)
 
@@ -154,7 +158,7 @@ def by_another_user(report):
         os.setgid(user.pw_gid)
         os.setuid(user.pw_uid)
 
-    with Folder(session=CONFIGURATION, g=b"old") as folder:
+    with Folder(session=CONFIGURATION, g=OLD) as folder:
         program = folder.at("program")
         shutil.copyfile(PROGRAM, program)
         for path, mode in ((folder.path, 0o777), (program, 0o755), (folder.at("session"), 0o644), (folder.at("g"), 0o600)):
@@ -164,7 +168,7 @@ def by_another_user(report):
             first = ran.stderr.splitlines(keepends=True)[:1]
             report.check(f"{words} by another user", (ran.returncode, first) == (4, [golden_refusal("g: read fault")]), repr((ran.returncode, ran.stderr)))
             report.check(f"{words} by another user: the reason", b"  g: Permission denied" in ran.stderr, repr(ran.stderr))
-            report.check(f"{words} by another user: nothing is lost", folder.read("g") == b"old" and folder.names() == ["g", "program", "session"])
+            report.check(f"{words} by another user: nothing is lost", folder.read("g") == OLD and folder.names() == ["g", "program", "session"])
         ran = subprocess.run(
             ["dapnorm", "normalise", "session", "-o", "g"], executable=program, capture_output=True, cwd=folder.path, preexec_fn=become, timeout=120,
         )
@@ -176,7 +180,7 @@ def two_failures(report, shim):
     """Two calls on files fail, such as a write and then the removal of the temporary file. The reason of the first is reported."""
     def failed_at(case):
         first, second = case
-        with Folder(session=CONFIGURATION, g=b"old") as folder:
+        with Folder(session=CONFIGURATION, g=OLD) as folder:
             answer = run_under(shim, folder, "golden", "--update", "g", "session", fails_at=first, fails_again_at=second)
             return (*answer, folder.read("g"), [name for name in folder.names() if name not in ("g", "session")])
 
@@ -184,14 +188,15 @@ def two_failures(report, shim):
     runs = side_by_side(failed_at, cases)
     for (first, second), (status, output, errors, content, left) in zip(cases, runs):
         told = f"calls {first} and {second} fail"
-        report.check(f"{told}: the golden file is the old or the new one", content in (b"old", NORMAL), repr(content))
+        report.check(f"{told}: the golden file is the old or the new one", content in (OLD, NORMAL), repr(content))
         report.check(f"{told}: the status says so", status == 4 or (status, content) == (0, NORMAL), repr((status, output, errors)))
         if left:
-            report.check(f"{told}: a temporary file is left, and the run fails", status == 4 and content == b"old", repr((status, left)))
+            report.check(f"{told}: a temporary file is left, and the run fails", status == 4 and content == OLD, repr((status, left)))
             is_first = b"Input/output error" in errors and b"Permission denied" not in errors
             report.check(f"{told}: the reason is that of the first failure", is_first, repr(errors))
+            report.check(f"{told}: a line says that a file is left", b"  g: a temporary file is left in its folder\n" in errors, repr(errors))
     count = sum(bool(left) for *_, left in runs)
-    report.check("a removal fails after a write, a change of permissions, a sync and a rename that failed", count == 4, repr(count))
+    report.check("a removal fails after a write, a look at the owner, a change of permissions, a sync and a rename that failed", count == 5, repr(count))
 
 
 def long_inputs(report):

@@ -36,7 +36,16 @@ def toolchain():
     return os.path.dirname(page)
 
 
+def first_line(errors):
+    """The line of a fault. The lines after it explain it, and begin with two spaces. Other errors are returned as they are."""
+    if not errors.startswith(b"dapnorm: "):
+        return errors
+    first, *others = errors.splitlines(keepends=True)
+    assert all(line.startswith(b"  ") for line in others), errors
+    return first
+
+
 def run(arguments, given=b"", environment=None):
-    """Runs the program that the gate built, and gives its status, its output and its errors."""
+    """Runs the program that the gate built, and gives its status, its output and the first line of its errors."""
     ran = subprocess.run([PROGRAM, *arguments], input=given, capture_output=True, env=environment, timeout=120)
-    return ran.returncode, ran.stdout, ran.stderr
+    return ran.returncode, ran.stdout, first_line(ran.stderr)

@@ -152,8 +152,10 @@ def one_record(report):
         ("one that is no message", NO_TYPE, 1, (0, b'{\n  "seq": 1\n}\n', b"")),
         ("one before faults", record("<[[],{},[1]]") + b"x", 1, (0, b"[\n  [],\n  {},\n  [\n    1\n  ]\n]\n", b"")),
         ("one after contents that are no JSON", NO_JSON + record("<7"), 2, (0, b"7\n", b"")),
-        ("no JSON", NO_JSON, 1, (2, b"", refusal("record 1: Json"))),
-        ("a fraction", record("<0") + A_FRACTION, 2, (2, b"", refusal("record 2: Fraction"))),
+        ("no JSON", record('<{"b":1,'), 1, (0, b'{"b":1,\n', b"")),
+        ("no UTF-8", b"<Content-Length: 2\r\n\r\n\xff\x1b\n", 1, (0, b"\xff\x1b\n", b"")),
+        ("no content", b"<Content-Length: 0\r\n\r\n\n", 1, (0, b"\n", b"")),
+        ("a fraction", record("<0") + record('<{"b":0.50, "a":1e2}'), 2, (0, b'{"b":0.50, "a":1e2}\n', b"")),
         ("a cut record", record("<0") + record("<0")[:-1], 2, (2, b"", refusal("record 2: Cut"))),
         ("a faulty record before it", b"x", 2, (2, b"", refusal("record 1: BadMarker"))),
     ]

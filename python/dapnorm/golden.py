@@ -104,7 +104,7 @@ class Comparison(NamedTuple):
             return "\n".join([f"{name_of(self.golden)}: dapnorm golden ends with status 1", *lines])
         number, name = int(found[1]), name_of(self.golden)
         title = f"the session differs from {name} at record {number} (A: {name}, B: this run)"
-        told = [shortened(it) for it in lines[1:]]
+        told = [it if it.startswith(("A ", "B ")) else shortened(it) for it in lines[1:]]
         if len(told) > MOST:
             told = [*told[:MOST], f".. and {len(told) - MOST} more values of this record"]
         return "\n".join([title, *told, *self._totals(recording), *self._neighbours(number, recording)])

@@ -7,9 +7,9 @@ use thiserror::Error;
 /// Why a tree could not be read, written or copied.
 #[derive(Clone, Copy, Debug, PartialEq, Eq, Error)]
 pub enum TreeFault {
-    /// The content is not UTF-8 or not JSON, nests more than 127 arrays and objects, has a number
-    /// that is larger than the largest 64-bit float, such as `1e999`, or a string has the escape of
-    /// one half of a character, such as `\ud800` alone.
+    /// The content is not UTF-8 or not JSON, or nests more than 127 arrays and objects. This also
+    /// means a number above the largest 64-bit float, such as `1e999`, or half of a character,
+    /// such as `\ud800` alone.
     ///
     /// - Cause: another encoding, `NaN`, a comma too many, a string that was cut inside a
     ///   character.
