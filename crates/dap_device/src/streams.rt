@@ -10,10 +10,14 @@ use std::rt::Files;
 /// The folder in which Linux names the open streams of this process by their numbers.
 const OWN_STREAMS: &str = "/proc/self/fd";
 
-/// The numbers of standard input and standard error, the first and the last of three.
+/// The number of standard input, the first of the three standard streams.
 const STANDARD_INPUT: i32 = 0;
 
+/// The number of standard error, the last of them.
 const STANDARD_ERROR: i32 = 2;
+
+/// The device that is opened for a closed stream.
+const NULL_DEVICE: &str = "/dev/null";
 
 /// Returns whether a folder names the open streams of a process.
 fn names_streams(folder: &str) -> bool {
@@ -74,6 +78,14 @@ pub fn stream_number<R: Files>(alloc: Global, rt: &R, path: &str) -> io::Result<
     Err(ErrorKind::FilesystemLoop.into())
 }
 
+/// Opens a file, which gets the lowest number that is free.
+fn probe(rt: &HostRuntime) -> io::Result<File> {
+    match fs::open(rt, NULL_DEVICE) {
+        Ok(file) => Ok(file),
+        Err(_) => fs::open(rt, "/"),
+    }
+}
+
 /// Opens a device for each standard stream that is closed, so that no file gets its number. A read
 /// of such an input and a write to such an output fail, as they do without the device. The files
 /// must be kept until the program ends.
@@ -84,9 +96,9 @@ pub fn stream_number<R: Files>(alloc: Global, rt: &R, path: &str) -> io::Result<
 pub fn hold_closed_streams(rt: &HostRuntime) -> io::Result<[Option<File>; 3]> {
     let mut held = [None, None, None];
     for place in held.iter_mut() {
-        let probe = fs::open(rt, "/")?;
-        let number = probe.as_raw_fd();
-        drop(probe);
+        let file = probe(rt)?;
+        let number = file.as_raw_fd();
+        drop(file);
         if number > STANDARD_ERROR {
             break;
         }
@@ -94,7 +106,7 @@ pub fn hold_closed_streams(rt: &HostRuntime) -> io::Result<[Option<File>; 3]> {
         options
             .read(number != STANDARD_INPUT)
             .write(number == STANDARD_INPUT);
-        *place = Some(options.open(rt, "/dev/null")?);
+        *place = Some(options.open(rt, NULL_DEVICE)?);
     }
     Ok(held)
 }
