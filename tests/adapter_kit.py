@@ -580,8 +580,28 @@ def metadata(report, _folder):
     report.check("it needs the standard library alone", not foreign, repr(foreign))
 
 
+def not_synced(report, folder):
+    """The report of a golden file that was replaced, and could not be synced, does not say that the file is unchanged."""
+    program, session = os.path.join(folder, "program"), os.path.join(folder, "session.rec")
+    with open(session, "wb") as file:
+        file.write(b"<Content-Length: 2\r\n\r\n{}\n")
+    for line, state in (("g: replaced, but not synced", "has the new text"), ("g: write fault", "is unchanged")):
+        with open(program, "w", encoding="utf-8") as file:
+            file.write(f'#!/bin/sh\necho "dapnorm: golden: {line}" >&2\nexit 4\n')
+        os.chmod(program, 0o755)
+        os.environ["DAPNORM"] = program
+        try:
+            dapnorm.golden(session, os.path.join(folder, "g"), update=True)
+            told = ""
+        except dapnorm.GoldenFailed as error:
+            told = str(error)
+        finally:
+            del os.environ["DAPNORM"]
+        report.check(f"{line}: the golden file {state}", f"(g {state})" in told and line in told, told)
+
+
 PARTS = (
-    frames, calls, failures, messages_of_failures, handlers, tcp, readiness, statuses, any_event, timeouts, deaf, traces, words,
+    frames, calls, failures, messages_of_failures, handlers, tcp, readiness, statuses, any_event, timeouts, deaf, traces, words, not_synced,
     recorders.tee_signals, recorders.proxy_starts, recorders.proxy_alone, recorders.proxy_sessions, recorders.shims, runner, real_sessions, types, metadata,
 )
 

@@ -56,7 +56,8 @@ class Comparison(NamedTuple):
         elif "does not exist" in ran.errors:
             text = f"{name_of(self.golden)} does not exist yet, so nothing was compared: --dapnorm-update, or UPDATE_GOLDEN=1, makes it\n  {self.golden}"
         else:
-            text = f"dapnorm golden ends with status {ran.status} ({name_of(self.golden)} is unchanged)\n{ran.errors}"
+            state = "has the new text" if "replaced, but not synced" in ran.errors else "is unchanged"
+            text = f"dapnorm golden ends with status {ran.status} ({name_of(self.golden)} {state})\n{ran.errors}"
         further = [self._command("show", "--faulty" if ran.status == 2 else None, recording)]
         if ran.status == 1:
             further.insert(0, self._command("diff", "--all", *self.options(), self.golden, recording))

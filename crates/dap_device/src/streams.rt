@@ -31,6 +31,7 @@ fn names_streams(folder: &str) -> bool {
 ///
 /// - `InvalidInput`: the path names a stream of another process.
 /// - `OutOfMemory`: an allocation failed.
+/// - Any other: reported by the operating system.
 pub(crate) fn stream_at<R: Files>(
     alloc: Global,
     rt: &R,
@@ -42,8 +43,10 @@ pub(crate) fn stream_at<R: Files>(
     let Ok(number) = name.parse::<u32>() else {
         return Ok(None);
     };
-    let Ok(folder) = rt.canonicalize(alloc, folder.as_str()) else {
-        return Ok(None);
+    let folder = match rt.canonicalize(alloc, folder.as_str()) {
+        Ok(folder) => folder,
+        Err(error) if error.kind() == ErrorKind::NotFound => return Ok(None),
+        Err(error) => return Err(error),
     };
     if !names_streams(folder.as_str()) {
         return Ok(None);
