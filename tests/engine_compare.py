@@ -43,6 +43,8 @@ def what_the_program_prints(report):
 def the_renaming_has_the_pairs_that_are_printed(report):
     for a, b, status, printed in PRINTED:
         found = answer(compare(recording(a), recording(b)))
+        carried = answer(compare(recording(a), recording(b), "carries"))
+        report.check("what the renaming maps", carried.result == ("Ok(Some(true))" if status == "0" else "Ok(None)"), carried.result)
         if status == "0":
             report.check("the pairs of a renaming", b"same\n" + pairs_of(found.output) == printed, repr(found))
             report.check("their number", found.result == f"Ok(Same({printed.count(10) - 1}))", found.result)

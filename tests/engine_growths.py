@@ -192,15 +192,15 @@ ALL_DIFFERENCES = [
 def run_diff_is_refused_in_turn(report, shim):
     for lines, printed in DIFFERENCES:
         call = Call("run-diff", Input(recording(STEP)), Input(recording(lines)))
-        each_turn(report, shim, f"run_diff with {len(lines)} lines", call, "1", printed)
+        each_turn(report, shim, f"diff with {len(lines)} lines", call, "1", printed)
 
 
 def run_diff_all_is_refused_in_turn(report, shim):
-    """`run_diff_all` and `run_diff_all_with`, with both kinds of tables."""
+    """`run_pair_with` of all differences, with both kinds of tables."""
     for tables in ("own", *HANDED):
         for a, b, mode, status, printed in ALL_DIFFERENCES:
             call = Call("run-diff-all", Input(recording(a)), Input(recording(b)), mode=mode, tables=tables)
-            each_turn(report, shim, f"run_diff_all of {len(a)} and {len(b)} lines, {mode}, tables {tables}", call, status, printed)
+            each_turn(report, shim, f"diff --all of {len(a)} and {len(b)} lines, {mode}, tables {tables}", call, status, printed)
 
 
 def normalise_with_tables_is_refused_in_turn(report, shim):
@@ -249,14 +249,14 @@ def run_stream_with_tables_is_refused_in_turn(report, shim):
 
 
 def run_compare_and_run_diff_with_tables_are_refused_in_turn(report, shim):
-    """`run_compare_with` and `run_diff_with`, with both kinds of tables."""
+    """`run_pair_with`, with both kinds of tables."""
     for tables in HANDED:
         for a, b, mode, printed in ALIKE:
             call = Call("run-compare", Input(recording(a)), Input(recording(b)), mode=mode, tables=tables)
             each_turn(report, shim, f"run_compare, {mode}, tables {tables}", call, "0", printed)
         for lines, printed in DIFFERENCES:
             call = Call("run-diff", Input(recording(STEP)), Input(recording(lines)), tables=tables)
-            each_turn(report, shim, f"run_diff with {len(lines)} lines, tables {tables}", call, "1", printed)
+            each_turn(report, shim, f"diff with {len(lines)} lines, tables {tables}", call, "1", printed)
 
 
 TESTS = [

@@ -24,6 +24,7 @@ def frames_of_two_stops_are_compared_stop_by_stop(report):
         (STALE_FRAME, NEW_FRAME, "whole", "1", b"differ 8\n"),
     ):
         asked.ask(call_of("run-compare", a, mode, b), status, printed, errors=b"")
+        asked.ask(call_of("carries", a, mode, b), "Ok(Some(true))" if status == "0" else "Ok(None)")
     asked.close()
 
 

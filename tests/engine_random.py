@@ -86,20 +86,25 @@ def compare(a, b):
     return Call("compare", Input(a), Input(b))
 
 
+def carries(a, b):
+    return Call("carries", Input(a), Input(b))
+
+
 def asks_accepted(report, accepted):
     """An accepted recording is the same as its normal form, which is its own, and as another one if and only if their normal texts are
-    equal."""
+    equal. The renaming of two that are the same maps the messages of one to those of the other, both ways."""
     other, calls = b"", []
     for text, normal in accepted:
-        calls += [normalise(normal), compare(text, normal), compare(text, other)]
+        calls += [normalise(normal), compare(text, normal), compare(text, other), carries(text, normal), carries(normal, text), carries(text, other)]
         other = normal
     found = many_answers(calls)
     before, wrong = b"", []
     for place, (text, normal) in enumerate(accepted):
-        again, own, different = found[3 * place:3 * place + 3]
+        again, own, different, *mapped = found[6 * place:6 * place + 6]
         same = different.result.startswith("Ok(Same(")
-        if (again.result, again.output) != ("Ok(())", normal) or not own.result.startswith("Ok(Same(") or same != (normal == before):
-            wrong.append(repr((text, again, own, different)))
+        carried = [each.result for each in mapped] == ["Ok(Some(true))", "Ok(Some(true))", "Ok(Some(true))" if same else "Ok(None)"]
+        if (again.result, again.output) != ("Ok(())", normal) or not own.result.startswith("Ok(Same(") or same != (normal == before) or not carried:
+            wrong.append(repr((text, again, own, different, mapped)))
         before = normal
     report.check(f"{len(accepted)} accepted inputs", not wrong, "; ".join(wrong[:2])[:1000])
 

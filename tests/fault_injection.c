@@ -25,7 +25,7 @@ extern long syscall(long, ...);
 extern int *__errno_location(void);
 enum { ASK = 0x5eed0000, TELL = 0x5eedffff, SYS_GETRANDOM = 318, INTERRUPT = 4, FAULT = 5, DENIED = 13, SIGNAL_KILL = 9 };
 enum { SYS_READ = 0, SYS_WRITE = 1, SYS_OPEN = 2, SYS_GETPID = 39, SYS_KILL = 62, SYS_FSYNC = 74, SYS_RENAME = 82, SYS_UNLINK = 87 };
-enum { SYS_TRUNCATE = 76, SYS_LINK = 86, SYS_READLINK = 89, SYS_FCHMOD = 91, SYS_STATX = 332 };
+enum { SYS_TRUNCATE = 76, SYS_LINK = 86, SYS_READLINK = 89, SYS_FCHMOD = 91, SYS_LCHOWN = 94, SYS_STATX = 332 };
 enum { SYS_STAT = 4, SYS_FSTAT = 5, PATH = 4096, OPENED = 64, RENAMED = 16, STAT = 32 };
 static long left, came, begun, interrupted_reads, interrupted_writes, given, taken, calls;
 
@@ -194,6 +194,11 @@ int rename(const char *from, const char *to) {
 int fchmod(int file, unsigned mode) {
   int error = stops();
   return error ? (int)refused(error) : (int)syscall(SYS_FCHMOD, file, mode);
+}
+
+int lchown(const char *path, unsigned user, unsigned group) {
+  int error = stops();
+  return error ? (int)refused(error) : (int)syscall(SYS_LCHOWN, path, user, group);
 }
 
 ssize_t readlink(const char *path, char *bytes, size_t size) {

@@ -199,6 +199,31 @@ def two_failures(report, shim):
     report.check("a removal fails after a write, a look at the owner, a change of permissions, a sync and a rename that failed", count == 5, repr(count))
 
 
+def owners(report, shim):
+    """The owner or the group of a file cannot be set, or the process ends there: the group of the new file has permissions only if it is that of
+    the old one."""
+    if os.geteuid() != 0:
+        print("owners that cannot be set are not tried: that needs root", flush=True)
+        return
+
+    def ended_at(asked):
+        with Folder(session=CONFIGURATION, g=OLD) as folder:
+            os.chown(folder.at("g"), 1234, 2345)
+            os.chmod(folder.at("g"), 0o664)
+            answer = run_under(shim, folder, "golden", "--update", "g", "session", **asked)
+            found = os.stat(folder.at("g"))
+            return (*answer, folder.read("g"), (found.st_uid, found.st_gid, stat.S_IMODE(found.st_mode)))
+
+    cases = [{how: number} for how in ("killed_at", "fails_at") for number in range(1, 50)]
+    cases += [{"fails_at": number, "fails_again_at": number + 1} for number in range(1, 50)]
+    runs = side_by_side(ended_at, cases)
+    for asked, (status, _, errors, content, attributes) in zip(cases, runs):
+        kept = [(1234, 2345, 0o664)] if content == OLD else [(1234, 2345, 0o664), (0, 2345, 0o664), (0, 0, 0o604)]
+        report.check(f"a file of another user, {asked}", content in (OLD, NORMAL) and attributes in kept, repr((status, errors, content, attributes)))
+    written = {attributes for status, _, _, _, attributes in runs if status == 0}
+    report.check("the owner or the group is not set in some runs that end well", len(written) == 3, repr(written))
+
+
 def long_inputs(report):
     """An input that is read in several chunks is explained from its first byte on."""
     events = 3000
@@ -223,7 +248,7 @@ def main():
         test(report)
     with tempfile.TemporaryDirectory() as folder:
         shim = build_shim(folder)
-        for test in (temporary_files, new_files, unreadable, two_failures):
+        for test in (temporary_files, new_files, unreadable, two_failures, owners):
             test(report, shim)
     return report.close()
 

@@ -4,7 +4,7 @@ ghost use Rattle.dap_profile.specs.RowRanges.{rows_in};
 ghost use Rattle.dap_profile.specs.PlaceSteps.{named, steps_of};
 ghost use Rattle.dap_profile.specs.ProfileRows.{row_of};
 ghost use Rattle.dap_message.specs.AskedRows.{mark_by, marks_by};
-ghost use Rattle.dap_message.specs.Marks.{sort_of, marked, edit, mark};
+ghost use Rattle.dap_message.specs.Marks.{marked, edit, mark};
 ghost use Rattle.dap_flat_message.specs.Heads.{AreAsked};
 ghost use Rattle.dap_flat_message.specs.Marked.{Makes};
 ghost use Rattle.dap_flat_message.specs.Marking.{steps};
@@ -12,7 +12,8 @@ ghost use Rattle.dap_flat_message.specs.Marking.{steps};
 use crate::marks::{Step, mark_path};
 use crate::members::{Envelope, top_child};
 use dap_flat::{Node, Unclear};
-use dap_profile::{Place, Row, Want};
+use dap_message::sort_of;
+use dap_profile::{Place, Row};
 use dap_tree::{Side, Sort};
 
 /// Marks the ids of the message that the nodes represent. These rows apply to it.
@@ -64,20 +65,6 @@ fn mark_row(nodes: &mut [Node<'_>], found: &Envelope, row: &Row, side: Side) -> 
     match sort_of(side, row.want) {
         Some(sort) => mark_place(nodes, found, row.place, sort),
         None => Ok(()),
-    }
-}
-
-fn sort_of(side: Side, want: Want) -> Option<Sort>
-    ensures { result ≡ sort_of side want }
-{
-    match (side, want) {
-        (Side::Client, Want::OwnSeq) | (Side::Adapter, Want::OtherSeq) => Some(Sort::ClientSeq),
-        (Side::Adapter, Want::OwnSeq) | (Side::Client, Want::OtherSeq) => Some(Sort::AdapterSeq),
-        (_, Want::Frame) => Some(Sort::Frame),
-        (_, Want::Reference) => Some(Sort::Reference),
-        (_, Want::Thread) => Some(Sort::Thread),
-        (_, Want::Breakpoint) => Some(Sort::Breakpoint),
-        _ => None,
     }
 }
 

@@ -17,7 +17,6 @@ use Rattle.dap_input.specs.declared.refused.Refused.{Refused}
 use Rattle.dap_input.specs.declared.refused.Refused.TheVariants.{Incomplete}
 use Rattle.dap_input.specs.Refusals.{IsRefused}
 use Rattle.dap_record.specs.Tracing.{IsRecordedAs, IsTraceRefused}
-use Rattle.dap_rules.specs.MaskedRecordings.{IsMaskedTo}
 use Rattle.dap_rules.specs.Applying.{AppliesRules, IsRefusedByRules}
 use Rattle.dap_rules.specs.Modes.{mode_by}
 use Rattle.dap_rules.specs.declared.fault.ApplyRefused.{ApplyRefused}
@@ -48,11 +47,6 @@ pub data IsRecordingOf (limits : Limits) (input recording : List ℕ) : Type 0 w
       → IsRecordedAs limits input messages → recording ≡ recording_text messages
       → IsRecordingOf limits input recording
   unchanged : (IsTraceHead input → ⊥) → recording ≡ input → IsRecordingOf limits input recording
-
--- The recording is masked to `masked`. Without rules it is unchanged.
-abbrev pub MasksBy : Limits → Option Mask → List ℕ → List ℕ → Type 0
-MasksBy limits None recording masked = masked ≡ recording
-MasksBy limits (Some mask) recording masked = IsMaskedTo limits mask recording masked
 
 -- The rules turn the recording into this session: it is masked, and then put in order if some of
 -- the rules are for the order. Without rules it is unchanged.

@@ -32,11 +32,6 @@ RefusesMask limits mask recording (because.Mask refused) =
 RefusesMask limits mask recording because.Memory = Unit {0}
 RefusesMask limits mask recording _ = ⊥
 
--- The same for optional rules.
-abbrev pub RefusesMaskBy : Limits → Option Mask → List ℕ → GoldenRefused → Type 0
-RefusesMaskBy limits None recording refused = ⊥
-RefusesMaskBy limits (Some mask) recording refused = RefusesMask limits mask recording refused
-
 -- The rules cannot turn the recording into a session for this reason, or an allocation failed.
 abbrev pub RefusesRules : Limits → Mode → Mask → List ℕ → GoldenRefused → Type 0
 RefusesRules limits mode mask recording (because.Mask refused) =

@@ -6,9 +6,9 @@ ghost use Rattle.dap_mask.specs.KeptRules.{mask_of, swaps_of_mask};
 ghost use Rattle.dap_rules.specs.MaskedRecordings.{IsMaskedTo};
 ghost use Rattle.dap_rules.specs.Applying.{OrdersBy};
 ghost use Rattle.dap_golden.specs.Golden.{AppliesBy, IsGolden, IsGoldenOf, IsRecordingOf};
-ghost use Rattle.dap_golden.specs.Golden.{IsRefusedGolden, MasksBy, mask_given, mode_given};
+ghost use Rattle.dap_golden.specs.Golden.{IsRefusedGolden, mask_given, mode_given};
 ghost use Rattle.dap_golden.specs.GoldenFiles.{IsNormalText};
-ghost use Rattle.dap_golden.specs.GoldenSteps.{RefusesGolden, RefusesMask, RefusesMaskBy};
+ghost use Rattle.dap_golden.specs.GoldenSteps.{RefusesGolden, RefusesMask};
 ghost use Rattle.dap_golden.specs.GoldenSteps.{RefusesOrder, RefusesRulesBy, RefusesTrace};
 ghost use Rattle.dap_golden.specs.NormalSession.{IsNormalSession};
 ghost use Rattle.dap_golden.specs.TraceHead.{IsTraceHead};
@@ -112,33 +112,6 @@ fn order_recording(
         Err(refused) if is_out_of_memory(refused) => Err(GoldenRefused::Memory),
         Err(refused) => Err(GoldenRefused::Session(refused)),
     }
-}
-
-/// Masks a recording if there are rules, then frees it. Without rules, returns the recording
-/// unchanged. Does not put the masked recording in order.
-///
-/// # Errors
-///
-/// - `Mask`: the rules cannot mask a record of the recording.
-/// - `Memory`: an allocation failed.
-pub fn apply_rules<'a>(
-    alloc: Global,
-    recording: CowSlice<'a, u8>,
-    rules: Option<&MaskRules>,
-    limits: Limits,
-) -> Result<CowSlice<'a, u8>, GoldenRefused>
-    requires { AreSound limits }
-    ensures ok { IfOk result
-        (λ masked. MasksBy limits (mask_given rules.entry) (cow_slice_items recording.entry)
-        (cow_slice_items masked)) }
-    ensures err { IfErr result
-        (RefusesMaskBy limits (mask_given rules.entry) (cow_slice_items recording.entry)) }
-{
-    let Some(rules) = rules else {
-        return Ok(recording);
-    };
-    let masked = mask_recording(alloc, recording, rules, limits)?;
-    Ok(CowSlice::Owned(masked))
 }
 
 /// Masks a recording and puts it in order, if there are rules. Without rules, returns it unchanged.

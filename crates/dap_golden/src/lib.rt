@@ -13,6 +13,6 @@ mod updates;
 pub use comparing::{GoldenVerdict, compare_golden};
 pub use dap_rules::TextSink;
 pub use fault::{GoldenFault, GoldenRefused};
-pub use golden::{GoldenText, apply_rules, golden_text, recording_of};
+pub use golden::{GoldenText, golden_text, recording_of};
 pub use trace_head::is_trace;
 pub use updates::{GoldenDone, GoldenRequest, GoldenStop, golden_file};

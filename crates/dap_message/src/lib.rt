@@ -29,6 +29,7 @@ pub use dap_tree::Side;
 pub use fault::MessageFault;
 pub use ids::IdList;
 pub use listing::{Frames, Scopes, Variables};
+pub use marks::sort_of;
 pub use message::Message;
 pub use swap_rule::{Half, SwapRule};
 pub use typing::typed;

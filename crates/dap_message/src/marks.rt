@@ -45,7 +45,10 @@ fn mark_row(tree: &mut Tree, row: &Row, side: Side)
     }
 }
 
-fn sort_of(side: Side, want: Want) -> Option<Sort>
+/// Returns the kind of id that a row of this type marks in a message of this side. `None`: the row
+/// marks none.
+#[inline]
+pub fn sort_of(side: Side, want: Want) -> Option<Sort>
     ensures { result ≡ sort_of side want }
 {
     match (side, want) {

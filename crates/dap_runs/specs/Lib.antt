@@ -1,9 +1,9 @@
 pub mod ApplyRun
-pub mod ComparingRun
 pub mod FaultLine
 pub mod MaskRun
 pub mod OrderRun
 pub mod Parts
+pub mod Printing
 pub mod Reporting
 pub mod RowsRun
 pub mod RuledRuns

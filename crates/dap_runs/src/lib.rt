@@ -1,9 +1,8 @@
-//! What the program prints and returns: lines, statuses, and the runs of `compare`, `mask`,
-//! `order` and `rows`. It also defines the limits of the program, and which files it opens.
+//! What the program prints and returns: lines, statuses, and the runs of `mask`, `order` and
+//! `rows`. It also defines the limits of the program, and which files it opens.
 #![tactic(auto)]
 
 mod apply_run;
-mod compare_run;
 mod devices;
 mod fault_line;
 mod files;
@@ -23,7 +22,6 @@ mod unopened_rules;
 mod whole_input;
 
 pub use apply_run::report_unapplied;
-pub use compare_run::{differ_line, run_compare, run_compare_with, same_line};
 pub use devices::Devices;
 pub use fault_line::{
     LINE, letter, refused_text, send, send_line, tell, tell_answer, tell_of_input,

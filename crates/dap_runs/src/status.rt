@@ -1,6 +1,6 @@
 //! The statuses that the program ends with.
 ghost use Rattle.std.specs.Prelude.{◌≡◌};
-ghost use Rattle.dap_runs.specs.ComparingRun.{refusal_status};
+ghost use Rattle.dap_runs.specs.Printing.{refusal_status};
 ghost use Rattle.dap_runs.specs.Reporting.{refused_status, status_of};
 
 use dap_compare::CompareRefused;

@@ -2,7 +2,7 @@
 use Rattle.std.proofs.Common.{◌≡◌, ℕ, ◌≤◌, List, arith, inl, inr, length}
 use Rattle.dap_device.specs.declared.device.Sink.{Ghosts as Sink}
 use Rattle.dap_input.specs.declared.limits.Limits.{Limits}
-use Rattle.dap_runs.specs.ComparingRun.{IsPrinted}
+use Rattle.dap_runs.specs.Printing.{IsPrinted}
 use Rattle.dap_suggest.proofs.Refusals.{accepted_are_short}
 use Rattle.dap_suggest.specs.NotSuggested.{IsNotSuggested}
 use Rattle.dap_suggest.specs.declared.suggestion.SuggestRefused.{SuggestRefused}

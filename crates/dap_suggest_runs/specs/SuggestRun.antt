@@ -5,7 +5,7 @@ use Rattle.dap_input.specs.declared.limits.Limits.{Limits}
 use Rattle.dap_rules.specs.declared.fault.ApplyRefused.{ApplyRefused}
 use Rattle.dap_rules.specs.declared.fault.ApplyRefused.TheVariants as step
 use Rattle.dap_runs.specs.ApplyRun.{unapplied_line, unapplied_status}
-use Rattle.dap_runs.specs.ComparingRun.{IsPrinted}
+use Rattle.dap_runs.specs.Printing.{IsPrinted}
 use Rattle.dap_runs.specs.MaskRun.{rules_refused_line}
 use Rattle.dap_runs.specs.Reporting.{HasSent}
 use Rattle.dap_runs.specs.declared.mask_run.RulesRefused.TheVariants.{Line}

@@ -1,10 +1,7 @@
-pub mod DiffAllRun
-pub mod DiffRun
-pub mod Findings
 pub mod GoldenByNames
 pub mod GoldenRun
-pub mod MemoryFiles
 pub mod OneFile
+pub mod Pairs
 pub mod RuledPair
 pub mod Run
 pub mod SavedRun
@@ -43,10 +40,10 @@ pub use Rattle.dap_normalise.specs.Normalising
 pub use Rattle.dap_normalise.specs.OldGoldenFiles
 pub use Rattle.dap_normalise.specs.Streaming
 pub use Rattle.dap_profile.specs.RowLines
-pub use Rattle.dap_runs.specs.ComparingRun
 pub use Rattle.dap_runs.specs.FaultLine
 pub use Rattle.dap_runs.specs.MaskRun
 pub use Rattle.dap_runs.specs.Parts
+pub use Rattle.dap_runs.specs.Printing
 pub use Rattle.dap_runs.specs.Reporting
 pub use Rattle.dap_runs.specs.RowsRun
 pub use Rattle.dap_runs.specs.RuledRuns

@@ -10,6 +10,7 @@ ghost use Rattle.dapnorm.specs.GoldenRun.{stop_line, stop_reason, stop_status, s
 ghost use Rattle.dapnorm.specs.GoldenRun.{stop_words, verdict_text};
 ghost use Rattle.dap_runs.specs.Reporting.{HasSent};
 
+use crate::pair::{differ_line, same_line};
 use arrayvec::ArrayString;
 use dap_device::{DeviceFault, Replaceable, Sink, Source, write_and_flush};
 use dap_golden::{
@@ -18,8 +19,8 @@ use dap_golden::{
 use dap_input::{Limits, Refused};
 use dap_mask::MaskRules;
 use dap_runs::{
-    DIFFERENT, DONE, FAULT, LINE, MEMORY, REFUSED, differ_line, refused_text, report_parts,
-    same_line, send_parts, tell, unsaved_words,
+    DIFFERENT, DONE, FAULT, LINE, MEMORY, REFUSED, refused_text, report_parts, send_parts, tell,
+    unsaved_words,
 };
 use itoa::Buffer;
 use std::alloc::Global;
@@ -180,7 +181,7 @@ fn report_stop<E: Sink>(errors: &mut E, has_rules: bool, name: &str, stop: Golde
 /// Compares a session with its golden file, or makes or renews the golden file, as
 /// [`golden_file`] describes, and prints what it did.
 ///
-/// A line on `writer` says what was done: `same`, the lines of [`run_diff`](crate::run_diff) with
+/// A line on `writer` says what was done: `same`, the lines of [`diff`](dap_diff::diff) with
 /// the golden file first, a sentence about a golden file that is not in normal form, `unchanged`,
 /// or `wrote NAME (N records)`. A line on `errors` says why it stopped, as
 /// `dapnorm: golden: record 68: Fraction`. `name` is the name of the golden file in these lines.

@@ -2,7 +2,7 @@
 ghost use Rattle.std.specs.Prelude.{◌<◌, ◌^◌};
 ghost use Rattle.dapnorm.specs.RuledPair.{AreComparedByRules};
 
-use crate::findings::run_findings;
+use crate::pair::run_pair_with;
 use dap_commands::Printed;
 use dap_device::{MemorySource, Sink, Source};
 use dap_rename::{Mode, NameTable};
@@ -14,8 +14,7 @@ use std::alloc::Global;
 /// Compares what the rules of a file make of the recordings that two names lead to, under the
 /// limits of the program, and prints the verdict or the differences.
 ///
-/// It prints and reports what [`run_compare`](crate::run_compare), [`run_diff`](crate::run_diff) or
-/// [`run_diff_all`](crate::run_diff_all) does, with the texts of [`texts_by_rules`] as its inputs.
+/// It prints and reports what [`run_pair_with`] does, with the texts of [`texts_by_rules`] as its inputs.
 /// Why the rules were not applied is reported in one line, with its status.
 pub fn compare_by_rules<
     I: Source + Drop,
@@ -68,7 +67,7 @@ pub fn compare_by_rules<
             };
         }
     };
-    let status = run_findings(
+    let status = run_pair_with(
         alloc,
         printed,
         &mut MemorySource::new(texts.a.as_slice()),

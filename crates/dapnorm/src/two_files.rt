@@ -3,7 +3,7 @@ ghost use Rattle.std.specs.Prelude.{◌+◌, ◌<◌, ◌≤◌, ◌^◌, IfOk};
 ghost use Rattle.dap_normalise.specs.NameTables.{AreReady};
 ghost use Rattle.dapnorm.specs.TwoFiles.{FilesAreCompared};
 
-use crate::findings::run_findings;
+use crate::pair::run_pair_with;
 use dap_commands::Printed;
 use dap_device::{Sink, Source};
 use dap_rename::{Mode, NameTable, Tables};
@@ -13,11 +13,10 @@ use std::alloc::Global;
 /// Compares the recordings of the files that two names lead to, under the limits of the program,
 /// and prints the verdict or the differences.
 ///
-/// It prints and reports what [`run_compare`](crate::run_compare), [`run_diff`](crate::run_diff) or
-/// [`run_diff_all`](crate::run_diff_all) does. An input that does not open is reported as one that
-/// could not be read, with status 4, or 5 if an allocation failed. Two inputs that are both
-/// standard input are a mistake of the user, with status 3. The tables have to be empty, each with
-/// the limit of ids.
+/// It prints and reports what [`run_pair_with`] does. An input that does not open is reported as
+/// one that could not be read, with status 4, or 5 if an allocation failed. Two inputs that are
+/// both standard input are a mistake of the user, with status 3. The tables have to be empty, each
+/// with the limit of ids.
 pub fn compare_files<I: Source + Drop, F: Files<I>, W: Sink, E: Sink, T: NameTable + Drop>(
     alloc: Global,
     printed: Printed,
@@ -54,7 +53,7 @@ pub fn compare_files<I: Source + Drop, F: Files<I>, W: Sink, E: Sink, T: NameTab
             };
         }
     };
-    let status = run_findings(
+    let status = run_pair_with(
         alloc,
         printed,
         &mut input_a,

@@ -71,6 +71,7 @@ fn parts_of(
         Outcome::Written(answer) => format!(in alloc; "{answer:?}")?,
         Outcome::Checked(answer) => format!(in alloc; "{answer:?}")?,
         Outcome::Same(answer) => format!(in alloc; "{answer:?}")?,
+        Outcome::Carried(answer) => format!(in alloc; "{answer:?}")?,
         Outcome::Status(status) => format!(in alloc; "{status}")?,
         Outcome::Compared(answer) => {
             let (text, lines) = compared_text(alloc, answer)?;

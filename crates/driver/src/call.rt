@@ -3,7 +3,7 @@ use crate::devices::{Input, Output};
 use crate::words::{Words, take};
 use anyhow::{Context, Result, bail};
 use dap_frame::FrameLimits;
-use dapnorm::{Job, Limits, Mode};
+use dapnorm::{Job, Limits, Mode, Printed};
 use std::str;
 
 /// The function that is called.
@@ -15,15 +15,16 @@ pub enum Function {
     Normalise,
     Check,
     Compare,
+    /// `compare`, and whether the renaming that it returns maps the first recording to the second.
+    Carries,
     /// `normalise_bytes`.
     NormalText,
     /// `normalise_bytes` of both inputs, and whether the results are the same.
     SameTexts,
     /// `run_stream` with this job.
     RunStream(Job<'static>),
-    RunCompare,
-    RunDiff,
-    RunDiffAll,
+    /// `run_compare` for a verdict without tables, and `run_pair_with` otherwise.
+    RunPair(Printed),
 }
 
 /// The name tables that are passed to the command function.
@@ -62,6 +63,7 @@ fn function_of(word: &str, complete: bool, mode: Mode) -> Result<Function> {
         "normalise" => Function::Normalise,
         "check" => Function::Check,
         "compare" => Function::Compare,
+        "carries" => Function::Carries,
         "normalise-bytes" => Function::NormalText,
         "same" => Function::SameTexts,
         "run-compact" => Function::RunStream(Job::Compact),
@@ -69,9 +71,9 @@ fn function_of(word: &str, complete: bool, mode: Mode) -> Result<Function> {
         "run-show" => Function::RunStream(Job::Show),
         "run-normalise" => Function::RunStream(Job::Normalise { per_stop }),
         "run-check" => Function::RunStream(Job::Check { complete, per_stop }),
-        "run-compare" => Function::RunCompare,
-        "run-diff" => Function::RunDiff,
-        "run-diff-all" => Function::RunDiffAll,
+        "run-compare" => Function::RunPair(Printed::Verdict),
+        "run-diff" => Function::RunPair(Printed::FirstDifference),
+        "run-diff-all" => Function::RunPair(Printed::AllDifferences),
         _ => bail!("no function has this name: {word}"),
     })
 }

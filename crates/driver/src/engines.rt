@@ -8,13 +8,13 @@ ghost use Rattle.dapnorm.specs.NameTables.{AreReady};
 ghost use Rattle.driver.specs.Devices.{AreNew};
 
 use crate::call::{Call, Function, Handed};
+use crate::carrying::is_carried;
 use crate::devices::Devices;
-use dap_rename::{IndexNames, PlainNames};
+use dap_rename::{IndexNames, PlainNames, index_tables};
 use dapnorm::{
-    Checked, CompareRefused, Job, Limits, NameTable, Normalised, Refused, Tables, Verdict, check,
-    check_with, compact, compare, compare_with, normalise, normalise_bytes, normalise_with, record,
-    run_compare, run_compare_with, run_diff, run_diff_all, run_diff_all_with, run_diff_with,
-    run_stream, run_stream_with, show,
+    Checked, CompareRefused, Job, Limits, NameTable, Normalised, Printed, Refused, Tables, Verdict,
+    check, check_with, compact, compare, compare_with, normalise, normalise_bytes, normalise_with,
+    record, run_compare, run_pair_with, run_stream, run_stream_with, show,
 };
 use std::alloc::Global;
 use std::hash::RandomState;
@@ -27,6 +27,8 @@ pub enum Outcome {
     Written(Result<(), Refused>),
     Checked(Result<Checked, Refused>),
     Compared(Result<Verdict, CompareRefused>),
+    /// Whether a renaming maps the first recording to the second, if they are the same.
+    Carried(Result<Option<bool>, CompareRefused>),
     NormalText(Result<Normalised, Refused>),
     Same(Result<bool, Refused>),
     /// The exit status of the program.
@@ -138,6 +140,25 @@ fn compared(
     )
 }
 
+/// Returns whether the renaming of two recordings maps the first to the second. `None`: they differ.
+fn carried(
+    alloc: Global,
+    call: &Call<'_>,
+    devices: &mut Devices<'_>,
+) -> Result<Option<bool>, CompareRefused>
+    requires limits { AreSound call.now.limits }
+    requires new { AreNew devices.old }
+{
+    let limits = call.limits.frame;
+    match compared(alloc, call, devices)? {
+        Verdict::Same(renaming) => {
+            let texts = (call.a.text, call.b.text);
+            Ok(Some(is_carried(alloc, &renaming, texts, limits, call.mode)))
+        }
+        Verdict::Differ(_) => Ok(None),
+    }
+}
+
 fn compared_with<T: NameTable + Drop>(
     alloc: Global,
     call: &Call<'_>,
@@ -226,24 +247,35 @@ fn streamed_with<T: NameTable + Drop>(
     ))
 }
 
-fn compare_printed(alloc: Global, call: &Call<'_>, devices: &mut Devices<'_>) -> Outcome
+fn pair_printed(
+    alloc: Global,
+    call: &Call<'_>,
+    printed: Printed,
+    devices: &mut Devices<'_>,
+) -> Outcome
     requires limits { AreSound call.now.limits }
     requires new { AreNew devices.old }
 {
-    Outcome::Status(run_compare(
-        alloc,
-        &mut devices.a,
-        &mut devices.b,
-        &mut devices.output,
-        &mut devices.errors,
-        call.limits,
-        call.mode,
-    ))
+    if printed == Printed::Verdict {
+        return Outcome::Status(run_compare(
+            alloc,
+            &mut devices.a,
+            &mut devices.b,
+            &mut devices.output,
+            &mut devices.errors,
+            call.limits,
+            call.mode,
+        ));
+    }
+    let tables_a = index_tables(alloc, call.limits.ids);
+    let tables_b = index_tables(alloc, call.limits.ids);
+    pair_printed_with(alloc, call, printed, devices, tables_a, tables_b)
 }
 
-fn compare_printed_with<T: NameTable + Drop>(
+fn pair_printed_with<T: NameTable + Drop>(
     alloc: Global,
     call: &Call<'_>,
+    printed: Printed,
     devices: &mut Devices<'_>,
     tables_a: Tables<T>,
     tables_b: Tables<T>,
@@ -253,88 +285,9 @@ fn compare_printed_with<T: NameTable + Drop>(
     requires tables_a { AreReady T.numbers T.limit call.now.limits tables_a }
     requires tables_b { AreReady T.numbers T.limit call.now.limits tables_b }
 {
-    Outcome::Status(run_compare_with(
+    Outcome::Status(run_pair_with(
         alloc,
-        &mut devices.a,
-        &mut devices.b,
-        &mut devices.output,
-        &mut devices.errors,
-        call.limits,
-        tables_a,
-        tables_b,
-        call.mode,
-    ))
-}
-
-fn diff_printed(alloc: Global, call: &Call<'_>, devices: &mut Devices<'_>) -> Outcome
-    requires limits { AreSound call.now.limits }
-    requires new { AreNew devices.old }
-{
-    Outcome::Status(run_diff(
-        alloc,
-        &mut devices.a,
-        &mut devices.b,
-        &mut devices.output,
-        &mut devices.errors,
-        call.limits,
-        call.mode,
-    ))
-}
-
-fn diff_printed_with<T: NameTable + Drop>(
-    alloc: Global,
-    call: &Call<'_>,
-    devices: &mut Devices<'_>,
-    tables_a: Tables<T>,
-    tables_b: Tables<T>,
-) -> Outcome
-    requires limits { AreSound call.now.limits }
-    requires new { AreNew devices.old }
-    requires tables_a { AreReady T.numbers T.limit call.now.limits tables_a }
-    requires tables_b { AreReady T.numbers T.limit call.now.limits tables_b }
-{
-    Outcome::Status(run_diff_with(
-        alloc,
-        &mut devices.a,
-        &mut devices.b,
-        &mut devices.output,
-        &mut devices.errors,
-        call.limits,
-        tables_a,
-        tables_b,
-        call.mode,
-    ))
-}
-
-fn diff_all_printed(alloc: Global, call: &Call<'_>, devices: &mut Devices<'_>) -> Outcome
-    requires limits { AreSound call.now.limits }
-    requires new { AreNew devices.old }
-{
-    Outcome::Status(run_diff_all(
-        alloc,
-        &mut devices.a,
-        &mut devices.b,
-        &mut devices.output,
-        &mut devices.errors,
-        call.limits,
-        call.mode,
-    ))
-}
-
-fn diff_all_printed_with<T: NameTable + Drop>(
-    alloc: Global,
-    call: &Call<'_>,
-    devices: &mut Devices<'_>,
-    tables_a: Tables<T>,
-    tables_b: Tables<T>,
-) -> Outcome
-    requires limits { AreSound call.now.limits }
-    requires new { AreNew devices.old }
-    requires tables_a { AreReady T.numbers T.limit call.now.limits tables_a }
-    requires tables_b { AreReady T.numbers T.limit call.now.limits tables_b }
-{
-    Outcome::Status(run_diff_all_with(
-        alloc,
+        printed,
         &mut devices.a,
         &mut devices.b,
         &mut devices.output,
@@ -355,10 +308,9 @@ fn outcome_own(alloc: Global, call: &Call<'_>, devices: &mut Devices<'_>) -> Out
         Function::Normalise => Outcome::Written(normalised(alloc, call, devices)),
         Function::Check => Outcome::Checked(checked(alloc, call, devices)),
         Function::Compare => Outcome::Compared(compared(alloc, call, devices)),
+        Function::Carries => Outcome::Carried(carried(alloc, call, devices)),
         Function::RunStream(job) => streamed(alloc, call, job, devices),
-        Function::RunCompare => compare_printed(alloc, call, devices),
-        Function::RunDiff => diff_printed(alloc, call, devices),
-        Function::RunDiffAll => diff_all_printed(alloc, call, devices),
+        Function::RunPair(printed) => pair_printed(alloc, call, printed, devices),
         _ => Outcome::Refused,
     }
 }
@@ -383,9 +335,9 @@ fn outcome_with<T: NameTable + Drop>(
             alloc, call, devices, tables_a, tables_b,
         )),
         Function::RunStream(job) => streamed_with(alloc, call, job, devices, tables_a),
-        Function::RunCompare => compare_printed_with(alloc, call, devices, tables_a, tables_b),
-        Function::RunDiff => diff_printed_with(alloc, call, devices, tables_a, tables_b),
-        Function::RunDiffAll => diff_all_printed_with(alloc, call, devices, tables_a, tables_b),
+        Function::RunPair(printed) => {
+            pair_printed_with(alloc, call, printed, devices, tables_a, tables_b)
+        }
         _ => Outcome::Refused,
     }
 }

@@ -9,6 +9,7 @@
 
 mod answer;
 mod call;
+mod carrying;
 mod devices;
 mod engines;
 mod words;

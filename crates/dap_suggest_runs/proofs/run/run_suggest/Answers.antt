@@ -1,6 +1,6 @@
 use Rattle.std.proofs.Common.{◌∙◌, ℕ, List, Ok, Err, refl, subst}
 use Rattle.std.proofs.lemmas.List.{append-nil}
-use Rattle.dap_runs.specs.ComparingRun.{IsPrinted}
+use Rattle.dap_runs.specs.Printing.{IsPrinted}
 use Rattle.dap_suggest_runs.proofs.MemoryStatus.{not_printed, short_at_memory}
 use Rattle.dap_suggest_runs.proofs.run.run_suggest.Goals as goal
 

@@ -1,10 +1,10 @@
 use Rattle.std.proofs.Common.{◌∙◌, subst}
 use Rattle.std.specs.List.{flat_map}
 use Rattle.std.proofs.lemmas.Result.{err_from_is_err_and}
-use Rattle.dap_runs.specs.ComparingRun.{first_line, pair_line, pairs_in}
+use Rattle.dapnorm.specs.Pairs.{first_line, pair_line, pairs_in}
 use Rattle.dap_device.specs.Written.{AllWritten, PrefixWritten}
 use Rattle.dap_device.proofs.Sending.{all_then_all, all_then_flush, all_then_front}
-use Rattle.dap_runs.proofs.compare_run.print.Goals as goal
+use Rattle.dapnorm.proofs.pair.write_verdict.Goals as goal
 
 pub returns-in_err-write_pairs : goal.returns-in_err-write_pairs
 returns-in_err-write_pairs g c =

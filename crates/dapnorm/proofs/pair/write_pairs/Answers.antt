@@ -1,8 +1,8 @@
 use Rattle.std.proofs.Common.{arith, ◌∙◌}
 use Rattle.std.proofs.lemmas.Result.{err_from_is_err_and}
-use Rattle.dap_runs.specs.ComparingRun.{pair_line}
+use Rattle.dapnorm.specs.Pairs.{pair_line}
 use Rattle.dap_device.proofs.Sending.{line_not_sent, line_sent}
-use Rattle.dap_runs.proofs.compare_run.write_pairs.Goals as goal
+use Rattle.dapnorm.proofs.pair.write_pairs.Goals as goal
 
 pub returns-in_err-write_all : goal.returns-in_err-write_all
 returns-in_err-write_all g c =

@@ -1,8 +1,8 @@
 use Rattle.std.proofs.Common.{take}
 use Rattle.std.specs.List.{flat_map}
-use Rattle.dap_runs.specs.ComparingRun.{pair_line}
+use Rattle.dapnorm.specs.Pairs.{pair_line}
 use Rattle.dap_device.specs.Written.{AllWritten}
-use Rattle.dap_runs.proofs.compare_run.write_pairs.Given as goal
+use Rattle.dapnorm.proofs.pair.write_pairs.Given as goal
 
 -- the lines of the pairs so far went out
 abbrev pub invariant-loop-pair : goal.invariant-loop-pair
