@@ -92,6 +92,12 @@ impl<'a, R: Files> FileAt<'a, R> {
         })
     }
 
+    /// Returns whether the temporary file exists. After a replacement that failed, it could not be
+    /// removed.
+    pub fn is_left(&self) -> bool {
+        self.temporary.is_some()
+    }
+
     /// Returns the reason of the last failure, or `None` before the first one. A failed removal
     /// does not change the reason of an earlier failure.
     pub fn reason(&self) -> Option<&Error>

@@ -13,10 +13,8 @@
 //!
 //! - [`MemoryFile`] is in memory, and each of its calls takes effect at once.
 //! - [`CachedFile`] is in memory over a cache: a crash loses what is not synced.
-//! - [`FileAt`] is a file of the operating system, whose content is outside all contracts.
-//!
-//! [`open_input`] and [`find_file`] find the inputs and outputs of a program by the names that its
-//! user gave. They are tested, not proved.
+//! - [`FileAt`] is a file of the operating system, whose content is outside all contracts. What it
+//!   does is tested, not proved.
 #![tactic(auto)]
 
 mod cached_file;
@@ -25,11 +23,9 @@ mod failing;
 mod failures;
 mod file;
 mod file_at;
-mod inputs;
 mod links;
 mod memory;
 mod memory_file;
-mod outputs;
 mod pieces;
 mod place;
 mod reading;
@@ -43,10 +39,8 @@ pub use cached_file::CachedFile;
 pub use device::{DeviceFault, Sink, Source};
 pub use file::{FileFault, ReadFault, Replaceable, Step};
 pub use file_at::FileAt;
-pub use inputs::{KeptInput, OpenInput, is_standard, open_input};
 pub use memory::{MemorySink, MemorySource};
 pub use memory_file::MemoryFile;
-pub use outputs::find_file;
 pub use pieces::Pieces;
 pub use reading::{Input, Stop, read_all};
 pub use replacing::{ReplaceFault, replace};

@@ -32,6 +32,11 @@ impl<R: Read> StdSource<R> {
             failures: 0,
         }
     }
+
+    /// Returns the reader.
+    pub fn reader(&self) -> &R {
+        &self.reader
+    }
 }
 
 impl<R: Read> Source for StdSource<R> {

@@ -5,13 +5,14 @@
 #![tactic(auto)]
 
 mod files;
+mod inputs;
 mod output;
 mod reports;
 
 pub use files::{
-    OpenedInput, RulesInput, SystemDevices, SystemFile, SystemFiles, SystemRules, SystemTargets,
-    are_same, is_device, open_rules_file,
+    SystemDevices, SystemFiles, SystemRules, SystemTargets, are_same, is_device,
 };
+pub use inputs::{OpenedInput, SystemInput};
 pub use output::{
     Errors, Escaped, LineOutput, OpenOutput, ShownOutput, errors, line_output, shown_output,
 };

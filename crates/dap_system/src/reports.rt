@@ -2,11 +2,11 @@
 ghost use Rattle.std.specs.Prelude.{◌≡◌, ◌↔◌, IsTrue, None};
 ghost use Rattle.std.specs.IoError.{error_kind, raw_os_error};
 
-use crate::files::{OpenedInput, SystemFile};
+use crate::inputs::{OpenedInput, SystemInput};
 use crate::output::errors;
-use dap_device::{KeptInput, is_standard};
+use dap_device::FileAt;
 use dap_explain::explain_unreadable;
-use dap_runs::{OpenFault, UnreadInput, send};
+use dap_runs::{OpenFault, UnreadInput, is_standard, send};
 use std::alloc::AllocError;
 use std::io::{Error, ErrorKind, IsTerminal};
 
@@ -40,7 +40,7 @@ pub fn print(rt: &HostRuntime, text: Result<String, AllocError>) {
 }
 
 /// Reports the reason of the last failure of a file, and whether a temporary file is left.
-pub fn report_file(rt: &HostRuntime, name: &str, file: &SystemFile<'_>) {
+pub fn report_file(rt: &HostRuntime, name: &str, file: &FileAt<'_, HostRuntime>) {
     if let Some(reason) = file.reason() {
         report_reason(rt, name, reason);
     }
@@ -70,7 +70,7 @@ fn shown_name<'a>(name: Option<&'a str>) -> &'a str {
 }
 
 /// Reports the reason of the last read of an input that failed, if one did.
-pub fn report_failure(rt: &HostRuntime, name: Option<&str>, input: &KeptInput) {
+pub fn report_failure(rt: &HostRuntime, name: Option<&str>, input: &OpenedInput<'_>) {
     if let Some(error) = input.failure() {
         report_reason(rt, shown_name(name), error);
     }
@@ -90,9 +90,14 @@ pub fn report_trace(rt: &HostRuntime, name: Option<&str>) {
 
 /// Reports why an input of recordings could not be read, or that a rejected one is a trace. If the
 /// bytes of the input are kept, an explanation says the latter.
-pub fn report_input(rt: &HostRuntime, name: Option<&str>, input: &OpenedInput, is_rejected: bool) {
-    report_failure(rt, name, input.kept());
-    if is_rejected && input.is_trace() && input.kept().bytes().is_none() {
+pub fn report_input(
+    rt: &HostRuntime,
+    name: Option<&str>,
+    input: &OpenedInput<'_>,
+    is_rejected: bool,
+) {
+    report_failure(rt, name, input);
+    if is_rejected && input.is_trace() && input.bytes().is_none() {
         report_trace(rt, name);
     }
 }
@@ -107,10 +112,10 @@ pub fn explain_unopened(rt: &HostRuntime, name: Option<&str>, fault: &OpenFault)
 }
 
 /// Reports the reason of an input that was not read.
-pub fn explain_unread(rt: &HostRuntime, name: Option<&str>, why: &UnreadInput<OpenedInput>) {
+pub fn explain_unread(rt: &HostRuntime, name: Option<&str>, why: &UnreadInput<SystemInput<'_>>) {
     match why {
         UnreadInput::Unopened(fault) => explain_unopened(rt, name, fault),
-        UnreadInput::Failed(input) => report_failure(rt, name, input.kept()),
+        UnreadInput::Failed(input) => report_failure(rt, name, input.reader()),
         UnreadInput::Memory(_) => {}
     }
 }

@@ -2,7 +2,7 @@
 use crate::explaining::explain_no_rules;
 use crate::{REFUSED, Setting, tables};
 use dap_explain_commands::{explain_applying, explain_comparison};
-use dap_system::{OpenedInput, errors, line_output, print, report_input, report_reason};
+use dap_system::{SystemInput, errors, line_output, print, report_input, report_reason};
 use dapnorm::{
     Comparison, IndexNames, LIMITS, Mode, OpenFault, OpenStop, Printed, RuledPairRun, RulesStop,
     TableMaker, Tables, TwoFilesRun, Which, compare_by_rules, compare_files,
@@ -14,15 +14,15 @@ use std::hash::RandomState;
 fn explain(
     rt: &HostRuntime,
     names: (&str, &str),
-    inputs: (&OpenedInput, &OpenedInput),
+    inputs: (&SystemInput<'_>, &SystemInput<'_>),
     status: u8,
     mode: Mode,
     setting: Setting<'_>,
 ) {
-    let (a, b) = inputs;
+    let (a, b) = (inputs.0.reader(), inputs.1.reader());
     report_input(rt, Some(names.0), a, status == REFUSED);
     report_input(rt, Some(names.1), b, status == REFUSED);
-    if let (Some(a), Some(b)) = (a.kept().bytes(), b.kept().bytes())
+    if let (Some(a), Some(b)) = (a.bytes(), b.bytes())
         && status == REFUSED
     {
         print(
@@ -49,7 +49,7 @@ fn explain_open_stop(rt: &HostRuntime, names: (&str, &str), stop: &OpenStop) {
 fn explained(
     rt: &HostRuntime,
     names: (&str, &str),
-    run: &TwoFilesRun<OpenedInput>,
+    run: &TwoFilesRun<SystemInput<'_>>,
     mode: Mode,
     setting: Setting<'_>,
 ) -> u8 {
@@ -99,12 +99,12 @@ impl TableMaker<IndexNames<RandomState>> for HashedTables {
 
 /// Compares what the rules of a file make of the recordings of two files, and prints the verdict or
 /// the differences.
-fn print_by_rules(
-    rt: &HostRuntime,
+fn print_by_rules<'a>(
+    rt: &'a HostRuntime,
     comparison: &Comparison<'_>,
     rules: &str,
-    setting: Setting<'_>,
-) -> RuledPairRun<OpenedInput> {
+    setting: Setting<'a>,
+) -> RuledPairRun<SystemInput<'a>> {
     let maker = HashedTables {
         hasher: setting.hasher,
     };
@@ -129,7 +129,7 @@ fn explain_rules_stop(
     comparison: &Comparison<'_>,
     name: &str,
     text: Option<&[u8]>,
-    stop: &RulesStop<OpenedInput>,
+    stop: &RulesStop<SystemInput<'_>>,
 ) {
     match stop {
         RulesStop::NoRules(why) => explain_no_rules(rt, name, text, why),
@@ -144,8 +144,9 @@ fn explain_rules_stop(
                 Which::A => comparison.a,
                 Which::B => comparison.b,
             };
+            let input = input.reader();
             report_input(rt, Some(name), input, true);
-            if let Some(bytes) = input.kept().bytes() {
+            if let Some(bytes) = input.bytes() {
                 print(
                     rt,
                     explain_applying(rt.alloc(), bytes, rules, *refused, LIMITS),

@@ -1,15 +1,14 @@
 //! Prints explanations on standard error, after the line of a refusal.
-use dap_device::find_file;
+use dap_device::FileAt;
 use dap_explain::{explain, explain_rules};
 use dap_explain_commands::{explain_mask, explain_order};
 use dap_system::{print, report_reason};
 use dapnorm::{LIMITS, NoRules, Refused, Replaceable, RulesFault, RulesOpenFault, RulesRefused};
 use std::fs;
-use std::hash::RandomState;
 
 /// Explains why a golden file is rejected, which is read again.
-pub fn explain_file(rt: &HostRuntime, name: &str, refused: Refused, hasher: RandomState) {
-    let Ok(mut file) = find_file(rt, name, hasher) else {
+pub fn explain_file(rt: &HostRuntime, name: &str, refused: Refused) {
+    let Ok(mut file) = FileAt::to_read(rt.alloc(), rt, name) else {
         return;
     };
     if let Ok(Some(golden)) = file.read(rt.alloc(), LIMITS.input) {

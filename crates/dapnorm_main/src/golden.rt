@@ -2,12 +2,12 @@
 use crate::explaining::{explain_file, explain_no_rules};
 use crate::{Setting, USAGE};
 use dap_explain_commands::explain_golden;
+use dap_device::FileAt;
 use dap_system::{
-    OpenedInput, SystemFile, SystemFiles, SystemTargets, are_same, errors, explain_unopened,
-    explain_unread, print, report_file, report_terminal, shown_output,
+    SystemFiles, SystemInput, SystemTargets, are_same, errors, explain_unopened, explain_unread,
+    print, report_file, report_terminal, shown_output,
 };
 use dapnorm::{Golden, GoldenEnd, GoldenFilesRun, GoldenStop, LIMITS, MaskRules, golden_files};
-use std::hash::RandomState;
 
 /// Explains a stop in lines for people.
 fn explain_stop(
@@ -15,9 +15,8 @@ fn explain_stop(
     stop: GoldenStop,
     input: &[u8],
     rules: Option<&MaskRules>,
-    file: &SystemFile<'_>,
+    file: &FileAt<'_, HostRuntime>,
     name: &str,
-    hasher: RandomState,
 ) {
     match stop {
         GoldenStop::Input(refused) => {
@@ -26,7 +25,7 @@ fn explain_stop(
                 explain_golden(rt.alloc(), input, rules, refused, LIMITS),
             );
         }
-        GoldenStop::Golden(refused) => explain_file(rt, name, refused, hasher),
+        GoldenStop::Golden(refused) => explain_file(rt, name, refused),
         GoldenStop::GoldenUnread | GoldenStop::Unwritten(_) => report_file(rt, name, file),
         _ => {}
     }
@@ -37,7 +36,7 @@ fn explain_end(
     rt: &HostRuntime,
     golden: &Golden<'_>,
     name: Option<&str>,
-    end: &GoldenEnd<OpenedInput, SystemFile<'_>>,
+    end: &GoldenEnd<SystemInput<'_>, FileAt<'_, HostRuntime>>,
     setting: Setting<'_>,
 ) {
     match end {
@@ -55,7 +54,7 @@ fn explain_end(
             stop: Some(stop),
         } => {
             let (bytes, rules) = (input.bytes.as_slice(), rules.as_ref());
-            explain_stop(rt, *stop, bytes, rules, file, golden.golden, setting.hasher);
+            explain_stop(rt, *stop, bytes, rules, file, golden.golden);
         }
         GoldenEnd::Ran { .. } => {}
     }
@@ -66,8 +65,8 @@ fn run_golden<'a>(
     rt: &'a HostRuntime,
     golden: &Golden<'_>,
     input: Option<&str>,
-    setting: Setting<'_>,
-) -> GoldenFilesRun<OpenedInput, SystemFile<'a>> {
+    setting: Setting<'a>,
+) -> GoldenFilesRun<SystemInput<'a>, FileAt<'a, HostRuntime>> {
     let targets = SystemTargets {
         rt,
         hasher: if golden.update {

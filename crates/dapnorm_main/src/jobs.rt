@@ -2,10 +2,11 @@
 use crate::comparing::compare_two;
 use crate::explaining::{explain_mask_of, explain_order_of};
 use crate::{REFUSED, Setting, USAGE, tables};
-use dap_device::is_standard;
+use dap_device::FileAt;
 use dap_explain_commands::{explain_job, explain_view};
+use dap_runs::is_standard;
 use dap_system::{
-    OpenOutput, OpenedInput, SystemDevices, SystemFile, SystemTargets, are_same, errors,
+    OpenOutput, OpenedInput, SystemDevices, SystemInput, SystemTargets, are_same, errors,
     explain_unopened, is_device, print, report_failure, report_file, report_input, report_reason,
     report_terminal,
 };
@@ -44,11 +45,11 @@ fn report_of(
     rt: &HostRuntime,
     task: Task<'_>,
     name: Option<&str>,
-    input: &OpenedInput,
+    input: &OpenedInput<'_>,
     status: u8,
 ) {
     match task {
-        Task::Job(StreamJob::Record) => report_failure(rt, name, input.kept()),
+        Task::Job(StreamJob::Record) => report_failure(rt, name, input),
         _ => report_input(rt, name, input, status == REFUSED),
     }
 }
@@ -59,7 +60,7 @@ fn explain(
     rt: &HostRuntime,
     task: Task<'_>,
     name: Option<&str>,
-    input: &OpenedInput,
+    input: &OpenedInput<'_>,
     status: u8,
     setting: Setting<'_>,
 ) {
@@ -67,7 +68,7 @@ fn explain(
     if status != REFUSED {
         return;
     }
-    match (input.kept().bytes(), task) {
+    match (input.bytes(), task) {
         (Some(bytes), _) => explain_refusal(rt, task, bytes, setting),
         (None, Task::Apply { .. }) => explain_refusal(rt, task, &[], setting),
         _ => {}
@@ -75,12 +76,12 @@ fn explain(
 }
 
 /// Does a task over the input of a name, and writes its output to standard output.
-fn print_task(
-    rt: &HostRuntime,
+fn print_task<'a>(
+    rt: &'a HostRuntime,
     task: Task<'_>,
     name: Option<&str>,
-    setting: Setting<'_>,
-) -> FileRun<OpenedInput> {
+    setting: Setting<'a>,
+) -> FileRun<SystemInput<'a>> {
     run_file(
         rt.alloc(),
         &setting.system_files(rt),
@@ -98,14 +99,14 @@ fn explained(
     rt: &HostRuntime,
     task: Task<'_>,
     name: Option<&str>,
-    run: &FileRun<OpenedInput>,
+    run: &FileRun<SystemInput<'_>>,
     setting: Setting<'_>,
 ) -> u8 {
     let status = run.task.status;
     match &run.input {
         Ok(input) => {
             explain_rules(rt, task, run.task.unopened_rules);
-            explain(rt, task, name, input, status, setting);
+            explain(rt, task, name, input.reader(), status, setting);
         }
         Err(fault) => explain_unopened(rt, name, fault),
     }
@@ -113,13 +114,13 @@ fn explained(
 }
 
 /// Does a task over one input, and writes its output to a device, a pipe or an open stream.
-fn write_task(
-    rt: &HostRuntime,
+fn write_task<'a>(
+    rt: &'a HostRuntime,
     task: Task<'_>,
     name: Option<&str>,
     output: &str,
-    setting: Setting<'_>,
-) -> SavedRun<OpenedInput, StdSink<OpenOutput>> {
+    setting: Setting<'a>,
+) -> SavedRun<SystemInput<'a>, StdSink<OpenOutput>> {
     write_run(
         rt.alloc(),
         &setting.system_files(rt),
@@ -139,8 +140,8 @@ fn save_task<'a>(
     task: Task<'_>,
     name: Option<&str>,
     output: &str,
-    setting: Setting<'_>,
-) -> SavedRun<OpenedInput, SystemFile<'a>> {
+    setting: Setting<'a>,
+) -> SavedRun<SystemInput<'a>, FileAt<'a, HostRuntime>> {
     let targets = SystemTargets {
         rt,
         hasher: Some(setting.hasher),
@@ -164,7 +165,7 @@ fn explained_end<O>(
     task: Task<'_>,
     name: Option<&str>,
     output: &str,
-    run: &SavedRun<OpenedInput, O>,
+    run: &SavedRun<SystemInput<'_>, O>,
     setting: Setting<'_>,
 ) -> u8 {
     match &run.end {
@@ -176,14 +177,18 @@ fn explained_end<O>(
             ..
         } => {
             explain_rules(rt, task, *unopened_rules);
-            explain(rt, task, name, input, run.status, setting);
+            explain(rt, task, name, input.reader(), run.status, setting);
         }
     }
     run.status
 }
 
 /// Reports the reason of a file that was not replaced.
-fn explain_unsaved(rt: &HostRuntime, name: &str, end: &SaveEnd<OpenedInput, SystemFile<'_>>) {
+fn explain_unsaved(
+    rt: &HostRuntime,
+    name: &str,
+    end: &SaveEnd<SystemInput<'_>, FileAt<'_, HostRuntime>>,
+) {
     if let SaveEnd::Ran { output, .. } = end {
         report_file(rt, name, output);
     }

@@ -5,7 +5,7 @@ use dap_explain_commands::{explain_comparison, explain_mask};
 use dap_golden::is_trace;
 use dap_suggest_runs::{SuggestEnd, SuggestFilesRun, suggest_files};
 use dap_system::{
-    OpenedInput, SystemFiles, errors, explain_unread, line_output, print, report_trace,
+    SystemFiles, SystemInput, errors, explain_unread, line_output, print, report_trace,
 };
 use dapnorm::{LIMITS, Mode, Which};
 
@@ -24,7 +24,7 @@ fn explain_end(
     rt: &HostRuntime,
     files: (&str, &str),
     rules: Option<&str>,
-    run: &SuggestFilesRun<OpenedInput>,
+    run: &SuggestFilesRun<SystemInput<'_>>,
     setting: Setting<'_>,
 ) {
     match &run.end {

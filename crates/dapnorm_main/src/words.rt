@@ -12,7 +12,7 @@ use crate::explaining::explain_no_rules;
 use crate::report_usage;
 use dap_commands::words_given;
 use dap_runs::report_no_rules;
-use dap_system::{errors, is_out_of_memory, open_rules_file};
+use dap_system::{OpenedInput, errors, is_out_of_memory};
 use dap_word_option::with_values;
 use dapnorm::{Action, Job, NoRules, RulesOpenFault, RulesRefused, StdSource, Stop, read_all};
 
@@ -21,7 +21,7 @@ const RULES: u64 = 65_536;
 
 /// Reads the text of a rules file, with at most one byte past the limit.
 fn text_of(rt: &HostRuntime, name: &str) -> Result<Vec<u8>, NoRules> {
-    let file = match open_rules_file(rt, name) {
+    let file = match OpenedInput::open_rules(rt, name) {
         Ok(file) => file,
         Err(error) if is_out_of_memory(&error) => {
             return Err(NoRules::Unopened(RulesOpenFault::Memory));
