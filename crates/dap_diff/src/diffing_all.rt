@@ -11,7 +11,7 @@ use crate::report::report_lines;
 use dap_compare::{CompareRefused, Which};
 use dap_device::Source;
 use dap_input::Limits;
-use dap_rename::{Mode, NameTable, Tables, index_tables};
+use dap_rename::{Mode, NameTable, Tables};
 use std::alloc::Global;
 
 /// Returns the differences of two recordings in memory, which have two normal forms.
@@ -35,7 +35,8 @@ fn differences_of(
 /// some side and name is the K-th one with that side and name; the counterpart of a response is the
 /// response to the counterpart of its request. Ids are compared by joint numbers: two ids of one
 /// sort at one path of a pair get one number, if neither has a number yet. With [`Mode::PerStop`]
-/// ids of frames and references that come after different stops are different ids.
+/// ids of frames and references that come after different stops are different ids. The tables for
+/// the ids of A and of B must be empty, each with the limit `limits.ids`.
 ///
 /// The first line is `differ: N paired, N only in A, N only in B`. The records follow in the order
 /// of A, each as a line such as `12/13 < event "stopped"`, with the numbers in A and in B and `-`
@@ -47,44 +48,6 @@ fn differences_of(
 ///
 /// - `Input`: the first refusal of A, or of B if A is accepted.
 /// - `Memory`: an allocation failed.
-pub fn diff_all<A: Source, B: Source>(
-    alloc: Global,
-    reader_a: &mut A,
-    reader_b: &mut B,
-    limits: Limits,
-    mode: Mode,
-) -> Result<AllDifferences, CompareRefused>
-    requires limits { AreSound limits }
-    requires given_a { A.given reader_a.old < 2 ^ 62 }
-    requires given_b { B.given reader_b.old < 2 ^ 62 }
-    requires failures_a { A.failures reader_a.old < 2 ^ 62 }
-    requires failures_b { B.failures reader_b.old < 2 ^ 62 }
-
-    // `Same` is returned exactly for two accepted recordings with one normal form.
-    ensures outcome { DiffersAll A.Source B.Source limits mode reader_a.old reader_a.new
-        reader_b.old reader_b.new result }
-
-    // At most one byte past the limit is taken of each input.
-    ensures taken_a { A.given reader_a.new ≤ A.given reader_a.old + limits.input + 1 }
-    ensures taken_b { B.given reader_b.new ≤ B.given reader_b.old + limits.input + 1 }
-{
-    diff_all_with(
-        alloc,
-        reader_a,
-        reader_b,
-        limits,
-        index_tables(alloc, limits.ids),
-        index_tables(alloc, limits.ids),
-        mode,
-    )
-}
-
-/// Does what [`diff_all`] does, with these tables for the ids of A and of B. The tables must be
-/// empty, each with the limit `limits.ids`.
-///
-/// # Errors
-///
-/// Those of [`diff_all`].
 pub fn diff_all_with<A: Source, B: Source, T: NameTable + Drop>(
     alloc: Global,
     reader_a: &mut A,
@@ -102,9 +65,11 @@ pub fn diff_all_with<A: Source, B: Source, T: NameTable + Drop>(
     requires failures_a { A.failures reader_a.old < 2 ^ 62 }
     requires failures_b { B.failures reader_b.old < 2 ^ 62 }
 
-    // The clauses of `diff_all`, whatever the tables are.
+    // `Same` is returned exactly for two accepted recordings with one normal form.
     ensures outcome { DiffersAll A.Source B.Source limits mode reader_a.old reader_a.new
         reader_b.old reader_b.new result }
+
+    // At most one byte past the limit is taken of each input.
     ensures taken_a { A.given reader_a.new ≤ A.given reader_a.old + limits.input + 1 }
     ensures taken_b { B.given reader_b.new ≤ B.given reader_b.old + limits.input + 1 }
 {

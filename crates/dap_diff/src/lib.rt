@@ -1,7 +1,7 @@
 //! Compares two recordings and prints their differences as lines.
 //!
-//! [`diff`] prints the differences of the first records that differ. [`diff_all`] matches the records
-//! of both recordings, and prints all differences.
+//! [`diff`] prints the differences of the first records that differ. [`diff_all_with`] matches the
+//! records of both recordings, and prints all differences.
 #![tactic(auto)]
 
 mod all_differences;
@@ -21,7 +21,7 @@ mod rows;
 
 pub use all_differences::AllDifferences;
 pub use diffing::{diff, diff_with};
-pub use diffing_all::{diff_all, diff_all_with};
+pub use diffing_all::diff_all_with;
 pub use entry::{Entry, Recording};
 pub use matching::match_records;
 pub use outcome::Diff;

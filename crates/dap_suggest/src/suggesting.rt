@@ -181,7 +181,7 @@ fn suggest_by(
 /// Suggests rules that make two recordings of one scenario the same, in addition to the rules that
 /// were given.
 ///
-/// The records are matched as those of [`diff_all`](dap_diff::diff_all). Events that the
+/// The records are matched as those of [`diff_all_with`](dap_diff::diff_all_with). Events that the
 /// recordings have in different numbers are dropped, only those of some categories if these explain
 /// the difference. At each place at which pairs differ, the first verb that makes all pairs equal
 /// there is suggested, or a parent is blanked. Pairs in another order may change places. Numbers

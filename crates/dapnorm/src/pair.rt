@@ -266,8 +266,8 @@ pub fn run_compare_with<A: Source, B: Source, W: Sink, E: Sink, T: NameTable + D
 /// The output is `same` if the recordings are the same, for [`Printed::Verdict`] with the pairs of
 /// [`run_compare`]. Otherwise it is `differ K`, with the number of the first record that differs,
 /// and for [`Printed::FirstDifference`] the lines of [`diff`](dap_diff::diff). For
-/// [`Printed::AllDifferences`] it is the lines of [`diff_all`](dap_diff::diff_all). The status is
-/// that of [`run_compare`].
+/// [`Printed::AllDifferences`] it is the lines of [`diff_all_with`]. The status is that of
+/// [`run_compare`].
 pub fn run_pair_with<A: Source, B: Source, W: Sink, E: Sink, T: NameTable + Drop>(
     alloc: Global,
     printed: Printed,
