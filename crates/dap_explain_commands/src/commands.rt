@@ -11,7 +11,6 @@ ghost use Rattle.dap_rename.specs.IndexNames.{index_limit, index_numbers};
 
 use dap_commands::Job;
 use dap_compact::compact;
-use dap_compare::{CompareRefused, Which, compare_with};
 use dap_device::{MemorySource, StdSink};
 use dap_explain::{explain, explain_masked, explain_rules};
 use dap_golden::{GoldenRefused, recording_of};
@@ -139,35 +138,6 @@ fn refused_by_view(
                 Err(refused) => Some(refused),
             }
         }
-    }
-}
-
-/// Explains why one of two inputs is rejected. Compares them again to find the error.
-pub fn explain_comparison(
-    alloc: Global,
-    a: &[u8],
-    b: &[u8],
-    limits: Limits,
-    mode: Mode,
-    hasher: RandomState,
-) -> Result<String, AllocError>
-    requires { AreSound limits }
-    ensures { IfOk result (λ text. ∥ AreLines (string_bytes text) ∥₁) }
-{
-    let refused = compare_with(
-        alloc,
-        &mut MemorySource::new(a),
-        &mut MemorySource::new(b),
-        limits,
-        tables(alloc, limits, hasher),
-        tables(alloc, limits, hasher),
-        mode,
-    )
-    .err();
-    match refused {
-        Some(CompareRefused::Input(Which::A, why)) => explain(alloc, a, why, limits),
-        Some(CompareRefused::Input(Which::B, why)) => explain(alloc, b, why, limits),
-        _ => Ok(String::new(alloc)),
     }
 }
 

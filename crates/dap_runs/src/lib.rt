@@ -42,7 +42,7 @@ pub use saving::{report_unsaved, save, unsaved_words};
 pub use status::{DIFFERENT, DONE, FAULT, MEMORY, REFUSED, USAGE, refusal_status, refused_status};
 pub use targets::Targets;
 pub use two_inputs::{
-    OpenStop, TwoFilesRun, are_both_standard, is_standard, open_both, report_open_stop,
+    OpenStop, PairRun, TwoFilesRun, are_both_standard, is_standard, open_both, report_open_stop,
 };
 pub use unopened_rules::report_unopened_rules;
 pub use whole_input::{UnreadInput, WholeInput, read_whole};

@@ -13,7 +13,7 @@ use crate::files::Files;
 use crate::mask_run::{RulesRefused, read_rules, report_rules};
 use crate::program_limits::LIMITS;
 use crate::rules_files::{RulesFiles, RulesOpenFault};
-use crate::two_inputs::{OpenStop, is_standard, open_both, report_open_stop};
+use crate::two_inputs::{OpenStop, PairRun, is_standard, open_both, report_open_stop};
 use crate::unopened_rules::report_unopened_rules;
 use dap_compare::Which;
 use dap_device::{MemorySource, Sink, Source};
@@ -72,8 +72,7 @@ pub struct TextsByRules {
 /// How a comparison by the rules of a file ended.
 #[derive(Drop)]
 pub struct RuledPairRun<I> {
-    /// The status of the program.
-    pub status: u8,
+    pub run: PairRun,
     /// Why the rules were not applied to both recordings.
     pub stop: Option<RulesStop<I>>,
 }

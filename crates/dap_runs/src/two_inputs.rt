@@ -24,11 +24,19 @@ pub enum OpenStop {
     Unopened(Which, OpenFault),
 }
 
+/// How a comparison of two recordings ended.
+#[derive(Clone, Copy, Debug)]
+pub struct PairRun {
+    /// The status of the program.
+    pub status: u8,
+    /// Why the recordings were not compared to the end.
+    pub refused: Option<CompareRefused>,
+}
+
 /// How a comparison of two files ended.
 #[derive(Drop)]
 pub struct TwoFilesRun<I> {
-    /// The status of the program.
-    pub status: u8,
+    pub run: PairRun,
     /// The inputs of A and of B, as they are after the comparison, or why they were not read.
     pub inputs: Result<(I, I), OpenStop>,
 }

@@ -30,5 +30,5 @@ module _ {I J W E : Type 0} (opened : List ℕ → I → Type 0)
   ends apart are (end.NoRules why) is = absurd is
   ends apart are (end.Unread one why) is =
       record { apart = apart; given = given; are_rules = are; ends = is }
-  ends apart are (end.Ran text read_a read_b) is =
+  ends apart are (end.Ran text read_a read_b refused) is =
       record { apart = apart; given = given; are_rules = are; ends = is }

@@ -29,6 +29,7 @@ use Rattle.dap_runs.specs.declared.whole_input.UnreadInput.{UnreadInput}
 use Rattle.dap_runs.specs.declared.whole_input.UnreadInput.TheVariants as unread
 use Rattle.dap_runs.specs.declared.whole_input.WholeInput.{WholeInput}
 use Rattle.dap_suggest_runs.specs.SuggestRun.{SuggestionIsReported}
+use Rattle.dap_suggest_runs.specs.declared.run.SuggestRun.{SuggestRun}
 use Rattle.dap_suggest_runs.specs.declared.suggest_by_names.SuggestEnd.{SuggestEnd}
 use Rattle.dap_suggest_runs.specs.declared.suggest_by_names.SuggestEnd.TheVariants as end
 use Rattle.dap_suggest_runs.specs.declared.suggest_by_names.SuggestFilesRun.{SuggestFilesRun}
@@ -93,18 +94,20 @@ module _ {I W E : Type 0} (opened : List ℕ → I → Type 0) (unopened : List 
         status
 
   -- Both inputs are read, and what is suggested for them is printed or reported.
-  pub record HasRun (text : Vec ℕ Global) (read_a read_b : WholeInput I) (status : ℕ) : Type 0
+  pub record HasRun (text : Vec ℕ Global) (read_a read_b : WholeInput I)
+      (run : SuggestRun) : Type 0
     where
       pub text_is : text ≡ given
       pub reads_a : ReadsInput a (Ok read_a)
       pub reads_b : ReadsInput b (Ok read_b)
       pub reported : SuggestionIsReported sink errors limits given.items read_a.bytes.items
-          read_b.bytes.items before after silent spoken status
+          read_b.bytes.items before after silent spoken run
 
   -- The rules that are given were read. Then A is read, and then B.
   abbrev pub EndsBy : ℕ → SuggestEnd I → Type 0
   EndsBy status (end.Unread one why) = HasNoInput one why status
-  EndsBy status (end.Ran text read_a read_b) = HasRun text read_a read_b status
+  EndsBy status (end.Ran text read_a read_b refused) =
+      HasRun text read_a read_b (record { status = status; refused = refused })
   EndsBy status one = ⊥
 
 -- ---- all files, by their names
@@ -151,5 +154,5 @@ abbrev pub EndTakes : {I : Type 0} → (I → ℕ) → ℕ → SuggestEnd I → 
 EndTakes given most end.TwoStandard = Unit {0}
 EndTakes given most (end.NoRules why) = Unit {0}
 EndTakes given most (end.Unread one why) = UnreadTakes given most why
-EndTakes given most (end.Ran text read_a read_b) =
+EndTakes given most (end.Ran text read_a read_b refused) =
     (given read_a.input ≤ most) × (given read_b.input ≤ most)

@@ -1,5 +1,6 @@
 -- What the program prints of a suggestion. Source: own.
 use Rattle.std.specs.Prelude.{◌≡◌, ◌⊎◌, ℕ, List, [], ◌++◌, Result, Ok, Err}
+use Rattle.std.specs.Result.{result_err}
 use Rattle.dap_device.specs.declared.device.Sink.{Ghosts as Sink}
 use Rattle.dap_input.specs.declared.limits.Limits.{Limits}
 use Rattle.dap_rules.specs.declared.fault.ApplyRefused.{ApplyRefused}
@@ -15,6 +16,7 @@ use Rattle.dap_suggest.specs.Suggested.{AreSameBy}
 use Rattle.dap_suggest.specs.declared.suggestion.SuggestRefused.{SuggestRefused}
 use Rattle.dap_suggest.specs.declared.suggestion.SuggestRefused.TheVariants as because
 use Rattle.dap_suggest.specs.declared.suggestion.Suggestion.{Suggestion}
+use Rattle.dap_suggest_runs.specs.declared.run.SuggestRun.{SuggestRun}
 
 -- What `suggest` returns for two recordings and the rules that were given.
 abbrev pub Suggests : Limits → List ℕ → List ℕ → List ℕ → Result Suggestion SuggestRefused → Type 0
@@ -54,9 +56,10 @@ module _ {W E : Type 0} (sink : Sink W) (errors : Sink E) (given : List ℕ)
   ReportsSuggestion (Err refused) =
       (after ≡ before) × IsReported errors given silent spoken status refused
 
--- What `suggest` returns is printed or reported.
+-- What `suggest` returns is printed or reported. The run has the status, and the error.
 pub record SuggestionIsReported {W E : Type 0} (sink : Sink W) (errors : Sink E) (limits : Limits)
-    (given a b : List ℕ) (before after : W) (silent spoken : E) (status : ℕ) : Type 0 where
+    (given a b : List ℕ) (before after : W) (silent spoken : E) (run : SuggestRun) : Type 0 where
   pub outcome : Result Suggestion SuggestRefused
   pub suggests : Suggests limits given a b outcome
-  pub tells : ReportsSuggestion sink errors given before after silent spoken status outcome
+  pub tells : ReportsSuggestion sink errors given before after silent spoken run.status outcome
+  pub refused_is : run.refused ≡ result_err outcome

@@ -9,5 +9,5 @@ mod obstacle_line;
 mod run;
 mod suggest_by_names;
 
-pub use run::run_suggest;
+pub use run::{SuggestRun, reported_refusal, run_suggest};
 pub use suggest_by_names::{SuggestEnd, SuggestFilesRun, suggest_files};

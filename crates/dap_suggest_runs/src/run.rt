@@ -14,8 +14,9 @@ use dap_runs::{
 use dap_suggest::{Obstacle, SuggestRefused, suggest};
 use std::alloc::Global;
 
-/// Returns how a rejected input is reported.
-fn reported_refusal(given: &[u8], refused: ApplyRefused) -> ApplyRefused
+/// Returns how a rejected input is reported: without rules that were given, the session is the
+/// recording itself.
+pub fn reported_refusal(given: &[u8], refused: ApplyRefused) -> ApplyRefused
     ensures { result ≡ reported_refusal given.now refused }
 {
     match given {
@@ -56,9 +57,17 @@ fn report<E: Sink>(alloc: Global, errors: &mut E, given: &[u8], refused: &Sugges
     }
 }
 
-/// Suggests rules that make two recordings the same, in addition to the rules that were given,
-/// prints them, and returns the status of the program. An error is reported on `errors`, in one
-/// line.
+/// How a suggestion ended.
+#[derive(Drop)]
+pub struct SuggestRun {
+    /// The status of the program.
+    pub status: u8,
+    /// Why no rules are suggested.
+    pub refused: Option<SuggestRefused>,
+}
+
+/// Suggests rules that make two recordings the same, in addition to the rules that were given, and
+/// prints them. An error is reported on `errors`, in one line.
 ///
 /// The status is 0 if the rules are printed, 1 if no rules were found, 2 if the rules that were
 /// given or a recording is rejected, 4 if a device failed, and 5 if an allocation failed.
@@ -70,21 +79,28 @@ pub fn run_suggest<W: Sink, E: Sink>(
     writer: &mut W,
     errors: &mut E,
     limits: Limits,
-) -> u8
+) -> SuggestRun
     requires limits { AreSound limits }
     requires write_failures { W.failures writer.old < 2 ^ 62 }
     requires error_failures { E.failures errors.old < 2 ^ 62 }
 
-    // What `suggest` returns is printed or reported, and the status is the one for that.
+    // What `suggest` returns is printed or reported, and the run has the status for that and the
+    // error.
     ensures reported { SuggestionIsReported W.Sink E.Sink limits given.now a.now b.now writer.old
         writer.new
         errors.old errors.new result }
 
     // A failed allocation is reported only if the rules that were given are not too long.
-    ensures memory { result ≡ 5 → length given.now ≤ 65536 }
+    ensures memory { result.status ≡ 5 → length given.now ≤ 65536 }
 {
     match suggest(alloc, given, a, b, limits) {
-        Ok(found) => print_found(writer, errors, &[found.rules.as_slice()], DONE),
-        Err(refused) => report(alloc, errors, given, &refused),
+        Ok(found) => SuggestRun {
+            status: print_found(writer, errors, &[found.rules.as_slice()], DONE),
+            refused: None,
+        },
+        Err(refused) => SuggestRun {
+            status: report(alloc, errors, given, &refused),
+            refused: Some(refused),
+        },
     }
 }

@@ -15,6 +15,7 @@ use dap_runs::{
     are_both_standard, is_either_standard, read_whole, report_no_rules, report_open_stop,
     report_refused,
 };
+use dap_suggest::SuggestRefused;
 use std::alloc::Global;
 
 /// How many bytes of a file of rules are read at most, but one.
@@ -35,6 +36,8 @@ pub enum SuggestEnd<I> {
         given: Vec<u8>,
         a: WholeInput<I>,
         b: WholeInput<I>,
+        /// Why no rules are suggested.
+        refused: Option<SuggestRefused>,
     },
 }
 
@@ -193,7 +196,7 @@ fn suggest_by<I: Source + Drop, F: Files<I>, W: Sink, E: Sink>(
         }
     };
     let (bytes_a, bytes_b) = (read_a.bytes.as_slice(), read_b.bytes.as_slice());
-    let status = run_suggest(
+    let run = run_suggest(
         alloc,
         given.as_slice(),
         bytes_a,
@@ -203,11 +206,12 @@ fn suggest_by<I: Source + Drop, F: Files<I>, W: Sink, E: Sink>(
         LIMITS,
     );
     SuggestFilesRun {
-        status,
+        status: run.status,
         end: SuggestEnd::Ran {
             given,
             a: read_a,
             b: read_b,
+            refused: run.refused,
         },
     }
 }

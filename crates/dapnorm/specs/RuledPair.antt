@@ -11,7 +11,7 @@ use Rattle.dap_runs.specs.TextsByRules.{memory}
 use Rattle.dap_runs.specs.declared.files.OpenFault.{OpenFault}
 use Rattle.dap_runs.specs.declared.rules_files.RulesOpenFault.{RulesOpenFault}
 use Rattle.dap_runs.specs.declared.rules_texts.RuledPairRun.{RuledPairRun}
-use Rattle.dapnorm.specs.Pairs.{PairIsReported}
+use Rattle.dapnorm.specs.Pairs.{PairIsRun}
 
 -- `opened` and `opened_rules` say to which input and to which file of rules a name leads, and
 -- `unopened` and `unopened_rules` why it leads to none.
@@ -24,5 +24,5 @@ module _ {I J W E : Type 0} (opened : List ℕ → I → Type 0)
   abbrev pub AreComparedByRules : Printed → Type 0
   AreComparedByRules printed = RunsTexts opened unopened opened_rules unopened_rules source
       rules_source errors limits mode rules a b before after silent spoken
-      (λ used old_a new_a old_b new_b. PairIsReported memory memory sink errors limits used old_a
-      new_a old_b new_b printed before after silent spoken run.status) run.status run.stop
+      (λ used old_a new_a old_b new_b. PairIsRun memory memory sink errors limits used old_a
+      new_a old_b new_b printed before after silent spoken run.run) run.run.status run.stop

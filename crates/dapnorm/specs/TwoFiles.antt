@@ -8,7 +8,7 @@ use Rattle.dap_rename.specs.declared.mode.Mode.{Mode}
 use Rattle.dap_runs.specs.TwoInputs.{RunsFiles}
 use Rattle.dap_runs.specs.declared.files.OpenFault.{OpenFault}
 use Rattle.dap_runs.specs.declared.two_inputs.TwoFilesRun.{TwoFilesRun}
-use Rattle.dapnorm.specs.Pairs.{PairIsReported}
+use Rattle.dapnorm.specs.Pairs.{PairIsRun}
 
 -- `opened` says to which input a name leads, and `unopened` why it leads to none.
 module _ {I W E : Type 0} (opened : List ℕ → I → Type 0) (unopened : List ℕ → OpenFault → Type 0)
@@ -17,5 +17,5 @@ module _ {I W E : Type 0} (opened : List ℕ → I → Type 0) (unopened : List 
   -- The verdict on the recordings of the two files, or how they differ, is printed.
   abbrev pub FilesAreCompared : Printed → Type 0
   FilesAreCompared printed = RunsFiles opened unopened a b errors before after silent spoken
-      (λ old_a new_a old_b new_b. PairIsReported source source sink errors limits mode old_a new_a
-      old_b new_b printed before after silent spoken run.status) run.status run.inputs
+      (λ old_a new_a old_b new_b. PairIsRun source source sink errors limits mode old_a new_a
+      old_b new_b printed before after silent spoken run.run) run.run.status run.inputs

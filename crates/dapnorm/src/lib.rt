@@ -98,6 +98,7 @@ pub use dap_runs::LIMITS;
 pub use dap_runs::NoRules;
 pub use dap_runs::OpenFault;
 pub use dap_runs::OpenStop;
+pub use dap_runs::PairRun;
 pub use dap_runs::RuledPairRun;
 pub use dap_runs::RulesFiles;
 pub use dap_runs::RulesOpenFault;

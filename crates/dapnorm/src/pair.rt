@@ -1,23 +1,25 @@
 //! Compares two recordings, prints the verdict or the differences, and returns a status.
-ghost use Rattle.std.specs.Prelude.{◌≡◌, ◌+◌, ◌<◌, ◌≤◌, ◌^◌};
+ghost use Rattle.std.specs.Prelude.{◌≡◌, ◌+◌, ◌<◌, ◌≤◌, ◌^◌, None, Some};
 ghost use Rattle.std.specs.List.{flat_map};
-ghost use Rattle.dap_commands.specs.declared.commands.Printed.TheVariants.{Verdict as TheVerdict};
 ghost use Rattle.dap_device.specs.Written.{HasSentAll, HasWrittenAll};
 ghost use Rattle.dap_input.specs.Limits.{AreSound};
 ghost use Rattle.dap_normalise.specs.NameTables.{AreReady};
-ghost use Rattle.dap_runs.specs.Printing.{IsPrinted};
-ghost use Rattle.dapnorm.specs.Pairs.{PairIsReported, all_status, all_text, diff_status, diff_text};
+ghost use Rattle.dap_runs.specs.FaultLine.{compare_refused_text, fault_line};
+ghost use Rattle.dap_runs.specs.Printing.{IsPrinted, refusal_status};
+ghost use Rattle.dap_runs.specs.Reporting.{HasSent};
+ghost use Rattle.dapnorm.specs.Pairs.{CompareIsReported, PairIsRun, all_status, all_text};
+ghost use Rattle.dapnorm.specs.Pairs.{diff_status, diff_text};
 ghost use Rattle.dapnorm.specs.Pairs.{differ_line, first_line, pair_line, pairs_in, same_line};
 ghost use Rattle.dapnorm.specs.Pairs.{shows_stop, verdict_status, verdict_text};
 
 use arrayvec::ArrayString;
 use dap_commands::Printed;
-use dap_compare::{Verdict, compare_with};
+use dap_compare::{CompareRefused, Verdict, compare_with};
 use dap_device::{DeviceFault, Sink, Source, write_all};
 use dap_diff::{AllDifferences, Diff, diff_all_with, diff_with};
 use dap_input::{Limits, Refused};
 use dap_rename::{Mode, NameTable, Pair, Tables, index_tables};
-use dap_runs::{DIFFERENT, DONE, FAULT, LINE, print_found, report_refused, tell};
+use dap_runs::{DIFFERENT, DONE, FAULT, LINE, PairRun, print_found, report_refused, tell};
 use dap_tree::Sort;
 use itoa::Buffer;
 use std::alloc::Global;
@@ -170,6 +172,29 @@ fn print_all<W: Sink, E: Sink>(writer: &mut W, errors: &mut E, all: &AllDifferen
     }
 }
 
+/// Returns the run of a comparison whose result was printed.
+fn finished(status: u8) -> PairRun
+    ensures { result ≡ record { status = status; refused = None } }
+{
+    PairRun {
+        status,
+        refused: None,
+    }
+}
+
+/// Reports in one line why two recordings were not compared, and returns the run.
+fn stopped<E: Sink>(errors: &mut E, refused: CompareRefused) -> PairRun
+    requires { E.failures errors.old < 2 ^ 62 }
+    ensures line { HasSent E.Sink errors.old errors.new
+        (fault_line (compare_refused_text refused)) }
+    ensures run { result ≡ record { status = refusal_status refused; refused = Some refused } }
+{
+    PairRun {
+        status: report_refused(errors, refused),
+        refused: Some(refused),
+    }
+}
+
 /// Compares two recordings, and returns the status of the program. An error is reported on
 /// `errors`, in one line.
 ///
@@ -200,9 +225,9 @@ pub fn run_compare<A: Source, B: Source, W: Sink, E: Sink>(
 
     // The output is the lines of the verdict, flushed. A rejected input or a failed writer is
     // reported, and the status is that of the verdict or of the error.
-    ensures reported { PairIsReported A.Source B.Source W.Sink E.Sink limits mode reader_a.old
-        reader_a.new reader_b.old reader_b.new TheVerdict writer.old writer.new errors.old
-        errors.new result }
+    ensures reported { CompareIsReported A.Source B.Source W.Sink E.Sink limits mode
+        reader_a.old reader_a.new reader_b.old reader_b.new writer.old writer.new
+        errors.old errors.new result }
 
     // It reads at most one byte past the limit of each.
     ensures taken_a { A.given reader_a.new ≤ A.given reader_a.old + limits.input + 1 }
@@ -239,9 +264,9 @@ pub fn run_compare_with<A: Source, B: Source, W: Sink, E: Sink, T: NameTable + D
     requires error_failures { E.failures errors.old < 2 ^ 62 }
 
     // The guarantees of `run_compare`, for any tables.
-    ensures reported { PairIsReported A.Source B.Source W.Sink E.Sink limits mode reader_a.old
-        reader_a.new reader_b.old reader_b.new TheVerdict writer.old writer.new errors.old
-        errors.new result }
+    ensures reported { CompareIsReported A.Source B.Source W.Sink E.Sink limits mode
+        reader_a.old reader_a.new reader_b.old reader_b.new writer.old writer.new
+        errors.old errors.new result }
     ensures taken_a { A.given reader_a.new ≤ A.given reader_a.old + limits.input + 1 }
     ensures taken_b { B.given reader_b.new ≤ B.given reader_b.old + limits.input + 1 }
 {
@@ -257,10 +282,11 @@ pub fn run_compare_with<A: Source, B: Source, W: Sink, E: Sink, T: NameTable + D
         tables_b,
         mode,
     )
+    .status
 }
 
-/// Compares two recordings, prints the verdict or the differences, and returns the status of the
-/// program. An error is reported on `errors`, in one line. The tables must be empty, each with the
+/// Compares two recordings, and prints the verdict or the differences. An error is reported on
+/// `errors`, in one line. The tables must be empty, each with the
 /// limit `limits.ids`.
 ///
 /// The output is `same` if the recordings are the same, for [`Printed::Verdict`] with the pairs of
@@ -279,7 +305,7 @@ pub fn run_pair_with<A: Source, B: Source, W: Sink, E: Sink, T: NameTable + Drop
     tables_a: Tables<T>,
     tables_b: Tables<T>,
     mode: Mode,
-) -> u8
+) -> PairRun
     requires limits { AreSound limits }
     requires tables_a { AreReady T.numbers T.limit limits tables_a }
     requires tables_b { AreReady T.numbers T.limit limits tables_b }
@@ -292,9 +318,8 @@ pub fn run_pair_with<A: Source, B: Source, W: Sink, E: Sink, T: NameTable + Drop
 
     // The output is the lines, flushed. A rejected input or a failed writer is reported, and the
     // status is that of the result.
-    ensures reported { PairIsReported A.Source B.Source W.Sink E.Sink limits mode reader_a.old
-        reader_a.new reader_b.old reader_b.new printed writer.old writer.new errors.old errors.new
-        result }
+    ensures run { PairIsRun A.Source B.Source W.Sink E.Sink limits mode reader_a.old reader_a.new
+        reader_b.old reader_b.new printed writer.old writer.new errors.old errors.new result }
 
     // It reads at most one byte past the limit of each.
     ensures taken_a { A.given reader_a.new ≤ A.given reader_a.old + limits.input + 1 }
@@ -303,20 +328,20 @@ pub fn run_pair_with<A: Source, B: Source, W: Sink, E: Sink, T: NameTable + Drop
     match printed {
         Printed::Verdict => {
             match compare_with(alloc, reader_a, reader_b, limits, tables_a, tables_b, mode) {
-                Ok(verdict) => print_verdict(writer, errors, mode, &verdict),
-                Err(refused) => report_refused(errors, refused),
+                Ok(verdict) => finished(print_verdict(writer, errors, mode, &verdict)),
+                Err(refused) => stopped(errors, refused),
             }
         }
         Printed::FirstDifference => {
             match diff_with(alloc, reader_a, reader_b, limits, tables_a, tables_b, mode) {
-                Ok(diff) => print_diff(writer, errors, &diff),
-                Err(refused) => report_refused(errors, refused),
+                Ok(diff) => finished(print_diff(writer, errors, &diff)),
+                Err(refused) => stopped(errors, refused),
             }
         }
         Printed::AllDifferences => {
             match diff_all_with(alloc, reader_a, reader_b, limits, tables_a, tables_b, mode) {
-                Ok(all) => print_all(writer, errors, &all),
-                Err(refused) => report_refused(errors, refused),
+                Ok(all) => finished(print_all(writer, errors, &all)),
+                Err(refused) => stopped(errors, refused),
             }
         }
     }

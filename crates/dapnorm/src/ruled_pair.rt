@@ -7,7 +7,7 @@ use dap_commands::Printed;
 use dap_device::{MemorySource, Sink, Source};
 use dap_rename::{Mode, NameTable};
 use dap_runs::{
-    Files, LIMITS, RuledPairRun, RulesFiles, TableMaker, report_rules_stop, texts_by_rules,
+    Files, LIMITS, PairRun, RuledPairRun, RulesFiles, TableMaker, report_rules_stop, texts_by_rules,
 };
 use std::alloc::Global;
 
@@ -62,12 +62,15 @@ pub fn compare_by_rules<
         Err(stop) => {
             let status = report_rules_stop(errors, &stop);
             return RuledPairRun {
-                status,
+                run: PairRun {
+                    status,
+                    refused: None,
+                },
                 stop: Some(stop),
             };
         }
     };
-    let status = run_pair_with(
+    let run = run_pair_with(
         alloc,
         printed,
         &mut MemorySource::new(texts.a.as_slice()),
@@ -79,5 +82,5 @@ pub fn compare_by_rules<
         maker.tables(alloc),
         texts.mode,
     );
-    RuledPairRun { status, stop: None }
+    RuledPairRun { run, stop: None }
 }

@@ -7,7 +7,7 @@ use crate::pair::run_pair_with;
 use dap_commands::Printed;
 use dap_device::{Sink, Source};
 use dap_rename::{Mode, NameTable, Tables};
-use dap_runs::{Files, LIMITS, TwoFilesRun, open_both, report_open_stop};
+use dap_runs::{Files, LIMITS, PairRun, TwoFilesRun, open_both, report_open_stop};
 use std::alloc::Global;
 
 /// Compares the recordings of the files that two names lead to, under the limits of the program,
@@ -48,12 +48,15 @@ pub fn compare_files<I: Source + Drop, F: Files<I>, W: Sink, E: Sink, T: NameTab
         Err(stop) => {
             let status = report_open_stop(errors, stop);
             return TwoFilesRun {
-                status,
+                run: PairRun {
+                    status,
+                    refused: None,
+                },
                 inputs: Err(stop),
             };
         }
     };
-    let status = run_pair_with(
+    let run = run_pair_with(
         alloc,
         printed,
         &mut input_a,
@@ -66,7 +69,7 @@ pub fn compare_files<I: Source + Drop, F: Files<I>, W: Sink, E: Sink, T: NameTab
         mode,
     );
     TwoFilesRun {
-        status,
+        run,
         inputs: Ok((input_a, input_b)),
     }
 }

@@ -1,11 +1,13 @@
 //! Compares the recordings of two files, or prints how they differ.
 use crate::explaining::explain_no_rules;
 use crate::{REFUSED, Setting, tables};
-use dap_explain_commands::{explain_applying, explain_comparison};
+use dap_explain::explain as explain_refused;
+use dap_explain_commands::explain_applying;
 use dap_system::{SystemInput, errors, line_output, print, report_input, report_reason};
 use dapnorm::{
-    Comparison, IndexNames, LIMITS, Mode, OpenFault, OpenStop, Printed, RuledPairRun, RulesStop,
-    TableMaker, Tables, TwoFilesRun, Which, compare_by_rules, compare_files,
+    CompareRefused, Comparison, IndexNames, LIMITS, Mode, OpenFault, OpenStop, PairRun, Printed,
+    RuledPairRun, RulesStop, TableMaker, Tables, TwoFilesRun, Which, compare_by_rules,
+    compare_files,
 };
 use std::alloc::Global;
 use std::hash::RandomState;
@@ -15,20 +17,19 @@ fn explain(
     rt: &HostRuntime,
     names: (&str, &str),
     inputs: (&SystemInput<'_>, &SystemInput<'_>),
-    status: u8,
-    mode: Mode,
-    setting: Setting<'_>,
+    run: PairRun,
 ) {
     let (a, b) = (inputs.0.reader(), inputs.1.reader());
-    report_input(rt, Some(names.0), a, status == REFUSED);
-    report_input(rt, Some(names.1), b, status == REFUSED);
-    if let (Some(a), Some(b)) = (a.bytes(), b.bytes())
-        && status == REFUSED
-    {
-        print(
-            rt,
-            explain_comparison(rt.alloc(), a, b, LIMITS, mode, setting.hasher),
-        );
+    report_input(rt, Some(names.0), a, run.status == REFUSED);
+    report_input(rt, Some(names.1), b, run.status == REFUSED);
+    if let Some(CompareRefused::Input(which, refused)) = run.refused {
+        let input = match which {
+            Which::A => a,
+            Which::B => b,
+        };
+        if let Some(bytes) = input.bytes() {
+            print(rt, explain_refused(rt.alloc(), bytes, refused, LIMITS));
+        }
     }
 }
 
@@ -50,14 +51,12 @@ fn explained(
     rt: &HostRuntime,
     names: (&str, &str),
     run: &TwoFilesRun<SystemInput<'_>>,
-    mode: Mode,
-    setting: Setting<'_>,
 ) -> u8 {
     match &run.inputs {
-        Ok((a, b)) => explain(rt, names, (a, b), run.status, mode, setting),
+        Ok((a, b)) => explain(rt, names, (a, b), run.run),
         Err(stop) => explain_open_stop(rt, names, stop),
     }
-    run.status
+    run.run.status
 }
 
 /// Compares the recordings of two files, and prints the verdict or the differences.
@@ -82,7 +81,7 @@ pub fn compare_two(
         tables(alloc, LIMITS, setting.hasher),
         mode,
     );
-    explained(rt, (a, b), &run, mode, setting)
+    explained(rt, (a, b), &run)
 }
 
 /// Makes tables that hash by random words.
@@ -166,5 +165,5 @@ pub fn run_comparison(rt: &HostRuntime, comparison: &Comparison<'_>, setting: Se
     if let Some(stop) = &run.stop {
         explain_rules_stop(rt, comparison, rules, setting.rules, stop);
     }
-    run.status
+    run.run.status
 }

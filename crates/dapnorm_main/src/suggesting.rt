@@ -1,21 +1,57 @@
 //! Suggests rules that make the recordings of two files the same.
 use crate::explaining::explain_no_rules;
-use crate::{REFUSED, Setting};
-use dap_explain_commands::{explain_comparison, explain_mask};
+use crate::Setting;
+use dap_explain::explain_rules;
+use dap_explain_commands::explain_applying;
 use dap_golden::is_trace;
-use dap_suggest_runs::{SuggestEnd, SuggestFilesRun, suggest_files};
+use dap_suggest::SuggestRefused;
+use dap_suggest_runs::{SuggestEnd, SuggestFilesRun, reported_refusal, suggest_files};
 use dap_system::{
     SystemFiles, SystemInput, errors, explain_unread, line_output, print, report_trace,
 };
-use dapnorm::{LIMITS, Mode, Which};
+use dapnorm::{ApplyRefused, LIMITS, MaskRules, Which};
 
-/// Reports which of two rejected inputs are traces.
-fn report_traces(rt: &HostRuntime, files: (&str, &str), a: &[u8], b: &[u8]) {
-    if is_trace(a) {
-        report_trace(rt, Some(files.0));
+/// Explains why a recording is rejected by the rules that were given. Without a request for
+/// explanations, it reports a trace only.
+fn explain_input(
+    rt: &HostRuntime,
+    name: &str,
+    given: &[u8],
+    input: &[u8],
+    refused: ApplyRefused,
+    setting: Setting<'_>,
+) {
+    if !setting.explain {
+        if is_trace(input) {
+            report_trace(rt, Some(name));
+        }
+        return;
     }
-    if is_trace(b) {
-        report_trace(rt, Some(files.1));
+    let alloc = rt.alloc();
+    if let Ok(rules) = MaskRules::read(alloc, given) {
+        let refused = reported_refusal(given, refused);
+        print(rt, explain_applying(alloc, input, &rules, refused, LIMITS));
+    }
+}
+
+/// Explains why the rules that were given, or one of two recordings, are rejected.
+fn explain_refused(
+    rt: &HostRuntime,
+    files: (&str, &str),
+    given: &[u8],
+    inputs: (&[u8], &[u8]),
+    refused: &SuggestRefused,
+    setting: Setting<'_>,
+) {
+    match refused {
+        SuggestRefused::Rules(fault) => print(rt, explain_rules(rt.alloc(), given, *fault)),
+        SuggestRefused::Input(Which::A, why) => {
+            explain_input(rt, files.0, given, inputs.0, *why, setting);
+        }
+        SuggestRefused::Input(Which::B, why) => {
+            explain_input(rt, files.1, given, inputs.1, *why, setting);
+        }
+        SuggestRefused::NoRules(_) | SuggestRefused::Memory => {}
     }
 }
 
@@ -36,24 +72,16 @@ fn explain_end(
         }
         SuggestEnd::Unread(Which::A, why) => explain_unread(rt, Some(files.0), why),
         SuggestEnd::Unread(Which::B, why) => explain_unread(rt, Some(files.1), why),
-        SuggestEnd::Ran { given, a, b } => {
-            let (a, b) = (a.bytes.as_slice(), b.bytes.as_slice());
-            if run.status != REFUSED {
-                return;
-            }
-            if !setting.explain {
-                report_traces(rt, files, a, b);
-            }
-            if !given.is_empty() {
-                return print(rt, explain_mask(rt.alloc(), given.as_slice(), &[], LIMITS));
-            }
-            if setting.explain {
-                print(
-                    rt,
-                    explain_comparison(rt.alloc(), a, b, LIMITS, Mode::Whole, setting.hasher),
-                );
-            }
+        SuggestEnd::Ran {
+            given,
+            a,
+            b,
+            refused: Some(refused),
+        } => {
+            let inputs = (a.bytes.as_slice(), b.bytes.as_slice());
+            explain_refused(rt, files, given.as_slice(), inputs, refused, setting);
         }
+        SuggestEnd::Ran { .. } => {}
     }
 }
 

@@ -285,7 +285,8 @@ fn pair_printed_with<T: NameTable + Drop>(
     requires tables_a { AreReady T.numbers T.limit call.now.limits tables_a }
     requires tables_b { AreReady T.numbers T.limit call.now.limits tables_b }
 {
-    Outcome::Status(run_pair_with(
+    Outcome::Status(
+        run_pair_with(
         alloc,
         printed,
         &mut devices.a,
@@ -296,7 +297,8 @@ fn pair_printed_with<T: NameTable + Drop>(
         tables_a,
         tables_b,
         call.mode,
-    ))
+    )
+    .status)
 }
 
 /// Calls a command function that creates its own name tables.

@@ -11,6 +11,7 @@ returns-in-Ok-clause-reported g c = record {
   tells = subst (λ (text : List ℕ). IsPrinted g.W.Sink g.E.Sink text 0 c.args.writer.now
       c.print_found.new.writer c.args.errors.now c.print_found.new.errors c.print_found.result)
       (append-nil _ ∙ c.as_slice.ensures.value) c.print_found.ensures;
+  refused_is = refl;
 }
 
 -- Rules that are printed do not have the status of a failed allocation.
@@ -24,6 +25,7 @@ returns-in-Err-clause-reported g c = record {
   outcome = Err c.in-Err.refused;
   suggests = c.in-Err.ensures.err;
   tells = (refl, c.report.ensures);
+  refused_is = refl;
 }
 
 pub returns-in-Err-clause-memory : goal.returns-in-Err-clause-memory

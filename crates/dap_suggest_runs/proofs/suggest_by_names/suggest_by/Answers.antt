@@ -10,5 +10,5 @@ returns-clause-run g c = record {
     c.as_slice.ensures.value,
     c.as_slice-bytes_a.ensures.value,
     c.as_slice-bytes_b.ensures.value,
-  ) at c.run_suggest-status.ensures.reported;
+  ) at c.run_suggest-run.ensures.reported;
 }
