@@ -6,7 +6,7 @@ import sys
 
 from golden import Folder
 from report import PROGRAM, Report
-from worked_runs import BEGUN, CONFIGURED, LAUNCH, REFUSED_LINES, RESPONSE, RULES, THREADS, frame, recording
+from worked_runs import BEGUN, CONFIGURED, LAUNCH, OUTPUT, REFUSED_LINES, RESPONSE, RULES, THREADS, frame, recording
 
 FRACTION = recording([*BEGUN, LAUNCH % "0.5"])
 ANSWERED = recording([*BEGUN, RESPONSE])
@@ -37,6 +37,16 @@ EXPLAINED = [
     (["compare", "--rules", "bad", "good", "good"], ['"hide"']),
     (["compare", "--rules", "none", "good", "good"], ["none: No such file or directory"]),
     (["compare", "--rules", "swaps", "none", "good"], ["none: No such file or directory"]),
+    # The record that is reported, though B is rejected earlier, or the recordings differ before.
+    (["suggest", "late", "other"], ['record 4 is < response "initialize"']),
+    (["suggest", "late", "apart"], ['record 4 is < response "initialize"']),
+    (["diff", "--all", "late", "other"], ['record 4 is < response "initialize"']),
+    (["diff", "--all", "late", "apart"], ['record 4 is < response "initialize"']),
+    (["diff", "--all", "apart", "late"], ['record 4 is < response "initialize"']),
+    (["diff", "--all", "fraction", "good"], [PLACE]),
+    (["compare", "other", "late"], ['record 2 is < response "other"']),
+    (["suggest", "--rules", "swaps", "late", "good"], ['record 4 is < response "initialize"']),
+    (["suggest", "--rules", "bad", "good", "good"], ['"hide"']),
     (["check", "folder"], ["folder: Is a directory"]),
     (["check", "none"], ["none: No such file or directory"]),
     (["mask", "none", "good"], ["none: No such file or directory"]),
@@ -55,7 +65,8 @@ EXPLAINS = [
 FILES = {
     "fraction": FRACTION, "answered": ANSWERED, "open": OPEN, "frames": frame('{"x":0.5}'), "rules": RULES, "bad": b"hide event output\n", "events": b"drop event *\n",
     "early": b"drop event initialized\n", "swaps": b"swap response * request *\n",
-    "trace": b">10\nCont", "good": recording(CONFIGURED),
+    "trace": b">10\nCont", "good": recording(CONFIGURED), "late": recording([*BEGUN, OUTPUT, RESPONSE]),
+    "other": recording([BEGUN[0], BEGUN[1].replace("initialize", "other")]), "apart": recording([BEGUN[0].replace("mock", "mick"), BEGUN[1]]),
 }
 
 
