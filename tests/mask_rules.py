@@ -67,6 +67,10 @@ REFUSED = [
     (b'blank event a v["x"].y\nblank event a v[].name\n', "line 2: Clash"),
     (b'hex event * v[].name\n\nblank event a v["x"].y\n', "line 3: Clash"),
     (b'blank event a v["x"].w["z"].y\nblank event * v[].w[].name\n', "line 2: Clash"),
+    (b'digits event a v["x"].w[].name\nblank event a v["x"].w["z"].y\n', "line 2: Clash"),
+    (b'digits event a v["x"].w[].name\n\nblank event a v[].w["z"].y\n', "line 3: Clash"),
+    # A change of one name may make it another one.
+    (b'blank event a v["x"].y\nblank event a v["z"].name\n', "line 2: BadPlace"),
     (b'hex event a v["x"].y\ndigits event a v["x"].y\n', "line 2: DigitsBehindHex"),
     (b'hex event a v["x"].y\nuuid event a v[].y\n', "line 2: Clash"),
     (b"per-stop\n# again\n\tper-stop # the same\n", "line 3: Repeated"),
@@ -221,6 +225,9 @@ BESIDE_ELEMENTS = [
     # Names of other messages, of other lists, and members of other names.
     b'blank event a v["x"].y\nblank event b v[].name\nblank response a v[].name\nblank event a w[].name\nblank event a v[].names\n',
     b'blank event a v["x"].y\nblank event a v[].w[].name\nblank event a v[].name.z\nblank event a v.name\nblank event a name\n',
+    # Names of elements below an element of another name.
+    b'blank event a v["x"].w["z"].y\nblank event a v["q"].w[].name\nblank event a v["q"].u[].w[].name\n',
+    b'blank event a v[]["x"].w["z"].y\nblank event a v[]["q"].w[].name\nblank event a v[]["x"].w[].y[].name\n',
     b'\tblank event a "v"["a \\"b\\" # [c]"]["d"]."y" # a comment\r\nblank event a v[""].y\n',
 ]
 
@@ -233,6 +240,8 @@ blank  response variables body.scopes[].variables["time"].value
 blank  response variables body.grid[]["x"].y
 blank  response variables body.gone["x"].value
 blank  response variables body.gone
+digits response variables body.tree["x"].nodes["y 1"].value
+digits response variables body.tree["z"].nodes[].name
 """
 NAMED = [
     (
@@ -259,6 +268,11 @@ NAMED = [
     (
         '{"body":{"gone":[{"name":"x","value":"1"}],"grid":[[{"name":"x","y":1},{"name":"z","y":2}],{"name":"x","y":3}]},"command":"variables","type":"response"}',
         '{"body":{"gone":[],"grid":[[{"name":"x","y":0},{"name":"z","y":2}],{"name":"x","y":3}]},"command":"variables","type":"response"}',
+    ),
+    # Names change below one element, and select below another one.
+    (
+        '{"body":{"tree":[{"name":"x","nodes":[{"name":"y 1","value":"a12"},{"name":"y 12","value":"a12"}]},{"name":"z","nodes":[{"name":"y 1","value":"a12"},{"name":"n12"}]},{"name":"w","nodes":[{"name":"y 1","value":"a12"}]}]},"command":"variables","type":"response"}',
+        '{"body":{"tree":[{"name":"x","nodes":[{"name":"y 1","value":"a0"},{"name":"y 12","value":"a12"}]},{"name":"z","nodes":[{"name":"y 0","value":"a12"},{"name":"n0"}]},{"name":"w","nodes":[{"name":"y 1","value":"a12"}]}]},"command":"variables","type":"response"}',
     ),
     # The list is an object, and the messages have another name or kind.
     (

@@ -1,6 +1,6 @@
 //! Inserts a member among those that were read before it, in the order of their names.
 ghost use Rattle.std.specs.Prelude.{◌≡◌, ◌++◌, ◌+◌, ◌-◌, ◌<◌, ◌≤◌, length, take, drop, OnOk, IfOk};
-ghost use Rattle.std.specs.Prelude.{IfSome, slice_index_or, option_map, reverse};
+ghost use Rattle.std.specs.Prelude.{◌↔◌, IfSome, IsErr, OnErr, slice_index_or, option_map, reverse};
 ghost use Rattle.std.specs.Bool.{MatchBool};
 ghost use Rattle.dap_flat.specs.Order.{IsAbove, IsNotAbove};
 ghost use Rattle.dap_flat.specs.declared.node.Node.{Node};
@@ -60,7 +60,11 @@ pub(crate) fn place_member<'a>(
 /// Subtracts the cost of a move from the remaining budget of the content. Without the budget, a
 /// content whose members are in falling order would take quadratic time.
 #[inline(always)]
-fn spend(moves: &mut usize, cost: usize) -> Result<(), Unclear> {
+fn spend(moves: &mut usize, cost: usize) -> Result<(), Unclear>
+    ensures spent { OnOk result (moves.new + cost ≡ moves.old) }
+    ensures unclear { IsErr result ↔ (moves.old < cost) }
+    ensures kept { OnErr result (moves.new ≡ moves.old) }
+{
     match moves.checked_sub(cost) {
         Some(left) => {
             *moves = left;

@@ -350,7 +350,7 @@ same_edit r q d p y safe h applies there =
     let spoken = spoken-edit r.verb r.place q d safe in
     by_bool (rule_applies q d)
     (λ t. elim (same_names r.verb r.place q.place (Some d) p y
-    (and_first (is_name_in (plain_place_of r) q.place)
+    (and_first (is_name_in r.place q.place)
     (same_kind r.kind q.kind && share_name r.name q.name) (both_apply r q d applies t) h) there) [
       | inl s ↦ inl (ap₂ (λ a b. a && b) spoken s)
       | inr b ↦ inr (record {

@@ -15,10 +15,11 @@ use Rattle.dap_message.proofs.RowMarks.{text-top}
 use Rattle.dap_mask.specs.Masked.{is_below}
 use Rattle.dap_mask.specs.RuleSteps.{RuleStep, named, elements, plain_place, is_called, has_names}
 use Rattle.dap_mask.specs.RuleSteps.{change_called, change_at_place}
-use Rattle.dap_mask.specs.Rules.{blank, of_verb, takes_parts, is_name_of, is_name_in}
+use Rattle.dap_mask.specs.Rules.{blank, of_verb, takes_parts, share_name, is_name_of, is_name_in}
 use Rattle.dap_mask.specs.declared.rules.Verb.{Verb}
 use Rattle.dap_mask.specs.declared.rules.Verb.TheVariants.{Blank, Digits, Hex, Long, Uuid}
 use Rattle.dap_mask.proofs.Edited.{step-verb, place-change}
+use Rattle.dap_mask.proofs.Matches.{called_alike}
 
 -- the value after a change
 abbrev pub edited : Verb → List RuleStep → Option Doc → Option Doc
@@ -91,21 +92,21 @@ inner_name w k v r rs d same =
     ∙ ap (λ q. is_text w (option_map f (get q d))) (sym same)
     ∙ sym (text-top w (option_map f o)) ∙ ap (is_text w) (deep-top v r rs o) ∙ text-top w o
 
-called : (w : List ℕ) (v : Verb) (rs : List RuleStep) (d : Doc) (p : List Step) (y : Doc)
-    → is_name_of (elements (Some w)) (plain_place rs) ≡ false
+called : (n : Option (List ℕ)) (w : List ℕ) (v : Verb) (rs : List RuleStep) (d : Doc) (p : List Step)
+    (y : Doc) → is_name_of (elements n) (elements (Some w)) rs ≡ false
     → at p (change_at_place rs (of_verb v) d) ≡ Some y → Called w v rs d p
-called w v [] d [] y h is = by_bool (takes_parts v)
+called n w v [] d [] y h is = by_bool (takes_parts v)
     (λ t. inr (refl, blank_of v d t))
     (λ f. inl (ap (is_text w) (same_part v (name (codes "name")) d f)))
-called w v [] d (st ∷ p) y h is = by_bool (takes_parts v)
+called n w v [] d (st ∷ p) y h is = by_bool (takes_parts v)
     (λ t. absurd (no_part v st p d y t is))
     (λ f. inl (ap (is_text w) (same_part v (name (codes "name")) d f)))
-called w v (named k ∷ []) d p y h is = inl (other_name w k (of_verb v) d h)
-called w v (named k ∷ r ∷ rs) d p y h is = by_bool (bytes_eq (codes "name") k)
+called n w v (named k ∷ []) d p y h is = inl (other_name w k (of_verb v) d h)
+called n w v (named k ∷ r ∷ rs) d p y h is = by_bool (bytes_eq (codes "name") k)
     (λ e. inl (inner_name w k v r rs d ((bytes_eq-Decides (codes "name") k).0 e)))
     (λ e. inl (other_name w k (change_at_place (r ∷ rs) (of_verb v)) d e))
-called w v (elements n ∷ rs) d p y h is = inl (ap (is_text w)
-    (get-change_items (change_called n (change_at_place rs (of_verb v))) d (codes "name")))
+called n w v (elements m ∷ rs) d p y h is = inl (ap (is_text w)
+    (get-change_items (change_called m (change_at_place rs (of_verb v))) d (codes "name")))
 
 -- ---- the names along a path
 
@@ -154,9 +155,9 @@ off true x y h = cc
 off false x y h = refl
 
 member_kept : (v : Verb) (k j l : List ℕ) (rs qs : List RuleStep) (d : Doc) (p : List Step) (y : Doc)
-    → is_name_in (plain_place (named k ∷ rs)) (named j ∷ qs) ≡ false
+    → is_name_in (named k ∷ rs) (named j ∷ qs) ≡ false
     → at (name l ∷ p) (change_at_place (named k ∷ rs) (of_verb v) d) ≡ Some y
-    → (is_name_in (plain_place rs) qs ≡ false → Keeps v rs qs p y)
+    → (is_name_in rs qs ≡ false → Keeps v rs qs p y)
     → SameNames v (named k ∷ rs) (named j ∷ qs) (Some d) (name l ∷ p)
 member_kept v k j l rs qs d p y h is keeps = by_bool (bytes_eq j l)
     (λ a. by_bool (bytes_eq k l)
@@ -164,7 +165,7 @@ member_kept v k j l rs qs d p y h is keeps = by_bool (bytes_eq j l)
     let one = (bytes_eq-Decides j l).0 a in
     let two = (bytes_eq-Decides k l).0 b in
     member_same v k j l rs qs d p y two is
-    (keeps (and_other (bytes_eq k j) (is_name_in (plain_place rs) qs)
+    (keeps (and_other (bytes_eq k j) (is_name_in rs qs)
     ((bytes_eq-Decides k j).1 (two ∙ sym one)) h)))
     (λ b. inl (names_step (named j ∷ qs) (name l) p (change_child k f d) d
     (get-change_other k f d l (λ e. true≢false (sym ((bytes_eq-Decides k l).1 (sym e)) ∙ b))))))
@@ -181,38 +182,73 @@ SameElement g m qs o p =
     ((is_called m (option_map g o) && has_names qs (option_map g o) p)
     ≡ (is_called m o && has_names qs o p)) ⊎ IsBlankAt qs (option_map g o) p
 
-chosen : (v : Verb) (m : Option (List ℕ)) (rs qs : List RuleStep) (d : Doc) (p : List Step) (y : Doc)
-    → is_name_of (elements m) (plain_place rs) ≡ false
+blank_called : (v : Verb) (rs qs : List RuleStep) (d : Doc) (p : List Step) → p ≡ []
+    → change_at_place rs (of_verb v) d ≡ blank d → IsBlankAt qs (edited v rs (Some d)) p
+blank_called v rs qs d p at_end is = record {
+  value = d;
+  is = ap (λ q. at q (change_at_place rs (of_verb v) d)) at_end ∙ ap Some is;
+  ends = ap (is_below (plain_place qs)) at_end ∙ below_end qs;
+}
+
+-- both steps may select the element
+chosen : (v : Verb) (n m : Option (List ℕ)) (rs qs : List RuleStep) (d : Doc) (p : List Step)
+    (y : Doc) → is_name_of (elements n) (elements m) rs ≡ false
     → at p (change_at_place rs (of_verb v) d) ≡ Some y → SameNames v rs qs (Some d) p
     → SameElement (change_at_place rs (of_verb v)) m qs (Some d) p
-chosen v m rs qs d p y h is (inr b) = inr b
-chosen v None rs qs d p y h is (inl s) = inl s
-chosen v (Some w) rs qs d p y h is (inl s) =
-    elim (called w v rs d p y h is) [
+chosen v n m rs qs d p y h is (inr b) = inr b
+chosen v n None rs qs d p y h is (inl s) = inl s
+chosen v n (Some w) rs qs d p y h is (inl s) =
+    elim (called n w v rs d p y h is) [
       | inl c ↦ inl (ap₂ (λ a b. a && b) c s)
-      | inr c ↦ inr (record {
-        value = d;
-        is = ap (λ q. at q (change_at_place rs (of_verb v) d)) c.0 ∙ ap Some c.1;
-        ends = ap (is_below (plain_place qs)) c.0 ∙ below_end qs;
-      })
+      | inr c ↦ inr (blank_called v rs qs d p c.0 c.1)
     ]
 
+-- only the first step selects the element
+other_chosen : (v : Verb) (n m : Option (List ℕ)) (rs qs : List RuleStep) (d : Doc) (p : List Step)
+    (y : Doc) → is_name_of (elements n) (elements m) rs ≡ false
+    → at p (change_at_place rs (of_verb v) d) ≡ Some y → is_called m (Some d) ≡ false
+    → SameElement (change_at_place rs (of_verb v)) m qs (Some d) p
+other_chosen v n None rs qs d p y h is away = absurd (true≢false away)
+other_chosen v n (Some w) rs qs d p y h is away =
+    let f = change_at_place rs (of_verb v) in
+    elim (called n w v rs d p y h is) [
+      | inl c ↦ inl (ap (λ b. b && has_names qs (Some (f d)) p) (c ∙ away)
+          ∙ sym (ap (λ b. b && has_names qs (Some d) p) away))
+      | inr c ↦ inr (blank_called v rs qs d p c.0 c.1)
+    ]
+
+not_called : (n m : Option (List ℕ)) (o : Option Doc) → share_name n m ≡ false
+    → is_called n o ≡ true → is_called m o ≡ false
+not_called n m o apart is = by_bool (is_called m o)
+    (λ t. absurd (true≢false (sym (called_alike n m o is t) ∙ apart)))
+    (λ f. f)
+
 element_kept : (v : Verb) (n m : Option (List ℕ)) (rs qs : List RuleStep) (p : List Step) (y : Doc)
-    → is_name_of (elements m) (plain_place rs) ≡ false → Keeps v rs qs p y → (o : Option Doc)
+    → is_name_in (elements n ∷ rs) (elements m ∷ qs) ≡ false
+    → (is_name_in rs qs ≡ false → Keeps v rs qs p y) → (o : Option Doc)
     → option_and_then (at p) (option_map (change_called n (change_at_place rs (of_verb v))) o)
     ≡ Some y → SameElement (change_called n (change_at_place rs (of_verb v))) m qs o p
 element_kept v n m rs qs p y h keeps None is = inl refl
-element_kept v n m rs qs p y h keeps (Some d) is = go (is_called n (Some d)) is
+element_kept v n m rs qs p y h keeps (Some d) is = go (is_called n (Some d)) refl is
   where
     f : Doc → Doc
     f = change_at_place rs (of_verb v)
 
-    go : (b : Bool) → at p (cond b (f d) d) ≡ Some y
+    here : is_name_of (elements n) (elements m) rs ≡ false
+    here = or_left (is_name_of (elements n) (elements m) rs) (share_name n m && is_name_in rs qs) h
+
+    later : share_name n m ≡ true → is_name_in rs qs ≡ false
+    later e = and_other (share_name n m) (is_name_in rs qs) e
+        (or_right (is_name_of (elements n) (elements m) rs) (share_name n m && is_name_in rs qs) h)
+
+    go : (b : Bool) → is_called n (Some d) ≡ b → at p (cond b (f d) d) ≡ Some y
         → ((is_called m (Some (cond b (f d) d)) && has_names qs (Some (cond b (f d) d)) p)
         ≡ (is_called m (Some d) && has_names qs (Some d) p))
         ⊎ IsBlankAt qs (Some (cond b (f d) d)) p
-    go true k = chosen v m rs qs d p y h k (keeps (Some d) k)
-    go false k = inl refl
+    go true c k = by_bool (share_name n m)
+        (λ e. chosen v n m rs qs d p y here k (keeps (later e) (Some d) k))
+        (λ e. other_chosen v n m rs qs d p y here k (not_called n m (Some d) e c))
+    go false c k = inl refl
 
 elements_same : (v : Verb) (n m : Option (List ℕ)) (rs qs : List RuleStep) (i : ℕ) (d : Doc)
     (p : List Step)
@@ -237,7 +273,7 @@ elements_same v n m rs qs i d p h =
 -- a change at the first place, after which there is a value at the path, leaves the names of the
 -- second one
 pub same_names : (v : Verb) (rs qs : List RuleStep) (o : Option Doc) (p : List Step) (y : Doc)
-    → is_name_in (plain_place rs) qs ≡ false → option_and_then (at p) (edited v rs o) ≡ Some y
+    → is_name_in rs qs ≡ false → option_and_then (at p) (edited v rs o) ≡ Some y
     → SameNames v rs qs o p
 same_names v rs qs None p y h is = inl refl
 same_names v rs [] (Some d) p y h is = inl refl
@@ -257,11 +293,7 @@ same_names v (elements n ∷ rs) (q ∷ qs) (Some d) (name l ∷ p) y h is =
     (get-change_items (change_called n (change_at_place rs (of_verb v))) d l))
 same_names v (elements n ∷ rs) (named j ∷ qs) (Some d) (place i ∷ p) y h is = inl refl
 same_names v (elements n ∷ rs) (elements m ∷ qs) (Some d) (place i ∷ p) y h is =
-    let others = or_right (is_name_of (elements m) (plain_place rs))
-    (is_name_in (plain_place rs) qs) h in
     elements_same v n m rs qs i d p
-    (element_kept v n m rs qs p y
-    (or_left (is_name_of (elements m) (plain_place rs)) (is_name_in (plain_place rs) qs) h)
-    (λ o k. same_names v rs qs o p y others k) (step (place i) d)
+    (element_kept v n m rs qs p y h (λ e o k. same_names v rs qs o p y e k) (step (place i) d)
     (sym (ap (option_and_then (at p))
     (item-change (change_called n (change_at_place rs (of_verb v))) d i)) ∙ is))

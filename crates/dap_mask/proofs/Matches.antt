@@ -84,7 +84,7 @@ both_apply r t d rs ts =
     and_both _ _ kinds.0 (name_alike r.kind r.name t.name d (and_right (is_of_kind r.kind d)
     (has_name r.kind r.name d) rs) named_t)
 
-called_alike : (n m : Option (List ℕ)) (o : Option Doc) → is_called n o ≡ true
+pub called_alike : (n m : Option (List ℕ)) (o : Option Doc) → is_called n o ≡ true
     → is_called m o ≡ true → share_name n m ≡ true
 called_alike None m o h k = go m
   where

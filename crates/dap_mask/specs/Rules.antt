@@ -11,7 +11,7 @@ use Rattle.dap_profile.specs.declared.profile.Kind.{Kind}
 use Rattle.dap_profile.specs.declared.profile.Kind.TheVariants.{Request, Response, Event}
 use Rattle.dap_words.specs.Long.{long}
 use Rattle.dap_words.specs.Uuids.{uuid}
-use Rattle.dap_mask.specs.RuleSteps.{RuleStep, named, elements, plain_step, plain_place}
+use Rattle.dap_mask.specs.RuleSteps.{RuleStep, named, elements, plain_place}
 use Rattle.dap_mask.specs.RuleSteps.{has_names}
 use Rattle.dap_mask.specs.Texts.{digits, hex}
 use Rattle.dap_mask.specs.declared.rules.Verb.{Verb}
@@ -227,22 +227,25 @@ is_clashed_with (r ∷ rs) t = clash r t || is_clashed_with rs t
 
 -- ---- the names by which rules select elements
 
--- The place leads from an element that is selected by a text to its member `name`.
-abbrev pub is_name_of : RuleStep → List PlaceStep → Bool
-is_name_of (elements (Some n)) (member k ∷ []) = bytes_eq (codes "name") k
-is_name_of _ _ = false
+-- The steps lead to elements of one array, the second step by a text, and the place leads from an
+-- element to its member `name`.
+abbrev pub is_name_of : RuleStep → RuleStep → List RuleStep → Bool
+is_name_of (elements n) (elements (Some m)) (named k ∷ []) = bytes_eq (codes "name") k
+is_name_of _ _ _ = false
 
 -- The first place is that of the `name` of an element that the second place selects by a text, or
--- of another element of the same array.
-abbrev pub is_name_in : List PlaceStep → List RuleStep → Bool
+-- of another element of the same array (own). Two different texts on the way to this array lead to
+-- different arrays, since an element has only one name. The text by which the first place selects
+-- the element itself does not count, since a change of its name may turn one text into the other.
+abbrev pub is_name_in : List RuleStep → List RuleStep → Bool
 is_name_in ps [] = false
 is_name_in [] (q ∷ qs) = false
-is_name_in (p ∷ ps) (q ∷ qs) = same_step p (plain_step q) && (is_name_of q ps || is_name_in ps qs)
+is_name_in (p ∷ ps) (q ∷ qs) = is_name_of p q ps || (share_step p q && is_name_in ps qs)
 
 -- The first rule may change the name by which the second one selects an element (own). If both were
 -- rules of one mask, masking twice could change elements that masking once leaves.
 abbrev pub renames : Rule → Rule → Bool
-renames r t = is_name_in (plain_place_of r) t.place && (same_kind r.kind t.kind
+renames r t = is_name_in r.place t.place && (same_kind r.kind t.kind
     && share_name r.name t.name)
 
 -- The rule may change a name by which one of these selects, or one of these a name by which the

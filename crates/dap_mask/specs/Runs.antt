@@ -4,7 +4,7 @@ use Rattle.std.specs.Prelude.{ℕ, suc, ◌==◌, Bool, true, false, cond, not, 
 use Rattle.std.specs.Prelude.{◌∷◌, length, Option, Some, None}
 use Rattle.std.specs.Char.{is_ascii_alphanumeric}
 use Rattle.dap_mask.specs.declared.runs.ByteClass.{ByteClass}
-use Rattle.dap_mask.specs.declared.runs.ByteClass.TheVariants.{Blank, Plain, InLine}
+use Rattle.dap_mask.specs.declared.runs.ByteClass.TheVariants.{Blank, Plain, Word, InLine}
 
 -- A blank: a space, a tab, or a carriage return.
 abbrev pub is_blank : ℕ → Bool
@@ -17,6 +17,7 @@ is_plain b = is_ascii_alphanumeric b || ((b == 95) || ((b == 45) || (b == 36)))
 abbrev pub has_class : ByteClass → ℕ → Bool
 has_class Blank b = is_blank b
 has_class Plain b = is_plain b
+has_class Word b = not (is_blank b)
 has_class InLine b = not (b == 10)
 
 -- The longest prefix of a text with bytes of a class, and the rest of the text.

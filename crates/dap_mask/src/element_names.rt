@@ -1,27 +1,20 @@
 //! Finds rules that change the names by which rules select elements.
 ghost use Rattle.std.specs.Prelude.{◌≡◌};
-ghost use Rattle.dap_mask.specs.RuleSteps.{plain_step, plain_place};
-ghost use Rattle.dap_mask.specs.Rules.{rule_of, rules_of, step_of, place_of, same_step};
+ghost use Rattle.dap_mask.specs.Rules.{rule_of, rules_of, step_of, place_of};
 ghost use Rattle.dap_mask.specs.Rules.{is_name_of, is_name_in, renames, renames_among};
 
-use crate::meets::{same_kind, share_name, text_of};
+use crate::meets::{same_kind, share_name, share_step, text_of};
 use crate::rules::{MaskRule, Step};
 
-fn leads_alike(step: &Step, other: &Step) -> bool
-    ensures { result ≡ same_step (plain_step (step_of step.now)) (plain_step (step_of other.now)) }
+// Returns whether the place leads from an element to its `name`. The element is in the array from
+// which the other step selects elements by their name.
+fn is_name_of(step: &Step, other: &Step, place: &[Step]) -> bool
+    ensures { result ≡ is_name_of (step_of step.now) (step_of other.now) (place_of place.now) }
 {
-    match (step, other) {
-        (Step::Member(name), Step::Member(other)) => name.as_str() == other.as_str(),
-        (Step::Member(_), _) | (_, Step::Member(_)) => false,
-        _ => true,
-    }
-}
-
-fn is_name_of(step: &Step, place: &[Step]) -> bool
-    ensures { result ≡ is_name_of (step_of step.now) (plain_place (place_of place.now)) }
-{
-    match (step, place) {
-        (Step::Element(_), [Step::Member(name)]) => name.as_str() == "name",
+    match (step, other, place) {
+        (Step::Each | Step::Element(_), Step::Element(_), [Step::Member(name)]) => {
+            name.as_str() == "name"
+        }
         _ => false,
     }
 }
@@ -29,17 +22,17 @@ fn is_name_of(step: &Step, place: &[Step]) -> bool
 // Returns whether the place is that of the `name` of an element that the other place selects, or of
 // another element of the same array.
 fn is_name_in(place: &[Step], other: &[Step]) -> bool
-    ensures { result ≡ is_name_in (plain_place (place_of place.now)) (place_of other.now) }
+    ensures { result ≡ is_name_in (place_of place.now) (place_of other.now) }
 {
     let mut rest = place;
     for step in other {
         match rest {
             [first, behind @ ..] => {
-                if !leads_alike(first, step) {
-                    return false;
-                }
-                if is_name_of(step, behind) {
+                if is_name_of(first, step, behind) {
                     return true;
+                }
+                if !share_step(first, step) {
+                    return false;
                 }
                 rest = behind;
             }

@@ -6,6 +6,9 @@
 //! [`read_masked`] puts in before the other rules apply; rules for the order of messages,
 //! [`MaskRules::swaps`]; and the line `per-stop`, [`MaskRules::per_stop`]. Masking does not use the
 //! last two.
+//!
+//! A program that explains why a line is not a rule parses the parts of the line with [`split_run`],
+//! [`gap`], [`is_end`], [`name_at`], [`any_name`] and [`place_at`].
 #![tactic(auto)]
 
 mod categories;
@@ -34,5 +37,8 @@ pub use fault::{RulesCause, RulesFault};
 pub use loose::read_masked;
 pub use mask_rules::MaskRules;
 pub use masking::{is_dropped, mask};
+pub use names::{any_name, name_at};
+pub use places::place_at;
 pub use rules::{MaskRule, Step, Verb};
+pub use runs::{ByteClass, gap, is_end, split_run};
 pub use word_lines::write_word;

@@ -94,7 +94,8 @@ fn same_rule_place(place: &[Step], other: &[Step]) -> bool
     rest.is_empty()
 }
 
-fn share_step(step: &Step, other: &Step) -> bool
+/// Returns whether some value may be at both steps of one value. An element has only one name.
+pub(crate) fn share_step(step: &Step, other: &Step) -> bool
     ensures { result ≡ share_step (step_of step.now) (step_of other.now) }
 {
     match (step, other) {

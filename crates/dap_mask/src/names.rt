@@ -8,8 +8,14 @@ use crate::runs::{ByteClass, closing, is_closed, split_run};
 use serde_json::Value;
 use std::alloc::{AllocError, Global};
 
-/// Returns the name with which the text starts, and the rest; `None` if it starts with no name.
-pub(crate) fn name_at(alloc: Global, text: &[u8]) -> Result<Option<(String, &[u8])>, AllocError>
+/// Parses the name with which a text starts: plain bytes (see `ByteClass::Plain`), or a JSON string.
+/// Returns the name and the rest of the text; `None` if the text starts with no name. Allocates the
+/// name.
+///
+/// # Errors
+///
+/// `AllocError`: an allocation failed.
+pub fn name_at(alloc: Global, text: &[u8]) -> Result<Option<(String, &[u8])>, AllocError>
     ensures { IfOk result
         (λ o. option_map (λ n. (string_bytes n.0, n.1.now)) o ≡ name_at text.now) }
 {
@@ -25,11 +31,14 @@ pub(crate) fn name_at(alloc: Global, text: &[u8]) -> Result<Option<(String, &[u8
     }
 }
 
-/// Returns the name, or `None` for `*`, with which the text starts, and the rest. `*` is any name.
-pub(crate) fn any_name(
-    alloc: Global,
-    text: &[u8],
-) -> Result<Option<(Option<String>, &[u8])>, AllocError>
+/// Parses the name of messages with which a text starts: `*`, which is any name, or a name as
+/// [`name_at`] parses it. Returns the name, which is `None` for `*`, and the rest of the text; `None`
+/// if the text starts with neither. Allocates the name.
+///
+/// # Errors
+///
+/// `AllocError`: an allocation failed.
+pub fn any_name(alloc: Global, text: &[u8]) -> Result<Option<(Option<String>, &[u8])>, AllocError>
     ensures { IfOk result
         (λ o. option_map (λ n. (option_map string_bytes n.0, n.1.now)) o ≡ any_name text.now) }
 {

@@ -8,8 +8,14 @@ use crate::names::{name_at, quoted_at};
 use crate::rules::Step;
 use std::alloc::{AllocError, Global};
 
-/// Returns the place with which the text starts, and the rest; `None` if it starts with no place.
-pub(crate) fn place_at(alloc: Global, text: &[u8]) -> Result<Option<(Vec<Step>, &[u8])>, AllocError>
+/// Parses the place with which a text starts: a name, and further steps such as `.name`, `[]` and
+/// `["name"]`. Returns the place and the rest of the text; `None` if the text starts with no name. A
+/// further step that is malformed, such as `["x"`, is the start of the rest. Allocates the place.
+///
+/// # Errors
+///
+/// `AllocError`: an allocation failed.
+pub fn place_at(alloc: Global, text: &[u8]) -> Result<Option<(Vec<Step>, &[u8])>, AllocError>
     ensures { IfOk result
         (λ o. option_map (λ p. (place_of p.0.items, p.1.now)) o ≡ place_at text.now) }
 {

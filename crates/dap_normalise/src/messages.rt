@@ -60,12 +60,12 @@ pub fn read_message(
 }
 
 /// Reads the message of the record with this number as a flat document. Returns `None` if its
-/// content must be read as a tree.
+/// content must be read as a tree. Does not allocate for an empty content, which is not JSON.
 ///
 /// # Errors
 ///
 /// - `Message`: the content violates the profile.
-/// - `Memory`: an allocation failed.
+/// - `Memory`: an allocation failed. The content is not empty.
 pub fn read_flat<'a>(
     alloc: Global,
     number: u64,
@@ -79,7 +79,11 @@ pub fn read_flat<'a>(
         → RejectsPayload (Rejects limits mode messages (side, content.now)) number because) }
     ensures only { IfErr result
         (λ because. RejectsPayload (HoldsNoMessage (side, content.now)) number because) }
+    ensures memory { IsErrOf result Refused.Memory → 0 < length content.now }
 {
+    if content.is_empty() {
+        return Ok(None);
+    }
     let Ok(nodes) = Vec::with_capacity(alloc, content.len() / BYTES_A_NODE + 8) else {
         return Err(Refused::Memory);
     };
