@@ -8,7 +8,7 @@ use Rattle.clap.specs.Words.{AddsArg, AddsSubcommand, App, Rule, Shape, Text, ap
 use Rattle.clap.specs.Words.{with_subcommand}
 use Rattle.clap.specs.declared.Arg.{Arg}
 use Rattle.clap.specs.declared.Command.{Command}
-use Rattle.dap_commands.specs.Commands.{IsArgument, IsSubcommand, subcommand}
+use Rattle.dap_commands.specs.Arguments.{IsArgument, IsSubcommand, subcommand}
 
 added : {old new : Command} {a : Arg} {shape : Shape} {rule : Rule} → AddsArg old a new
     → IsArgument rule a → IsSubcommand shape old

@@ -1,12 +1,5 @@
 pub mod DefinitionLemmas
-pub mod EnteredSubcommand
 pub mod FirstArguments
-pub mod Found
-pub mod NoFault
-pub mod RequiredValues
-pub mod TakenCommands
-pub mod WorkedLines
-pub mod CommandFiles
-pub mod CommandWalk
 pub mod FirstWords
 pub mod ToldWords
+pub mod WorkedLines

@@ -4,10 +4,9 @@ use Rattle.clap.specs.Values.{kind_of}
 use Rattle.clap.specs.Words.{HasKind, Kinds}
 use Rattle.clap.specs.declared.error.Error.{Error}
 use Rattle.clap.specs.declared.error.kind.ErrorKind.TheVariants as kind
-use Rattle.dap_commands.specs.CommandLine.{IsUsageErrorFor, IsUsageErrorOf}
-use Rattle.dap_commands.specs.Commands.{IsFaultFor}
-use Rattle.dap_commands.specs.declared.jobs.UsageFault.{UsageFault}
-use Rattle.dap_commands.specs.declared.jobs.UsageFault.TheVariants as usage
+use Rattle.dap_commands.specs.Reading.{IsUsageErrorFor, IsUsageErrorOf}
+use Rattle.dap_commands.specs.declared.commands.UsageFault.{UsageFault}
+use Rattle.dap_commands.specs.declared.commands.UsageFault.TheVariants as usage
 
 pub told_for : (kinds : Kinds) (error : Error) (fault : UsageFault) → HasKind kinds error
     → (kind_of error ≡ kind.OutOfMemory → fault ≡ usage.Memory)
@@ -21,14 +20,3 @@ told_for kinds error (usage.Usage text) (inl memory) is reported =
 told_for kinds error (usage.Usage text) (inr among) is reported = inr
     (kind_of error, among, reported)
 told_for kinds error usage.Memory has is reported = reported
-
--- The same for arguments in which the parser finds an error.
-pub fault_for : (kinds : Kinds) (error : Error) (fault : UsageFault) → HasKind kinds error
-    → (kind_of error ≡ kind.OutOfMemory → fault ≡ usage.Memory)
-    → IsUsageErrorOf (kind_of error) fault
-    → IsFaultFor kinds fault
-fault_for kinds error (usage.Help text) (inl memory) is one = absurd (let wrong = is memory in cc)
-fault_for kinds error (usage.Help text) (inr among) is one = (kind_of error, among, one)
-fault_for kinds error (usage.Usage text) (inl memory) is one = absurd (let wrong = is memory in cc)
-fault_for kinds error (usage.Usage text) (inr among) is one = (kind_of error, among, one)
-fault_for kinds error usage.Memory has is one = tt

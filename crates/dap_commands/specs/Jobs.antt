@@ -2,8 +2,8 @@
 use Rattle.std.specs.Prelude.{Bool, true, false}
 use Rattle.dap_rename.specs.declared.mode.Mode.{Mode}
 use Rattle.dap_rename.specs.declared.mode.Mode.TheVariants.{Whole, PerStop}
-use Rattle.dap_commands.specs.declared.jobs.Job.{Job}
-use Rattle.dap_commands.specs.declared.jobs.Job.TheVariants.{Normalise, Check, Compare, Diff}
+use Rattle.dap_commands.specs.declared.commands.Job.{Job}
+use Rattle.dap_commands.specs.declared.commands.Job.TheVariants.{Normalise, Check, Compare}
 
 -- The mode that the option `--per-stop` selects.
 abbrev pub mode_for : Bool → Mode
@@ -15,5 +15,4 @@ abbrev pub job_mode : Job → Mode
 job_mode (Normalise per_stop) = mode_for per_stop
 job_mode (Check complete per_stop) = mode_for per_stop
 job_mode (Compare a b per_stop) = mode_for per_stop
-job_mode (Diff a b per_stop) = mode_for per_stop
 job_mode job = Whole

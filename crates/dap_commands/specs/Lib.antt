@@ -3,3 +3,4 @@ pub mod Commands
 pub mod CommandLine
 pub mod FirstWords
 pub mod Jobs
+pub mod Reading

@@ -1,8 +1,8 @@
 //! Describes a command line by values, and defines it for `clap`.
 ghost use Rattle.std.specs.Prelude.{◌≡◌, IfOk};
 ghost use Rattle.clap.specs.Words.{app_of};
-ghost use Rattle.dap_commands.specs.Arguments.{program_for, rule_for, shape_for};
-ghost use Rattle.dap_commands.specs.Commands.{IsArgument, IsSubcommand, option};
+ghost use Rattle.dap_commands.specs.Arguments.{IsArgument, IsSubcommand, option, program_for};
+ghost use Rattle.dap_commands.specs.Arguments.{rule_for, shape_for};
 
 use clap::{Arg, ArgAction, Command};
 use std::alloc::{AllocError, Global};

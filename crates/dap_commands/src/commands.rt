@@ -1,55 +1,115 @@
-//! Defines the command that a command line requests.
+//! Defines the commands and the jobs that a command line can select.
 ghost use Rattle.std.specs.Prelude.{◌≡◌};
-ghost use Rattle.dap_commands.specs.Jobs.{mode_for};
+ghost use Rattle.dap_commands.specs.Jobs.{job_mode, mode_for};
 
-use crate::Job;
 use dap_rename::Mode;
+use std::marker::Model;
 
-/// The task of the program, and the files that it reads and writes.
-#[derive(Clone, Copy, Debug, PartialEq, Eq)]
-pub struct Command<'a> {
-    pub action: Action<'a>,
-    /// The file of the input. `None` or `-` is standard input. A job that reads no input, or that
-    /// names two files itself, has `None`.
-    pub input: Option<&'a str>,
-    /// The file of the output. `None` is standard output. `check`, `compare`, `diff`, `suggest`,
-    /// `rows` and `golden` have `None`.
-    pub output: Option<&'a str>,
+/// A name in a command line, such as that of a file. It represents its bytes.
+#[derive(Drop)]
+pub struct Name<'a>(&'a str);
+
+impl<'a> Model for Name<'a> {
+    ghost use Rattle.std.specs.Prelude.{ℕ, List};
+
+    ghost Value = { List ℕ };
+
+    ghost view = { λ n. n.0.now };
+}
+
+impl<'a> Name<'a> {
+    /// Returns the name with this text.
+    pub fn new(text: &'a str) -> Name<'a>
+        ensures { result ≡ text.entry.now }
+    {
+        Name(text)
+    }
+
+    /// Returns the text of the name.
+    pub fn as_str(&self) -> &'a str
+        ensures { result.now ≡ self.now }
+    {
+        self.0
+    }
+}
+
+/// What a command line requests.
+#[derive(Drop)]
+pub struct Request<'a> {
+    pub command: Command<'a>,
+    /// The values of the option `--word`, in the order of the arguments.
+    pub words: Vec<Name<'a>>,
     /// Whether a rejection is explained in further lines. `golden` and `order` explain without the
     /// flag.
     pub explain: bool,
 }
 
-/// The task of the program.
-#[derive(Clone, Copy, Debug, PartialEq, Eq)]
-pub enum Action<'a> {
-    /// One of the jobs.
-    Job(Job<'a>),
-    /// Compare two recordings in a way that no job does: with rules, or with all differences.
-    Compare(Comparison<'a>),
-    /// Suggest rules that make two recordings the same.
-    Suggest(Suggest<'a>),
-    /// Put a recording in order.
-    Order(Order<'a>),
-    /// Print a recording in a way that the job `show` does not.
-    Show(Show<'a>),
+/// A command of the program. An `input` of `None` or `-` is standard input, and an `output` of
+/// `None` or `-` is standard output.
+#[derive(Drop)]
+pub enum Command<'a> {
+    /// Read one input, and write one output.
+    Stream {
+        task: Task<'a>,
+        input: Option<Name<'a>>,
+        output: Option<Name<'a>>,
+    },
+    /// Validate a recording. With `complete`, each request must have a response.
+    Check {
+        complete: bool,
+        mode: Mode,
+        input: Option<Name<'a>>,
+    },
+    /// Compare the recordings in the files `a` and `b`, after they are masked and put in order by
+    /// the rules in the file `rules` and the words.
+    Pair {
+        printed: Printed,
+        a: Name<'a>,
+        b: Name<'a>,
+        rules: Option<Name<'a>>,
+        mode: Mode,
+    },
+    /// Suggest rules that make the recordings in the files `a` and `b` the same, in addition to
+    /// the rules in the file `rules` and the words.
+    Suggest {
+        a: Name<'a>,
+        b: Name<'a>,
+        rules: Option<Name<'a>>,
+    },
     /// Create, update or compare a golden file.
     Golden(Golden<'a>),
+    /// Print the rows of the profile, or only the row with the number in this argument.
+    Rows {
+        number: Option<Name<'a>>,
+    },
 }
 
-/// The recordings to compare, and the options.
-#[derive(Clone, Copy, Debug, PartialEq, Eq)]
-pub struct Comparison<'a> {
-    /// The file of the first recording.
-    pub a: &'a str,
-    /// The file of the second recording.
-    pub b: &'a str,
-    /// Whether frame ids and variables references restart at 1 after each stop.
-    pub per_stop: bool,
-    /// The file of the rules by which both recordings are masked and put in order. With `None` they
-    /// are compared unchanged.
-    pub rules: Option<&'a str>,
-    pub printed: Printed,
+/// What is done to one input.
+#[derive(Drop)]
+pub enum Task<'a> {
+    /// Rewrite the contents of frames as canonical JSON.
+    Compact,
+    /// Convert a trace into a recording.
+    Record,
+    /// Write the normal form of a recording.
+    Normalise(Mode),
+    /// Print a recording as lines.
+    Show(Show<'a>),
+    /// Mask a recording by the rules in the file with this name, and the words.
+    Mask(Name<'a>),
+    /// Put a recording in order by the rules in the file with this name.
+    Order(Name<'a>),
+}
+
+/// The options of `show`.
+#[derive(Drop)]
+pub struct Show<'a> {
+    /// Whether to print each value of each record.
+    pub full: bool,
+    /// Whether to continue after a record that is rejected, and mark it.
+    pub faulty: bool,
+    /// The number of the only record whose content is printed, as given.
+    pub record: Option<Name<'a>>,
 }
 
 /// The output for two recordings.
@@ -63,45 +123,17 @@ pub enum Printed {
     AllDifferences,
 }
 
-/// The options of `suggest`.
-#[derive(Clone, Copy, Debug, PartialEq, Eq)]
-pub struct Suggest<'a> {
-    /// The file of the first recording.
-    pub a: &'a str,
-    /// The file of the second recording.
-    pub b: &'a str,
-    /// The rules file that lacks the suggested rules. `None`: there is none.
-    pub rules: Option<&'a str>,
-}
-
-/// The options of `order`.
-#[derive(Clone, Copy, Debug, PartialEq, Eq)]
-pub struct Order<'a> {
-    /// The file of the rules for the order of messages.
-    pub rules: &'a str,
-}
-
-/// The options of `show`, if at least one is given.
-#[derive(Clone, Copy, Debug, PartialEq, Eq)]
-pub struct Show<'a> {
-    /// Whether to print each value of each record.
-    pub full: bool,
-    /// Whether to continue after a record that is rejected, and mark it.
-    pub faulty: bool,
-    /// The number of the only record whose content is printed, as given.
-    pub record: Option<&'a str>,
-}
-
-/// The options of `golden`.
-#[derive(Clone, Copy, Debug, PartialEq, Eq)]
+/// The files and options of `golden`.
+#[derive(Drop)]
 pub struct Golden<'a> {
     /// The golden file.
-    pub golden: &'a str,
-    /// The file of the rules by which the session is masked and put in order. `None` means no
-    /// rules.
-    pub rules: Option<&'a str>,
-    /// Whether frame ids and variables references restart at 1 after each stop.
-    pub per_stop: bool,
+    pub golden: Name<'a>,
+    /// The file of the session. `None` or `-` is standard input.
+    pub input: Option<Name<'a>>,
+    /// The file of the rules by which the session is masked and put in order, before the words.
+    pub rules: Option<Name<'a>>,
+    /// The mode in which the ids of the session are numbered.
+    pub mode: Mode,
     /// Whether a session in which a request has no response is accepted.
     pub open: bool,
     /// Whether the golden file is written if it differs or does not exist. Otherwise the session
@@ -109,27 +141,62 @@ pub struct Golden<'a> {
     pub update: bool,
 }
 
-/// Returns the mode in which ids are numbered.
-fn mode_for(per_stop: bool) -> Mode
+/// A task of the library that a command line without files selects.
+#[derive(Clone, Copy, Debug, PartialEq, Eq)]
+pub enum Job<'a> {
+    /// Rewrite the contents of frames as canonical JSON.
+    Compact,
+    /// Convert a trace into a recording.
+    Record,
+    /// Write the normal form of a recording. With `per_stop`, the numbering of ids restarts at each
+    /// stop.
+    Normalise {
+        per_stop: bool,
+    },
+    /// Validate a recording. With `complete`, each request must have a response.
+    Check {
+        complete: bool,
+        per_stop: bool,
+    },
+    /// Print a recording as lines.
+    Show,
+    /// Compare the recordings in the files with these names.
+    Compare {
+        a: &'a str,
+        b: &'a str,
+        per_stop: bool,
+    },
+}
+
+/// Returns the mode that the option `--per-stop` selects.
+pub(crate) fn mode_for(per_stop: bool) -> Mode
     ensures { result ≡ mode_for per_stop }
 {
     if per_stop { Mode::PerStop } else { Mode::Whole }
 }
 
-impl Comparison<'_> {
-    /// Returns the mode in which the ids of the recordings are numbered.
+impl Job<'_> {
+    /// Returns the mode in which the job numbers ids. It is `Whole` for a job that does not number
+    /// ids.
     pub fn mode(&self) -> Mode
-        ensures { result ≡ mode_for self.now.per_stop }
+        ensures { result ≡ job_mode self.now }
     {
-        mode_for(self.per_stop)
+        match *self {
+            Job::Normalise { per_stop }
+            | Job::Check { per_stop, .. }
+            | Job::Compare { per_stop, .. } => mode_for(per_stop),
+            Job::Compact | Job::Record | Job::Show => Mode::Whole,
+        }
     }
 }
 
-impl Golden<'_> {
-    /// Returns the mode in which the ids of the session are numbered.
-    pub fn mode(&self) -> Mode
-        ensures { result ≡ mode_for self.now.per_stop }
-    {
-        mode_for(self.per_stop)
-    }
+/// Why the arguments do not select a command or a job.
+#[derive(Debug, Drop)]
+pub enum UsageFault {
+    /// The arguments are invalid. Contains the message for the user.
+    Usage(String),
+    /// The arguments request help or the version. Contains the text to print.
+    Help(String),
+    /// An allocation failed.
+    Memory,
 }

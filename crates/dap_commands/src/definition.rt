@@ -8,7 +8,7 @@ use clap::Command;
 use std::alloc::{AllocError, Global};
 
 /// The version of the program, and the profile that it checks recordings against.
-const VERSION: &str = "0.1.0 (profile of 188 rows)";
+pub(crate) const VERSION: &str = "0.1.0 (profile of 188 rows)";
 
 /// The description of the program.
 const ABOUT: &str = "Records, checks, normalises and compares Debug Adapter Protocol sessions";

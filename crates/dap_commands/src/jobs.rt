@@ -1,80 +1,158 @@
-//! The tasks that a command line can select.
-ghost use Rattle.std.specs.Prelude.{◌≡◌};
-ghost use Rattle.dap_commands.specs.Jobs.{job_mode, mode_for};
+//! Reads the arguments of a command line without files with `clap`.
+ghost use Rattle.std.specs.Prelude.{[], ◌≡◌, IfOk, IfErr, Some, true, option_map};
+ghost use Rattle.clap.specs.Walk.{texts};
+ghost use Rattle.clap.specs.Words.{app_of, fault_of as faults_of, subcommand_of};
+ghost use Rattle.clap.specs.Words.{subcommand_rows_of, takes};
+ghost use Rattle.dap_commands.specs.CommandLine.{job_named, job_of, job_spec, names_job, program};
+ghost use Rattle.dap_commands.specs.FirstWords.{FirstDecides};
+ghost use Rattle.dap_commands.specs.Reading.{IsUsageErrorFor, given};
+ghost use Rattle.dap_commands.specs.declared.commands.UsageFault.TheVariants.{Memory};
 
-use dap_rename::Mode;
+use crate::arguments::{Argument, Subcommand, program_of};
+use crate::commands::{Job, UsageFault};
+use crate::definition::VERSION;
+use crate::reading::{has_flag, no_subcommand, parse, required};
+use clap::{ArgMatches, Command};
+use std::alloc::{AllocError, Global};
 
-/// The task that the program runs.
-#[derive(Clone, Copy, Debug, PartialEq, Eq)]
-pub enum Job<'a> {
-    /// Rewrite the contents of frames as canonical JSON.
-    Compact,
-    /// Convert a trace into a recording.
-    Record,
-    /// Write the normal form of a recording. With `per_stop`, the numbering of ids restarts at each
-    /// stop.
-    Normalise {
-        per_stop: bool,
-    },
-    /// Validate a recording. With `complete`, each request must have a response.
-    Check {
-        complete: bool,
-        per_stop: bool,
-    },
-    /// Print a recording as lines.
-    Show,
-    /// Mask a recording by the rules in the file with this name.
-    Mask {
-        rules: &'a str,
-    },
-    /// Print the rows of the profile, or only the row with the number in this argument.
-    Rows {
-        number: Option<&'a str>,
-    },
-    /// Compare the recordings in the files with these names.
-    Compare {
-        a: &'a str,
-        b: &'a str,
-        per_stop: bool,
-    },
-    /// Print the differences between the recordings in the files with these names.
-    Diff {
-        a: &'a str,
-        b: &'a str,
-        per_stop: bool,
-    },
-}
+/// The description of the program.
+const ABOUT: &str = "Records and normalises sessions of the Debug Adapter Protocol";
 
-/// Returns the mode that the option `--per-stop` selects.
-fn mode_for(per_stop: bool) -> Mode
-    ensures { result ≡ mode_for per_stop }
+/// The flag `--per-stop` of a subcommand that renumbers ids.
+const PER_STOP: Argument = Argument::Flag(
+    "per-stop",
+    "Counts frame ids and references anew behind each `stopped` event, for an adapter that begins them again there",
+);
+
+/// The subcommands.
+const SUBCOMMANDS: [Subcommand; 6] = [
+    Subcommand {
+        name: "compact",
+        about: "Makes the contents of frames canonical, from standard input to standard output",
+        example: "Example: dapnorm compact < session.frames > session.compact",
+        arguments: &[],
+    },
+    Subcommand {
+        name: "record",
+        about: "Makes a recording of a trace, from standard input to standard output",
+        example: "Example: dapnorm record < session.trace > session.rec",
+        arguments: &[],
+    },
+    Subcommand {
+        name: "normalise",
+        about: "Writes the normal form of a recording, from standard input to standard output",
+        example: "Example: dapnorm normalise < session.rec > session.golden",
+        arguments: &[PER_STOP],
+    },
+    Subcommand {
+        name: "check",
+        about: "Judges a recording from standard input",
+        example: "Example: dapnorm check --complete < session.rec",
+        arguments: &[
+            Argument::Flag(
+                "complete",
+                "Refuses a recording in which some request has no response",
+            ),
+            PER_STOP,
+        ],
+    },
+    Subcommand {
+        name: "show",
+        about: "Prints a recording in lines, from standard input to standard output",
+        example: "Example: dapnorm show < session.rec",
+        arguments: &[],
+    },
+    Subcommand {
+        name: "compare",
+        about: "Tells how the recordings of two files are the same, or where they differ",
+        example: "Example: dapnorm compare session.golden session.rec",
+        arguments: &[
+            Argument::File("A", "The file of a recording"),
+            Argument::File("B", "The file of another"),
+            PER_STOP,
+        ],
+    },
+];
+
+/// Returns the definition of the command line.
+fn program<'a>(alloc: Global) -> Result<Command<'a>, AllocError>
+    ensures { IfOk result (λ c. app_of c ≡ program) }
 {
-    if per_stop { Mode::PerStop } else { Mode::Whole }
+    program_of(alloc, VERSION, ABOUT, &SUBCOMMANDS)
 }
 
-impl Job<'_> {
-    /// Returns the mode in which the job numbers ids. It is `Whole` for a job that does not number
-    /// ids.
-    pub fn mode(&self) -> Mode
-        ensures { result ≡ job_mode self.now }
-    {
-        match *self {
-            Job::Normalise { per_stop }
-            | Job::Check { per_stop, .. }
-            | Job::Compare { per_stop, .. }
-            | Job::Diff { per_stop, .. } => mode_for(per_stop),
-            _ => Mode::Whole,
-        }
+/// Returns the job of a subcommand with its arguments.
+fn job_by<'a>(name: &str, rows: &ArgMatches<'a>) -> Option<Job<'a>>
+    ensures { option_map job_spec result ≡ job_of name.now (given rows.now) }
+{
+    Some(match name {
+        "compact" => Job::Compact,
+        "record" => Job::Record,
+        "normalise" => Job::Normalise {
+            per_stop: has_flag(rows, "per-stop"),
+        },
+        "check" => Job::Check {
+            complete: has_flag(rows, "complete"),
+            per_stop: has_flag(rows, "per-stop"),
+        },
+        "show" => Job::Show,
+        "compare" => Job::Compare {
+            a: required(rows, "A"),
+            b: required(rows, "B"),
+            per_stop: has_flag(rows, "per-stop"),
+        },
+        _ => return None,
+    })
+}
+
+/// Returns the job that the matches of the program select.
+fn named_by<'a>(matches: &ArgMatches<'a>) -> Option<Job<'a>>
+    ensures { option_map job_spec result ≡ job_named (subcommand_rows_of matches.now) }
+{
+    match matches.subcommand() {
+        Some((name, rows)) => job_by(name, rows),
+        None => None,
     }
 }
 
-/// Why the arguments do not select a job.
-#[derive(Debug, Drop)]
-pub enum UsageFault {
-    /// The arguments are invalid. Contains the message for the user.
-    Usage(String),
-    /// The arguments request help or the version. Contains the text to print.
-    Help(String),
-    /// An allocation failed.
-    Memory,
+/// Reads the arguments of a command line. The first one is the program's name.
+///
+/// # Errors
+///
+/// - `Help`: the arguments request help or the version. Contains the text to print.
+/// - `Usage`: the arguments are invalid. Contains the message of `clap`.
+/// - `Memory`: an allocation failed.
+pub fn job<'a>(alloc: Global, words: &'a [&'a str]) -> Result<Job<'a>, UsageFault>
+    // The job is the one that the model of clap finds in the arguments.
+    ensures ok { IfOk result
+        (λ j. job_named (subcommand_of program (texts words.entry.now)) ≡ Some (job_spec j)) }
+    ensures taken { IfOk result (λ _. faults_of program (texts words.entry.now) ≡ []) }
+
+    // If the model of clap accepts the arguments with one of the subcommands, the only possible
+    // error is `Memory`.
+    ensures err { IfErr result (λ fault. takes program (texts words.entry.now) ≡ true
+        → names_job (subcommand_of program (texts words.entry.now)) ≡ true
+        → fault ≡ Memory) }
+
+    // `Help` is returned only if that model finds a request for help or the version. `Usage` is
+    // returned only if it finds another error, or no error at all.
+    ensures reported { IfErr result
+        (IsUsageErrorFor (faults_of program (texts words.entry.now))) }
+
+    // If some leading arguments request help or contain an error, the first of these decides the
+    // result, whatever arguments follow. A missing argument is reported only if no argument decides
+    // the result.
+    ensures first { IfErr result (λ fault. FirstDecides program (texts words.entry.now)
+        (λ kinds. IsUsageErrorFor kinds fault)) }
+{
+    let Ok(program) = program(alloc) else {
+        return Err(UsageFault::Memory);
+    };
+    match parse(alloc, program, words) {
+        Ok(matches) => match named_by(&matches) {
+            Some(job) => Ok(job),
+            None => Err(no_subcommand(alloc)),
+        },
+        Err(fault) => Err(fault),
+    }
 }

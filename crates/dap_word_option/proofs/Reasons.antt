@@ -1,15 +1,14 @@
 -- The value whose line the rules reject, and why.
 use Rattle.std.proofs.Common.{◌≡◌, ◌≢◌, ◌∙◌, ◌+◌, ◌-◌, ◌==◌, ◌++◌, ℕ, Bool, true, false}
 use Rattle.std.proofs.Common.{List, [], ◌∷◌, ap, arith, cond, get_or, length, refl}
-use Rattle.std.proofs.Common.{Option, codes, option_map, sym, unwrap_or}
-use Rattle.std.specs.Slice.{IsItemAt}
+use Rattle.std.proofs.Common.{codes, sym}
+use Rattle.std.proofs.Math.Seq.{get_or-append_seam}
 use Rattle.std.proofs.lemmas.Bool.{ne_eqb}
-use Rattle.std.proofs.lemmas.List.{length-append, length-map}
-use Rattle.std.specs.Borrow.{Bor}
+use Rattle.std.proofs.lemmas.List.{length-append}
 use Rattle.dap_mask.specs.declared.fault.RulesCause.{RulesCause}
 use Rattle.dap_mask.specs.declared.fault.RulesCause.TheVariants as cause
 use Rattle.dap_words.specs.Words.{Pair}
-use Rattle.dap_word_option.specs.WordOption.{HasNoEquals, IsValueOf, bad_word, reason_of, texts_of}
+use Rattle.dap_word_option.specs.WordOption.{HasNoEquals, IsValueOf, bad_word, reason_of}
 
 -- ---- the reason
 
@@ -60,34 +59,17 @@ word_reason p value empty is at word_is =
 
 -- ---- the value
 
-value_at : (values : List (Bor (List ℕ))) (before after : List (List ℕ)) (value : List ℕ)
-    (d : Bor (List ℕ)) → texts_of values ≡ before ++ value ∷ after
-    → (get_or values (length before) d).now ≡ value
-value_at [] [] after value d e = cc
-value_at [] (b ∷ before) after value d e = cc
-value_at (x ∷ values) [] after value d e = cc
-value_at (x ∷ values) (b ∷ before) after value d e = value_at values before after value d (cc)
-
--- The value that is read at its place.
-pub value_found : (values : List (Bor (List ℕ))) (before after : List (List ℕ)) (value : List ℕ)
-    (index : ℕ) (got : Option (Bor (Bor (List ℕ)))) (copied : Option (Bor (List ℕ)))
-    (d found : Bor (List ℕ)) → texts_of values ≡ before ++ value ∷ after
-    → index ≡ length before → IsItemAt values index got
-    → copied ≡ option_map (λ (x : Bor (Bor (List ℕ))). x.now) got → found ≡ unwrap_or copied d
-    → found.now ≡ value
-value_found values before after value index got copied d found values_are place item is found_is =
-    ap (λ (x : Bor (List ℕ)). x.now) (found_is ∙ ap (λ o. unwrap_or o d) is
-    ∙ item.4 (omega arith) d ∙ ap (λ i. get_or values i d) place)
-    ∙ value_at values before after value d values_are
+-- The value at its place.
+pub value_found : (values before after : List (List ℕ)) (value : List ℕ) (index : ℕ)
+    → values ≡ before ++ value ∷ after → index ≡ length before → get_or values index [] ≡ value
+value_found values before after value index values_are place =
+    ap (λ vs. get_or vs index []) values_are
+    ∙ ap (λ i. get_or (before ++ value ∷ after) i []) place
+    ∙ get_or-append_seam before value after []
 
 -- The place of the value whose line is the rejected one.
-pub place_of : (values : List (Bor (List ℕ))) (before after : List (List ℕ)) (value : List ℕ)
-    (line lines : ℕ) → texts_of values ≡ before ++ value ∷ after → line + length after ≡ lines
+pub place_of : (values before after : List (List ℕ)) (value : List ℕ) (line lines : ℕ)
+    → values ≡ before ++ value ∷ after → line + length after ≡ lines
     → (length values - 1) - (lines - line) ≡ length before
 place_of values before after value line lines values_are line_is =
-    omega (
-      arith,
-      ap length values_are,
-      length-map values (λ (v : Bor (List ℕ)). v.now),
-      length-append before (value ∷ after),
-    )
+    omega (arith, ap length values_are, length-append before (value ∷ after))

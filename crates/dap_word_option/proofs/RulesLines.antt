@@ -5,8 +5,8 @@ use Rattle.std.proofs.Common.{true≢false}
 use Rattle.std.specs.Prelude.{String, is_ok}
 use Rattle.std.proofs.lemmas.Str.{IsUtf8-nil, is_utf8-from_IsUtf8}
 use Rattle.std.specs.declared.alloc.Global.{Global}
-use Rattle.dap_commands.specs.declared.jobs.UsageFault.{UsageFault}
-use Rattle.dap_commands.specs.declared.jobs.UsageFault.TheVariants as usage
+use Rattle.dap_commands.specs.declared.commands.UsageFault.{UsageFault}
+use Rattle.dap_commands.specs.declared.commands.UsageFault.TheVariants as usage
 use Rattle.dap_mask.specs.Mask.{Mask, no_rules}
 use Rattle.dap_mask.specs.RuleText.{line_said}
 use Rattle.dap_mask.specs.RulesFile.{outcome_of, outcome_then, rules_said}

@@ -1,15 +1,13 @@
 -- The values of the option `--word`, one after the other.
 use Rattle.std.proofs.Common.{◌≡◌, ◌∙◌, ◌++◌, ◌+◌, ◌<◌, ℕ, List, [], ◌∷◌, ap, arith}
 use Rattle.std.proofs.Common.{drop, get_or, length, codes, subst, sym, take}
-use Rattle.std.proofs.lemmas.List.{drop_more, length-map, map-append, map_more}
-use Rattle.std.proofs.lemmas.List.{map_push, take-append-drop, take_all}
-use Rattle.std.specs.Borrow.{Bor}
+use Rattle.std.proofs.lemmas.List.{drop_more, map_push, take-append-drop, take_all, take_more}
 use Rattle.dap_words.specs.Words.{Pair, pair_of, pairs_of}
 use Rattle.dap_words.specs.declared.words.Word.{Word}
-use Rattle.dap_commands.specs.declared.jobs.UsageFault.{UsageFault}
-use Rattle.dap_commands.specs.declared.jobs.UsageFault.TheVariants as usage
+use Rattle.dap_commands.specs.declared.commands.UsageFault.{UsageFault}
+use Rattle.dap_commands.specs.declared.commands.UsageFault.TheVariants as usage
 use Rattle.dap_word_option.specs.WordOption.{AreNamedBy, HasNoEquals, HaveNoPairs, IsReportOf}
-use Rattle.dap_word_option.specs.WordOption.{IsValueOf, texts_of}
+use Rattle.dap_word_option.specs.WordOption.{IsValueOf}
 
 -- One more value, with its pair.
 named_pushed : (values : List (List ℕ)) (pairs : List Pair) (value : List ℕ) (p : Pair)
@@ -22,53 +20,48 @@ named_pushed (v ∷ values) (q ∷ pairs) value p named is =
     (named.0, named_pushed values pairs value p named.1 is)
 
 -- The word of the next value, after those of the values before it.
-pub named_more : (xs : List (Bor (List ℕ))) (i : ℕ) (x : Bor (List ℕ)) (words new : List Word)
-    (word : Word) → i < length xs → AreNamedBy (texts_of (take i xs)) (pairs_of words)
-    → IsValueOf (pair_of word) (get_or xs i x).now → new ≡ words ++ word ∷ []
-    → AreNamedBy (texts_of (take (i + 1) xs)) (pairs_of new)
-named_more xs i x words new word within named is pushed =
-    let values = map_more (λ (value : Bor (List ℕ)). value.now) xs i x within in
+pub named_more : (values : List (List ℕ)) (i : ℕ) (value : List ℕ) (words new : List Word)
+    (word : Word) → i < length values → AreNamedBy (take i values) (pairs_of words)
+    → IsValueOf (pair_of word) (get_or values i value) → new ≡ words ++ word ∷ []
+    → AreNamedBy (take (i + 1) values) (pairs_of new)
+named_more values i value words new word within named is pushed =
     let pairs = ap pairs_of pushed ∙ map_push pair_of words word in
-    subst (λ vs. AreNamedBy vs (pairs_of new)) (sym values)
-    (subst (λ ps. AreNamedBy (texts_of (take i xs) ++ (get_or xs i x).now ∷ []) ps) (sym pairs)
-    (named_pushed (texts_of (take i xs)) (pairs_of words) (get_or xs i x).now (pair_of word) named
-    is))
+    subst (λ vs. AreNamedBy vs (pairs_of new)) (sym (take_more values i value within))
+    (subst (λ ps. AreNamedBy (take i values ++ get_or values i value ∷ []) ps) (sym pairs)
+    (named_pushed (take i values) (pairs_of words) (get_or values i value) (pair_of word) named is))
 
 -- All values have their words.
-pub named_all : (xs : List (Bor (List ℕ))) (i : ℕ) (pairs : List Pair) → length xs ≡ i
-    → AreNamedBy (texts_of (take i xs)) pairs → AreNamedBy (texts_of xs) pairs
-named_all xs i pairs end named =
-    subst (λ vs. AreNamedBy (texts_of vs) pairs) (take_all i xs (omega arith)) named
+pub named_all : (values : List (List ℕ)) (i : ℕ) (pairs : List Pair) → length values ≡ i
+    → AreNamedBy (take i values) pairs → AreNamedBy values pairs
+named_all values i pairs end named =
+    subst (λ vs. AreNamedBy vs pairs) (take_all i values (omega arith)) named
 
 -- The values before, at and after an index.
-values_at : (xs : List (Bor (List ℕ))) (i : ℕ) (x : Bor (List ℕ)) → i < length xs
-    → texts_of xs ≡ texts_of (take i xs) ++ (get_or xs i x).now ∷ texts_of (drop (i + 1) xs)
-values_at xs i x within =
-    ap texts_of (sym (take-append-drop i xs) ∙ ap (λ rest. take i xs ++ rest)
-    (drop_more xs i x within))
-    ∙ map-append (λ (value : Bor (List ℕ)). value.now) (take i xs)
-    (get_or xs i x ∷ drop (i + 1) xs)
+values_at : (values : List (List ℕ)) (i : ℕ) (value : List ℕ) → i < length values
+    → values ≡ take i values ++ get_or values i value ∷ drop (i + 1) values
+values_at values i value within =
+    sym (take-append-drop i values)
+    ∙ ap (λ rest. take i values ++ rest) (drop_more values i value within)
 
 -- A value without `=` after values that have words.
-pub none_named : (xs : List (Bor (List ℕ))) (i : ℕ) (x : Bor (List ℕ)) (pairs : List Pair)
-    (fault : UsageFault) → i < length xs → AreNamedBy (texts_of (take i xs)) pairs
-    → HasNoEquals (get_or xs i x).now
-    → IsReportOf (get_or xs i x).now (codes "write TEXT=WORD") fault
-    → HaveNoPairs (texts_of xs) fault
-none_named xs i x pairs (usage.Usage said) within named without is = record {
-  before = texts_of (take i xs);
+pub none_named : (values : List (List ℕ)) (i : ℕ) (value : List ℕ) (pairs : List Pair)
+    (fault : UsageFault) → i < length values → AreNamedBy (take i values) pairs
+    → HasNoEquals (get_or values i value)
+    → IsReportOf (get_or values i value) (codes "write TEXT=WORD") fault
+    → HaveNoPairs values fault
+none_named values i value pairs (usage.Usage said) within named without is = record {
+  before = take i values;
   pairs = pairs;
   named = named;
-  value = (get_or xs i x).now;
+  value = get_or values i value;
   without = without;
-  after = texts_of (drop (i + 1) xs);
-  values_are = values_at xs i x within;
+  after = drop (i + 1) values;
+  values_are = values_at values i value within;
   said_is = is;
 }
-none_named xs i x pairs (usage.Help said) within named without is = is
-none_named xs i x pairs usage.Memory within named without is =
-    omega (arith, length-map xs (λ (value : Bor (List ℕ)). value.now))
+none_named values i value pairs (usage.Help said) within named without is = is
+none_named values i value pairs usage.Memory within named without is = omega arith
 
 -- An allocation failed for one of the values.
-pub some_value : (xs : List (Bor (List ℕ))) (i : ℕ) → i < length xs → 0 < length (texts_of xs)
-some_value xs i within = omega (arith, length-map xs (λ (value : Bor (List ℕ)). value.now))
+pub some_value : (values : List (List ℕ)) (i : ℕ) → i < length values → 0 < length values
+some_value values i within = omega arith

@@ -1,10 +1,9 @@
 -- The option `--word`: what a value means, and the text of the rules with the words. Source: own.
 use Rattle.std.specs.Prelude.{◌≡◌, ◌≢◌, ◌==◌, ◌<◌, ◌-◌, ◌+◌, ◌⊎◌, ℕ, cond, List, [], ◌∷◌, ◌++◌}
-use Rattle.std.specs.Prelude.{Option, Some, None, Ok, Err, codes, count_by, length, map, slice_get}
+use Rattle.std.specs.Prelude.{Option, Some, None, Ok, Err, codes, count_by, length, slice_get}
 use Rattle.std.specs.Prelude.{slice_index, string_bytes}
-use Rattle.std.specs.Borrow.{Bor}
-use Rattle.dap_commands.specs.declared.jobs.UsageFault.{UsageFault}
-use Rattle.dap_commands.specs.declared.jobs.UsageFault.TheVariants as usage
+use Rattle.dap_commands.specs.declared.commands.UsageFault.{UsageFault}
+use Rattle.dap_commands.specs.declared.commands.UsageFault.TheVariants as usage
 use Rattle.dap_mask.specs.Mask.{Mask}
 use Rattle.dap_mask.specs.RulesFile.{is_line_feed, rules_said}
 use Rattle.dap_mask.specs.WordLines.{word_line}
@@ -31,10 +30,6 @@ IsNamedBy value None = HasNoEquals value
 IsNamedBy value (Some word) = IsValueOf (pair_of word) value
 
 -- ---- all values of the option
-
--- The byte strings of references.
-abbrev pub texts_of : List (Bor (List ℕ)) → List (List ℕ)
-texts_of values = map (λ value. value.now) values
 
 -- The pairs are those of the values, in their order.
 abbrev pub AreNamedBy : List (List ℕ) → List Pair → Type 0

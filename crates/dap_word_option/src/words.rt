@@ -1,16 +1,16 @@
 //! The values of the option `--word`, and the lines that they add to a text of rules.
 ghost use Rattle.std.specs.Prelude.{◌≡◌, ◌≢◌, ◌<◌, ◌+◌, ◌++◌, ◌∷◌, [], IfErr, IfOk, Ok, OnErr};
-ghost use Rattle.std.specs.Prelude.{OnOk, count_by, is_ok, length};
+ghost use Rattle.std.specs.Prelude.{OnOk, count_by, get_or, is_ok, length};
 ghost use Rattle.dap_mask.specs.Mask.{no_rules};
 ghost use Rattle.dap_mask.specs.RulesFile.{is_line_feed, rules_said};
 ghost use Rattle.dap_mask.specs.WordLines.{word_line};
 ghost use Rattle.dap_word_option.specs.WordOption.{AreNamedBy, HasLinesOf, HasNoLines};
 ghost use Rattle.dap_word_option.specs.WordOption.{HaveNoPairs, IsNamedBy, IsReportOf, IsValueOf};
-ghost use Rattle.dap_word_option.specs.WordOption.{ReportsLine, line_end, reason_of, texts_of};
+ghost use Rattle.dap_word_option.specs.WordOption.{ReportsLine, line_end, reason_of};
 ghost use Rattle.dap_word_option.specs.WordOption.{with_word_lines};
 ghost use Rattle.dap_words.specs.Words.{pair_of, pairs_of};
 
-use dap_commands::UsageFault;
+use dap_commands::{Name, UsageFault};
 use dap_mask::{MaskRules, RulesCause, RulesFault, write_word};
 use dap_words::Word;
 use std::alloc::{AllocError, Global};
@@ -106,19 +106,20 @@ fn bad_value(alloc: Global, value: &str, why: &str) -> UsageFault
 ///
 /// - `Usage`: a value does not contain `=`.
 /// - `Memory`: an allocation failed.
-fn words_of(alloc: Global, values: &[&str]) -> Result<Vec<Word>, UsageFault>
-    ensures ok { IfOk result (λ words. AreNamedBy (texts_of values.now) (pairs_of words.items)) }
-    ensures err { IfErr result (HaveNoPairs (texts_of values.now)) }
+fn words_of(alloc: Global, values: &[Name<'_>]) -> Result<Vec<Word>, UsageFault>
+    ensures ok { IfOk result (λ words. AreNamedBy values.now (pairs_of words.items)) }
+    ensures err { IfErr result (HaveNoPairs values.now) }
 {
     let mut words = Vec::new(alloc);
     for value in values {
-        match word_of(alloc, value) {
+        let text = value.as_str();
+        match word_of(alloc, text) {
             Ok(Some(word)) => {
                 if words.push(word).is_err() {
                     return Err(UsageFault::Memory);
                 }
             }
-            Ok(None) => return Err(bad_value(alloc, value, NO_EQUALS)),
+            Ok(None) => return Err(bad_value(alloc, text, NO_EQUALS)),
             Err(_) => return Err(UsageFault::Memory),
         }
     }
@@ -148,11 +149,21 @@ fn line_count(text: &[u8]) -> usize
     text.iter().filter(|byte| **byte == b'\n').count()
 }
 
+/// Returns the value with an index. It is empty if there is none.
+fn value_at<'a>(values: &[Name<'a>], index: usize) -> &'a str
+    ensures { result.now ≡ get_or values.now index [] }
+{
+    match values.get(index) {
+        Some(value) => value.as_str(),
+        None => "",
+    }
+}
+
 /// Returns what is reported of the value whose line is rejected. The last lines of the rules are
 /// those of the values.
-fn refused_value(alloc: Global, rules: &[u8], values: &[&str], fault: RulesFault) -> UsageFault
+fn refused_value(alloc: Global, rules: &[u8], values: &[Name<'_>], fault: RulesFault) -> UsageFault
     ensures memory { fault.cause ≡ RulesCause.Memory → result ≡ UsageFault.Memory }
-    ensures line { ReportsLine (texts_of values.now) rules.now fault result }
+    ensures line { ReportsLine values.now rules.now fault result }
     ensures help { (said : _) → result ≢ UsageFault.Help said }
 {
     if fault.cause == RulesCause::Memory {
@@ -160,7 +171,7 @@ fn refused_value(alloc: Global, rules: &[u8], values: &[&str], fault: RulesFault
     }
     let after = line_count(rules).saturating_sub(fault.line);
     let index = values.len().saturating_sub(1).saturating_sub(after);
-    let value = values.get(index).copied().unwrap_or("");
+    let value = value_at(values, index);
     bad_value(alloc, value, reason_of(value, fault.cause))
 }
 
@@ -185,10 +196,10 @@ fn is_accepted(alloc: Global, text: &[u8]) -> Result<bool, AllocError>
 ///
 /// - `Usage`: a value does not contain `=`, or the rules do not accept its word.
 /// - `Memory`: an allocation failed.
-pub fn with_values(alloc: Global, text: Vec<u8>, values: &[&str]) -> Result<Vec<u8>, UsageFault>
+pub fn with_values(alloc: Global, text: Vec<u8>, values: &[Name<'_>]) -> Result<Vec<u8>, UsageFault>
     ensures ok { IfOk result
-        (λ rules. HasLinesOf (texts_of values.now) text.items rules.items) }
-    ensures err { IfErr result (HasNoLines (texts_of values.now) text.items) }
+        (λ rules. HasLinesOf values.now text.items rules.items) }
+    ensures err { IfErr result (HasNoLines values.now text.items) }
 {
     let words = words_of(alloc, values)?;
     let Ok(is_accepted) = is_accepted(alloc, text.as_slice()) else {

@@ -1,6 +1,5 @@
 use Rattle.std.proofs.Common.{map, take}
-use Rattle.dap_commands.specs.Arguments.{rule_for}
-use Rattle.dap_commands.specs.Commands.{IsSubcommand, subcommand}
+use Rattle.dap_commands.specs.Arguments.{IsSubcommand, rule_for, subcommand}
 use Rattle.dap_commands.proofs.arguments.clap_subcommand.Given as goal
 
 abbrev pub invariant-loop-argument : goal.invariant-loop-argument

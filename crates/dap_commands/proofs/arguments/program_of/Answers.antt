@@ -1,5 +1,4 @@
-use Rattle.dap_commands.specs.Arguments.{shape_for}
-use Rattle.dap_commands.specs.CommandLine.{bare}
+use Rattle.dap_commands.specs.Arguments.{bare, shape_for}
 use Rattle.dap_commands.proofs.DefinitionLemmas.{subcommand_added}
 use Rattle.dap_commands.proofs.arguments.program_of.Goals as goal
 

@@ -9,10 +9,9 @@ returns-clause-line c = λ before after value p values_are is line_is.
     let report = c.bad_value.result in
     let place = place_of values before after value c.args.fault.line c.line_count.result values_are
     (line_is ∙ sym c.line_count.ensures) in
-    let found = value_found values before after value c.saturating_sub-index.result c.get.result
-    c.copied.result _ c.unwrap_or-value.result values_are (omega (arith, place))
-    c.get.ensures.lookup c.copied.ensures c.unwrap_or-value.ensures in
+    let found = c.value_at-value.ensures
+    ∙ value_found values before after value c.saturating_sub-index.result values_are
+    (omega (arith, place)) in
     let reason = c.reason_of.ensures p (subst (λ v. IsValueOf p v) (sym found) is) in
     subst (λ v. IsReportOf v (reason_of p c.args.fault.cause) report) found
-    (subst (λ why. IsReportOf c.unwrap_or-value.result.now why report) reason
-    c.bad_value.ensures)
+    (subst (λ why. IsReportOf c.value_at-value.result.now why report) reason c.bad_value.ensures)

@@ -5,13 +5,13 @@ use Rattle.dap_mask.specs.Mask.{no_rules}
 use Rattle.dap_mask.specs.RulesFile.{rules_said}
 use Rattle.dap_mask.specs.declared.fault.RulesCause.TheVariants as cause
 use Rattle.dap_words.specs.Words.{pairs_of}
-use Rattle.dap_word_option.specs.WordOption.{ReportsLine, texts_of}
+use Rattle.dap_word_option.specs.WordOption.{ReportsLine}
 use Rattle.dap_word_option.proofs.RulesLines.{accepted_text, not_read, text_needed}
 use Rattle.dap_word_option.proofs.words.with_values.Goals as goal
 
 pub returns-in_default-clause-err : goal.returns-in_default-clause-err
 returns-in_default-clause-err c =
-    text_needed (texts_of c.args.values.now) c.args.text.items
+    text_needed c.args.values.now c.args.text.items
     (subst (λ text. rules_said text ≢ Ok no_rules) c.as_slice.ensures.value
     c.in_default.ensures.err)
 
@@ -31,7 +31,7 @@ returns-in-Ok-read-clause-ok c =
 
 pub returns-in-Err-clause-err : goal.returns-in-Err-clause-err
 returns-in-Err-clause-err c =
-    let values = texts_of c.args.values.now in
+    let values = c.args.values.now in
     let fault = c.in-Err.fault in
     let report = c.refused_value.result in
     let accepted = accepted_text c.args.text.items

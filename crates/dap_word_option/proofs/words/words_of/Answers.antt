@@ -1,6 +1,7 @@
-use Rattle.std.proofs.Common.{◌≡◌, ◌++◌, [], ◌∷◌, arith, rules}
+use Rattle.std.proofs.Common.{◌≡◌, ◌∙◌, ◌++◌, [], ◌∷◌, arith, codes, rules, subst}
 use Rattle.std.proofs.lemmas.Grind.{common_steps}
-use Rattle.dap_words.specs.Words.{pairs_of}
+use Rattle.dap_words.specs.Words.{pair_of, pairs_of}
+use Rattle.dap_word_option.specs.WordOption.{HasNoEquals, IsReportOf, IsValueOf}
 use Rattle.dap_word_option.proofs.Values.{named_more, none_named}
 use Rattle.dap_word_option.proofs.words.words_of.Goals as goal
 
@@ -8,7 +9,10 @@ pub returns-in-Ok-None-clause-err : goal.returns-in-Ok-None-clause-err
 returns-in-Ok-None-clause-err c =
     none_named c.args.values.now c.loop-value.value-index _ (pairs_of c.loop-value.words.items)
     c.bad_value.result (omega arith) c.loop-value.invariant
-    (rw c.in-Ok-None.field-0-is at c.in-Ok-None.ensures) c.bad_value.ensures
+    (subst HasNoEquals (c.as_str-text.ensures ∙ c.value-item.is)
+    (rw c.in-Ok-None.field-0-is at c.in-Ok-None.ensures))
+    (subst (λ v. IsReportOf v (codes "write TEXT=WORD") c.bad_value.result) (c.as_str-text.ensures ∙ c.value-item.is)
+    c.bad_value.ensures)
 
 pub loop-value-preserved : goal.loop-value-preserved
 loop-value-preserved c =
@@ -17,4 +21,5 @@ loop-value-preserved c =
     first_of (search rules, grind (arith, common_steps)) in
     named_more c.args.values.now c.loop-value.value-index _ c.loop-value.words.items
     c.push.new.self.items word (omega arith) c.loop-value.invariant
-    (rw c.in-Ok-Some.field-0-is at c.in-Ok-Some.ensures) pushed
+    (subst (IsValueOf (pair_of word)) (c.as_str-text.ensures ∙ c.value-item.is)
+    (rw c.in-Ok-Some.field-0-is at c.in-Ok-Some.ensures)) pushed

@@ -1,7 +1,7 @@
 use Rattle.std.proofs.Common.{◌∙◌}
 use Rattle.clap.proofs.WalkLemmas.{first_value-rows}
 use Rattle.clap.specs.Words.{found_of}
-use Rattle.dap_commands.proofs.words.value_of.Goals as goal
+use Rattle.dap_commands.proofs.reading.value_of.Goals as goal
 
 pub returns : goal.returns
 returns c =

@@ -1,7 +1,7 @@
 use Rattle.std.proofs.Common.{◌∙◌}
 use Rattle.clap.proofs.WalkLemmas.{raw_values-rows}
 use Rattle.clap.specs.Words.{found_of}
-use Rattle.dap_commands.proofs.words.values_of.Goals as goal
+use Rattle.dap_commands.proofs.reading.values_of.Goals as goal
 
 pub returns : goal.returns
 returns c =
