@@ -1,4 +1,8 @@
 //! The result of comparing two recordings.
+ghost use Rattle.std.specs.Prelude.{◌≡◌, ◌≤◌, length};
+ghost use Rattle.dap_compare.specs.Which.{compare_refused_text, which_text};
+
+use arrayvec::ArrayString;
 use dap_input::Refused;
 use dap_rename::Renaming;
 use std::fmt;
@@ -11,6 +15,19 @@ pub enum Which {
     B,
 }
 
+impl Which {
+    /// Returns the letter of the input.
+    pub fn letter(self) -> &'static str
+        ensures letter { result.now ≡ which_text self }
+        ensures short { length result.now ≤ 1 }
+    {
+        match self {
+            Which::A => "A",
+            Which::B => "B",
+        }
+    }
+}
+
 impl fmt::Display for Which {
     ghost use Rattle.std.specs.Prelude.{Some};
     ghost use Rattle.dap_compare.specs.Which.{which_text};
@@ -18,10 +35,7 @@ impl fmt::Display for Which {
     ghost output = { λ which. Some (which_text which) };
 
     fn fmt<W: fmt::Write>(&self, f: &mut fmt::Formatter<W>) -> fmt::Result {
-        f.write_str(match self {
-            Which::A => "A",
-            Which::B => "B",
-        })
+        f.write_str(self.letter())
     }
 }
 
@@ -35,15 +49,32 @@ pub enum Verdict {
     Differ(u64),
 }
 
-/// Why the comparison of two inputs was not completed.
-///
-/// Its `Display` output is what the program prints after `dapnorm: `.
+/// Why the comparison of two inputs was not completed. Its `Display` output is
+/// [`CompareRefused::text`].
 #[derive(Clone, Copy, Debug, PartialEq, Eq, Error)]
 pub enum CompareRefused {
     /// This input was rejected. The inner error is never `Memory` or `WriteFault`.
-    #[error("{0}: {1}")]
+    #[error("{text}", text = self.text())]
     Input(Which, Refused),
     /// An allocation failed.
-    #[error("out of memory")]
+    #[error("{text}", text = self.text())]
     Memory,
+}
+
+impl CompareRefused {
+    /// Returns the text that the program prints after `dapnorm: `. Does not allocate.
+    pub fn text(self) -> ArrayString<148>
+        ensures { result.bytes ≡ compare_refused_text self }
+    {
+        let mut text = ArrayString::new();
+        match self {
+            CompareRefused::Input(which, refused) => {
+                text.push_str(which.letter());
+                text.push_str(": ");
+                text.push_str(refused.text().as_str());
+            }
+            CompareRefused::Memory => text.push_str(Refused::Memory.text().as_str()),
+        }
+        text
+    }
 }

@@ -6,5 +6,6 @@ pub mod Validation
 pub mod Limits
 pub mod ReadTo
 pub mod RecordSteps
+pub mod RefusedText
 pub mod Refusals
 pub mod Streaming

@@ -10,4 +10,4 @@ mod refused;
 pub use item_reader::{FedItem, ItemReader};
 pub use limits::Limits;
 pub use records::Records;
-pub use refused::Refused;
+pub use refused::{PART, Refused, TEXT};

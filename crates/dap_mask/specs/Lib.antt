@@ -9,6 +9,7 @@ pub mod Ids
 pub mod Runs
 pub mod RuleText
 pub mod Grammar
+pub mod RulesCauseName
 pub mod RulesFile
 pub mod ListedRules
 pub mod KeptRules

@@ -1,57 +1,52 @@
 //! Errors of a rules file.
-ghost use Rattle.std.specs.Prelude.{◌≡◌};
+ghost use Rattle.std.specs.Prelude.{◌≡◌, ◌≤◌, length};
+ghost use Rattle.dap_mask.specs.RulesCauseName.{rules_cause_name};
 
 use std::alloc::{AllocError, AllocFailed};
+use std::{error, fmt};
 use thiserror::Error;
 
 /// Why a rules file is rejected.
-#[derive(Clone, Copy, Debug, PartialEq, Eq, Error)]
+#[derive(Clone, Copy, Debug, PartialEq, Eq)]
 pub enum RulesCause {
     /// The file has more than 65,536 bytes. The line is that of the first byte past the limit.
     ///
     /// - Cause: another file, such as a recording.
     /// - Fix: name the rules file.
-    #[error("TooLong")]
     TooLong,
     /// The line is not UTF-8.
     ///
     /// - Cause: a comment in another encoding.
     /// - Fix: save the file as UTF-8.
-    #[error("NotUtf8")]
     NotUtf8,
     /// The line is not a rule, not empty and not only a comment.
     ///
     /// - Cause: a missing word, or a name with other characters that is not in quotes.
     /// - Fix: write a verb, a kind, a name and a place, or `swap` with two kinds and names, or
     ///   `word` with a text and its word, with spaces between them, or `per-stop` alone.
-    #[error("BadRule")]
     BadRule,
     /// A thousand rules precede it.
     ///
     /// - Cause: rules made by a script, one for each name.
     /// - Fix: join rules, with `*` for the name.
-    #[error("TooMany")]
     TooMany,
     /// The place never changes: it is an id that the profile renames, the message itself, its
     /// `type`, `command`, `event` or `success`, or the name by which the rule selects an element.
     ///
     /// - Cause: a rule for a number that `normalise` renames anyway.
     /// - Fix: leave the rule out.
-    #[error("BadPlace")]
     BadPlace,
     /// The same rule precedes it, or another word for the same text. A `swap` rule with its halves
     /// exchanged is the same rule.
     ///
     /// - Cause: two rules files put together.
     /// - Fix: leave it out.
-    #[error("Repeated")]
     Repeated,
     /// A `hex` rule precedes this `digits` rule for the same place of messages that may be the
     /// same, so masking twice could differ from masking once.
     ///
     /// - Cause: the order of the two.
     /// - Fix: write `digits` first.
-    #[error("DigitsBehindHex")]
     DigitsBehindHex,
     /// An earlier rule has another action at the same place of messages that may be the same, and
     /// masking twice by both could change a text again. Or one of the two changes `body.category`
@@ -61,7 +56,6 @@ pub enum RulesCause {
     /// - Cause: `hex` before `long`, `uuid` after another action, or `uuid` with `digits`.
     /// - Fix: write `uuid` before `long` and `hex` last, and do not use `uuid` and `digits` at one
     ///   place.
-    #[error("Clash")]
     Clash,
     /// The text of a `word` line is empty, or a word of the file can overlap a text of the file:
     /// one contains the other, or the end of one is the start of the other. Masking twice could
@@ -69,12 +63,44 @@ pub enum RulesCause {
     ///
     /// - Cause: a word that is part of a path, or an empty word.
     /// - Fix: choose a word that no text contains, such as one in angle brackets.
-    #[error("BadWord")]
     BadWord,
     /// An allocation failed.
-    #[error("Memory")]
     Memory,
 }
+
+impl RulesCause {
+    /// Returns the name of the error.
+    pub fn name(self) -> &'static str
+        ensures name { result.now ≡ rules_cause_name self }
+        ensures short { length result.now ≤ 15 }
+    {
+        match self {
+            RulesCause::TooLong => "TooLong",
+            RulesCause::NotUtf8 => "NotUtf8",
+            RulesCause::BadRule => "BadRule",
+            RulesCause::TooMany => "TooMany",
+            RulesCause::BadPlace => "BadPlace",
+            RulesCause::Repeated => "Repeated",
+            RulesCause::DigitsBehindHex => "DigitsBehindHex",
+            RulesCause::Clash => "Clash",
+            RulesCause::BadWord => "BadWord",
+            RulesCause::Memory => "Memory",
+        }
+    }
+}
+
+impl fmt::Display for RulesCause {
+    ghost use Rattle.std.specs.Prelude.{Some};
+    ghost use Rattle.dap_mask.specs.RulesCauseName.{rules_cause_name};
+
+    ghost output = { λ cause. Some (rules_cause_name cause) };
+
+    fn fmt<W: fmt::Write>(&self, f: &mut fmt::Formatter<W>) -> fmt::Result {
+        f.write_str(self.name())
+    }
+}
+
+impl error::Error for RulesCause {}
 
 impl From<AllocError> for RulesCause {
     ghost use Rattle.dap_mask.specs.declared.fault.RulesCause.TheVariants.{Memory};

@@ -12,6 +12,7 @@ pub mod Numbers
 pub mod Views
 pub mod ViewItems
 pub mod Message
+pub mod MessageFaultText
 pub mod Laws
 pub use Rattle.dap_profile.specs.PlaceSteps
 pub use Rattle.dap_profile.specs.Profile
