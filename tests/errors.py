@@ -64,6 +64,19 @@ def variants(source):
     return found
 
 
+def with_explanations(found, source):
+    """Returns the documentation of each variant with the meaning and the fix that `golden --explain` prints, if its enum has these texts."""
+    crate, module, _ = source
+    with open(os.path.join(TOP, "crates", crate, "src", f"{module}.rt"), encoding="utf-8") as file:
+        text = file.read()
+    for index, function in (0, "meaning"), (2, "fix"):
+        body = re.search(rf"^    pub fn {function}\(self\).*?^    \}}", text, re.MULTILINE | re.DOTALL)
+        for names, words in re.findall(r'((?:\w+::\w+(?: \| )?)+) => (?:\{\s*)?"([^"]+)"', body[0] if body else ""):
+            for name in re.findall(r"::(\w+)", names):
+                found[name] = (*found[name][:index], words, *found[name][index + 1 :])
+    return found
+
+
 def lowered(text):
     """Returns the text as part of a table: without its last full stop, and in lower case at its start."""
     text = re.sub(r" Only `[\w:]+` returns it\.", "", text)
@@ -74,7 +87,7 @@ def lowered(text):
 def table(lines):
     rows = ["| Line | Meaning | Usual cause | What to do |", "|---|---|---|---|"]
     for form, source, names in lines:
-        known = variants(source)
+        known = with_explanations(variants(source), source)
         for name in names or [it for it in known if it not in UNPRINTED[source]]:
             line = f"`{form.format(name)}`".replace(" ``", "")
             rows.append(f"| {line} | {' | '.join(lowered(it) for it in known[name])} |")
@@ -91,7 +104,7 @@ def filled(text):
 def complete(report):
     """Each error of the code that the program prints is in a table, and has a cause and a remedy."""
     for source, unprinted in UNPRINTED.items():
-        known = variants(source)
+        known = with_explanations(variants(source), source)
         listed = {name for lines in TABLES.values() for _, it, names in lines if it == source for name in names or known.keys() - unprinted}
         report.check(f"docs/ERRORS.md has each {source[2]}", listed == known.keys() - unprinted, repr(listed ^ (known.keys() - unprinted)))
         for name in sorted(listed):

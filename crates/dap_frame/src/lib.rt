@@ -22,6 +22,7 @@ mod plain_length;
 mod progress;
 mod write;
 
+pub use byte_class::{is_name_byte, is_value_byte};
 pub use content::Content;
 pub use fault::FrameFault;
 pub use fed::Fed;

@@ -34,7 +34,7 @@ mod word_lines;
 pub use categories::CategoryRule;
 pub use dap_message::{Half, SwapRule};
 pub use fault::{RulesCause, RulesFault};
-pub use loose::read_masked;
+pub use loose::{read_loosely, read_masked, read_with_words};
 pub use mask_rules::MaskRules;
 pub use masking::{is_dropped, mask};
 pub use names::{any_name, name_at};

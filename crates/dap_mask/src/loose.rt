@@ -56,9 +56,14 @@ pub fn read_masked(
     }
 }
 
-// Reads the tree of a content, as `read_loosely` does, and puts the words of the rules in the place
-// of texts.
-fn read_with_words(
+/// Reads the tree of a content, as [`read_loosely`] does, and puts the words of the rules in the
+/// place of texts.
+///
+/// # Errors
+///
+/// - `Json`: the content is not JSON text.
+/// - `Memory`: an allocation failed. The content is not empty, and may be valid or not.
+pub fn read_with_words(
     alloc: Global,
     content: &[u8],
     rules: &MaskRules,
@@ -73,8 +78,14 @@ fn read_with_words(
     Ok(tree)
 }
 
-// Reads the tree of a content, with 2^64 for each number that is not an integer of 64 bits.
-fn read_loosely(alloc: Global, content: &[u8], scratch: &mut Scratch) -> Result<Tree, TreeFault>
+/// Reads the tree of a content, with 2^64 for each number that is not an integer of 64 bits. Reuses
+/// the buffers in `scratch` between calls.
+///
+/// # Errors
+///
+/// - `Json`: the content is not JSON text.
+/// - `Memory`: an allocation failed. The content is not empty, and may be valid or not.
+pub fn read_loosely(alloc: Global, content: &[u8], scratch: &mut Scratch) -> Result<Tree, TreeFault>
     ensures ok { IfOk result (λ t. IsReadLoosely content.now (view t)) }
     ensures err { IfErr result (ExplainsLoosely content.now) }
     ensures memory { IsErrOf result TreeFault.Memory → 0 < length content.now }

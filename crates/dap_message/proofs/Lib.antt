@@ -1,4 +1,5 @@
 pub mod Elements
+pub mod FirstBreaks
 pub mod NameOrder
 pub mod Edits
 pub mod PartTests

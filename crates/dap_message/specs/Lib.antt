@@ -1,5 +1,6 @@
 pub mod Places
 pub mod Rows
+pub mod FirstBreak
 pub mod Faults
 pub mod FaultsByPath
 pub mod Steps

@@ -1,11 +1,11 @@
 //! Whether a tree violates one row.
-ghost use Rattle.std.specs.Prelude.{◌≡◌, [], ◌∷◌, map, option_map, option_and_then};
-ghost use Rattle.std.specs.List.{flat_map};
+ghost use Rattle.std.specs.Prelude.{◌≡◌, [], ◌∷◌, cond, map, option_map, option_and_then};
 ghost use Rattle.dap_tree.specs.Doc.{get};
 ghost use Rattle.dap_tree.specs.View.{view};
 ghost use Rattle.dap_profile.specs.PlaceSteps.{named, steps_of};
-ghost use Rattle.dap_message.specs.Places.{parts_at, list_of};
-ghost use Rattle.dap_message.specs.Rows.{has_type, cause_against, first_cause, broken_at};
+ghost use Rattle.dap_message.specs.FirstBreak.{break_at, first_against, found_in, found_of};
+ghost use Rattle.dap_message.specs.Places.{is_object, list_of};
+ghost use Rattle.dap_message.specs.Rows.{has_type, cause_against, broken_at};
 
 use dap_profile::{Place, Row, Want};
 use dap_tree::Tree;
@@ -17,27 +17,39 @@ pub(crate) enum Cause {
     WrongType,
 }
 
+/// A value that violates a row.
+#[derive(Clone, Copy)]
+pub struct Break<'t> {
+    /// The index of the array element that is or contains the value, or 0 if the row's path leads
+    /// into no array.
+    pub element: usize,
+    /// The value, or `None` if it is absent.
+    pub value: Option<&'t Tree>,
+}
+
 /// Returns how the tree violates the row, or `None` if it does not. If the row's path leads to
 /// several elements, the first one that violates the row counts.
 pub(crate) fn cause_of(row: &Row, tree: &Tree) -> Option<Cause>
     ensures { result
         ≡ broken_at (steps_of row.now.place) row.now.want row.now.needed (view tree.now) }
 {
+    match first_break(row, tree) {
+        Some(found) => judge(found.value, row.want, row.needed),
+        None => None,
+    }
+}
+
+/// Returns the first value at the row's path that violates the row, or `None` if there is none.
+pub fn first_break<'t>(row: &Row, tree: &'t Tree) -> Option<Break<'t>>
+    ensures { option_map found_of result
+        ≡ break_at (steps_of row.now.place) row.now.want row.now.needed (view tree.now) }
+{
     match row.place {
-        Place::Member(a) => judge_member(tree, a, row.want, row.needed),
-        Place::Inner(a, b) => judge_inner(tree, a, b, row.want, row.needed),
-        Place::Element(a, b) => match list_at(tree, a, b) {
-            Some(elements) => judge_elements(elements, row.want, row.needed),
-            None => None,
-        },
-        Place::Part(a, b, c) => match list_at(tree, a, b) {
-            Some(elements) => judge_parts(elements, c, row.want, row.needed),
-            None => None,
-        },
-        Place::Deep(a, b, c) => match tree.child(a) {
-            Some(parent) => judge_inner(parent, b, c, row.want, row.needed),
-            None => None,
-        },
+        Place::Member(a) => break_in(row, 0, tree, a),
+        Place::Inner(a, b) => break_in(row, 0, tree.child(a)?, b),
+        Place::Deep(a, b, c) => break_in(row, 0, tree.child(a)?.child(b)?, c),
+        Place::Element(a, b) => first_element(row, list_at(tree, a, b)?),
+        Place::Part(a, b, c) => first_part(row, list_at(tree, a, b)?, c),
     }
 }
 
@@ -69,28 +81,28 @@ fn judge(found: Option<&Tree>, want: Want, needed: bool) -> Option<Cause>
     }
 }
 
-/// Returns `None` if the parent is not an object: the row requires nothing of it.
-fn judge_member(parent: &Tree, name: &str, want: Want, needed: bool) -> Option<Cause>
-    ensures { result
-        ≡ first_cause (map (cause_against want needed)
-        (parts_at (named name.now ∷ []) (view parent.now))) }
+/// Returns the value of an element, if it violates the row.
+fn break_by<'t>(row: &Row, element: usize, value: Option<&'t Tree>) -> Option<Break<'t>>
+    ensures { option_map found_of result ≡ first_against row.now.want row.now.needed
+        ((element, option_map (λ t. view t.now) value.entry) ∷ []) }
 {
-    if let Tree::Object(_) = parent {
-        judge(parent.child(name), want, needed)
-    } else {
-        None
+    match judge(value, row.want, row.needed) {
+        Some(_) => Some(Break { element, value }),
+        None => None,
     }
 }
 
-/// Returns `None` if the outer member is absent: the row requires nothing of it.
-fn judge_inner(tree: &Tree, outer: &str, inner: &str, want: Want, needed: bool) -> Option<Cause>
-    ensures { result
-        ≡ first_cause (map (cause_against want needed)
-        (parts_at (named outer.now ∷ named inner.now ∷ []) (view tree.now))) }
+/// Returns the member of an element, if it violates the row. If the parent is not an object, the row
+/// requires nothing of it.
+fn break_in<'t>(row: &Row, element: usize, parent: &'t Tree, name: &str) -> Option<Break<'t>>
+    ensures { option_map found_of result ≡ first_against row.now.want row.now.needed
+        (cond (is_object (view parent.now))
+        ((element, get name.now (view parent.now)) ∷ []) []) }
 {
-    match tree.child(outer) {
-        Some(parent) => judge_member(parent, inner, want, needed),
-        None => None,
+    if let Tree::Object(_) = parent {
+        break_by(row, element, parent.child(name))
+    } else {
+        None
     }
 }
 
@@ -105,28 +117,29 @@ pub(crate) fn list_at<'a>(tree: &'a Tree, outer: &str, inner: &str) -> Option<&'
     }
 }
 
-fn judge_elements(elements: &[Tree], want: Want, needed: bool) -> Option<Cause>
-    ensures { result
-        ≡ first_cause (map (cause_against want needed)
-        (flat_map (parts_at []) (map view elements.now))) }
+/// Returns the first element that violates the row.
+fn first_element<'t>(row: &Row, elements: &'t [Tree]) -> Option<Break<'t>>
+    ensures { option_map found_of result ≡ first_against row.now.want row.now.needed
+        (found_in [] 0 (map view elements.now)) }
 {
-    for element in elements {
-        let cause = judge(Some(element), want, needed);
-        if cause.is_some() {
-            return cause;
+    for (index, element) in elements.iter().enumerate() {
+        let found = break_by(row, index, Some(element));
+        if found.is_some() {
+            return found;
         }
     }
     None
 }
 
-fn judge_parts(elements: &[Tree], name: &str, want: Want, needed: bool) -> Option<Cause>
-    ensures { result ≡ first_cause (map (cause_against want needed)
-        (flat_map (parts_at (named name.now ∷ [])) (map view elements.now))) }
+/// Returns the member of the first element in which it violates the row.
+fn first_part<'t>(row: &Row, elements: &'t [Tree], name: &str) -> Option<Break<'t>>
+    ensures { option_map found_of result ≡ first_against row.now.want row.now.needed
+        (found_in (named name.now ∷ []) 0 (map view elements.now)) }
 {
-    for element in elements {
-        let cause = judge_member(element, name, want, needed);
-        if cause.is_some() {
-            return cause;
+    for (index, element) in elements.iter().enumerate() {
+        let found = break_in(row, index, element, name);
+        if found.is_some() {
+            return found;
         }
     }
     None

@@ -24,6 +24,7 @@ mod typing;
 mod views;
 
 pub use any_message::AnyMessage;
+pub use broken_rows::{Break, first_break};
 pub use dap_profile::{Kind, PROFILE, Place, Row, Want};
 pub use dap_tree::Side;
 pub use fault::MessageFault;

@@ -2,7 +2,7 @@
 -- The members and their types are those of the schema of the DAP specification, restricted to what
 -- this project reads. Which of them are required is own.
 use Rattle.std.specs.Prelude.{ℕ, Bool, List, [], ◌∷◌, ◌++◌, Option, true, false, Some, None}
-use Rattle.std.specs.Prelude.{codes}
+use Rattle.std.specs.Prelude.{codes, if◌then◌else◌, bytes_eq}
 use Rattle.dap_profile.specs.PlaceSteps.{PlaceStep, named, each}
 use Rattle.dap_profile.specs.ProfileRows.{ProfileRow}
 use Rattle.dap_profile.specs.declared.profile.Kind.{Kind}
@@ -12,6 +12,21 @@ use Rattle.dap_profile.specs.declared.profile.Want.TheVariants.{Bool as WantBool
 use Rattle.dap_profile.specs.declared.profile.Want.TheVariants.{Object, List as WantList, OwnSeq}
 use Rattle.dap_profile.specs.declared.profile.Want.TheVariants.{OtherSeq, Frame, Reference}
 use Rattle.dap_profile.specs.declared.profile.Want.TheVariants.{Thread, Breakpoint}
+
+-- ---- the kinds of messages
+
+-- The `type` of a message of a kind (DAP specification, ProtocolMessage).
+abbrev pub kind_name : Kind → List ℕ
+kind_name Request = codes "request"
+kind_name Response = codes "response"
+kind_name Event = codes "event"
+
+-- The kind that a `type` names.
+abbrev pub kind_named : List ℕ → Option Kind
+kind_named name =
+    if bytes_eq name (codes "request") then Some Request
+    else if bytes_eq name (codes "response") then Some Response
+    else if bytes_eq name (codes "event") then Some Event else None
 
 -- ---- the types that a row may expect
 

@@ -6,17 +6,14 @@ use Rattle.std.specs.List.{flat_map}
 use Rattle.std.specs.Option.{option_map_or}
 use Rattle.std.specs.Str.{bytes_eq}
 use Rattle.dap_profile.specs.PlaceSteps.{PlaceStep, named, each}
-use Rattle.dap_profile.specs.Profile.{profile, want_word}
+use Rattle.dap_profile.specs.Profile.{kind_name, profile, want_word}
 use Rattle.dap_profile.specs.ProfileRows.{ProfileRow}
 use Rattle.dap_profile.specs.declared.profile.Kind.{Kind}
-use Rattle.dap_profile.specs.declared.profile.Kind.TheVariants.{Request, Response, Event}
 
 -- The kind of message to which a row applies; `*` for any.
 abbrev pub kind_word : Option Kind → List ℕ
 kind_word None = codes "*"
-kind_word (Some Request) = codes "request"
-kind_word (Some Response) = codes "response"
-kind_word (Some Event) = codes "event"
+kind_word (Some kind) = kind_name kind
 
 -- The kind and the name of the messages; `*` for any.
 abbrev pub messages_words : ProfileRow → List ℕ

@@ -1,6 +1,6 @@
 //! The profile: the members of a message that are checked, as a flat table of numbered rows.
 ghost use Rattle.std.specs.Prelude.{◌≡◌, map};
-ghost use Rattle.dap_profile.specs.Profile.{profile, want_word, wants_id};
+ghost use Rattle.dap_profile.specs.Profile.{kind_name, kind_named, profile, want_word, wants_id};
 ghost use Rattle.dap_profile.specs.ProfileRows.{row_of};
 
 /// The kind of a message (DAP specification, `ProtocolMessage.type`).
@@ -9,6 +9,31 @@ pub enum Kind {
     Request,
     Response,
     Event,
+}
+
+impl Kind {
+    /// Returns the `type` of a message of the kind.
+    pub fn word(self) -> &'static str
+        ensures { result.now ≡ kind_name self }
+    {
+        match self {
+            Kind::Request => "request",
+            Kind::Response => "response",
+            Kind::Event => "event",
+        }
+    }
+
+    /// Returns the kind of the messages with this `type`.
+    pub fn named(word: &str) -> Option<Kind>
+        ensures { result ≡ kind_named word.now }
+    {
+        match word {
+            "request" => Some(Kind::Request),
+            "response" => Some(Kind::Response),
+            "event" => Some(Kind::Event),
+            _ => None,
+        }
+    }
 }
 
 /// The type that a row expects at its path.

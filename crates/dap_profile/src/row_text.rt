@@ -17,10 +17,8 @@ fn kind_word(kind: Option<Kind>) -> &'static str
     ensures { result.now ≡ kind_word kind }
 {
     match kind {
+        Some(kind) => kind.word(),
         None => "*",
-        Some(Kind::Request) => "request",
-        Some(Kind::Response) => "response",
-        Some(Kind::Event) => "event",
     }
 }
 
