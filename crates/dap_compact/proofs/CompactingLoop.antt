@@ -7,7 +7,7 @@ use Rattle.dap_frame.specs.Reading.{Reading}
 use Rattle.dap_input.specs.InputSteps.{AcceptsAll, RefusesOne}
 use Rattle.dap_input.specs.ItemReading.{RepresentsFrame, frame_items}
 use Rattle.dap_input.specs.Limits.{AreSound}
-use Rattle.dap_input.specs.RecordSteps.{IsAtStart, ReadsNext}
+use Rattle.dap_input.specs.RecordSteps.{IsAtStart, ReadsNextFrame}
 use Rattle.dap_input.specs.declared.limits.Limits.{Limits}
 use Rattle.dap_input.specs.declared.records.Records.{Records}
 use Rattle.dap_input.specs.declared.refused.Refused.{Refused}
@@ -79,7 +79,7 @@ module _ {R : Type 0} (limits : Limits) (sound : AreSound limits) (source : Sour
       (was : Compacting limits source start reader records out)
       (new : Records Reading) (after : R) where
     abbrev Reads : Result (Option (List ℕ)) Refused → Type 0
-    Reads outcome = ReadsNext (frame_items limits.frame) (RepresentsFrame limits.frame) source
+    Reads outcome = ReadsNextFrame limits.frame source
         records
         new reader after outcome
 

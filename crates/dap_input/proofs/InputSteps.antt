@@ -41,8 +41,8 @@ module _ {I A R : Type 0} (j : Validation) (g : Grammar A RecordCause) (held_of 
     (facts : ReadsAs j g held_of) (represents : I → List ℕ → Type 0) (source : Source R)
     (bytes : List ℕ) (old : Records I) (values : List j.Value)
     (was : StandsBehind j represents bytes old values) (new : Records I) (before after : R) where
-  module _ (outcome : Result (Option A) Refused)
-      (read : ReadsNext g represents source old new before after outcome) where
+  module _ {takes : List ℕ → Type 0} (outcome : Result (Option A) Refused)
+      (read : ReadsNext g represents takes source old new before after outcome) where
     abbrev pub all : List ℕ
     all = bytes ++ read.more
 
@@ -176,18 +176,18 @@ module _ {I A R : Type 0} (j : Validation) (g : Grammar A RecordCause) (held_of 
   -- ---- no record was received
 
   -- The meaning of the rejection. A cut is reported only at the end.
-  pub refused_read : (because : Refused)
-      → (read : ReadsNext g represents source old new before after (Err because))
+  pub refused_read : {takes : List ℕ → Type 0} (because : Refused)
+      → (read : ReadsNext g represents takes source old new before after (Err because))
       → RefusalHolds j (all (Err because) read) read.stop old.number because
       × ((n : ℕ) → because ≡ Record n cause.Cut → read.stop ≡ Some End)
-  refused_read because read = reported because read.finds
+  refused_read {takes = takes} because read = reported because read.finds
     where
       numbered : {n : ℕ} (b : ℕ → Refused) → n ≡ old.number
           → Refuses (Err because) read (b old.number) → Refuses (Err because) read (b n)
       numbered b same is = subst (λ k. Refuses (Err because) read (b k)) (sym same) is
 
       reported : (b : Refused)
-          → Finds g represents old new (rest (Err because) read) read.more read.stop (Err b)
+          → Finds g represents takes old new (rest (Err because) read) read.more read.stop (Err b)
           → RefusalHolds j (all (Err because) read) read.stop old.number b
           × ((n : ℕ) → b ≡ Record n cause.Cut → read.stop ≡ Some End)
       reported (InputTooLong n) is = (
@@ -211,7 +211,8 @@ module _ {I A R : Type 0} (j : Validation) (g : Grammar A RecordCause) (held_of 
       reported other is = absurd is
 
   -- All records were received, and the input is accepted.
-  pub none_left : (read : ReadsNext g represents source old new before after (Ok None))
+  pub none_left : {takes : List ℕ → Type 0}
+      (read : ReadsNext g represents takes source old new before after (Ok None))
       → (read.stop ≡ Some End) × j.IsAccepted (all (Ok None) read) values
       × (new.number ≡ old.number)
   none_left read = (
@@ -223,12 +224,12 @@ module _ {I A R : Type 0} (j : Validation) (g : Grammar A RecordCause) (held_of 
 
   -- ---- a record was received
 
-  module _ (whole : A)
-      (read : ReadsNext g represents source old new before after (Ok (Some whole))) where
+  module _ {takes : List ℕ → Type 0} (whole : A)
+      (read : ReadsNext g represents takes source old new before after (Ok (Some whole))) where
     abbrev pub come : List ℕ
     come = all (Ok (Some whole)) read
 
-    found : HasWhole g represents old new (rest (Ok (Some whole)) read) whole
+    found : HasWhole g represents takes old new (rest (Ok (Some whole)) read) whole
     found = read.finds.1
 
     short : length come ≤ j.input

@@ -73,13 +73,14 @@ pub record Looking {I A R : Type 0} (g : Grammar A RecordCause) (represents : I 
   pub goes_on : now.is_over ≡ false
 
 module _ {I A R : Type 0} (g : Grammar A RecordCause) (represents : I → List ℕ
-    → Type 0) (opens : (reader : I) (bytes : List ℕ) → represents reader bytes → g.IsOpen bytes)
+    → Type 0) (takes : List ℕ → Type 0)
+    (opens : (reader : I) (bytes : List ℕ) → represents reader bytes → g.IsOpen bytes)
     (source : Source R) (old : Records I) (before : R) where
   abbrev pub At : Records I → R → Type 0
   At now mid = Looking g represents source old now before mid
 
   abbrev pub Gives : Records I → R → Result (Option A) Refused → Type 0
-  Gives new after outcome = ReadsNext g represents source old new before after outcome
+  Gives new after outcome = ReadsNext g represents takes source old new before after outcome
 
   pub at_start : IsBetweenRecords represents old → At old before
   at_start between = record {
@@ -377,9 +378,9 @@ module _ {I A R : Type 0} (g : Grammar A RecordCause) (represents : I → List �
             length-append was.held now.pieces.unread,
           )
 
-      pub no_memory : 0 < length now.pieces.unread → new.number ≡ now.number
-          → Gives new mid (Err Memory)
-      no_memory some number_is =
+      pub no_memory : 0 < length now.pieces.unread → takes (was.held ++ now.pieces.unread)
+          → new.number ≡ now.number → Gives new mid (Err Memory)
+      no_memory some content number_is =
           record {
             more = was.more;
             stop = None;
@@ -389,7 +390,12 @@ module _ {I A R : Type 0} (g : Grammar A RecordCause) (represents : I → List �
             taken = λ same. same_taken;
             limit_is = kept_limit;
             over = over_is ∙ was.goes_on;
-            finds = (refl, some_bytes some, number_is ∙ was.number_is);
+            finds = (
+              refl,
+              some_bytes some,
+              number_is ∙ was.number_is,
+              subst takes (sym was.split) content,
+            );
           }
 
       abbrev Faulty : RecordCause → Type 0
@@ -398,7 +404,7 @@ module _ {I A R : Type 0} (g : Grammar A RecordCause) (represents : I → List �
           × FailsAt g (held ++ now.pieces.unread) why place
 
       is_faulty : (why : RecordCause)
-          → Finds g represents old new (old.pieces.unread ++ was.more) was.more None
+          → Finds g represents takes old new (old.pieces.unread ++ was.more) was.more None
           (Err (Record now.number why))
           → Gives new mid (Err (Record now.number why))
       is_faulty why finds = record {

@@ -80,13 +80,14 @@ module _ {I A R : Type 0} (j : Validation) (g : Grammar A RecordCause) (held_of 
     few_failures small = let same = was.came.paused in omega (arith, small, same)
 
     module _ (new : Records I) (after : R) where
-      abbrev pub Reads : Result (Option A) Refused → Type 0
-      Reads outcome = ReadsNext g represents source records new reader after outcome
+      abbrev pub Reads : (List ℕ → Type 0) → Result (Option A) Refused → Type 0
+      Reads takes outcome = ReadsNext g represents takes source records new reader after outcome
 
       abbrev Refuses : Refused → Type 0
       Refuses because = RefusesOne j source start after new because
 
-      refuses : (outcome : Result (Option A) Refused) (read : Reads outcome) (because : Refused)
+      refuses : {takes : List ℕ → Type 0} (outcome : Result (Option A) Refused)
+          (read : Reads takes outcome) (because : Refused)
           → RefusalHolds j (was.bytes ++ read.more) read.stop records.number because
           × ((n : ℕ) → because ≡ Record n Cut → read.stop ≡ Some End) → Refuses because
       refuses outcome read because reported = record {
@@ -108,13 +109,15 @@ module _ {I A R : Type 0} (j : Validation) (g : Grammar A RecordCause) (held_of 
       }
 
       -- No record was received.
-      pub refuses_read : (because : Refused) → Reads (Err because) → Refuses because
+      pub refuses_read : {takes : List ℕ → Type 0} (because : Refused) → Reads takes (Err because)
+          → Refuses because
       refuses_read because read =
           refuses (Err because) read because
           (steps.refused_read j g held_of facts represents source was.bytes records values
           was.behind new reader after because read)
 
-      pub accepts_all : Reads (Ok None) → AcceptsAll j source start after values
+      pub accepts_all : {takes : List ℕ → Type 0} → Reads takes (Ok None)
+          → AcceptsAll j source start after values
       accepts_all read =
           let end = steps.none_left j g held_of facts represents source was.bytes records
           values was.behind new reader after read in
@@ -131,7 +134,8 @@ module _ {I A R : Type 0} (j : Validation) (g : Grammar A RecordCause) (held_of 
           }
 
       -- A record was received.
-      pub refuses_held : (whole : A) → Reads (Ok (Some whole)) → (because : Refused)
+      pub refuses_held : {takes : List ℕ → Type 0} (whole : A) → Reads takes (Ok (Some whole))
+          → (because : Refused)
           → RejectsPayload (j.Rejects values (held_of whole)) records.number because
           → Refuses because
       refuses_held whole read because h =
@@ -139,7 +143,8 @@ module _ {I A R : Type 0} (j : Validation) (g : Grammar A RecordCause) (held_of 
           (steps.refused_held j g held_of facts represents source was.bytes records values
           was.behind new reader after whole read because h)
 
-      abbrev pub on : (whole : A) → Reads (Ok (Some whole)) → (value : j.Value)
+      abbrev pub on : {takes : List ℕ → Type 0} (whole : A) → Reads takes (Ok (Some whole))
+          → (value : j.Value)
           → j.IsNext values (held_of whole) value
           → Going j represents source start after new (values ++ value ∷ [])
       on whole read value is_next = record {
@@ -152,7 +157,7 @@ module _ {I A R : Type 0} (j : Validation) (g : Grammar A RecordCause) (held_of 
             was.behind new reader after whole read value is_next;
       }
 
-      pub fewer_left : (whole : A) → Reads (Ok (Some whole))
+      pub fewer_left : {takes : List ℕ → Type 0} (whole : A) → Reads takes (Ok (Some whole))
           → (new.pieces.limit - new.pieces.taken) + length new.pieces.unread
           < (records.pieces.limit - records.pieces.taken) + length records.pieces.unread
       fewer_left whole read =

@@ -5,10 +5,17 @@ use Rattle.dap_device.specs.declared.device.Source.{Ghosts as Source}
 use Rattle.dap_device.specs.Pieces.{HasReadSoFar}
 use Rattle.dap_device.specs.declared.reading.Stop.{Stop}
 use Rattle.dap_device.specs.declared.reading.Stop.TheVariants.{End, Full, Failed}
+use Rattle.dap_frame.specs.Frame.{HasContentByte}
 use Rattle.dap_frame.specs.Grammar.{Grammar, IsItem, FailsAt}
+use Rattle.dap_frame.specs.Reading.{Reading}
+use Rattle.dap_frame.specs.declared.limits.FrameLimits.{FrameLimits}
+use Rattle.dap_recording.specs.RecordReading.{HasMarkedContent, RecordReading}
+use Rattle.dap_recording.specs.declared.record.Record.{Record as WholeRecord}
 use Rattle.dap_recording.specs.declared.record_fault.RecordCause.{RecordCause}
 use Rattle.dap_recording.specs.declared.record_fault.RecordCause.TheVariants.{Cut}
 use Rattle.dap_recording.specs.declared.record_fault.RecordCause.TheVariants.{Memory as NoMemory}
+use Rattle.dap_input.specs.ItemReading.{frame_items, record_items, RepresentsFrame}
+use Rattle.dap_input.specs.ItemReading.{RepresentsRecord}
 use Rattle.dap_input.specs.declared.records.Records.{Records}
 use Rattle.dap_input.specs.declared.refused.Refused.{Refused}
 use Rattle.dap_input.specs.declared.refused.Refused.TheVariants.{InputTooLong, Record, ReadFault}
@@ -51,7 +58,8 @@ module _ {A : Type 0} (g : Grammar A RecordCause) where
     pub more_is : more ≡ earlier ++ byte ∷ []
     pub is_open : g.IsOpen (held ++ earlier)
 
-module _ {I A : Type 0} (g : Grammar A RecordCause) (represents : I → List ℕ → Type 0) where
+module _ {I A : Type 0} (g : Grammar A RecordCause) (represents : I → List ℕ → Type 0)
+    (takes_memory : List ℕ → Type 0) where
   -- A complete record was received, and the unread bytes come after it.
   pub record HasWhole (old new : Records I) (bytes : List ℕ) (whole : A) : Type 0 where
     pub front : List ℕ
@@ -60,8 +68,8 @@ module _ {I A : Type 0} (g : Grammar A RecordCause) (represents : I → List ℕ
     pub between : IsBetweenRecords represents new
     pub number_is : new.number ≡ old.number + 1
 
-  -- The result for the next record, if these bytes were received, of which `more` came last. Without
-  -- a byte no allocation fails.
+  -- The result for the next record, if these bytes were received, of which `more` came last. An
+  -- allocation fails only for a byte of a content.
   abbrev pub Finds : Records I → Records I → List ℕ → List ℕ → Option Stop
       → Result (Option A) Refused → Type 0
   Finds old new bytes more stop (Ok (Some whole)) = (stop ≡ None) × HasWhole old new bytes whole
@@ -76,7 +84,7 @@ module _ {I A : Type 0} (g : Grammar A RecordCause) (represents : I → List ℕ
       × IsTooLong g old.pieces.unread more
   Finds old new bytes more stop (Err ReadFault) = (stop ≡ Some Failed) × g.IsOpen bytes
   Finds old new bytes more stop (Err Memory) = (stop ≡ None) × (bytes ≢ [])
-      × (new.number ≡ old.number)
+      × (new.number ≡ old.number) × takes_memory bytes
   Finds old new bytes more stop (Err refused) = ⊥
 
   module _ {R : Type 0} (source : Source R) where
@@ -93,6 +101,18 @@ module _ {I A : Type 0} (g : Grammar A RecordCause) (represents : I → List ℕ
       pub limit_is : new.pieces.limit ≡ old.pieces.limit
       pub over : new.is_over ≡ is_some stop
       pub finds : Finds old new (old.pieces.unread ++ more) more stop outcome
+
+-- The next record of a recording was read.
+abbrev pub ReadsNextRecord : {R : Type 0} → FrameLimits → Source R → Records RecordReading
+    → Records RecordReading → R → R → Result (Option WholeRecord) Refused → Type 0
+ReadsNextRecord limits =
+    ReadsNext (record_items limits) (RepresentsRecord limits) (HasMarkedContent limits)
+
+-- The next frame of a stream was read.
+abbrev pub ReadsNextFrame : {R : Type 0} → FrameLimits → Source R → Records Reading
+    → Records Reading → R → R → Result (Option (List ℕ)) Refused → Type 0
+ReadsNextFrame limits =
+    ReadsNext (frame_items limits) (RepresentsFrame limits) (HasContentByte limits)
 
 -- The result if no more bytes are received and the reader represents these bytes of the next
 -- record.

@@ -49,14 +49,21 @@ impl<I: ItemReader> Records<I> {
     }
 
     /// Reads the next record. Returns `None` if the input has ended after the last one.
+    ///
+    /// # Errors
+    ///
+    /// - `Record`: the bytes received prove an error of the record, or the input ends inside it.
+    /// - `InputTooLong`: the record is not complete within the limit.
+    /// - `ReadFault`: a read failed before the record was complete.
+    /// - `Memory`: an allocation failed. At least one byte of the content was received.
     pub fn next<R: Source>(&mut self, reader: &mut R) -> Result<Option<I::Item>, Refused>
         requires number { self.old.number < 2 ^ 63 }
         requires given { R.given reader.old + (self.old.pieces.limit - self.old.pieces.taken)
             < 2 ^ 63 }
         requires failures { R.failures reader.old < 2 ^ 63 }
         ensures { (limits : FrameLimits) → IsBetweenRecords (I.represents limits) self.old
-            → ReadsNext (I.items limits) (I.represents limits) R.Source self.old
-            self.new reader.old reader.new result }
+            → ReadsNext (I.items limits) (I.represents limits) (I.takes_memory limits) R.Source
+            self.old self.new reader.old reader.new result }
     {
         loop {
             if let Err(stop) = self.pieces.fill(reader) {

@@ -9,9 +9,10 @@ use Rattle.dap_recording.specs.declared.record.Record.{Record as WholeRecord}
 use Rattle.dap_recording.specs.RecordReading.{RecordReading}
 use Rattle.dap_recording.specs.declared.record_fault.RecordCause.TheVariants.{Cut}
 use Rattle.dap_recording.proofs.Records.{readable}
+use Rattle.dap_recording.specs.RecordReading.{HasMarkedContent}
 use Rattle.dap_input.specs.InputSteps.{RefusalHolds}
 use Rattle.dap_input.specs.ItemReading.{RepresentsRecord, record_items}
-use Rattle.dap_input.specs.RecordSteps.{Finds, IsAtStart, ReadsNext}
+use Rattle.dap_input.specs.RecordSteps.{Finds, IsAtStart, ReadsNextRecord}
 use Rattle.dap_input.specs.Refusals.{RejectsPayload}
 use Rattle.dap_rename.specs.declared.mode.Mode.{Mode}
 use Rattle.dap_input.specs.declared.limits.Limits.{Limits}
@@ -112,7 +113,7 @@ module _ {T R : Type 0} {numbers : T → List ℤ} {table_limit : T → ℕ} (so
   behind = behind_of limits mode bytes old messages normal was
 
   abbrev Reads : Result (Option WholeRecord) Refused → Type 0
-  Reads outcome = ReadsNext (record_items limits.frame) (RepresentsRecord limits.frame) source
+  Reads outcome = ReadsNextRecord limits.frame source
       old.records new before after outcome
 
   -- the buffer for reading is that of `left`
@@ -162,11 +163,11 @@ module _ {T R : Type 0} {numbers : T → List ℤ} {table_limit : T → ℕ} (so
       (reads_records limits mode) (RepresentsRecord limits.frame) source bytes old.records
       messages behind new before after because read)
       (λ is. let same = (subst (λ b. Finds (record_items limits.frame)
-      (RepresentsRecord limits.frame) old.records new (old.records.pieces.unread ++ read.more)
-      read.more read.stop (Err b)) is read.finds).2 in omega (arith, same))
+      (RepresentsRecord limits.frame) (HasMarkedContent limits.frame) old.records new
+      (old.records.pieces.unread ++ read.more) read.more read.stop (Err b)) is read.finds).2 in omega (arith, same))
       (λ is. (subst (λ b. Finds (record_items limits.frame)
-      (RepresentsRecord limits.frame) old.records new (old.records.pieces.unread ++ read.more)
-      read.more read.stop (Err b)) is read.finds).0)
+      (RepresentsRecord limits.frame) (HasMarkedContent limits.frame) old.records new
+      (old.records.pieces.unread ++ read.more) read.more read.stop (Err b)) is read.finds).0)
 
   pub none_left : (text : List ℕ) → Reads (Ok None)
       → HasEnded numbers table_limit source limits mode bytes messages normal old record

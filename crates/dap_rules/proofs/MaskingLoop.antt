@@ -8,10 +8,11 @@ use Rattle.dap_frame.specs.Grammar.{HasItem}
 use Rattle.dap_message.specs.Message.{Sent}
 use Rattle.dap_recording.specs.RecordReading.{RecordReading}
 use Rattle.dap_recording.specs.declared.record.Record.{Record as WholeRecord}
+use Rattle.dap_recording.specs.RecordReading.{HasMarkedContent}
 use Rattle.dap_input.specs.ItemReading.{RepresentsRecord, record_items}
 use Rattle.dap_input.specs.Limits.{AreSound}
 use Rattle.dap_input.specs.ReadTo.{IsReadTo}
-use Rattle.dap_input.specs.RecordSteps.{Finds, IsAtStart, ReadsNext}
+use Rattle.dap_input.specs.RecordSteps.{Finds, IsAtStart, ReadsNextRecord}
 use Rattle.dap_input.specs.Streaming.{HasComeTo, HasFailedToWrite, RanOutOfMemory}
 use Rattle.dap_input.specs.Streaming.{HasGivenUpAt, Streams}
 use Rattle.dap_input.specs.declared.limits.Limits.{Limits}
@@ -108,7 +109,7 @@ module _ {R W : Type 0} {limits : Limits} {mask : Mask} {source : Source R} {sin
     (was : Going limits mask source sink start reader before writer records written waiting)
     {new : Records RecordReading} {after : R} where
   module _ {outcome : Result (Option WholeRecord) Refused}
-      (read : ReadsNext (record_items limits.frame) (RepresentsRecord limits.frame) source
+      (read : ReadsNextRecord limits.frame source
       records new reader after outcome) where
     -- No more was read than the next record requires.
     read_to : IsReadTo (masking limits mask) (was.judged.bytes ++ read.more) records.number
@@ -123,7 +124,7 @@ module _ {R W : Type 0} {limits : Limits} {mask : Mask} {source : Source R} {sin
   -- ---- no record was received
 
   module _ {because : Refused}
-      (read : ReadsNext (record_items limits.frame) (RepresentsRecord limits.frame) source
+      (read : ReadsNextRecord limits.frame source
       records new reader after (Err because)) (end : W) (result : Result (Unit {0}) Refused)
       (ends_so : Ends sink waiting writer end (Err because) result) where
     pub not_read : Streams (masking limits mask) (Masks limits mask) (IsMaskedTo limits mask)
@@ -145,15 +146,15 @@ module _ {R W : Type 0} {limits : Limits} {mask : Mask} {source : Source R} {sin
         few : because ≡ Memory → new.number ≤ records.number + 1
         few is =
             let same = (subst (λ b. Finds (record_items limits.frame)
-            (RepresentsRecord limits.frame) records new (records.pieces.unread ++ read.more)
-            read.more read.stop (Err b)) is read.finds).2 in
+            (RepresentsRecord limits.frame) (HasMarkedContent limits.frame) records new
+            (records.pieces.unread ++ read.more) read.more read.stop (Err b)) is read.finds).2 in
             omega (arith, same)
 
   -- ---- all records were received
 
   pub all_masked : ((bytes : List ℕ) (messages : List Sent) → IsAccepted limits mask bytes messages
       → IsMaskedTo limits mask bytes (masked_text mask messages))
-      → ReadsNext (record_items limits.frame) (RepresentsRecord limits.frame) source records new
+      → ReadsNextRecord limits.frame source records new
       reader after (Ok None)
       → (end : W) (result : Result (Unit {0}) Refused)
       → Ends sink waiting writer end (Ok tt) result
@@ -173,7 +174,7 @@ module _ {R W : Type 0} {limits : Limits} {mask : Mask} {source : Source R} {sin
   -- ---- a record was received
 
   module _ {whole : WholeRecord}
-      (read : ReadsNext (record_items limits.frame) (RepresentsRecord limits.frame) source
+      (read : ReadsNextRecord limits.frame source
       records new reader after (Ok (Some whole))) where
     pub fewer : (new.pieces.limit - new.pieces.taken) + length new.pieces.unread
         < (records.pieces.limit - records.pieces.taken) + length records.pieces.unread

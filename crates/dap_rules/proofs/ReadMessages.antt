@@ -18,7 +18,7 @@ use Rattle.dap_input.specs.InputSteps.{RefusesOne}
 use Rattle.dap_input.specs.Inputs.{Fault, Input, IsRefusedAt, refused, read_fault}
 use Rattle.dap_input.specs.ItemReading.{RepresentsRecord, record_items}
 use Rattle.dap_input.specs.ReadTo.{IsOf, so_far}
-use Rattle.dap_input.specs.RecordSteps.{IsAtStart, ReadsNext}
+use Rattle.dap_input.specs.RecordSteps.{IsAtStart, ReadsNextRecord}
 use Rattle.dap_input.specs.Refusals.{RefusesAt, RejectsPayload}
 use Rattle.dap_input.specs.declared.limits.Limits.{Limits}
 use Rattle.dap_input.specs.declared.records.Records.{Records}
@@ -102,7 +102,7 @@ module _ (limits : Limits) (mode : Mode) (recording : List ℕ) (all : List Sent
       (was : Reading limits mode recording reader records messages)
       (new : Records RecordReading) (after : GivenBytes) where
     abbrev Reads : Result (Option WholeRecord) Refused → Type 0
-    Reads outcome = ReadsNext (record_items limits.frame) (RepresentsRecord limits.frame) memory
+    Reads outcome = ReadsNextRecord limits.frame memory
         records new reader after outcome
 
     module _ (whole : WholeRecord) (read : Reads (Ok (Some whole))) where

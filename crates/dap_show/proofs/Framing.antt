@@ -17,7 +17,7 @@ use Rattle.dap_input.proofs.WholeInputs.{Going, accepts_all, at_start, few_failu
 use Rattle.dap_input.proofs.WholeInputs.{on, small_count, small_number}
 use Rattle.dap_input.specs.ItemReading.{RepresentsRecord, record_items}
 use Rattle.dap_input.specs.ReadTo.{IsReadTo}
-use Rattle.dap_input.specs.RecordSteps.{IsAtStart, IsWithin, ReadsNext}
+use Rattle.dap_input.specs.RecordSteps.{IsAtStart, IsWithin, ReadsNextRecord}
 use Rattle.dap_input.specs.declared.limits.Limits.{Limits}
 use Rattle.dap_input.specs.declared.records.Records.{Records}
 use Rattle.dap_input.specs.declared.refused.Refused.{Refused}
@@ -143,7 +143,7 @@ module _ {R : Type 0} (limits : Limits) (source : Source R) (number : ℕ) where
 
     module _ (new : Records RecordReading) (after : R) where
       abbrev Reads : Result (Option WholeRecord) Refused → Type 0
-      Reads outcome = ReadsNext (record_items limits.frame) (RepresentsRecord limits.frame) source
+      Reads outcome = ReadsNextRecord limits.frame source
           records new reader after outcome
 
       pub not_framed : (refused : Refused) → Reads (Err refused)

@@ -8,7 +8,7 @@ use Rattle.dap_recording.specs.RecordReading.{RecordReading}
 use Rattle.dap_recording.specs.declared.record.Record.{Record as WholeRecord}
 use Rattle.dap_input.specs.InputSteps.{AcceptsAll, RefusesOne}
 use Rattle.dap_input.specs.ItemReading.{RepresentsRecord, record_items}
-use Rattle.dap_input.specs.RecordSteps.{IsAtStart, ReadsNext}
+use Rattle.dap_input.specs.RecordSteps.{IsAtStart, ReadsNextRecord}
 use Rattle.dap_input.specs.declared.limits.Limits.{Limits}
 use Rattle.dap_input.specs.declared.records.Records.{Records}
 use Rattle.dap_input.specs.declared.refused.Refused.{Refused}
@@ -76,7 +76,7 @@ module _ {R : Type 0} (limits : Limits) (source : Source R) where
       (was : Showing limits source start reader records out)
       (new : Records RecordReading) (after : R) where
     abbrev Reads : Result (Option WholeRecord) Refused → Type 0
-    Reads outcome = ReadsNext (record_items limits.frame) (RepresentsRecord limits.frame) source
+    Reads outcome = ReadsNextRecord limits.frame source
         records new reader after outcome
 
     abbrev Refuses : Refused → Type 0

@@ -26,12 +26,12 @@ module _ {I A R : Type 0} (j : Validation) (g : Grammar A RecordCause) (held_of 
     (start reader : R) (records : Records I) (values : List j.Value)
     (was : Going j represents source start reader records values) (new : Records I) (after : R)
   where
-    abbrev pub Reads : Result (Option A) Refused → Type 0
-    Reads outcome = ReadsNext g represents source records new reader after outcome
+    abbrev pub Reads : (List ℕ → Type 0) → Result (Option A) Refused → Type 0
+    Reads takes outcome = ReadsNext g represents takes source records new reader after outcome
 
     -- It stops at the next record, for which this statement holds.
-    abbrev pub stops : (outcome : Result (Option A) Refused) (read : Reads outcome)
-        (because : Refused)
+    abbrev pub stops : {takes : List ℕ → Type 0} (outcome : Result (Option A) Refused)
+        (read : Reads takes outcome) (because : Refused)
         → RefusalHolds j (was.bytes ++ read.more) read.stop records.number because
         × ((n : ℕ) → because ≡ Record n Cut → read.stop ≡ Some End)
         → StopsAt j source start after because
@@ -61,7 +61,7 @@ module _ {I A R : Type 0} (j : Validation) (g : Grammar A RecordCause) (held_of 
     }
 
     -- The next record is not read.
-    abbrev pub stops_read : (because : Refused) → Reads (Err because)
+    abbrev pub stops_read : {takes : List ℕ → Type 0} (because : Refused) → Reads takes (Err because)
         → StopsAt j source start after because
     stops_read because read =
         stops (Err because) read because
@@ -70,7 +70,8 @@ module _ {I A R : Type 0} (j : Validation) (g : Grammar A RecordCause) (held_of 
         reader after because read)
 
     -- The next record is rejected for its content.
-    abbrev pub stops_held : (whole : A) → Reads (Ok (Some whole)) → (because : Refused)
+    abbrev pub stops_held : {takes : List ℕ → Type 0} (whole : A) → Reads takes (Ok (Some whole))
+        → (because : Refused)
         → RejectsPayload (j.Rejects values (held_of whole)) records.number because
         → StopsAt j source start after because
     stops_held whole read because refuses =

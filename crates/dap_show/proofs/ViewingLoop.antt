@@ -8,7 +8,7 @@ use Rattle.dap_recording.specs.declared.record.Record.{Record as WholeRecord}
 use Rattle.dap_session.specs.SessionState.{SessionState}
 use Rattle.dap_session.specs.Representation.{Represents}
 use Rattle.dap_input.specs.ItemReading.{RepresentsRecord, record_items}
-use Rattle.dap_input.specs.RecordSteps.{IsAtStart, ReadsNext}
+use Rattle.dap_input.specs.RecordSteps.{IsAtStart, ReadsNextRecord}
 use Rattle.dap_input.specs.Validation.{ContentError}
 use Rattle.dap_input.specs.Refusals.{RejectsPayload}
 use Rattle.dap_recording.specs.declared.record_fault.RecordCause.TheVariants as cause
@@ -94,7 +94,7 @@ module _ {R : Type 0} (marks_faults : Bool) (detail : Detail) (limits : Limits) 
 
         module _ (new : Records RecordReading) (after : R) where
           abbrev Reads : Result (Option WholeRecord) Refused → Type 0
-          Reads outcome = ReadsNext (record_items limits.frame) (RepresentsRecord limits.frame)
+          Reads outcome = ReadsNextRecord limits.frame
               source
               records new reader after outcome
 

@@ -1,7 +1,6 @@
 use Rattle.std.proofs.Common.{Ok, sym, subst}
 use Rattle.std.proofs.lemmas.Result.{err_from_is_err_and}
-use Rattle.dap_input.specs.ItemReading.{RepresentsFrame, frame_items}
-use Rattle.dap_input.specs.RecordSteps.{ReadsNext}
+use Rattle.dap_input.specs.RecordSteps.{ReadsNextFrame}
 use Rattle.dap_compact.proofs.CompactingLoop.{Compacting, few_failed, few_given, few_records, fewer}
 use Rattle.dap_compact.proofs.CompactingLoop.{none_read, not_read, all_compacted, not_appended}
 use Rattle.dap_compact.proofs.CompactingLoop.{one_more}
@@ -41,7 +40,7 @@ pub returns-in_default : goal.returns-in_default
 returns-in_default g c =
     all_compacted c.args.limits c.requires.sound g.R.Source c.args.reader.now c.loop-out.reader
     c.loop-out.records c.loop-out.out.items c.loop-out.invariant c.next.new.self c.next.new.reader
-    (subst (λ o. ReadsNext (frame_items c.args.limits.frame) (RepresentsFrame c.args.limits.frame)
+    (subst (λ o. ReadsNextFrame c.args.limits.frame
     g.R.Source c.loop-out.records c.next.new.self
     c.loop-out.reader c.next.new.reader (Ok o)) c.in_default.is
     (c.in_ok-content.ensures c.args.limits.frame c.loop-out.invariant.going.behind.between))
@@ -51,7 +50,7 @@ returns-in_err-append_compact g c =
     let because = err_from_is_err_and c.from_residual-in_err-append_compact.result
     c.from_residual-in_err-append_compact.ensures.1 in
     let read = subst
-    (λ o. ReadsNext (frame_items c.args.limits.frame) (RepresentsFrame c.args.limits.frame)
+    (λ o. ReadsNextFrame c.args.limits.frame
     g.R.Source c.loop-out.records c.next.new.self
     c.loop-out.reader c.next.new.reader (Ok o)) c.in-Some.is
     (c.in_ok-content.ensures c.args.limits.frame c.loop-out.invariant.going.behind.between) in
@@ -64,7 +63,7 @@ returns-in_err-append_compact g c =
 pub loop-out-preserved : goal.loop-out-preserved
 loop-out-preserved g c =
     let read = subst
-    (λ o. ReadsNext (frame_items c.args.limits.frame) (RepresentsFrame c.args.limits.frame)
+    (λ o. ReadsNextFrame c.args.limits.frame
     g.R.Source c.loop-out.records c.next.new.self
     c.loop-out.reader c.next.new.reader (Ok o)) c.in-Some.is
     (c.in_ok-content.ensures c.args.limits.frame c.loop-out.invariant.going.behind.between) in
@@ -81,7 +80,7 @@ loop-out-smaller g c =
     (fewer c.args.limits c.requires.sound g.R.Source c.args.reader.now c.loop-out.reader
     c.loop-out.records c.loop-out.out.items c.loop-out.invariant c.next.new.self c.next.new.reader
     c.in-Some.content
-    (subst (λ o. ReadsNext (frame_items c.args.limits.frame) (RepresentsFrame c.args.limits.frame)
+    (subst (λ o. ReadsNextFrame c.args.limits.frame
     g.R.Source c.loop-out.records c.next.new.self
     c.loop-out.reader c.next.new.reader (Ok o)) c.in-Some.is
     (c.in_ok-content.ensures c.args.limits.frame c.loop-out.invariant.going.behind.between)))

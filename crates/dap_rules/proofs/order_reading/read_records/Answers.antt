@@ -2,8 +2,7 @@ use Rattle.std.proofs.Common.{◌≡◌, ◌∷◌, ◌++◌, [], Ok, map, sym, 
 use Rattle.std.proofs.lemmas.List.{map-append}
 use Rattle.std.proofs.lemmas.Result.{err_from_is_err_and}
 use Rattle.dap_message.specs.Message.{sent}
-use Rattle.dap_input.specs.ItemReading.{RepresentsRecord, record_items}
-use Rattle.dap_input.specs.RecordSteps.{ReadsNext}
+use Rattle.dap_input.specs.RecordSteps.{ReadsNextRecord}
 use Rattle.dap_normalise.specs.Accepting.{IsMessage}
 use Rattle.dap_normalise.specs.JudgingSteps.{payload_of}
 use Rattle.dap_input.proofs.MemoryInputs.{memory}
@@ -35,7 +34,7 @@ returns-in_err-message-clause-only c =
     let was = c.loop-messages.invariant in
     let ms = map sent c.loop-messages.messages.items in
     let read = subst
-    (λ o. ReadsNext (record_items c.args.limits.frame) (RepresentsRecord c.args.limits.frame)
+    (λ o. ReadsNextRecord c.args.limits.frame
     memory c.loop-messages.records c.next.new.self
     c.loop-messages.reader c.next.new.reader (Ok o)) c.in-Some.is
     (c.in_ok-whole.ensures c.args.limits.frame was.behind.between) in
@@ -53,7 +52,7 @@ loop-messages-smaller c =
     (fewer c.args.limits c.args.mode c.args.recording.now c.requires.session.0 c.requires.session.1
     c.loop-messages.reader c.loop-messages.records (map sent c.loop-messages.messages.items) was
     c.next.new.self c.next.new.reader c.in-Some.whole
-    (subst (λ o. ReadsNext (record_items c.args.limits.frame) (RepresentsRecord c.args.limits.frame)
+    (subst (λ o. ReadsNextRecord c.args.limits.frame
     memory c.loop-messages.records c.next.new.self
     c.loop-messages.reader c.next.new.reader (Ok o)) c.in-Some.is
     (c.in_ok-whole.ensures c.args.limits.frame was.behind.between)))
@@ -63,7 +62,7 @@ loop-messages-preserved c =
     let was = c.loop-messages.invariant in
     let old = c.loop-messages.messages.items in
     let read = subst
-    (λ o. ReadsNext (record_items c.args.limits.frame) (RepresentsRecord c.args.limits.frame)
+    (λ o. ReadsNextRecord c.args.limits.frame
     memory c.loop-messages.records c.next.new.self
     c.loop-messages.reader c.next.new.reader (Ok o)) c.in-Some.is
     (c.in_ok-whole.ensures c.args.limits.frame was.behind.between) in

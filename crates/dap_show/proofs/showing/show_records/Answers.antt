@@ -1,7 +1,6 @@
 use Rattle.std.proofs.Common.{Ok, rules, subst}
 use Rattle.std.proofs.lemmas.Result.{err_from_is_err_and}
-use Rattle.dap_input.specs.ItemReading.{RepresentsRecord, record_items}
-use Rattle.dap_input.specs.RecordSteps.{ReadsNext}
+use Rattle.dap_input.specs.RecordSteps.{ReadsNextRecord}
 use Rattle.dap_show.proofs.ShowingLoop.{all_shown, few_failed, few_given, few_records, fewer}
 use Rattle.dap_show.proofs.ShowingLoop.{none_read, not_appended, not_read, one_more}
 use Rattle.dap_show.proofs.showing.show_records.Goals as goal
@@ -48,7 +47,7 @@ returns-in_default g c = λ limits start.
     all_shown limits g.R.Source c.args.reader.now
     c.loop-out.reader c.loop-out.records c.loop-out.out.items was
     c.next.new.self c.next.new.reader
-    (subst (λ o. ReadsNext (record_items limits.frame) (RepresentsRecord limits.frame)
+    (subst (λ o. ReadsNextRecord limits.frame
     g.R.Source c.loop-out.records c.next.new.self
     c.loop-out.reader c.next.new.reader (Ok o)) c.in_default.is
     (c.in_ok-whole.ensures limits.frame was.going.behind.between))
@@ -59,7 +58,7 @@ returns-in_err-append_lines g c = λ limits start.
     c.from_residual-in_err-append_lines.ensures.1 in
     let was = c.loop-out.invariant limits start in
     let read = subst
-    (λ o. ReadsNext (record_items limits.frame) (RepresentsRecord limits.frame)
+    (λ o. ReadsNextRecord limits.frame
     g.R.Source c.loop-out.records c.next.new.self
     c.loop-out.reader c.next.new.reader (Ok o)) c.in-Some.is
     (c.in_ok-whole.ensures limits.frame was.going.behind.between) in
@@ -73,7 +72,7 @@ pub loop-out-preserved : goal.loop-out-preserved
 loop-out-preserved g c = λ limits start.
     let was = c.loop-out.invariant limits start in
     let read = subst
-    (λ o. ReadsNext (record_items limits.frame) (RepresentsRecord limits.frame)
+    (λ o. ReadsNextRecord limits.frame
     g.R.Source c.loop-out.records c.next.new.self
     c.loop-out.reader c.next.new.reader (Ok o)) c.in-Some.is
     (c.in_ok-whole.ensures limits.frame was.going.behind.between) in
@@ -92,7 +91,7 @@ loop-out-smaller g c =
     (fewer ready.0 g.R.Source c.args.reader.now
     c.loop-out.reader c.loop-out.records c.loop-out.out.items was
     c.next.new.self c.next.new.reader c.in-Some.whole
-    (subst (λ o. ReadsNext (record_items ready.0.frame) (RepresentsRecord ready.0.frame)
+    (subst (λ o. ReadsNextRecord ready.0.frame
     g.R.Source c.loop-out.records c.next.new.self
     c.loop-out.reader c.next.new.reader (Ok o)) c.in-Some.is
     (c.in_ok-whole.ensures ready.0.frame was.going.behind.between)))

@@ -1,7 +1,6 @@
 use Rattle.std.proofs.Common.{Ok, subst}
 use Rattle.std.proofs.lemmas.Result.{err_from_is_err_and}
-use Rattle.dap_input.specs.ItemReading.{RepresentsRecord, record_items}
-use Rattle.dap_input.specs.RecordSteps.{ReadsNext}
+use Rattle.dap_input.specs.RecordSteps.{ReadsNextRecord}
 use Rattle.dap_show.proofs.ViewingLoop.{all_viewed, few_failed, few_given, few_records, fewer}
 use Rattle.dap_show.proofs.ViewingLoop.{none_viewed, not_entered, not_read, one_more}
 use Rattle.dap_show.proofs.viewing.view_records.Goals as goal
@@ -44,7 +43,7 @@ returns-in_default g c =
     all_viewed c.args.view.marks_faults c.args.view.detail c.args.limits g.R.Source
     c.args.reader.now c.each.reader c.each.records c.each.session c.each.lines.items c.each.first
     c.each.invariant c.next.new.self c.next.new.reader (tt {0})
-    (subst (λ o. ReadsNext (record_items c.args.limits.frame) (RepresentsRecord c.args.limits.frame)
+    (subst (λ o. ReadsNextRecord c.args.limits.frame
     g.R.Source c.each.records c.next.new.self
     c.each.reader c.next.new.reader (Ok o)) c.in_default.is
     (c.in_ok-whole.ensures c.args.limits.frame c.each.invariant.going.behind.between))
@@ -55,7 +54,7 @@ returns-in_err-refusal g c =
     c.from_residual-in_err-refusal.ensures.1 in
     let was = c.each.invariant in
     let read = subst
-    (λ o. ReadsNext (record_items c.args.limits.frame) (RepresentsRecord c.args.limits.frame)
+    (λ o. ReadsNextRecord c.args.limits.frame
     g.R.Source c.each.records c.next.new.self
     c.each.reader c.next.new.reader (Ok o)) c.in-Some.is
     (c.in_ok-whole.ensures c.args.limits.frame was.going.behind.between) in
@@ -71,7 +70,7 @@ pub each-preserved : goal.each-preserved
 each-preserved g c =
     let was = c.each.invariant in
     let read = subst
-    (λ o. ReadsNext (record_items c.args.limits.frame) (RepresentsRecord c.args.limits.frame)
+    (λ o. ReadsNextRecord c.args.limits.frame
     g.R.Source c.each.records c.next.new.self
     c.each.reader c.next.new.reader (Ok o)) c.in-Some.is
     (c.in_ok-whole.ensures c.args.limits.frame was.going.behind.between) in
@@ -91,7 +90,7 @@ each-smaller g c =
     (fewer c.args.view.marks_faults c.args.view.detail c.args.limits g.R.Source
     c.args.reader.now c.each.reader c.each.records c.each.session c.each.lines.items c.each.first
     was c.next.new.self c.next.new.reader c.in-Some.whole
-    (subst (λ o. ReadsNext (record_items c.args.limits.frame) (RepresentsRecord c.args.limits.frame)
+    (subst (λ o. ReadsNextRecord c.args.limits.frame
     g.R.Source c.each.records c.next.new.self
     c.each.reader c.next.new.reader (Ok o)) c.in-Some.is
     (c.in_ok-whole.ensures c.args.limits.frame was.going.behind.between)))

@@ -1,4 +1,4 @@
-use Rattle.std.proofs.Common.{ℕ, ◌<◌, List, length, Err, arith, refl, sym, ◌∙◌, ap, subst}
+use Rattle.std.proofs.Common.{ℕ, ◌<◌, ◌++◌, List, length, Err, arith, refl, sym, ◌∙◌, ap, subst}
 use Rattle.dap_device.specs.Pieces.{Window}
 use Rattle.dap_input.specs.ItemReading.{GivesFedItem, GivesItem}
 use Rattle.dap_input.specs.declared.records.Records.{Records}
@@ -11,7 +11,7 @@ loop-stop-init g c = record {
   counted = record { room = omega arith; no_failure = refl; number_is = refl };
   looking = λ limits between.
       at_start (g.I.ItemReader.items limits) (g.I.ItemReader.represents limits)
-      (g.met.I.ItemReader.is_open limits) g.R.Source
+      (g.I.ItemReader.takes_memory limits) (g.met.I.ItemReader.is_open limits) g.R.Source
       c.args.self.now c.args.reader.now between;
 }
 
@@ -20,7 +20,7 @@ returns-in-Err g c = λ limits between.
     let was = c.loop-stop.invariant.looking limits between in
     let none = c.in-Err.ensures in
     stopped (g.I.ItemReader.items limits) (g.I.ItemReader.represents limits)
-    (g.met.I.ItemReader.is_open limits) g.R.Source
+    (g.I.ItemReader.takes_memory limits) (g.met.I.ItemReader.is_open limits) g.R.Source
     c.args.self.now c.args.reader.now c.loop-stop.self c.loop-stop.reader was
     _ c.fill.new.reader none.0 none.1 refl refl refl c.in-Err.stop _ none.2
     (c.stopped.ensures limits)
@@ -29,27 +29,30 @@ pub returns-in-Memory : goal.returns-in-Memory
 returns-in-Memory g c = λ limits between.
     let now : Records _ = record c.loop-stop.self { pieces = c.fill.new.self } in
     let was = filled (g.I.ItemReader.items limits) (g.I.ItemReader.represents limits)
-    (g.met.I.ItemReader.is_open limits) g.R.Source
+    (g.I.ItemReader.takes_memory limits) (g.met.I.ItemReader.is_open limits) g.R.Source
     c.args.self.now c.args.reader.now c.loop-stop.self c.loop-stop.reader
     (c.loop-stop.invariant.looking limits between)
     now c.fill.new.reader c.in_default.ensures refl refl refl in
     no_memory (g.I.ItemReader.items limits) (g.I.ItemReader.represents limits)
-    (g.met.I.ItemReader.is_open limits) g.R.Source
+    (g.I.ItemReader.takes_memory limits) (g.met.I.ItemReader.is_open limits) g.R.Source
     c.args.self.now c.args.reader.now now c.fill.new.reader was _ refl refl
     (subst (λ piece. 0 < length piece) c.unread.ensures
-    (c.in-Err-feed.ensures.memory_for_bytes (ap Err c.in-Memory.is) limits was.held was.reads)) refl
+    (c.in-Err-feed.ensures.memory_for_bytes (ap Err c.in-Memory.is) limits was.held was.reads))
+    (subst (λ piece. g.I.ItemReader.takes_memory limits (was.held ++ piece)) c.unread.ensures
+    (c.in-Err-feed.ensures.memory_for_content (ap Err c.in-Memory.is) limits was.held was.reads))
+    refl
 
 pub returns-in_default-cause : goal.returns-in_default-cause
 returns-in_default-cause g c = λ limits between.
     let now : Records _ = record c.loop-stop.self { pieces = c.fill.new.self } in
     let was = filled (g.I.ItemReader.items limits) (g.I.ItemReader.represents limits)
-    (g.met.I.ItemReader.is_open limits) g.R.Source
+    (g.I.ItemReader.takes_memory limits) (g.met.I.ItemReader.is_open limits) g.R.Source
     c.args.self.now c.args.reader.now c.loop-stop.self c.loop-stop.reader
     (c.loop-stop.invariant.looking limits between)
     now c.fill.new.reader c.in_default.ensures refl refl refl in
     faulty
     (g.I.ItemReader.items limits) (g.I.ItemReader.represents limits)
-    (g.met.I.ItemReader.is_open limits) g.R.Source
+    (g.I.ItemReader.takes_memory limits) (g.met.I.ItemReader.is_open limits) g.R.Source
     c.args.self.now c.args.reader.now now c.fill.new.reader was _ refl refl
     c.in-Err-feed.cause c.feed.new.self c.in_default-cause.not-Memory
     (subst (λ piece. (held : List ℕ) → g.I.ItemReader.represents limits c.loop-stop.self.reader held
@@ -61,7 +64,7 @@ pub returns-then-is_some : goal.returns-then-is_some
 returns-then-is_some g c = λ limits between.
     let now : Records _ = record c.loop-stop.self { pieces = c.fill.new.self } in
     let was = filled (g.I.ItemReader.items limits) (g.I.ItemReader.represents limits)
-    (g.met.I.ItemReader.is_open limits) g.R.Source
+    (g.I.ItemReader.takes_memory limits) (g.met.I.ItemReader.is_open limits) g.R.Source
     c.args.self.now c.args.reader.now c.loop-stop.self c.loop-stop.reader
     (c.loop-stop.invariant.looking limits between)
     now c.fill.new.reader c.in_default.ensures refl refl refl in
@@ -71,7 +74,7 @@ returns-then-is_some g c = λ limits between.
     c.in-Ok.fed c.feed.new.self) c.unread.ensures (c.in-Ok.ensures.gives limits) in
     found
     (g.I.ItemReader.items limits) (g.I.ItemReader.represents limits)
-    (g.met.I.ItemReader.is_open limits) g.R.Source
+    (g.I.ItemReader.takes_memory limits) (g.met.I.ItemReader.is_open limits) g.R.Source
     c.args.self.now c.args.reader.now now c.fill.new.reader was c.in-Ok.fed _ fed c.skip.ensures
     refl (sym c.is_some.ensures ∙ c.if-is_some.true) refl
 
@@ -86,7 +89,7 @@ loop-stop-preserved g c =
       looking = λ limits between.
           let now : Records _ = record c.loop-stop.self { pieces = c.fill.new.self } in
           let was = filled (g.I.ItemReader.items limits) (g.I.ItemReader.represents limits)
-          (g.met.I.ItemReader.is_open limits) g.R.Source
+          (g.I.ItemReader.takes_memory limits) (g.met.I.ItemReader.is_open limits) g.R.Source
           c.args.self.now c.args.reader.now c.loop-stop.self c.loop-stop.reader
           (c.loop-stop.invariant.looking limits between)
           now c.fill.new.reader c.in_default.ensures refl refl refl in
@@ -96,7 +99,7 @@ loop-stop-preserved g c =
           c.in-Ok.fed c.feed.new.self) c.unread.ensures (c.in-Ok.ensures.gives limits) in
           read_all
           (g.I.ItemReader.items limits) (g.I.ItemReader.represents limits)
-          (g.met.I.ItemReader.is_open limits) g.R.Source
+          (g.I.ItemReader.takes_memory limits) (g.met.I.ItemReader.is_open limits) g.R.Source
           c.args.self.now c.args.reader.now now c.fill.new.reader was c.in-Ok.fed _ fed
           c.skip.ensures refl
           (nothing c.in-Ok.fed.item (sym c.is_some.ensures ∙ c.if-is_some.false)) refl;

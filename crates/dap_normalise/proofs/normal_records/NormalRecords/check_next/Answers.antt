@@ -1,7 +1,6 @@
 use Rattle.std.proofs.Common.{[], Ok, subst}
 use Rattle.std.proofs.lemmas.Result.{err_from_is_err_and}
-use Rattle.dap_input.specs.ItemReading.{RepresentsRecord, record_items}
-use Rattle.dap_input.specs.RecordSteps.{ReadsNext}
+use Rattle.dap_input.specs.RecordSteps.{ReadsNextRecord}
 use Rattle.dap_normalise.proofs.NormalRecordSteps.{refused_read, none_left, refused_judge, gone_on}
 use Rattle.dap_normalise.proofs.normal_records.NormalRecords.check_next.Goals as goal
 
@@ -20,7 +19,7 @@ returns-in_default g c = λ limits mode bytes messages normal was. (
   [],
   none_left g.R.Source limits mode bytes c.args.self.now
       messages normal was c.next.new.self c.args.reader.now c.next.new.reader []
-      (subst (λ o. ReadsNext (record_items limits.frame) (RepresentsRecord limits.frame)
+      (subst (λ o. ReadsNextRecord limits.frame
       g.R.Source c.args.self.now.records c.next.new.self
       c.args.reader.now c.next.new.reader (Ok o)) c.in_default.is
       (c.in_ok-whole.ensures limits.frame was.between)),
@@ -32,7 +31,7 @@ returns-in_err-check g c = λ limits mode bytes messages normal was.
     err_from_is_err_and c.from_residual-in_err-check.result
     c.from_residual-in_err-check.ensures.1 in
     let read = subst
-    (λ o. ReadsNext (record_items limits.frame) (RepresentsRecord limits.frame) g.R.Source
+    (λ o. ReadsNextRecord limits.frame g.R.Source
     c.args.self.now.records c.next.new.self
     c.args.reader.now c.next.new.reader (Ok o)) c.in-Some.is
     (c.in_ok-whole.ensures limits.frame was.between) in
@@ -51,7 +50,7 @@ returns-in_err-check g c = λ limits mode bytes messages normal was.
 pub returns : goal.returns
 returns g c = λ limits mode bytes messages normal was.
     let read = subst
-    (λ o. ReadsNext (record_items limits.frame) (RepresentsRecord limits.frame) g.R.Source
+    (λ o. ReadsNextRecord limits.frame g.R.Source
     c.args.self.now.records c.next.new.self
     c.args.reader.now c.next.new.reader (Ok o)) c.in-Some.is
     (c.in_ok-whole.ensures limits.frame was.between) in

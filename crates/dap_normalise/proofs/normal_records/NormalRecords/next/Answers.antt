@@ -1,7 +1,6 @@
 use Rattle.std.proofs.Common.{Ok, subst}
 use Rattle.std.proofs.lemmas.Result.{err_from_is_err_and}
-use Rattle.dap_input.specs.ItemReading.{RepresentsRecord, record_items}
-use Rattle.dap_input.specs.RecordSteps.{ReadsNext}
+use Rattle.dap_input.specs.RecordSteps.{ReadsNextRecord}
 use Rattle.dap_normalise.proofs.NormalRecordSteps.{refused_read, none_left, refused_judge, gone_on}
 use Rattle.dap_normalise.proofs.NormalRecordSteps.{nothing_given}
 use Rattle.dap_normalise.proofs.normal_records.NormalRecords.next.Goals as goal
@@ -19,7 +18,7 @@ returns-in_default-clause-next g c = λ limits mode bytes messages normal was.
     none_left g.R.Source limits mode bytes c.args.self.now
     messages normal was c.next.new.self c.args.reader.now c.next.new.reader
     c.args.text.now.items
-    (subst (λ o. ReadsNext (record_items limits.frame) (RepresentsRecord limits.frame)
+    (subst (λ o. ReadsNextRecord limits.frame
     g.R.Source c.args.self.now.records c.next.new.self
     c.args.reader.now c.next.new.reader (Ok o)) c.in_default.is
     (c.in_ok-whole.ensures limits.frame was.between))
@@ -30,7 +29,7 @@ returns-in_err-judge-clause-next g c = λ limits mode bytes messages normal was.
     err_from_is_err_and c.from_residual-in_err-judge.result
     c.from_residual-in_err-judge.ensures.1 in
     let read = subst
-    (λ o. ReadsNext (record_items limits.frame) (RepresentsRecord limits.frame) g.R.Source
+    (λ o. ReadsNextRecord limits.frame g.R.Source
     c.args.self.now.records c.next.new.self
     c.args.reader.now c.next.new.reader (Ok o)) c.in-Some.is
     (c.in_ok-whole.ensures limits.frame was.between) in
@@ -47,7 +46,7 @@ returns-in_err-judge-clause-next g c = λ limits mode bytes messages normal was.
 pub returns-clause-next : goal.returns-clause-next
 returns-clause-next g c = λ limits mode bytes messages normal was.
     let read = subst
-    (λ o. ReadsNext (record_items limits.frame) (RepresentsRecord limits.frame) g.R.Source
+    (λ o. ReadsNextRecord limits.frame g.R.Source
     c.args.self.now.records c.next.new.self
     c.args.reader.now c.next.new.reader (Ok o)) c.in-Some.is
     (c.in_ok-whole.ensures limits.frame was.between) in
