@@ -76,6 +76,15 @@ NO_JOBS = [
     ["rows", "--explain"], ["compare", "--all", "a.rec", "b.rec"], ["diff", "--all", "a.rec"], ["diff", "--all", "-", "-"], ["normalise", "--full"], ["check", "--record", "1"],
 ]
 
+# Each subcommand without some of its required values, and the values that are missing.
+MISSING = [
+    (["golden"], ["GOLDEN"]), (["golden", "--rules", "lldb.rules", "--word", "x=<w>", "--update"], ["GOLDEN"]),
+    (["compare"], ["A", "B"]), (["compare", "a.rec"], ["B"]), (["compare", "--rules", "lldb.rules", "a.rec", "--per-stop"], ["B"]),
+    (["diff"], ["A", "B"]), (["diff", "a.rec"], ["B"]), (["diff", "--all", "--word", "x=<w>", "a.rec"], ["B"]),
+    (["suggest"], ["A", "B"]), (["suggest", "a.rec"], ["B"]), (["suggest", "--rules", "lldb.rules"], ["A", "B"]),
+    (["mask"], ["RULES"]), (["mask", "--word", "x=<w>", "-o", "masked"], ["RULES"]), (["order"], ["RULES"]), (["order", "-o", "ordered"], ["RULES"]),
+]
+
 # Words that request help or the version, and a part of the text that is printed.
 HELP = [
     (["--help"], b"Usage: dapnorm"), (["--version"], b"dapnorm 0.1.0 "), (["compact", "--help"], b"Usage: dapnorm"),
@@ -117,6 +126,14 @@ def no_jobs(report, faulty):
         report.check(f"{words} is no job", held, repr((status, output, errors)))
 
 
+def missing_values(report, faulty):
+    for words, missing in MISSING:
+        status, output, errors = faulty.run(run_of(words))
+        names = "".join(f"  <{name}>\n" for name in missing)
+        told = f"error: the following required arguments were not provided:\n{names}\nUsage: dapnorm {words[0]} ".encode()
+        report.check(f"{words} lacks {missing}", (status, output) == (3, b"") and errors.startswith(told), repr((status, output, errors)))
+
+
 def help_texts(report, faulty):
     """The text is printed if it can be written, and the status reports a write that fails after 10 bytes."""
     for words, part in HELP + HELP_FIRST:
@@ -142,6 +159,7 @@ def main():
         faulty = Faulty(folder)
         jobs(report, faulty)
         no_jobs(report, faulty)
+        missing_values(report, faulty)
         help_texts(report, faulty)
         no_memory(report, faulty)
     return report.close()

@@ -90,8 +90,6 @@ def usage(report):
     version = re.search(r"^## ([\d.]+)", read("../CHANGELOG.md").decode(), re.MULTILINE)[1]
     wanted = f"dapnorm {version} (profile of {len(numbers_of_rows())} rows)\n".encode()
     report.check("the version is that of the changelog", (status, output, errors) == (0, wanted, b""), repr(output))
-    told = [re.findall(rb"^const VERSION.*", read(f"../crates/dap_commands/src/{file}.rt"), re.MULTILINE) for file in ("definition", "job_definition")]
-    report.check("both definitions of the command line have the version", told[0] == told[1] and len(told[0]) == 1, repr(told))
     status, output, errors = run(["check", "--help"])
     report.check("help of check names its flag", status == 0 and b"--complete" in output and errors == b"")
     status, output, errors = run(["check", "--all"])

@@ -1,7 +1,7 @@
 -- The commands whose explanations are empty. Source: own.
 use Rattle.std.specs.Prelude.{◌≡◌, ℕ, Bool, true, false, List, Ok}
-use Rattle.dap_commands.specs.declared.jobs.Job.{Job}
-use Rattle.dap_commands.specs.declared.jobs.Job.TheVariants as job
+use Rattle.dap_commands.specs.declared.commands.Job.{Job}
+use Rattle.dap_commands.specs.declared.commands.Job.TheVariants as job
 use Rattle.dap_explain.specs.Unexplained.{IsFailure}
 use Rattle.dap_golden.specs.declared.fault.GoldenRefused.{GoldenRefused}
 use Rattle.dap_golden.specs.declared.fault.GoldenRefused.TheVariants as golden
@@ -34,12 +34,9 @@ IsGoldenFailure golden.Memory = Unit {0}
 
 -- ---- jobs
 
--- The job reads one input and no rules.
+-- The job reads one input.
 abbrev pub reads_input_alone : Job → Bool
-reads_input_alone (job.Mask rules) = false
-reads_input_alone (job.Rows number) = false
 reads_input_alone (job.Compare a b per_stop) = false
-reads_input_alone (job.Diff a b per_stop) = false
 reads_input_alone one = true
 
 -- ---- inputs that are not rejected

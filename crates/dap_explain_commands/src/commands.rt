@@ -51,7 +51,7 @@ fn tables(alloc: Global, limits: Limits, hasher: RandomState) -> Tables<IndexNam
 }
 
 /// Explains why `record`, `compact`, `show`, `normalise` or `check` rejected an input. Runs the job
-/// again to find the error, and discards its output. Returns an empty string for any other job.
+/// again to find the error, and discards its output. Returns an empty string for `compare`.
 pub fn explain_job(
     alloc: Global,
     job: &Job<'_>,
@@ -62,7 +62,7 @@ pub fn explain_job(
     requires { AreSound limits }
     ensures lines { IfOk result (λ text. ∥ AreLines (string_bytes text) ∥₁) }
 
-    // The result is empty for any other job.
+    // The result is empty for `compare`.
     ensures nothing { reads_input_alone job.now ≡ false → IsEmpty result }
 {
     let found = refused_by_job(alloc, job, input, limits, hasher);
@@ -94,7 +94,7 @@ fn refused_by_job(
             let tables = tables(alloc, limits, hasher);
             return check_with(alloc, &mut reader, limits, complete, tables, job.mode()).err();
         }
-        _ => Ok(()),
+        Job::Compare { .. } => Ok(()),
     };
     outcome.err()
 }

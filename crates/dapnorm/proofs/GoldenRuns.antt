@@ -28,22 +28,22 @@ module _ {O W E : Type 0} (found : List ℕ → O → Type 0) (unfound : List �
     (file : Replaceable O) (sink : Sink W) (errors : Sink E) (limits : Limits) (golden : Golden)
     (before after : W) (silent spoken : E) where
   -- `golden` ran on a reader of the bytes.
-  pub ran_on_bytes : (mask given : Option Mask) (request : GoldenRequest) (bytes : List ℕ)
+  pub ran_on_bytes : (mask given : Option Mask) (request : GoldenRequest) (name bytes : List ℕ)
       (reader rest : GivenBytes) (old new : O) (run : GoldenRun)
-      → given ≡ mask → request ≡ request_of golden → reader ≡ bytes_of bytes
-      → found golden.golden.now old
-      → GoldenIsReported memory file sink errors limits given request golden.golden.now reader rest
+      → given ≡ mask → request ≡ request_of golden → name ≡ golden.golden
+      → reader ≡ bytes_of bytes → found name old
+      → GoldenIsReported memory file sink errors limits given request name reader rest
       old new before after silent spoken run
       → (file.is_known old → LeavesOnly file.moment file.left_since
       (MayBeLeft memory file limits given (request_by given request) reader rest old) old new)
       → RunsOnBytes found unfound file sink errors limits golden before after silent spoken mask
       bytes new run.status run.stop
-  ran_on_bytes mask given request bytes reader rest old new run mask_is request_is reader_is finds
-      reported any_moment = record {
+  ran_on_bytes mask given request name bytes reader rest old new run mask_is request_is name_is
+      reader_is finds reported any_moment = record {
         old = old;
-        finds = finds;
+        finds = rw name_is at finds;
         rest = rest;
-        reported = rw (mask_is, request_is, reader_is) at reported;
+        reported = rw (mask_is, request_is, name_is, reader_is) at reported;
         any_moment = rw (mask_is, request_is, reader_is) at any_moment;
       }
 

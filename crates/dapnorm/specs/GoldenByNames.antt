@@ -1,8 +1,6 @@
 -- What the program does with `golden` over files that are given by their names. Source: own.
 use Rattle.std.specs.Prelude.{◌≡◌, ℕ, ◌≤◌, Bool, true, false, List, [], Option, Some, None, Result}
 use Rattle.std.specs.Prelude.{Ok, Err, codes, option_map}
-use Rattle.std.specs.Borrow.{Bor}
-use Rattle.dap_commands.specs.Jobs.{mode_for}
 use Rattle.dap_commands.specs.declared.commands.Golden.{Golden}
 use Rattle.dap_device.specs.Memory.{GivenBytes}
 use Rattle.dap_device.specs.declared.device.Sink.{Ghosts as Sink}
@@ -40,7 +38,7 @@ abbrev pub request_of : Golden → GoldenRequest
 request_of golden = record {
   update = golden.update;
   allow_open = golden.«open»;
-  mode = mode_for golden.per_stop;
+  mode = golden.mode;
 }
 
 -- ---- what is reported
@@ -77,13 +75,13 @@ unfound_golden_line update name (fault.Unread error) = golden_line name (unfound
 
 -- Without a name the list of rules is absent. Otherwise they are those of the file of the name.
 abbrev pub HasNamedRules : {J : Type 0} → (List ℕ → J → Type 0)
-    → (List ℕ → Bool → RulesOpenFault → Type 0) → Source J → Bool → Option (Bor (List ℕ))
+    → (List ℕ → Bool → RulesOpenFault → Type 0) → Source J → Bool → Option (List ℕ)
     → Result (Option MaskRules) NoRules → Type 0
 HasNamedRules opened unopened source is_input_standard None (Ok None) = Unit {0}
 HasNamedRules opened unopened source is_input_standard (Some name) (Ok (Some rules)) =
-    HasRules opened unopened source name.now is_input_standard (Ok rules)
+    HasRules opened unopened source name is_input_standard (Ok rules)
 HasNamedRules opened unopened source is_input_standard (Some name) (Err why) =
-    HasRules opened unopened source name.now is_input_standard (Err why)
+    HasRules opened unopened source name is_input_standard (Err why)
 HasNamedRules opened unopened source is_input_standard _ _ = ⊥
 
 -- ---- the golden file of a name
@@ -100,18 +98,18 @@ module _ {O W E : Type 0} (found : List ℕ → O → Type 0) (unfound : List �
 
   -- The golden file is not found.
   pub record IsUnfound (why : OpenFault) (status : ℕ) : Type 0 where
-    pub none : unfound golden.golden.now why
-    pub reports : OnlyReports (unfound_golden_line golden.update golden.golden.now why)
+    pub none : unfound golden.golden why
+    pub reports : OnlyReports (unfound_golden_line golden.update golden.golden why)
         (unfound_status why) status
 
   -- The golden file is that of its name, and `golden` was run on it and an input of these bytes.
   pub record RunsOnBytes (mask : Option Mask) (bytes : List ℕ) (new : O) (status : ℕ)
       (why : Option GoldenStop) : Type 0 where
     pub old : O
-    pub finds : found golden.golden.now old
+    pub finds : found golden.golden old
     pub rest : GivenBytes
     pub reported : GoldenIsReported memory file sink errors limits mask (request_of golden)
-        golden.golden.now (bytes_of bytes) rest old new before after silent spoken
+        golden.golden (bytes_of bytes) rest old new before after silent spoken
         (record { status = status; stop = why })
     pub any_moment : file.is_known old → LeavesOnly file.moment file.left_since
         (MayBeLeft memory file limits mask (request_by mask (request_of golden)) (bytes_of bytes)

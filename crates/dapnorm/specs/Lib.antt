@@ -11,6 +11,7 @@ pub mod ViewRun
 pub mod WrittenRun
 pub use Rattle.dap_commands.specs.CommandLine
 pub use Rattle.dap_commands.specs.Jobs
+pub use Rattle.dap_commands.specs.Reading
 pub use Rattle.dap_compact.specs.Compacting
 pub use Rattle.dap_compare.specs.Comparing
 pub use Rattle.dap_compare.specs.Verdicts

@@ -1,21 +1,19 @@
 -- What the program prints and reports for a job. Source: own.
 use Rattle.std.specs.Prelude.{◌≡◌, ℕ, ◌++◌, Bool, IsErrOf, List, Result, Ok, Err, codes}
-use Rattle.std.specs.Prelude.{decimal, option_map, string_bytes}
+use Rattle.std.specs.Prelude.{decimal, string_bytes}
 use Rattle.dap_commands.specs.Jobs.{mode_for}
-use Rattle.dap_commands.specs.declared.jobs.Job.{Job}
-use Rattle.dap_commands.specs.declared.jobs.Job.TheVariants as job
-use Rattle.dap_commands.specs.declared.jobs.UsageFault.{UsageFault}
-use Rattle.dap_commands.specs.declared.jobs.UsageFault.TheVariants as usage
+use Rattle.dap_commands.specs.declared.commands.Job.{Job}
+use Rattle.dap_commands.specs.declared.commands.Job.TheVariants as job
+use Rattle.dap_commands.specs.declared.commands.UsageFault.{UsageFault}
+use Rattle.dap_commands.specs.declared.commands.UsageFault.TheVariants as usage
 use Rattle.dap_compact.specs.Compacting.{Compacts, compacting}
 use Rattle.dap_device.specs.declared.device.Source.{Ghosts as Source}
 use Rattle.dap_device.specs.declared.device.Sink.{Ghosts as Sink}
 use Rattle.dap_normalise.specs.declared.checked.Checked.{Checked}
 use Rattle.dap_rename.specs.declared.mode.Mode.{Mode}
-use Rattle.dap_profile.specs.RowLines.{lines_of}
 use Rattle.dap_record.specs.TracingRun.{RecordsTrace}
 use Rattle.dap_runs.specs.FaultLine.{fault_line, refused_text}
 use Rattle.dap_runs.specs.Reporting.{Answered, HasSent, IsSent, IsReported, status_of}
-use Rattle.dap_runs.specs.RowsRun.{ReportsRows}
 use Rattle.dap_input.specs.Engine.{Answers, ReadsNoneOrAll}
 use Rattle.dap_input.specs.Refusals.{IsRefused}
 use Rattle.dap_input.specs.declared.limits.Limits.{Limits}
@@ -86,7 +84,7 @@ pub record CheckIsReported {R W E : Type 0} (source : Source R) (sink : Sink W) 
 module _ {R W E : Type 0} (source : Source R) (sink : Sink W) (errors : Sink E) (limits : Limits)
     (old new : R) (before after : W) (silent spoken : E) (status : ℕ) where
   -- The job is done over the reader: what it prints, what it reports, and its status. A job over
-  -- two inputs, or by rules, is not done.
+  -- two inputs is not done.
   abbrev pub JobIsDone : Job → Type 0
   JobIsDone job.Compact = Answered (HasCompacted source sink limits old new before after)
       (IsReported errors silent spoken) status
@@ -98,11 +96,7 @@ module _ {R W E : Type 0} (source : Source R) (sink : Sink W) (errors : Sink E) 
       (mode_for per_stop) complete old new before after silent spoken status
   JobIsDone job.Show = Answered (HasShown source sink limits old new before after)
       (IsReported errors silent spoken) status
-  JobIsDone (job.Rows number) = (new ≡ old) × ReportsRows sink errors
-      (lines_of (option_map (λ s. s.now) number)) before after silent spoken status
-  JobIsDone (job.Mask rules) = ⊥
   JobIsDone (job.Compare a b per_stop) = ⊥
-  JobIsDone (job.Diff a b per_stop) = ⊥
 
 module _ {W E : Type 0} (sink : Sink W) (errors : Sink E) where
   -- Help is written to the output, and the error of a user to the errors, as well as the line that

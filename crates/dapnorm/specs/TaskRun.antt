@@ -1,13 +1,17 @@
 -- What the program does over one input. Source: own.
-use Rattle.std.specs.Prelude.{◌≡◌, ℕ, Bool, List, Option, Some, None}
-use Rattle.dap_commands.specs.declared.jobs.Job.{Job}
-use Rattle.dap_commands.specs.declared.jobs.Job.TheVariants as of
+use Rattle.std.specs.Prelude.{◌≡◌, ℕ, Bool, true, false, List, Option, Some, None, option_map}
+use Rattle.dap_commands.specs.declared.commands.Job.{Job}
+use Rattle.dap_commands.specs.declared.commands.Job.TheVariants as of
 use Rattle.dap_device.specs.declared.device.Sink.{Ghosts as Sink}
 use Rattle.dap_device.specs.declared.device.Source.{Ghosts as Source}
 use Rattle.dap_input.specs.declared.limits.Limits.{Limits}
+use Rattle.dap_profile.specs.RowLines.{lines_of}
+use Rattle.dap_rename.specs.declared.mode.Mode.{Mode}
+use Rattle.dap_rename.specs.declared.mode.Mode.TheVariants.{PerStop, Whole}
 use Rattle.dap_runs.specs.MaskRun.{MaskIsReported, ReportsOnly}
 use Rattle.dap_runs.specs.OrderRun.{OrderIsReported}
 use Rattle.dap_runs.specs.Reporting.{Answered, IsReported}
+use Rattle.dap_runs.specs.RowsRun.{ReportsRows}
 use Rattle.dap_runs.specs.UnopenedRules.{unopened_rules_line, unopened_rules_status}
 use Rattle.dap_runs.specs.declared.rules_files.RulesOpenFault.{RulesOpenFault}
 use Rattle.dap_show.specs.Viewing.{ShowsInput}
@@ -25,14 +29,18 @@ use Rattle.dapnorm.specs.declared.task.TaskRun.{TaskRun}
 
 -- ---- without rules
 
+-- the numbering of ids restarts at each stop
+abbrev pub is_per_stop : Mode → Bool
+is_per_stop PerStop = true
+is_per_stop Whole = false
+
 -- the job that `run_stream` does for this
 abbrev pub job_of : StreamJob → Job
 job_of job.Compact = of.Compact
 job_of job.Record = of.Record
-job_of (job.Normalise per_stop) = of.Normalise per_stop
-job_of (job.Check complete per_stop) = of.Check complete per_stop
+job_of (job.Normalise mode) = of.Normalise (is_per_stop mode)
+job_of (job.Check complete mode) = of.Check complete (is_per_stop mode)
 job_of job.Show = of.Show
-job_of (job.Rows number) = of.Rows number
 
 module _ {R W E : Type 0} (source : Source R) (sink : Sink W) (errors : Sink E) (limits : Limits)
     (old new : R) (before after : W) (silent spoken : E) (status : ℕ) where
@@ -89,6 +97,9 @@ module _ {J R W E : Type 0} (opened : List ℕ → J → Type 0)
   TaskIsDone (task.Job one) run = (run.unopened_rules ≡ None)
       × JobIsDone source sink errors limits old new before after silent spoken run.status
       (job_of one)
+  TaskIsDone (task.Rows number) run = (run.unopened_rules ≡ None) × (new ≡ old)
+      × ReportsRows sink errors (lines_of (option_map (λ s. s.now) number)) before after silent
+      spoken run.status
   TaskIsDone (task.Show one) run = (run.unopened_rules ≡ None)
       × ViewIsDone source sink errors limits old new before after silent spoken run.status one
   TaskIsDone (task.Apply what rules) run = IsRuledBy opened unopened rules_source source sink errors

@@ -14,7 +14,7 @@ ghost use Rattle.dapnorm.specs.SavedRun.{unfound_status};
 use crate::golden_run::{report_line, run_golden};
 use crate::one_file::input_name;
 use arrayvec::ArrayString;
-use dap_commands::Golden;
+use dap_commands::{Golden, Name};
 use dap_device::{MemorySource, Replaceable, Sink, Source};
 use dap_golden::{GoldenRequest, GoldenStop};
 use dap_input::Refused;
@@ -63,7 +63,7 @@ fn request_of(golden: &Golden) -> GoldenRequest
     GoldenRequest {
         update: golden.update,
         allow_open: golden.open,
-        mode: golden.mode(),
+        mode: golden.mode,
     }
 }
 
@@ -71,15 +71,15 @@ fn request_of(golden: &Golden) -> GoldenRequest
 fn named_rules<J: Source + Drop, G: RulesFiles<J>>(
     alloc: Global,
     files: &G,
-    rules: Option<&str>,
+    rules: &Option<Name<'_>>,
     is_input_standard: bool,
 ) -> Result<Option<MaskRules>, NoRules>
     ensures { HasNamedRules (G.opened files.now) (G.unopened files.now) J.Source is_input_standard
-        rules.entry result }
+        rules.now result }
 {
     match rules {
         None => Ok(None),
-        Some(name) => match rules_of_name::<J, G>(alloc, files, name, is_input_standard) {
+        Some(name) => match rules_of_name::<J, G>(alloc, files, name.as_str(), is_input_standard) {
             Ok(rules) => Ok(Some(rules)),
             Err(why) => Err(why),
         },
@@ -183,10 +183,11 @@ fn run_on_input<I: Source + Drop, O: Replaceable + Drop, K: Targets<O>, W: Sink,
         LIMITS golden.now writer.old writer.new errors.old errors.new rules input result.status
         result.end }
 {
-    let mut file = match targets.find(golden.golden) {
+    let name = golden.golden.as_str();
+    let mut file = match targets.find(name) {
         Ok(file) => file,
         Err(fault) => {
-            let status = report_unfound(errors, golden.update, golden.golden, fault);
+            let status = report_unfound(errors, golden.update, name, fault);
             return GoldenFilesRun {
                 status,
                 end: GoldenEnd::Unfound(input, fault),
@@ -198,7 +199,7 @@ fn run_on_input<I: Source + Drop, O: Replaceable + Drop, K: Targets<O>, W: Sink,
         &mut MemorySource::new(input.bytes.as_slice()),
         given(&rules),
         &mut file,
-        golden.golden,
+        name,
         request_of(golden),
         writer,
         errors,
@@ -259,7 +260,7 @@ pub fn golden_files<
 {
     let path = input_name(name);
     let is_input_standard = is_standard(path);
-    let rules = match named_rules::<J, G>(alloc, rules_files, golden.rules, is_input_standard) {
+    let rules = match named_rules::<J, G>(alloc, rules_files, &golden.rules, is_input_standard) {
         Ok(rules) => rules,
         Err(why) => {
             let status = report_no_rules(errors, why);

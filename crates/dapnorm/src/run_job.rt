@@ -12,7 +12,7 @@ use dap_input::{Limits, Refused};
 use dap_normalise::{Checked, check_with, normalise_with};
 use dap_record::record;
 use dap_rename::{NameTable, Tables, index_tables};
-use dap_runs::{DONE, FAULT, LINE, MEMORY, USAGE, send, tell, tell_answer, tell_rows};
+use dap_runs::{DONE, FAULT, LINE, MEMORY, USAGE, send, tell, tell_answer};
 use dap_show::show;
 use itoa::Buffer;
 use std::alloc::Global;
@@ -62,8 +62,6 @@ pub fn run_stream<R: Source, W: Sink, E: Sink>(
     limits: Limits,
 ) -> u8
     requires stream { (a b per_stop : _) → job.now ≡ Job.Compare a b per_stop → ⊥ }
-    requires no_rules { (rules : _) → job.now ≡ Job.Mask rules → ⊥ }
-    requires no_diff { (a b per_stop : _) → job.now ≡ Job.Diff a b per_stop → ⊥ }
     requires limits { AreSound limits }
     requires given { R.given reader.old < 2 ^ 62 }
     requires read_failures { R.failures reader.old < 2 ^ 62 }
@@ -100,8 +98,6 @@ pub fn run_stream_with<R: Source, W: Sink, E: Sink, T: NameTable + Drop>(
     tables: Tables<T>,
 ) -> u8
     requires stream { (a b per_stop : _) → job.now ≡ Job.Compare a b per_stop → ⊥ }
-    requires no_rules { (rules : _) → job.now ≡ Job.Mask rules → ⊥ }
-    requires no_diff { (a b per_stop : _) → job.now ≡ Job.Diff a b per_stop → ⊥ }
     requires limits { AreSound limits }
     requires tables { AreReady T.numbers T.limit limits tables }
     requires given { R.given reader.old < 2 ^ 62 }
@@ -126,8 +122,7 @@ pub fn run_stream_with<R: Source, W: Sink, E: Sink, T: NameTable + Drop>(
             tell_answer(errors, print(writer, outcome))
         }
         Job::Show => tell_answer(errors, show(alloc, reader, writer, limits)),
-        Job::Rows { number } => tell_rows(alloc, number, writer, errors),
-        Job::Mask { .. } | Job::Compare { .. } | Job::Diff { .. } => unreachable!(),
+        Job::Compare { .. } => unreachable!(),
     }
 }
 

@@ -1,40 +1,52 @@
 //! What is done over one input.
 ghost use Rattle.std.specs.Prelude.{◌≡◌, ◌+◌, ◌<◌, ◌≤◌, ◌^◌};
 ghost use Rattle.dap_normalise.specs.NameTables.{AreReady};
-ghost use Rattle.dapnorm.specs.TaskRun.{IsRuledBy, TaskIsDone, job_of};
+ghost use Rattle.dapnorm.specs.TaskRun.{IsRuledBy, TaskIsDone, is_per_stop, job_of};
 
 use crate::run_job::run_stream_with;
 use crate::view_run::run_view;
 use dap_commands::Job;
 use dap_device::{Sink, Source};
-use dap_rename::{NameTable, Tables};
-use dap_runs::{LIMITS, RulesFiles, RulesOpenFault, report_unopened_rules, run_mask, run_order};
+use dap_rename::{Mode, NameTable, Tables};
+use dap_runs::{
+    LIMITS, RulesFiles, RulesOpenFault, report_unopened_rules, run_mask, run_order, tell_rows,
+};
 use dap_show::ShowRequest;
 use std::alloc::Global;
 
-/// The jobs that read at most one input and no rules. [`Job`] describes them.
+/// The jobs that read one input. [`Job`] describes them.
 #[derive(Clone, Copy, Debug)]
-pub enum StreamJob<'a> {
+pub enum StreamJob {
     Compact,
     Record,
-    Normalise { per_stop: bool },
-    Check { complete: bool, per_stop: bool },
+    Normalise { mode: Mode },
+    Check { complete: bool, mode: Mode },
     Show,
-    Rows { number: Option<&'a str> },
 }
 
-impl<'a> StreamJob<'a> {
+/// Returns whether the numbering of ids restarts at each stop.
+fn is_per_stop(mode: Mode) -> bool
+    ensures { result ≡ is_per_stop mode }
+{
+    matches!(mode, Mode::PerStop)
+}
+
+impl StreamJob {
     /// Returns the job for [`run_stream`](crate::run_stream).
-    pub fn job(self) -> Job<'a>
-        ensures { result ≡ job_of self.entry }
+    pub fn job(self) -> Job<'static>
+        ensures { result ≡ job_of self }
     {
         match self {
             StreamJob::Compact => Job::Compact,
             StreamJob::Record => Job::Record,
-            StreamJob::Normalise { per_stop } => Job::Normalise { per_stop },
-            StreamJob::Check { complete, per_stop } => Job::Check { complete, per_stop },
+            StreamJob::Normalise { mode } => Job::Normalise {
+                per_stop: is_per_stop(mode),
+            },
+            StreamJob::Check { complete, mode } => Job::Check {
+                complete,
+                per_stop: is_per_stop(mode),
+            },
             StreamJob::Show => Job::Show,
-            StreamJob::Rows { number } => Job::Rows { number },
         }
     }
 }
@@ -52,7 +64,9 @@ pub enum Ruled {
 #[derive(Clone, Copy, Debug)]
 pub enum Task<'a> {
     /// A job without rules.
-    Job(StreamJob<'a>),
+    Job(StreamJob),
+    /// Print the rows of the profile, or the row with the number in this argument. Nothing is read.
+    Rows { number: Option<&'a str> },
     /// Print the recording as `show` requests.
     Show(ShowRequest),
     /// Mask the recording, or put it in order, by the rules of the file of this name.
@@ -151,6 +165,10 @@ pub fn run_task<
     match *task {
         Task::Job(job) => TaskRun {
             status: run_stream_with(alloc, &job.job(), reader, writer, errors, LIMITS, tables),
+            unopened_rules: None,
+        },
+        Task::Rows { number } => TaskRun {
+            status: tell_rows(alloc, number, writer, errors),
             unopened_rules: None,
         },
         Task::Show(request) => TaskRun {

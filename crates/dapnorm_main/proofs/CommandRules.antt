@@ -2,7 +2,7 @@
 use Rattle.std.proofs.Common.{◌≡◌, ℕ, List, [], refl, subst, sym}
 use Rattle.std.specs.Prelude.{IfNone, None, Option, Some}
 use Rattle.std.specs.Borrow.{Bor}
-use Rattle.dap_commands.specs.CommandLine.{text_in}
+use Rattle.dap_commands.specs.Reading.{text_in}
 use Rattle.dap_word_option.specs.WordOption.{HasLinesOf}
 use Rattle.dap_word_option.proofs.RulesLines.{nothing_accepted}
 use Rattle.dapnorm_main.specs.CommandRules.{AreRulesWith}

@@ -1,7 +1,7 @@
 -- The status of the program for arguments that request nothing that can be done. Source: own.
 use Rattle.std.specs.Prelude.{◌≡◌, ◌⊎◌, ℕ}
-use Rattle.dap_commands.specs.declared.jobs.UsageFault.{UsageFault}
-use Rattle.dap_commands.specs.declared.jobs.UsageFault.TheVariants as usage
+use Rattle.dap_commands.specs.declared.commands.UsageFault.{UsageFault}
+use Rattle.dap_commands.specs.declared.commands.UsageFault.TheVariants as usage
 
 -- Help is printed with success, or the writer fails. An error of the user has the status 3, and a
 -- failed allocation 5.

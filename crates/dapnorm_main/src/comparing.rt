@@ -5,12 +5,25 @@ use dap_explain::explain as explain_refused;
 use dap_explain_commands::explain_applying;
 use dap_system::{SystemInput, errors, line_output, print, report_input, report_reason};
 use dapnorm::{
-    CompareRefused, Comparison, IndexNames, LIMITS, Mode, OpenFault, OpenStop, PairRun, Printed,
-    RuledPairRun, RulesStop, TableMaker, Tables, TwoFilesRun, Which, compare_by_rules,
-    compare_files,
+    CompareRefused, IndexNames, LIMITS, Mode, OpenFault, OpenStop, PairRun, Printed, RuledPairRun,
+    RulesStop, TableMaker, Tables, TwoFilesRun, Which, compare_by_rules, compare_files,
 };
 use std::alloc::Global;
 use std::hash::RandomState;
+
+/// The recordings to compare, and the options.
+#[derive(Clone, Copy)]
+pub struct Comparison<'a> {
+    /// The file of the first recording.
+    pub a: &'a str,
+    /// The file of the second recording.
+    pub b: &'a str,
+    /// The mode in which the ids of the recordings are numbered.
+    pub mode: Mode,
+    /// The file of the rules by which both recordings are masked and put in order.
+    pub rules: Option<&'a str>,
+    pub printed: Printed,
+}
 
 /// Explains why one of two inputs was refused, or could not be read.
 fn explain(
@@ -60,18 +73,12 @@ fn explained(
 }
 
 /// Compares the recordings of two files, and prints the verdict or the differences.
-pub fn compare_two(
-    rt: &HostRuntime,
-    a: &str,
-    b: &str,
-    mode: Mode,
-    printed: Printed,
-    setting: Setting<'_>,
-) -> u8 {
+fn compare_two(rt: &HostRuntime, comparison: Comparison<'_>, setting: Setting<'_>) -> u8 {
+    let Comparison { a, b, mode, .. } = comparison;
     let alloc = rt.alloc();
     let run = compare_files(
         alloc,
-        printed,
+        comparison.printed,
         &setting.system_files(rt),
         a,
         b,
@@ -100,7 +107,7 @@ impl TableMaker<IndexNames<RandomState>> for HashedTables {
 /// the differences.
 fn print_by_rules<'a>(
     rt: &'a HostRuntime,
-    comparison: &Comparison<'_>,
+    comparison: Comparison<'_>,
     rules: &str,
     setting: Setting<'a>,
 ) -> RuledPairRun<SystemInput<'a>> {
@@ -118,14 +125,14 @@ fn print_by_rules<'a>(
         &mut line_output(rt),
         &mut errors(rt),
         &maker,
-        comparison.mode(),
+        comparison.mode,
     )
 }
 
 /// Explains why the rules were not applied to two recordings.
 fn explain_rules_stop(
     rt: &HostRuntime,
-    comparison: &Comparison<'_>,
+    comparison: Comparison<'_>,
     name: &str,
     text: Option<&[u8]>,
     stop: &RulesStop<SystemInput<'_>>,
@@ -156,10 +163,9 @@ fn explain_rules_stop(
 }
 
 /// Makes a comparison, by the rules if it has some.
-pub fn run_comparison(rt: &HostRuntime, comparison: &Comparison<'_>, setting: Setting<'_>) -> u8 {
-    let (a, b) = (comparison.a, comparison.b);
+pub fn run_comparison(rt: &HostRuntime, comparison: Comparison<'_>, setting: Setting<'_>) -> u8 {
     let Some(rules) = setting.rules_name(comparison.rules) else {
-        return compare_two(rt, a, b, comparison.mode(), comparison.printed, setting);
+        return compare_two(rt, comparison, setting);
     };
     let run = print_by_rules(rt, comparison, rules, setting);
     if let Some(stop) = &run.stop {

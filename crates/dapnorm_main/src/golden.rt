@@ -1,13 +1,15 @@
 //! Compares a session with its golden file, or makes or renews the golden file.
 use crate::explaining::{explain_file, explain_no_rules};
-use crate::{Setting, USAGE};
+use crate::{Setting, USAGE, text_of};
 use dap_explain_commands::explain_golden;
 use dap_device::FileAt;
 use dap_system::{
     SystemFiles, SystemInput, SystemTargets, are_same, errors, explain_unopened, explain_unread,
     print, report_file, report_terminal, shown_output,
 };
-use dapnorm::{Golden, GoldenEnd, GoldenFilesRun, GoldenStop, LIMITS, MaskRules, golden_files};
+use dapnorm::{
+    Golden, GoldenEnd, GoldenFilesRun, GoldenStop, LIMITS, MaskRules, Name, golden_files,
+};
 
 /// Explains a stop in lines for people.
 fn explain_stop(
@@ -41,12 +43,12 @@ fn explain_end(
 ) {
     match end {
         GoldenEnd::NoRules(why) => {
-            if let Some(rules) = golden.rules {
-                explain_no_rules(rt, rules, setting.rules, why);
+            if let Some(rules) = &golden.rules {
+                explain_no_rules(rt, rules.as_str(), setting.rules, why);
             }
         }
         GoldenEnd::Unread(why) => explain_unread(rt, name, why),
-        GoldenEnd::Unfound(_, fault) => explain_unopened(rt, Some(golden.golden), fault),
+        GoldenEnd::Unfound(_, fault) => explain_unopened(rt, Some(golden.golden.as_str()), fault),
         GoldenEnd::Ran {
             input,
             file,
@@ -54,7 +56,8 @@ fn explain_end(
             stop: Some(stop),
         } => {
             let (bytes, rules) = (input.bytes.as_slice(), rules.as_ref());
-            explain_stop(rt, *stop, bytes, rules, file, golden.golden);
+            let name = golden.golden.as_str();
+            explain_stop(rt, *stop, bytes, rules, file, name);
         }
         GoldenEnd::Ran { .. } => {}
     }
@@ -75,9 +78,17 @@ fn run_golden<'a>(
             None
         },
     };
+    let rules = setting.rules_name(text_of(&golden.rules));
     let golden = Golden {
-        rules: setting.rules_name(golden.rules),
-        ..*golden
+        golden: Name::new(golden.golden.as_str()),
+        input: None,
+        rules: match rules {
+            Some(rules) => Some(Name::new(rules)),
+            None => None,
+        },
+        mode: golden.mode,
+        open: golden.open,
+        update: golden.update,
     };
     golden_files(
         rt.alloc(),
@@ -93,26 +104,23 @@ fn run_golden<'a>(
 
 /// Returns what else the golden file is, if it is a file that an update would have to read.
 fn read_as(rt: &HostRuntime, golden: &Golden<'_>, input: Option<&str>) -> Option<&'static str> {
-    if are_same(rt, golden.golden, input) {
+    let name = golden.golden.as_str();
+    if are_same(rt, name, input) {
         return Some("input");
     }
-    match golden.rules {
-        Some(rules) if are_same(rt, golden.golden, Some(rules)) => Some("rules file"),
+    match &golden.rules {
+        Some(rules) if are_same(rt, name, Some(rules.as_str())) => Some("rules file"),
         _ => None,
     }
 }
 
 /// Does what `golden` requests.
-pub fn keep_golden(
-    rt: &HostRuntime,
-    golden: &Golden<'_>,
-    input: Option<&str>,
-    setting: Setting<'_>,
-) -> u8 {
+pub fn keep_golden(rt: &HostRuntime, golden: &Golden<'_>, setting: Setting<'_>) -> u8 {
+    let input = text_of(&golden.input);
     if golden.update
         && let Some(other) = read_as(rt, golden, input)
     {
-        let name = golden.golden;
+        let name = golden.golden.as_str();
         print(
             rt,
             format!(in rt.alloc();

@@ -1,5 +1,4 @@
 //! Does the tasks of the command line, over their files.
-use crate::comparing::compare_two;
 use crate::explaining::{explain_mask_of, explain_order_of};
 use crate::{REFUSED, Setting, USAGE, tables};
 use dap_device::FileAt;
@@ -11,30 +10,31 @@ use dap_system::{
     report_terminal,
 };
 use dapnorm::{
-    FileRun, Job, LIMITS, Printed, Ruled, RulesOpenFault, SaveEnd, SavedRun, StdSink, StreamJob,
-    Task, run_file, save_run, write_run,
+    FileRun, InputTask, LIMITS, Ruled, RulesOpenFault, SaveEnd, SavedRun, StdSink, StreamJob,
+    run_file, save_run, write_run,
 };
 
 /// Explains why a task refused an input.
-fn explain_refusal(rt: &HostRuntime, task: Task<'_>, input: &[u8], setting: Setting<'_>) {
+fn explain_refusal(rt: &HostRuntime, task: InputTask<'_>, input: &[u8], setting: Setting<'_>) {
     let hasher = setting.hasher;
     match task {
-        Task::Apply { ruled, rules } => match ruled {
+        InputTask::Apply { ruled, rules } => match ruled {
             Ruled::Mask => explain_mask_of(rt, rules, setting.rules, input),
             Ruled::Order => explain_order_of(rt, rules, input),
         },
-        Task::Job(job) => print(
+        InputTask::Job(job) => print(
             rt,
             explain_job(rt.alloc(), &job.job(), input, LIMITS, hasher),
         ),
-        Task::Show(request) => print(rt, explain_view(rt.alloc(), request, input, LIMITS)),
+        InputTask::Show(request) => print(rt, explain_view(rt.alloc(), request, input, LIMITS)),
+        InputTask::Rows { .. } => {}
     }
 }
 
 /// Reports the reason of a file of rules that did not open.
-fn explain_rules(rt: &HostRuntime, task: Task<'_>, unopened: Option<RulesOpenFault>) {
+fn explain_rules(rt: &HostRuntime, task: InputTask<'_>, unopened: Option<RulesOpenFault>) {
     if let Some(RulesOpenFault::Unread(error)) = unopened
-        && let Task::Apply { rules, .. } = task
+        && let InputTask::Apply { rules, .. } = task
     {
         report_reason(rt, rules, &error);
     }
@@ -43,13 +43,13 @@ fn explain_rules(rt: &HostRuntime, task: Task<'_>, unopened: Option<RulesOpenFau
 /// Reports why an input could not be read, or that a rejected one is a trace.
 fn report_of(
     rt: &HostRuntime,
-    task: Task<'_>,
+    task: InputTask<'_>,
     name: Option<&str>,
     input: &OpenedInput<'_>,
     status: u8,
 ) {
     match task {
-        Task::Job(StreamJob::Record) => report_failure(rt, name, input),
+        InputTask::Job(StreamJob::Record) => report_failure(rt, name, input),
         _ => report_input(rt, name, input, status == REFUSED),
     }
 }
@@ -58,7 +58,7 @@ fn report_of(
 /// rules are rejected, and not why an input is.
 fn explain(
     rt: &HostRuntime,
-    task: Task<'_>,
+    task: InputTask<'_>,
     name: Option<&str>,
     input: &OpenedInput<'_>,
     status: u8,
@@ -70,7 +70,7 @@ fn explain(
     }
     match (input.bytes(), task) {
         (Some(bytes), _) => explain_refusal(rt, task, bytes, setting),
-        (None, Task::Apply { .. }) => explain_refusal(rt, task, &[], setting),
+        (None, InputTask::Apply { .. }) => explain_refusal(rt, task, &[], setting),
         _ => {}
     }
 }
@@ -78,7 +78,7 @@ fn explain(
 /// Does a task over the input of a name, and writes its output to standard output.
 fn print_task<'a>(
     rt: &'a HostRuntime,
-    task: Task<'_>,
+    task: InputTask<'_>,
     name: Option<&str>,
     setting: Setting<'a>,
 ) -> FileRun<SystemInput<'a>> {
@@ -97,7 +97,7 @@ fn print_task<'a>(
 /// Explains a task whose output went to standard output, and returns its status.
 fn explained(
     rt: &HostRuntime,
-    task: Task<'_>,
+    task: InputTask<'_>,
     name: Option<&str>,
     run: &FileRun<SystemInput<'_>>,
     setting: Setting<'_>,
@@ -116,7 +116,7 @@ fn explained(
 /// Does a task over one input, and writes its output to a device, a pipe or an open stream.
 fn write_task<'a>(
     rt: &'a HostRuntime,
-    task: Task<'_>,
+    task: InputTask<'_>,
     name: Option<&str>,
     output: &str,
     setting: Setting<'a>,
@@ -137,7 +137,7 @@ fn write_task<'a>(
 /// Does a task over one input, and saves its output in a file.
 fn save_task<'a>(
     rt: &'a HostRuntime,
-    task: Task<'_>,
+    task: InputTask<'_>,
     name: Option<&str>,
     output: &str,
     setting: Setting<'a>,
@@ -162,7 +162,7 @@ fn save_task<'a>(
 /// Explains a task whose output goes to a file or a device, and returns its status.
 fn explained_end<O>(
     rt: &HostRuntime,
-    task: Task<'_>,
+    task: InputTask<'_>,
     name: Option<&str>,
     output: &str,
     run: &SavedRun<SystemInput<'_>, O>,
@@ -195,9 +195,9 @@ fn explain_unsaved(
 }
 
 /// Returns the rules file of a task that would be lost if its output were saved under this name.
-fn lost_rules<'a>(rt: &HostRuntime, task: Task<'a>, output: &str) -> Option<&'a str> {
+fn lost_rules<'a>(rt: &HostRuntime, task: InputTask<'a>, output: &str) -> Option<&'a str> {
     match task {
-        Task::Apply { rules, .. } if are_same(rt, output, Some(rules)) => Some(rules),
+        InputTask::Apply { rules, .. } if are_same(rt, output, Some(rules)) => Some(rules),
         _ => None,
     }
 }
@@ -205,12 +205,12 @@ fn lost_rules<'a>(rt: &HostRuntime, task: Task<'a>, output: &str) -> Option<&'a 
 /// Does a task over one input.
 pub fn run_over_input(
     rt: &HostRuntime,
-    task: Task<'_>,
+    task: InputTask<'_>,
     input: Option<&str>,
     output: Option<&str>,
     setting: Setting<'_>,
 ) -> u8 {
-    if !matches!(task, Task::Job(StreamJob::Rows { .. })) {
+    if !matches!(task, InputTask::Rows { .. }) {
         report_terminal(rt, input);
     }
     match output {
@@ -237,33 +237,4 @@ pub fn run_over_input(
             explained(rt, task, input, &run, setting)
         }
     }
-}
-
-/// Does a job with these files of its input and its output.
-pub fn run_job(
-    rt: &HostRuntime,
-    job: Job<'_>,
-    input: Option<&str>,
-    output: Option<&str>,
-    setting: Setting<'_>,
-) -> u8 {
-    let task = match job {
-        Job::Compact => Task::Job(StreamJob::Compact),
-        Job::Record => Task::Job(StreamJob::Record),
-        Job::Normalise { per_stop } => Task::Job(StreamJob::Normalise { per_stop }),
-        Job::Check { complete, per_stop } => Task::Job(StreamJob::Check { complete, per_stop }),
-        Job::Show => Task::Job(StreamJob::Show),
-        Job::Rows { number } => Task::Job(StreamJob::Rows { number }),
-        Job::Mask { rules } => Task::Apply {
-            ruled: Ruled::Mask,
-            rules,
-        },
-        Job::Compare { a, b, .. } => {
-            return compare_two(rt, a, b, job.mode(), Printed::Verdict, setting);
-        }
-        Job::Diff { a, b, .. } => {
-            return compare_two(rt, a, b, job.mode(), Printed::FirstDifference, setting);
-        }
-    };
-    run_over_input(rt, task, input, output, setting)
 }

@@ -15,17 +15,17 @@ mod showing;
 mod suggesting;
 mod words;
 
-use crate::comparing::run_comparison;
+use crate::comparing::{Comparison, run_comparison};
 use crate::golden::keep_golden;
-use crate::jobs::{run_job, run_over_input};
+use crate::jobs::run_over_input;
 use crate::showing::show_recording;
 use crate::suggesting::suggest_rules;
 use crate::words::rules_given;
 use dap_device::hold_closed_streams;
 use dap_system::{SystemFiles, SystemRules, errors};
 use dapnorm::{
-    Action, Command, IndexNames, Limits, Ruled, StdSink, Tables, Task, UsageFault, command,
-    run_usage,
+    Command, IndexNames, InputTask, Limits, Name, Ruled, StdSink, StreamJob, Tables, Task,
+    UsageFault, command, run_usage,
 };
 use std::alloc::Global;
 use std::env;
@@ -118,12 +118,12 @@ fn run_words(rt: &HostRuntime, alloc: Global, words: &[String]) -> u8 {
     else {
         return report_usage(rt, &UsageFault::Memory);
     };
-    let command = match command(alloc, words.as_slice()) {
-        Ok(command) => command,
+    let request = match command(alloc, words.as_slice()) {
+        Ok(request) => request,
         Err(fault) => return report_usage(rt, &fault),
     };
-    let explain = command.explain || requests_explanations(rt);
-    let rules = match rules_given(rt, &command.action, words.as_slice()) {
+    let explain = request.explain || requests_explanations(rt);
+    let rules = match rules_given(rt, &request.command, request.words.as_slice()) {
         Ok(rules) => rules,
         Err(status) => return status,
     };
@@ -138,27 +138,85 @@ fn run_words(rt: &HostRuntime, alloc: Global, words: &[String]) -> u8 {
             None => None,
         },
     };
-    run_command(rt, command, setting)
+    run_command(rt, &request.command, setting)
+}
+
+/// Returns the text of a name, if there is one.
+fn text_of<'a>(name: &Option<Name<'a>>) -> Option<&'a str> {
+    match name {
+        Some(name) => Some(name.as_str()),
+        None => None,
+    }
+}
+
+/// Does a task over the input and the output of these names.
+fn run_task(
+    rt: &HostRuntime,
+    task: &Task<'_>,
+    input: Option<&str>,
+    output: Option<&str>,
+    setting: Setting<'_>,
+) -> u8 {
+    let task = match task {
+        Task::Compact => InputTask::Job(StreamJob::Compact),
+        Task::Record => InputTask::Job(StreamJob::Record),
+        Task::Normalise(mode) => InputTask::Job(StreamJob::Normalise { mode: *mode }),
+        Task::Show(show) => return show_recording(rt, show, input, output, setting),
+        Task::Mask(rules) => InputTask::Apply {
+            ruled: Ruled::Mask,
+            rules: rules.as_str(),
+        },
+        Task::Order(rules) => InputTask::Apply {
+            ruled: Ruled::Order,
+            rules: rules.as_str(),
+        },
+    };
+    run_over_input(rt, task, input, output, setting)
 }
 
 /// Does what a command requests.
-fn run_command(rt: &HostRuntime, command: Command<'_>, setting: Setting<'_>) -> u8 {
-    match command.action {
-        Action::Job(job) => run_job(rt, job, command.input, command.output, setting),
-        Action::Compare(comparison) => run_comparison(rt, &comparison, setting),
-        Action::Suggest(files) => suggest_rules(rt, (files.a, files.b), files.rules, setting),
-        Action::Order(order) => run_over_input(
-            rt,
-            Task::Apply {
-                ruled: Ruled::Order,
-                rules: order.rules,
-            },
-            command.input,
-            command.output,
-            setting,
-        ),
-        Action::Show(show) => show_recording(rt, show, command.input, command.output, setting),
-        Action::Golden(golden) => keep_golden(rt, &golden, command.input, setting),
+fn run_command(rt: &HostRuntime, command: &Command<'_>, setting: Setting<'_>) -> u8 {
+    match command {
+        Command::Stream {
+            task,
+            input,
+            output,
+        } => run_task(rt, task, text_of(input), text_of(output), setting),
+        Command::Check {
+            complete,
+            mode,
+            input,
+        } => {
+            let job = StreamJob::Check {
+                complete: *complete,
+                mode: *mode,
+            };
+            run_over_input(rt, InputTask::Job(job), text_of(input), None, setting)
+        }
+        Command::Pair {
+            printed,
+            a,
+            b,
+            rules,
+            mode,
+        } => {
+            let comparison = Comparison {
+                a: a.as_str(),
+                b: b.as_str(),
+                mode: *mode,
+                rules: text_of(rules),
+                printed: *printed,
+            };
+            run_comparison(rt, comparison, setting)
+        }
+        Command::Suggest { a, b, rules } => {
+            suggest_rules(rt, (a.as_str(), b.as_str()), text_of(rules), setting)
+        }
+        Command::Golden(golden) => keep_golden(rt, golden, setting),
+        Command::Rows { number } => {
+            let number = text_of(number);
+            run_over_input(rt, InputTask::Rows { number }, None, None, setting)
+        }
     }
 }
 

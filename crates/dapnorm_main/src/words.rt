@@ -1,20 +1,16 @@
 //! The rules of a command that takes the option `--word`.
-ghost use Rattle.std.specs.Prelude.{◌≡◌, ◌<◌, true, IfErr, IfOk};
-ghost use Rattle.clap.specs.Walk.{texts};
-ghost use Rattle.clap.specs.Words.{subcommand_of, takes};
-ghost use Rattle.dap_commands.specs.CommandLine.{text_in};
-ghost use Rattle.dap_commands.specs.Commands.{program, words_named};
-ghost use Rattle.dap_word_option.specs.WordOption.{texts_of};
+ghost use Rattle.std.specs.Prelude.{◌≡◌, ◌<◌, IfErr, IfOk};
+ghost use Rattle.dap_commands.specs.Reading.{text_in};
 ghost use Rattle.dapnorm_main.specs.CommandRules.{AreRulesOf, AreRulesWith, rules_name};
 ghost use Rattle.dapnorm_main.specs.CommandRules.{takes_words};
 
 use crate::explaining::explain_no_rules;
 use crate::report_usage;
-use dap_commands::words_given;
+use dap_commands::{Command, Name, Task};
 use dap_runs::report_no_rules;
 use dap_system::{OpenedInput, errors, is_out_of_memory};
 use dap_word_option::with_values;
-use dapnorm::{Action, Job, NoRules, RulesOpenFault, RulesRefused, StdSource, Stop, read_all};
+use dapnorm::{NoRules, RulesOpenFault, RulesRefused, StdSource, Stop, read_all};
 
 /// The maximum number of bytes of a rules file.
 const RULES: u64 = 65_536;
@@ -37,34 +33,45 @@ fn text_of(rt: &HostRuntime, name: &str) -> Result<Vec<u8>, NoRules> {
     }
 }
 
-/// Returns whether an action takes the option.
-fn takes_words(action: &Action<'_>) -> bool
-    ensures { result ≡ takes_words action.now }
+/// Returns whether a command takes the option.
+fn takes_words(command: &Command<'_>) -> bool
+    ensures { result ≡ takes_words command.now }
 {
     matches!(
-        action,
-        Action::Job(Job::Mask { .. }) | Action::Compare(_) | Action::Suggest(_) | Action::Golden(_)
+        command,
+        Command::Stream {
+            task: Task::Mask(_),
+            ..
+        } | Command::Pair { .. }
+            | Command::Suggest { .. }
+            | Command::Golden(_)
     )
 }
 
-/// Returns the name of the rules file of an action, if it has one.
-fn rules_name<'a>(action: &Action<'a>) -> Option<&'a str>
-    ensures { text_in result ≡ rules_name action.now }
+/// Returns the name of the rules file of a command, if it has one.
+fn rules_name<'a>(command: &Command<'a>) -> Option<&'a str>
+    ensures { text_in result ≡ rules_name command.now }
 {
-    match action {
-        Action::Job(Job::Mask { rules }) => Some(*rules),
-        Action::Compare(comparison) => comparison.rules,
-        Action::Suggest(suggest) => suggest.rules,
-        Action::Golden(golden) => golden.rules,
-        _ => None,
+    let rules = match command {
+        Command::Stream {
+            task: Task::Mask(rules),
+            ..
+        } => return Some(rules.as_str()),
+        Command::Pair { rules, .. } | Command::Suggest { rules, .. } => rules,
+        Command::Golden(golden) => &golden.rules,
+        _ => return None,
+    };
+    match rules {
+        Some(rules) => Some(rules.as_str()),
+        None => None,
     }
 }
 
-/// Returns the text of the rules of an action with the words of the option, which are checked
+/// Returns the text of the rules of a command with the words of the option, which are checked
 /// before the rules file is opened.
-fn rules_with(rt: &HostRuntime, name: Option<&str>, values: &[&str]) -> Result<Vec<u8>, u8>
+fn rules_with(rt: &HostRuntime, name: Option<&str>, values: &[Name<'_>]) -> Result<Vec<u8>, u8>
     ensures ok { IfOk result
-        (λ rules. AreRulesWith (text_in name.entry) (texts_of values.now) rules.items) }
+        (λ rules. AreRulesWith (text_in name.entry) values.now rules.items) }
     ensures err { IfErr result (λ status. 0 < status) }
 {
     let alone = match with_values(rt.alloc(), Vec::new(rt.alloc()), values) {
@@ -87,31 +94,23 @@ fn rules_with(rt: &HostRuntime, name: Option<&str>, values: &[&str]) -> Result<V
     }
 }
 
-/// Returns the text of the rules of an action with the words of the option `--word`. `None`: there
+/// Returns the text of the rules of a command with the words of the option `--word`. `None`: there
 /// are no words. The error is the status of the program, after the report.
 pub fn rules_given(
     rt: &HostRuntime,
-    action: &Action<'_>,
-    arguments: &[&str],
+    command: &Command<'_>,
+    values: &[Name<'_>],
 ) -> Result<Option<Vec<u8>>, u8>
-    // The values are those that the model of clap finds in the arguments.
-    ensures ok { IfOk result
-        (AreRulesOf action.now (words_named (subcommand_of program (texts arguments.now)))) }
-    // If the model of clap accepts the arguments, a failure is not a success of the program.
-    ensures err { IfErr result
-        (λ status. takes program (texts arguments.now) ≡ true → 0 < status) }
+    ensures ok { IfOk result (AreRulesOf command.now values.now) }
+    ensures err { IfErr result (λ status. 0 < status) }
 {
-    if !takes_words(action) {
+    if !takes_words(command) {
         return Ok(None);
     }
-    let values = match words_given(rt.alloc(), arguments) {
-        Ok(values) => values,
-        Err(fault) => return Err(report_usage(rt, &fault)),
-    };
     if values.is_empty() {
         return Ok(None);
     }
-    match rules_with(rt, rules_name(action), values.as_slice()) {
+    match rules_with(rt, rules_name(command), values) {
         Ok(rules) => Ok(Some(rules)),
         Err(status) => Err(status),
     }

@@ -203,10 +203,7 @@ fn streamed(alloc: Global, call: &Call<'_>, job: Job<'_>, devices: &mut Devices<
     requires limits { AreSound call.now.limits }
     requires new { AreNew devices.old }
 {
-    if matches!(
-        job,
-        Job::Compare { .. } | Job::Diff { .. } | Job::Mask { .. }
-    ) {
+    if matches!(job, Job::Compare { .. }) {
         return Outcome::Refused;
     }
     Outcome::Status(run_stream(
@@ -230,10 +227,7 @@ fn streamed_with<T: NameTable + Drop>(
     requires new { AreNew devices.old }
     requires tables { AreReady T.numbers T.limit call.now.limits tables }
 {
-    if matches!(
-        job,
-        Job::Compare { .. } | Job::Diff { .. } | Job::Mask { .. }
-    ) {
+    if matches!(job, Job::Compare { .. }) {
         return Outcome::Refused;
     }
     Outcome::Status(run_stream_with(
