@@ -19,8 +19,9 @@ use Rattle.dap_compare.specs.declared.verdict.Verdict.{Verdict}
 use Rattle.dap_compare.specs.declared.verdict.Verdict.TheVariants.{Same, Differ}
 use Rattle.dap_input.specs.declared.refused.Refused.TheVariants.{WriteFault}
 use Rattle.dap_device.specs.Written.{AllSent, PrefixWritten}
-use Rattle.dap_runs.specs.FaultLine.{compare_refused_text, fault_line, refused_text}
-use Rattle.dap_runs.specs.Reporting.{HasSent, refused_status}
+use Rattle.dap_compare.specs.Which.{compare_refused_text}
+use Rattle.dap_input.specs.RefusedText.{refused_text}
+use Rattle.dap_runs.specs.Reporting.{HasSent, fault_line, refused_status}
 use Rattle.dap_compare.specs.Verdicts.{Compares}
 
 -- If the numbers of the kind restart, the line of a pair has its stop.

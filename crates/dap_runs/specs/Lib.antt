@@ -1,6 +1,5 @@
 pub mod ApplyRun
 pub mod ComparingRun
-pub mod FaultLine
 pub mod MaskRun
 pub mod OrderRun
 pub mod Parts
