@@ -1,14 +1,14 @@
 -- What the program reports if rules cannot be applied to one of two inputs. Source: own.
 use Rattle.std.specs.Prelude.{ℕ, ◌++◌, List, codes}
-use Rattle.dap_compare.specs.Which.{which_text}
+use Rattle.dap_compare.specs.Which.{compare_refused_text, which_text}
 use Rattle.dap_compare.specs.declared.verdict.CompareRefused.TheVariants as comparing
 use Rattle.dap_compare.specs.declared.verdict.Which.{Which}
 use Rattle.dap_input.specs.declared.refused.Refused.{Refused}
 use Rattle.dap_input.specs.declared.refused.Refused.TheVariants.{ReadFault}
 use Rattle.dap_rules.specs.declared.fault.ApplyRefused.{ApplyRefused}
 use Rattle.dap_rules.specs.declared.fault.ApplyRefused.TheVariants as applying
-use Rattle.dap_runs.specs.FaultLine.{compare_refused_text, fault_line, refused_text}
-use Rattle.dap_runs.specs.Reporting.{refused_status}
+use Rattle.dap_input.specs.RefusedText.{refused_text}
+use Rattle.dap_runs.specs.Reporting.{fault_line, refused_status}
 
 -- The recording is rejected after the rules. Its records are counted as they are then.
 abbrev pub after_rules_line : Which → Refused → List ℕ

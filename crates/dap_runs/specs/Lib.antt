@@ -1,5 +1,4 @@
 pub mod ApplyRun
-pub mod FaultLine
 pub mod MaskRun
 pub mod OrderRun
 pub mod Parts

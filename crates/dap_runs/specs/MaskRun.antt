@@ -10,15 +10,14 @@ use Rattle.dap_input.specs.declared.limits.Limits.{Limits}
 use Rattle.dap_input.specs.declared.refused.Refused.TheVariants.{Memory}
 use Rattle.dap_mask.specs.KeptRules.{mask_of}
 use Rattle.dap_mask.specs.Mask.{Mask}
+use Rattle.dap_mask.specs.RulesCauseName.{rules_cause_name}
 use Rattle.dap_mask.specs.RulesFile.{rules_said}
-use Rattle.dap_mask.specs.declared.fault.RulesCause.{RulesCause}
-use Rattle.dap_mask.specs.declared.fault.RulesCause.TheVariants as cause
 use Rattle.dap_mask.specs.declared.fault.RulesFault.{RulesFault}
 use Rattle.dap_mask.specs.declared.mask_rules.MaskRules.{MaskRules}
 use Rattle.dap_rules.specs.MaskedRecordings.{IsMaskedTo, Masks}
 use Rattle.dap_rules.specs.Masking.{masking}
-use Rattle.dap_runs.specs.FaultLine.{fault_line, refused_text}
-use Rattle.dap_runs.specs.Reporting.{Answered, HasSent, IsReported}
+use Rattle.dap_input.specs.RefusedText.{refused_text}
+use Rattle.dap_runs.specs.Reporting.{Answered, HasSent, IsReported, fault_line}
 use Rattle.dap_runs.specs.declared.mask_run.RulesRefused.{RulesRefused}
 use Rattle.dap_runs.specs.declared.mask_run.RulesRefused.TheVariants as refused
 
@@ -64,22 +63,10 @@ ReadsRules source old new no_memory = IsUnreadForMemory source old new
 
 -- ---- what is reported
 
-abbrev pub cause_word : RulesCause → List ℕ
-cause_word cause.TooLong = codes "TooLong"
-cause_word cause.NotUtf8 = codes "NotUtf8"
-cause_word cause.BadRule = codes "BadRule"
-cause_word cause.TooMany = codes "TooMany"
-cause_word cause.BadPlace = codes "BadPlace"
-cause_word cause.Repeated = codes "Repeated"
-cause_word cause.DigitsBehindHex = codes "DigitsBehindHex"
-cause_word cause.Clash = codes "Clash"
-cause_word cause.BadWord = codes "BadWord"
-cause_word cause.Memory = codes "Memory"
-
 -- the line that reports a rejected rules file
 abbrev pub rules_line : RulesFault → List ℕ
 rules_line fault =
-    codes "dapnorm: rules: line " ++ decimal fault.line ++ codes ": " ++ cause_word fault.cause
+    codes "dapnorm: rules: line " ++ decimal fault.line ++ codes ": " ++ rules_cause_name fault.cause
     ++ codes "\n"
 
 -- the line that reports a rules file that could not be read

@@ -10,10 +10,10 @@ use Rattle.dap_input.specs.declared.refused.Refused.TheVariants.{Memory}
 use Rattle.dap_message.specs.SwapRules.{SwapRule}
 use Rattle.dap_rename.specs.declared.mode.Mode.TheVariants.{Whole}
 use Rattle.dap_rules.specs.Ordering.{IsNotOrdered, Orders, ReadsSomeOrAll}
-use Rattle.dap_runs.specs.FaultLine.{fault_line, refused_text}
+use Rattle.dap_input.specs.RefusedText.{refused_text}
 use Rattle.dap_runs.specs.MaskRun.{ReadsRules, RulesOutcome, ReportsOnly, no_memory, rules_line}
 use Rattle.dap_runs.specs.MaskRun.{rules_unread, said, unread}
-use Rattle.dap_runs.specs.Reporting.{Answered, IsReported}
+use Rattle.dap_runs.specs.Reporting.{Answered, IsReported, fault_line}
 
 -- The result of `order` by these rules. If an allocation failed, a prefix of the input was read, or
 -- all of it.

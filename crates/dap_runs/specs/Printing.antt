@@ -4,9 +4,10 @@ use Rattle.dap_compare.specs.declared.verdict.CompareRefused.{CompareRefused}
 use Rattle.dap_compare.specs.declared.verdict.CompareRefused.TheVariants.{Input, Memory}
 use Rattle.dap_device.specs.Written.{AllSent, PrefixWritten}
 use Rattle.dap_device.specs.declared.device.Sink.{Ghosts as Sink}
+use Rattle.dap_input.specs.RefusedText.{refused_text}
 use Rattle.dap_input.specs.declared.refused.Refused.TheVariants.{WriteFault}
-use Rattle.dap_runs.specs.FaultLine.{compare_refused_text, fault_line, refused_text}
-use Rattle.dap_runs.specs.Reporting.{HasSent, refused_status}
+use Rattle.dap_compare.specs.Which.{compare_refused_text}
+use Rattle.dap_runs.specs.Reporting.{HasSent, fault_line, refused_status}
 
 -- The status of the program if the inputs were not compared: that of the error.
 abbrev pub refusal_status : CompareRefused → ℕ

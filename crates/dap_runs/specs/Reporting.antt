@@ -1,10 +1,14 @@
 -- What the program reports, and its statuses. Source: own.
-use Rattle.std.specs.Prelude.{◌≡◌, ◌⊎◌, ℕ, List, Result, Ok, Err}
+use Rattle.std.specs.Prelude.{◌≡◌, ◌⊎◌, ℕ, List, ◌++◌, Result, Ok, Err, codes}
 use Rattle.dap_device.specs.declared.device.Sink.{Ghosts as Sink}
 use Rattle.dap_device.specs.Written.{AllSent, PrefixWritten}
 use Rattle.dap_input.specs.declared.refused.Refused.{Refused}
 use Rattle.dap_input.specs.declared.refused.Refused.TheVariants.{ReadFault, WriteFault, Memory}
-use Rattle.dap_runs.specs.FaultLine.{fault_line, refused_text}
+use Rattle.dap_input.specs.RefusedText.{refused_text}
+
+-- the line with this text
+abbrev pub fault_line : List ℕ → List ℕ
+fault_line text = codes "dapnorm: " ++ text ++ codes "\n"
 
 -- the status of the program after an error: a reader or a writer failed, an allocation failed, or
 -- the input is rejected

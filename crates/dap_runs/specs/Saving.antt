@@ -6,8 +6,7 @@ use Rattle.dap_device.specs.declared.file.Replaceable.{Ghosts as Replaceable}
 use Rattle.dap_device.specs.declared.file.Step.{Step}
 use Rattle.dap_device.specs.declared.file.Step.TheVariants.{SyncFolder}
 use Rattle.dap_device.specs.declared.replacing.ReplaceFault.{ReplaceFault}
-use Rattle.dap_runs.specs.FaultLine.{fault_line}
-use Rattle.dap_runs.specs.Reporting.{HasSent}
+use Rattle.dap_runs.specs.Reporting.{HasSent, fault_line}
 
 -- the line about a file of this name that could not be written
 abbrev pub unsaved_line : List ℕ → List ℕ

@@ -8,8 +8,8 @@ use Rattle.dap_compare.specs.declared.verdict.Which.TheVariants.{A, B}
 use Rattle.dap_device.specs.declared.device.Sink.{Ghosts as Sink}
 use Rattle.dap_input.specs.declared.refused.Refused.TheVariants.{ReadFault}
 use Rattle.dap_runs.specs.Printing.{refusal_status}
-use Rattle.dap_runs.specs.FaultLine.{compare_refused_text, fault_line}
-use Rattle.dap_runs.specs.Reporting.{HasSent}
+use Rattle.dap_compare.specs.Which.{compare_refused_text}
+use Rattle.dap_runs.specs.Reporting.{HasSent, fault_line}
 use Rattle.dap_runs.specs.declared.files.OpenFault.{OpenFault}
 use Rattle.dap_runs.specs.declared.files.OpenFault.TheVariants as fault
 use Rattle.dap_runs.specs.declared.two_inputs.OpenStop.{OpenStop}

@@ -1,8 +1,9 @@
 -- What the program reports of a file of rules that does not open. Source: own.
 use Rattle.std.specs.Prelude.{ℕ, List}
 use Rattle.dap_input.specs.declared.refused.Refused.TheVariants.{Memory, ReadFault}
-use Rattle.dap_runs.specs.FaultLine.{fault_line, refused_text}
+use Rattle.dap_input.specs.RefusedText.{refused_text}
 use Rattle.dap_runs.specs.MaskRun.{rules_unread}
+use Rattle.dap_runs.specs.Reporting.{fault_line}
 use Rattle.dap_runs.specs.declared.rules_files.RulesOpenFault.{RulesOpenFault}
 use Rattle.dap_runs.specs.declared.rules_files.RulesOpenFault.TheVariants as fault
 

@@ -4,9 +4,9 @@ ghost use Rattle.dap_runs.specs.Reporting.{HasSent};
 ghost use Rattle.dap_runs.specs.ApplyRun.{after_rules_line, unapplied_line};
 ghost use Rattle.dap_runs.specs.ApplyRun.{unapplied_status};
 
-use crate::fault_line::{letter, refused_text, tell_of_input};
 use crate::parts::report_parts;
-use crate::status::{FAULT, MEMORY, refused_status};
+use crate::printing::report_refused;
+use crate::status::refused_status;
 use dap_compare::{CompareRefused, Which};
 use dap_device::Sink;
 use dap_input::Refused;
@@ -17,12 +17,12 @@ fn report_after_rules<E: Sink>(errors: &mut E, which: Which, refused: Refused)
     requires { E.failures errors.old < 2 ^ 62 }
     ensures { HasSent E.Sink errors.old errors.new (after_rules_line which refused) }
 {
-    let reason = refused_text(refused);
+    let reason = refused.text();
     report_parts(
         errors,
         &[
             b"dapnorm: ",
-            letter(which).as_bytes(),
+            which.letter().as_bytes(),
             b": after the rules: ",
             reason.as_bytes(),
             b"\n",
@@ -42,20 +42,15 @@ pub fn report_unapplied<E: Sink>(errors: &mut E, which: Which, refused: ApplyRef
 {
     match refused {
         ApplyRefused::Mask(refused) => {
-            tell_of_input(errors, CompareRefused::Input(which, refused));
-            refused_status(refused)
+            report_refused(errors, CompareRefused::Input(which, refused))
         }
         ApplyRefused::Order(refused) => {
             report_after_rules(errors, which, refused);
             refused_status(refused)
         }
         ApplyRefused::ReadFault => {
-            tell_of_input(errors, CompareRefused::Input(which, Refused::ReadFault));
-            FAULT
+            report_refused(errors, CompareRefused::Input(which, Refused::ReadFault))
         }
-        ApplyRefused::Memory => {
-            tell_of_input(errors, CompareRefused::Memory);
-            MEMORY
-        }
+        ApplyRefused::Memory => report_refused(errors, CompareRefused::Memory),
     }
 }

@@ -23,9 +23,7 @@ mod whole_input;
 
 pub use apply_run::report_unapplied;
 pub use devices::Devices;
-pub use fault_line::{
-    LINE, letter, refused_text, send, send_line, tell, tell_answer, tell_of_input,
-};
+pub use fault_line::{LINE, send, send_line, tell, tell_answer, tell_of_input};
 pub use files::{Files, OpenFault};
 pub use mask_run::{RulesRefused, read_rules, report_rules, run_mask};
 pub use order_run::run_order;

@@ -1,7 +1,7 @@
 //! Masks a recording by the rules of a file, and reports errors as the program does.
 ghost use Rattle.std.specs.Prelude.{◌≡◌, ◌+◌, ◌<◌, ◌≤◌, ◌^◌, length};
 ghost use Rattle.dap_input.specs.Limits.{AreSound};
-ghost use Rattle.dap_runs.specs.MaskRun.{MaskIsReported, ReadsRules, cause_word, outcome_of};
+ghost use Rattle.dap_runs.specs.MaskRun.{MaskIsReported, ReadsRules, outcome_of};
 ghost use Rattle.dap_runs.specs.MaskRun.{rules_line, rules_refused_line, rules_refused_status};
 ghost use Rattle.dap_runs.specs.Reporting.{HasSent};
 
@@ -66,25 +66,6 @@ pub fn read_rules<F: Source>(alloc: Global, file: &mut F) -> Result<MaskRules, R
     }
 }
 
-/// Returns the word for the reason why a line is rejected.
-fn cause_word(cause: RulesCause) -> &'static str
-    ensures word { result.now ≡ cause_word cause }
-    ensures short { length result.now ≤ 15 }
-{
-    match cause {
-        RulesCause::TooLong => "TooLong",
-        RulesCause::NotUtf8 => "NotUtf8",
-        RulesCause::BadRule => "BadRule",
-        RulesCause::TooMany => "TooMany",
-        RulesCause::BadPlace => "BadPlace",
-        RulesCause::Repeated => "Repeated",
-        RulesCause::DigitsBehindHex => "DigitsBehindHex",
-        RulesCause::Clash => "Clash",
-        RulesCause::BadWord => "BadWord",
-        RulesCause::Memory => "Memory",
-    }
-}
-
 /// Returns the line for a rules file that is rejected. Does not allocate.
 fn rules_line(fault: RulesFault) -> ArrayString<LINE>
     ensures { result.bytes ≡ rules_line fault }
@@ -94,17 +75,9 @@ fn rules_line(fault: RulesFault) -> ArrayString<LINE>
     line.push_str("dapnorm: rules: line ");
     line.push_str(number.format(fault.line));
     line.push_str(": ");
-    line.push_str(cause_word(fault.cause));
+    line.push_str(fault.cause.name());
     line.push_str("\n");
     line
-}
-
-/// Reports which line of a rules file is rejected.
-fn tell_line<E: Sink>(errors: &mut E, fault: RulesFault)
-    requires { E.failures errors.old < 2 ^ 63 }
-    ensures { HasSent E.Sink errors.old errors.new (rules_line fault) }
-{
-    send_line(errors, &rules_line(fault));
 }
 
 /// Reports in one line why there are no rules, and returns the status of the program. A failure to
@@ -123,7 +96,7 @@ pub fn report_rules<E: Sink>(errors: &mut E, refused: RulesRefused) -> u8
             FAULT
         }
         RulesRefused::Line(fault) => {
-            tell_line(errors, fault);
+            send_line(errors, &rules_line(fault));
             REFUSED
         }
         RulesRefused::Memory => {

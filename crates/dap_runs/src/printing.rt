@@ -1,9 +1,9 @@
 //! Prints what a comparison or a search found, and reports why two inputs were not compared.
 ghost use Rattle.std.specs.Prelude.{◌≡◌, ◌<◌, ◌^◌};
 ghost use Rattle.dap_runs.specs.Printing.{IsPrinted, refusal_status};
-ghost use Rattle.dap_runs.specs.FaultLine.{compare_refused_text, fault_line};
+ghost use Rattle.dap_compare.specs.Which.{compare_refused_text};
 ghost use Rattle.dap_runs.specs.Parts.{joined};
-ghost use Rattle.dap_runs.specs.Reporting.{HasSent};
+ghost use Rattle.dap_runs.specs.Reporting.{HasSent, fault_line};
 
 use crate::fault_line::{tell, tell_of_input};
 use crate::parts::send_parts;

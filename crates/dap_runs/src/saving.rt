@@ -2,8 +2,7 @@
 ghost use Rattle.std.specs.Prelude.{◌≡◌, ◌<◌, ◌^◌, ◌++◌, None};
 ghost use Rattle.dap_device.specs.Crash.{LeavesOnly};
 ghost use Rattle.dap_device.specs.Replacing.{IsOldOrNew};
-ghost use Rattle.dap_runs.specs.Reporting.{HasSent};
-ghost use Rattle.dap_runs.specs.FaultLine.{fault_line};
+ghost use Rattle.dap_runs.specs.Reporting.{HasSent, fault_line};
 ghost use Rattle.dap_runs.specs.Saving.{Saves, unsaved_line, unsaved_words};
 
 use crate::parts::report_parts;

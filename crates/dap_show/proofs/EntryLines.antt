@@ -20,7 +20,7 @@ use Rattle.dap_tree.specs.Doc.{Doc}
 use Rattle.dap_tree.specs.Json.{IsRead}
 use Rattle.dap_show.specs.Viewing.{Entry, Fits, Rejects, entry_lines, first_refusal, fits_in, kept}
 use Rattle.dap_show.specs.Viewing.{IsEntry, detail_lines, fault_words, head_lines, kept_of}
-use Rattle.dap_show.specs.Viewing.{lines_of, or_else, refusal_at, refusal_of, refused_words}
+use Rattle.dap_show.specs.Viewing.{lines_of, or_else, refusal_at, refusal_of}
 use Rattle.dap_show.specs.Viewing.{rule_refusal, typed, untyped}
 use Rattle.dap_show.specs.ViewingSteps.{IsEntered, IsJudged, StandsIf}
 use Rattle.dap_show.specs.declared.detail.Detail.{Detail}
@@ -152,7 +152,7 @@ module _ (detail : Detail) (limits : Limits) (before : List Entry) (number : ℕ
       (reported : RejectsPayload (HoldsNoMessage held) number refused)
       (other : refused ≢ because.Memory)
       (new : List ℕ)
-      (new_is : new ≡ old ++ (start_words number held.0 ++ fault_words (refused_words refused)))
+      (new_is : new ≡ old ++ (start_words number held.0 ++ fault_words refused))
     where
       abbrev here : Untyped held number refused
       here = untyped_for held number refused reported other
@@ -162,7 +162,7 @@ module _ (detail : Detail) (limits : Limits) (before : List Entry) (number : ℕ
 
       lines_are : new ≡ old ++ entry_lines detail number entry
       lines_are =
-          new_is ∙ ap (λ r. old ++ (start_words number held.0 ++ fault_words (refused_words r)))
+          new_is ∙ ap (λ r. old ++ (start_words number held.0 ++ fault_words r))
           here.refused_is
 
       pub entered_untyped : (session : SessionState) → StandsIf true session (kept before)

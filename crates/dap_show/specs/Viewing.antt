@@ -10,16 +10,13 @@ use Rattle.dap_tree.specs.Doc.{Doc}
 use Rattle.dap_tree.specs.Json.{IsRead}
 use Rattle.dap_tree.specs.declared.side.Side.{Side}
 use Rattle.dap_message.specs.Message.{HasRefusal, Refusal, Sent, faulty, fraction, no_reading}
-use Rattle.dap_message.specs.declared.fault.MessageFault.{MessageFault}
-use Rattle.dap_message.specs.declared.fault.MessageFault.TheVariants as message_fault
-use Rattle.dap_recording.specs.FaultNames.{cause_name}
 use Rattle.dap_recording.specs.Recording.{IsRecording, records}
-use Rattle.dap_session.specs.RuleName.{rule_name}
 use Rattle.dap_session.specs.Rules.{first_broken}
 use Rattle.dap_session.specs.declared.rule.Rule.{Rule}
 use Rattle.dap_input.specs.InputSteps.{AcceptsAll}
 use Rattle.dap_input.specs.Validation.{Validation, ContentError, grew, no_message}
 use Rattle.dap_input.specs.Limits.{AreSound}
+use Rattle.dap_input.specs.RefusedText.{reason_text}
 use Rattle.dap_input.specs.Refusals.{HasOneOutcome, RefusalStays}
 use Rattle.dap_input.specs.declared.limits.Limits.{Limits}
 use Rattle.dap_input.specs.declared.refused.Refused.{Refused}
@@ -85,31 +82,15 @@ IsFraming refused = ⊥
 
 -- ---- lines
 
-abbrev pub message_fault_words : MessageFault → List ℕ
-message_fault_words message_fault.NotObject = codes "NotObject"
-message_fault_words message_fault.UnknownType = codes "UnknownType"
-message_fault_words (message_fault.Missing row) = codes "Missing row " ++ decimal row
-message_fault_words (message_fault.WrongType row) = codes "WrongType row " ++ decimal row
-message_fault_words message_fault.Memory = codes "Memory"
-
--- Why a record is rejected: the name of its error.
-abbrev pub refused_words : Refused → List ℕ
-refused_words (because.InputTooLong n) = codes "InputTooLong"
-refused_words (because.Record n cause) = cause_name cause
-refused_words (because.Json n) = codes "Json"
-refused_words (because.Fraction n) = codes "Fraction"
-refused_words (because.Message n fault) = message_fault_words fault
-refused_words (because.Rule n rule) = rule_name rule
-refused_words refused = []
-
-abbrev pub fault_words : List ℕ → List ℕ
-fault_words words = codes "fault: " ++ words ++ codes "\n"
+-- The mark of a rejected record: the name of its error.
+abbrev pub fault_words : Refused → List ℕ
+fault_words refused = codes "fault: " ++ reason_text refused ++ codes "\n"
 
 -- The lines of a message, with the rule that it violates.
 abbrev pub head_lines : ℕ → Sent → Option Rule → List ℕ
 head_lines n message None = message_line n message
 head_lines n message (Some rule) =
-    message_line n message ++ (codes "  " ++ fault_words (refused_words (because.Rule n rule)))
+    message_line n message ++ (codes "  " ++ fault_words (because.Rule n rule))
 
 -- The lines under them: the frames, scopes and variables that the message lists, or the leaves of
 -- the content.
@@ -120,8 +101,7 @@ detail_lines Leaves message d = leaf_lines [] d
 abbrev pub entry_lines : Detail → ℕ → Entry → List ℕ
 entry_lines detail n (typed message d rule) =
     head_lines n message rule ++ detail_lines detail message d
-entry_lines detail n (untyped side why) =
-    start_words n side ++ fault_words (refused_words (refusal_of n why))
+entry_lines detail n (untyped side why) = start_words n side ++ fault_words (refusal_of n why)
 
 -- The lines of entries, the first of which is record n.
 abbrev pub lines_of : Detail → ℕ → List Entry → List ℕ
@@ -131,10 +111,8 @@ lines_of detail n (entry ∷ entries) =
 
 -- The line of an error of the framing, whose side may be unknown.
 abbrev pub stop_line : Refused → List ℕ
-stop_line (because.Record n cause) =
-    decimal n ++ codes " " ++ fault_words (refused_words (because.Record n cause))
-stop_line (because.InputTooLong n) =
-    decimal n ++ codes " " ++ fault_words (refused_words (because.InputTooLong n))
+stop_line (because.Record n cause) = decimal n ++ codes " " ++ fault_words (because.Record n cause)
+stop_line (because.InputTooLong n) = decimal n ++ codes " " ++ fault_words (because.InputTooLong n)
 stop_line refused = []
 
 -- The lines of leaves repeat their paths, so their total length is limited: by the limit of the

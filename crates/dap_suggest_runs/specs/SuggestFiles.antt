@@ -13,8 +13,8 @@ use Rattle.dap_device.specs.declared.reading.Stop.TheVariants.{Failed}
 use Rattle.dap_input.specs.declared.limits.Limits.{Limits}
 use Rattle.dap_input.specs.declared.refused.Refused.TheVariants.{ReadFault}
 use Rattle.dap_runs.specs.Printing.{refusal_status}
-use Rattle.dap_runs.specs.FaultLine.{compare_refused_text, fault_line}
-use Rattle.dap_runs.specs.Reporting.{HasSent}
+use Rattle.dap_compare.specs.Which.{compare_refused_text}
+use Rattle.dap_runs.specs.Reporting.{HasSent, fault_line}
 use Rattle.dap_runs.specs.TextsByRules.{is_either_standard, no_rules_line, no_rules_status}
 use Rattle.dap_runs.specs.TwoInputs.{are_both_standard, stop_line, stop_status}
 use Rattle.dap_runs.specs.WholeInputs.{IsRead, IsReadPartly, IsWhole, ReadsWhole, UnreadTakes}

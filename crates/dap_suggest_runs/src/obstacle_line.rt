@@ -1,8 +1,5 @@
 //! The line that says why no rules make two recordings the same.
 use dap_compare::Which;
-use dap_input::Refused;
-use dap_rules::ApplyRefused;
-use dap_runs::{letter, refused_text};
 use dap_suggest::{Obstacle, Reason};
 use std::alloc::{AllocError, Global};
 
@@ -12,15 +9,6 @@ fn reason_words(reason: Reason) -> &'static str {
         Reason::NoCounterpart => "has no counterpart in",
         Reason::Differs => "differs where no rule may change it from",
         Reason::OutOfOrder => "comes in an order that no rule allows in",
-    }
-}
-
-/// Returns the error without its step.
-fn without_step(refused: ApplyRefused) -> Refused {
-    match refused {
-        ApplyRefused::Mask(refused) | ApplyRefused::Order(refused) => refused,
-        ApplyRefused::ReadFault => Refused::ReadFault,
-        ApplyRefused::Memory => Refused::Memory,
     }
 }
 
@@ -45,8 +33,7 @@ pub fn obstacle_line(alloc: Global, obstacle: &Obstacle) -> Result<String, Alloc
             )
         }
         Obstacle::Unapplied(which, refused) => {
-            let (one, text) = (letter(*which), refused_text(without_step(*refused)));
-            format!(in alloc; "no rules can: {one}: after the rules: {text}\n")
+            format!(in alloc; "no rules can: {which}: after the rules: {refused}\n")
         }
         Obstacle::Unread => String::from_str(
             alloc,

@@ -1,8 +1,8 @@
 //! Suggests rules for two recordings that are given by the names of their files.
 ghost use Rattle.std.specs.Prelude.{◌≡◌, ◌+◌, ◌<◌, ◌^◌};
 ghost use Rattle.dap_runs.specs.Printing.{refusal_status};
-ghost use Rattle.dap_runs.specs.FaultLine.{compare_refused_text, fault_line};
-ghost use Rattle.dap_runs.specs.Reporting.{HasSent};
+ghost use Rattle.dap_compare.specs.Which.{compare_refused_text};
+ghost use Rattle.dap_runs.specs.Reporting.{HasSent, fault_line};
 ghost use Rattle.dap_suggest_runs.specs.SuggestFiles.{EndTakes, EndsBy, HasGivenText};
 ghost use Rattle.dap_suggest_runs.specs.SuggestFiles.{SuggestionIsRun, unread_as};
 

@@ -15,8 +15,8 @@ use Rattle.dap_input.specs.declared.refused.Refused.TheVariants.{Memory}
 use Rattle.dap_mask.specs.KeptRules.{mask_of}
 use Rattle.dap_mask.specs.Mask.{Mask}
 use Rattle.dap_mask.specs.declared.mask_rules.MaskRules.{MaskRules}
-use Rattle.dap_runs.specs.FaultLine.{fault_line, refused_text}
-use Rattle.dap_runs.specs.Reporting.{HasSent}
+use Rattle.dap_input.specs.RefusedText.{refused_text}
+use Rattle.dap_runs.specs.Reporting.{HasSent, fault_line}
 use Rattle.dap_runs.specs.TextsByRules.{HasRules, bytes_of, memory, no_rules_line, no_rules_status}
 use Rattle.dap_runs.specs.TwoInputs.{is_standard}
 use Rattle.dap_runs.specs.WholeInputs.{IsWhole, ReadsWhole, UnreadTakes}

@@ -19,8 +19,8 @@ use Rattle.dap_input.specs.declared.limits.Limits.{Limits}
 use Rattle.dap_input.specs.declared.refused.Refused.TheVariants.{WriteFault}
 use Rattle.dap_mask.specs.Mask.{Mask}
 use Rattle.dapnorm.specs.Pairs.{differ_line, same_line}
-use Rattle.dap_runs.specs.FaultLine.{fault_line, refused_text}
-use Rattle.dap_runs.specs.Reporting.{HasSent}
+use Rattle.dap_input.specs.RefusedText.{refused_text}
+use Rattle.dap_runs.specs.Reporting.{HasSent, fault_line}
 use Rattle.dap_runs.specs.Saving.{unsaved_words}
 use Rattle.dapnorm.specs.declared.golden_run.GoldenRun.{GoldenRun}
 

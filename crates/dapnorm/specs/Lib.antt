@@ -15,6 +15,7 @@ pub use Rattle.dap_commands.specs.Reading
 pub use Rattle.dap_compact.specs.Compacting
 pub use Rattle.dap_compare.specs.Comparing
 pub use Rattle.dap_compare.specs.Verdicts
+pub use Rattle.dap_compare.specs.Which
 pub use Rattle.dap_diff.specs.Diffs
 pub use Rattle.dap_commands.specs.Commands
 pub use Rattle.dap_device.specs.Calls
@@ -28,6 +29,7 @@ pub use Rattle.dap_input.specs.Inputs
 pub use Rattle.dap_input.specs.Validation
 pub use Rattle.dap_input.specs.Limits
 pub use Rattle.dap_input.specs.ReadTo
+pub use Rattle.dap_input.specs.RefusedText
 pub use Rattle.dap_mask.specs.Mask
 pub use Rattle.dap_mask.specs.RulesFile
 pub use Rattle.dap_rules.specs.MaskedRecordings
@@ -41,7 +43,6 @@ pub use Rattle.dap_normalise.specs.Normalising
 pub use Rattle.dap_normalise.specs.OldGoldenFiles
 pub use Rattle.dap_normalise.specs.Streaming
 pub use Rattle.dap_profile.specs.RowLines
-pub use Rattle.dap_runs.specs.FaultLine
 pub use Rattle.dap_runs.specs.MaskRun
 pub use Rattle.dap_runs.specs.Parts
 pub use Rattle.dap_runs.specs.Printing

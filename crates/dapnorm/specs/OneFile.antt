@@ -6,8 +6,8 @@ use Rattle.dap_device.specs.declared.device.Source.{Ghosts as Source}
 use Rattle.dap_input.specs.declared.limits.Limits.{Limits}
 use Rattle.dap_input.specs.declared.refused.Refused.{Refused}
 use Rattle.dap_input.specs.declared.refused.Refused.TheVariants.{Memory, ReadFault}
-use Rattle.dap_runs.specs.FaultLine.{fault_line, refused_text}
-use Rattle.dap_runs.specs.Reporting.{HasSent, refused_status}
+use Rattle.dap_input.specs.RefusedText.{refused_text}
+use Rattle.dap_runs.specs.Reporting.{HasSent, fault_line, refused_status}
 use Rattle.dap_runs.specs.TwoInputs.{is_standard}
 use Rattle.dap_runs.specs.declared.files.OpenFault.{OpenFault}
 use Rattle.dap_runs.specs.declared.files.OpenFault.TheVariants as fault

@@ -12,8 +12,8 @@ use Rattle.dap_device.specs.declared.device.Sink.{Ghosts as Sink}
 use Rattle.dap_normalise.specs.declared.checked.Checked.{Checked}
 use Rattle.dap_rename.specs.declared.mode.Mode.{Mode}
 use Rattle.dap_record.specs.TracingRun.{RecordsTrace}
-use Rattle.dap_runs.specs.FaultLine.{fault_line, refused_text}
-use Rattle.dap_runs.specs.Reporting.{Answered, HasSent, IsSent, IsReported, status_of}
+use Rattle.dap_input.specs.RefusedText.{refused_text}
+use Rattle.dap_runs.specs.Reporting.{Answered, HasSent, IsReported, IsSent, fault_line, status_of}
 use Rattle.dap_input.specs.Engine.{Answers, ReadsNoneOrAll}
 use Rattle.dap_input.specs.Refusals.{IsRefused}
 use Rattle.dap_input.specs.declared.limits.Limits.{Limits}

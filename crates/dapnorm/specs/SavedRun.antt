@@ -8,8 +8,8 @@ use Rattle.dap_device.specs.declared.file.Replaceable.{Ghosts as Replaceable}
 use Rattle.dap_input.specs.declared.limits.Limits.{Limits}
 use Rattle.dap_input.specs.declared.refused.Refused.TheVariants.{Memory}
 use Rattle.dap_rules.specs.Memory.{WrittenBytes}
-use Rattle.dap_runs.specs.FaultLine.{fault_line, refused_text}
-use Rattle.dap_runs.specs.Reporting.{HasSent, refused_status}
+use Rattle.dap_input.specs.RefusedText.{refused_text}
+use Rattle.dap_runs.specs.Reporting.{HasSent, fault_line, refused_status}
 use Rattle.dap_runs.specs.Saving.{Saves, unsaved_line}
 use Rattle.dapnorm.specs.OneFile.{unopened_as}
 use Rattle.dapnorm.specs.TaskRun.{TaskIsDone}

@@ -10,8 +10,8 @@ use Rattle.dap_show.specs.Viewing.{ViewsInput}
 use Rattle.dap_show.specs.declared.detail.Detail.{Detail}
 use Rattle.dap_show.specs.declared.one_record.RecordShown.{RecordShown}
 use Rattle.dap_show.specs.declared.one_record.RecordShown.TheVariants.{Shown, Missing}
-use Rattle.dap_runs.specs.FaultLine.{fault_line, refused_text}
-use Rattle.dap_runs.specs.Reporting.{HasSent, IsReported, refused_status, status_of}
+use Rattle.dap_input.specs.RefusedText.{refused_text}
+use Rattle.dap_runs.specs.Reporting.{HasSent, IsReported, fault_line, refused_status, status_of}
 
 -- the first error in a result: one that is marked in a line, or one that is returned
 abbrev pub first_of : Result (Option Refused) Refused → Result (Unit {0}) Refused

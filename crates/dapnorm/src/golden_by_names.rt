@@ -13,7 +13,6 @@ ghost use Rattle.dapnorm.specs.SavedRun.{unfound_status};
 
 use crate::golden_run::{report_line, run_golden};
 use crate::one_file::input_name;
-use arrayvec::ArrayString;
 use dap_commands::{Golden, Name};
 use dap_device::{MemorySource, Replaceable, Sink, Source};
 use dap_golden::{GoldenRequest, GoldenStop};
@@ -102,7 +101,7 @@ fn report_failed<E: Sink>(errors: &mut E, name: &str, words: &str)
     requires { E.failures errors.old < 2 ^ 62 }
     ensures { HasSent E.Sink errors.old errors.new (golden_line name.now words.now []) }
 {
-    report_line(errors, name, words, &ArrayString::new());
+    report_line(errors, name, words, "");
 }
 
 /// Reports in one line that the input could not be read, and returns the status of the program.

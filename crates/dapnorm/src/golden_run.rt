@@ -16,11 +16,10 @@ use dap_device::{DeviceFault, Replaceable, Sink, Source, write_and_flush};
 use dap_golden::{
     GoldenDone, GoldenRefused, GoldenRequest, GoldenStop, GoldenVerdict, golden_file,
 };
-use dap_input::{Limits, Refused};
+use dap_input::{Limits, Refused, TEXT};
 use dap_mask::MaskRules;
 use dap_runs::{
-    DIFFERENT, DONE, FAULT, LINE, MEMORY, REFUSED, refused_text, report_parts, send_parts, tell,
-    unsaved_words,
+    DIFFERENT, DONE, FAULT, MEMORY, REFUSED, report_parts, send_parts, tell, unsaved_words,
 };
 use itoa::Buffer;
 use std::alloc::Global;
@@ -132,28 +131,23 @@ fn stop_words(has_rules: bool, stop: GoldenStop) -> &'static str
 }
 
 /// What the line of a stop says last: why an input or the golden file is rejected.
-fn stop_reason(stop: GoldenStop) -> ArrayString<LINE>
+fn stop_reason(stop: GoldenStop) -> ArrayString<TEXT>
     ensures { result.bytes ≡ stop_reason stop }
 {
     match stop {
         GoldenStop::Input(
             GoldenRefused::Trace(why) | GoldenRefused::Mask(why) | GoldenRefused::Session(why),
-        ) => refused_text(why),
-        GoldenStop::Golden(why) => refused_text(why),
+        ) => why.text(),
+        GoldenStop::Golden(why) => why.text(),
         _ => ArrayString::new(),
     }
 }
 
 /// Reports a line of three parts about `golden`. A failure to write it is not reported.
-pub(crate) fn report_line<E: Sink>(
-    errors: &mut E,
-    subject: &str,
-    words: &str,
-    reason: &ArrayString<LINE>,
-)
+pub(crate) fn report_line<E: Sink>(errors: &mut E, subject: &str, words: &str, reason: &str)
     requires { E.failures errors.old < 2 ^ 62 }
     ensures { HasSent E.Sink errors.old errors.new
-        (golden_line subject.now words.now reason.now.bytes) }
+        (golden_line subject.now words.now reason.now) }
 {
     let (subject, words) = (subject.as_bytes(), words.as_bytes());
     report_parts(
@@ -175,7 +169,7 @@ fn report_stop<E: Sink>(errors: &mut E, has_rules: bool, name: &str, stop: Golde
 {
     let subject = stop_subject(name, stop);
     let words = stop_words(has_rules, stop);
-    report_line(errors, subject, words, &stop_reason(stop));
+    report_line(errors, subject, words, stop_reason(stop).as_str());
 }
 
 /// Compares a session with its golden file, or makes or renews the golden file, as

@@ -1,8 +1,8 @@
 //! Does a task over one file that is given by its name.
 ghost use Rattle.std.specs.Prelude.{◌≡◌, ◌+◌, ◌<◌, ◌≤◌, ◌^◌, IfOk};
 ghost use Rattle.dap_normalise.specs.NameTables.{AreReady};
-ghost use Rattle.dap_runs.specs.FaultLine.{fault_line, refused_text};
-ghost use Rattle.dap_runs.specs.Reporting.{HasSent, refused_status};
+ghost use Rattle.dap_input.specs.RefusedText.{refused_text};
+ghost use Rattle.dap_runs.specs.Reporting.{HasSent, fault_line, refused_status};
 ghost use Rattle.dapnorm.specs.OneFile.{FileIsRun, input_name, unopened_as};
 
 use crate::task::{Task, TaskRun, run_task};

@@ -4,7 +4,7 @@ ghost use Rattle.std.specs.List.{flat_map};
 ghost use Rattle.dap_device.specs.Written.{HasSentAll, HasWrittenAll};
 ghost use Rattle.dap_input.specs.Limits.{AreSound};
 ghost use Rattle.dap_normalise.specs.NameTables.{AreReady};
-ghost use Rattle.dap_runs.specs.FaultLine.{compare_refused_text, fault_line};
+ghost use Rattle.dap_compare.specs.Which.{compare_refused_text};
 ghost use Rattle.dap_runs.specs.Printing.{IsPrinted, refusal_status};
 ghost use Rattle.dap_runs.specs.Reporting.{HasSent};
 ghost use Rattle.dapnorm.specs.Pairs.{CompareIsReported, PairIsRun, all_status, all_text};

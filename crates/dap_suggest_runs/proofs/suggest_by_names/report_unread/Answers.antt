@@ -1,6 +1,6 @@
 use Rattle.std.proofs.Common.{subst}
-use Rattle.dap_runs.specs.FaultLine.{compare_refused_text, fault_line}
-use Rattle.dap_runs.specs.Reporting.{HasSent}
+use Rattle.dap_compare.specs.Which.{compare_refused_text}
+use Rattle.dap_runs.specs.Reporting.{HasSent, fault_line}
 use Rattle.dap_suggest_runs.proofs.suggest_by_names.report_unread.Goals as goal
 
 pub returns-clause-line : goal.returns-clause-line

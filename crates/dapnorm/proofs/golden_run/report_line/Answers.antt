@@ -7,5 +7,4 @@ returns g c =
       c.as_bytes.ensures.value,
       c.as_bytes-words.ensures.value,
       c.as_bytes-subject.ensures.value,
-      c.deref.ensures.0,
     ) at c.report_parts.ensures)

@@ -1,4 +1,4 @@
-use Rattle.std.proofs.Common.{subst}
+use Rattle.std.proofs.Common.{subst, ◌∙◌}
 use Rattle.dapnorm.specs.GoldenRun.{golden_line, stop_subject, stop_words}
 use Rattle.dap_runs.specs.Reporting.{HasSent}
 use Rattle.dapnorm.proofs.golden_run.report_stop.Goals as goal
@@ -8,8 +8,8 @@ returns g c =
     let Sent = HasSent g.E.Sink c.args.errors.now c.report_line.new.errors in
     let subject = stop_subject c.args.name.now c.args.stop in
     let words = stop_words c.args.has_rules c.args.stop in
-    subst (λ reason. Sent (golden_line subject words reason)) c.stop_reason.ensures
-    (subst (λ said. Sent (golden_line subject said c.stop_reason.result.bytes))
-    c.stop_words-words.ensures
-    (subst (λ named. Sent (golden_line named c.stop_words-words.result.now c.stop_reason.result.bytes))
+    let reason = c.as_str.result.now in
+    subst (λ why. Sent (golden_line subject words why)) (c.as_str.ensures.value ∙ c.stop_reason.ensures)
+    (subst (λ said. Sent (golden_line subject said reason)) c.stop_words-words.ensures
+    (subst (λ named. Sent (golden_line named c.stop_words-words.result.now reason))
     c.stop_subject-subject.ensures c.report_line.ensures))
