@@ -20,6 +20,5 @@
 mod commands;
 
 pub use commands::{
-    explain_applying, explain_comparison, explain_golden, explain_job, explain_mask, explain_order,
-    explain_view,
+    explain_applying, explain_golden, explain_job, explain_mask, explain_order, explain_view,
 };

@@ -44,7 +44,8 @@ fn messages_of(alloc: Global, recording: &[u8], limits: FrameLimits) -> Option<V
 pub fn is_carried(
     alloc: Global,
     renaming: &Renaming,
-    (from, to): (&[u8], &[u8]),
+    from: &[u8],
+    to: &[u8],
     limits: FrameLimits,
     mode: Mode,
 ) -> bool

@@ -149,12 +149,15 @@ fn carried(
     requires limits { AreSound call.now.limits }
     requires new { AreNew devices.old }
 {
-    let limits = call.limits.frame;
     match compared(alloc, call, devices)? {
-        Verdict::Same(renaming) => {
-            let texts = (call.a.text, call.b.text);
-            Ok(Some(is_carried(alloc, &renaming, texts, limits, call.mode)))
-        }
+        Verdict::Same(renaming) => Ok(Some(is_carried(
+            alloc,
+            &renaming,
+            call.a.text,
+            call.b.text,
+            call.limits.frame,
+            call.mode,
+        ))),
         Verdict::Differ(_) => Ok(None),
     }
 }
