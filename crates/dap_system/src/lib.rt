@@ -9,9 +9,7 @@ mod inputs;
 mod output;
 mod reports;
 
-pub use files::{
-    SystemDevices, SystemFiles, SystemRules, SystemTargets, are_same, is_device,
-};
+pub use files::{SystemDevices, SystemFiles, SystemRules, SystemTargets, are_same, is_device};
 pub use inputs::{OpenedInput, SystemInput};
 pub use output::{
     Errors, Escaped, LineOutput, OpenOutput, ShownOutput, errors, line_output, shown_output,

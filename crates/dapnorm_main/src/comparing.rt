@@ -60,11 +60,7 @@ fn explain_open_stop(rt: &HostRuntime, names: (&str, &str), stop: &OpenStop) {
 }
 
 /// Explains a comparison of two files, and returns its status.
-fn explained(
-    rt: &HostRuntime,
-    names: (&str, &str),
-    run: &TwoFilesRun<SystemInput<'_>>,
-) -> u8 {
+fn explained(rt: &HostRuntime, names: (&str, &str), run: &TwoFilesRun<SystemInput<'_>>) -> u8 {
     match &run.inputs {
         Ok((a, b)) => explain(rt, names, (a, b), run.run),
         Err(stop) => explain_open_stop(rt, names, stop),

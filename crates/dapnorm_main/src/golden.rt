@@ -1,8 +1,8 @@
 //! Compares a session with its golden file, or makes or renews the golden file.
 use crate::explaining::{explain_file, explain_no_rules};
 use crate::{Setting, USAGE, text_of};
-use dap_explain_commands::explain_golden;
 use dap_device::FileAt;
+use dap_explain_commands::explain_golden;
 use dap_system::{
     SystemFiles, SystemInput, SystemTargets, are_same, errors, explain_unopened, explain_unread,
     print, report_file, report_terminal, shown_output,

@@ -1,6 +1,6 @@
 //! Suggests rules that make the recordings of two files the same.
-use crate::explaining::explain_no_rules;
 use crate::Setting;
+use crate::explaining::explain_no_rules;
 use dap_explain::explain_rules;
 use dap_explain_commands::explain_applying;
 use dap_golden::is_trace;

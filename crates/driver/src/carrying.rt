@@ -51,7 +51,10 @@ pub fn is_carried(
 ) -> bool
     requires { IsSound limits }
 {
-    match (messages_of(alloc, from, limits), messages_of(alloc, to, limits)) {
+    match (
+        messages_of(alloc, from, limits),
+        messages_of(alloc, to, limits),
+    ) {
         (Some(from), Some(to)) => renaming.carries(from.as_slice(), to.as_slice(), mode),
         _ => false,
     }

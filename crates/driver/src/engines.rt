@@ -284,18 +284,19 @@ fn pair_printed_with<T: NameTable + Drop>(
 {
     Outcome::Status(
         run_pair_with(
-        alloc,
-        printed,
-        &mut devices.a,
-        &mut devices.b,
-        &mut devices.output,
-        &mut devices.errors,
-        call.limits,
-        tables_a,
-        tables_b,
-        call.mode,
+            alloc,
+            printed,
+            &mut devices.a,
+            &mut devices.b,
+            &mut devices.output,
+            &mut devices.errors,
+            call.limits,
+            tables_a,
+            tables_b,
+            call.mode,
+        )
+        .status,
     )
-    .status)
 }
 
 /// Calls a command function that creates its own name tables.
