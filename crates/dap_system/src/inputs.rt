@@ -9,7 +9,7 @@ use std::io::{self, Error, ErrorKind, Read, Stdin};
 /// The number of first bytes of an input that are stored. The first line of a trace is shorter.
 const HEAD: usize = 32;
 
-/// Where an input comes from.
+/// The source of an input.
 #[derive(Drop)]
 enum Origin<'a> {
     File(File),
