@@ -1,6 +1,6 @@
 //! Prints explanations on standard error, after the line of a refusal.
 use dap_device::find_file;
-use dap_explain::{explain, explain_rules};
+use dap_explain::{Format, Input, explain, explain_rules};
 use dap_explain_commands::{explain_mask, explain_order};
 use dap_system::{print, report_reason};
 use dapnorm::{LIMITS, NoRules, Refused, Replaceable, RulesFault, RulesOpenFault, RulesRefused};
@@ -13,7 +13,12 @@ pub fn explain_file(rt: &HostRuntime, name: &str, refused: Refused, hasher: Rand
         return;
     };
     if let Ok(Some(golden)) = file.read(rt.alloc(), LIMITS.input) {
-        print(rt, explain(rt.alloc(), golden.as_slice(), refused, LIMITS));
+        let input = Input {
+            bytes: golden.as_slice(),
+            format: Format::Recording,
+            rules: None,
+        };
+        print(rt, explain(rt.alloc(), input, refused, LIMITS));
     }
 }
 
