@@ -66,6 +66,14 @@ NUMBERS = {
             to_blank("event terminated statistics.one[]"), APPLY,
         ],
     ),
+    "a fraction beside one that a rule blanks by its name": (
+        third('<{"seq":2,"type":"event","event":"custom","body":{"things":[{"name":"a","v":0.5},{"name":"b","v":0.25}]}}'),
+        'blank event custom body.things["a"].v\n', "record 3: Fraction",
+        [
+            'record 3 is < event "custom"', "body.things[1].v is 0.25, which has a fraction; dapnorm takes only integers of 64 bits",
+            to_blank("event custom body.things[].v"), APPLY,
+        ],
+    ),
     "a fraction in an array": (
         third(LAUNCH % '{"y":[0.5,1]}'), None, "record 3: Fraction",
         [

@@ -6,38 +6,58 @@ ghost use Rattle.dap_explain.specs.Lines.{AreLines};
 ghost use Rattle.dap_explain.specs.Unexplained.{IsEmpty, IsFailure};
 
 use crate::fractions::explain_fraction;
-use crate::head::{Head, add_head, read_value};
+use crate::head::{Head, add_head, read_message};
 use crate::json_faults::explain_json;
 use crate::lines::Lines;
 use crate::message_faults::explain_message;
 use crate::record_faults::explain_record;
-use crate::records::{Part, record_numbered};
+use crate::records::{Format, Records};
 use crate::session_rules::explain_rule;
 use crate::trace_faults::{explain_piece, explain_recorder};
 use crate::unanswered::explain_incomplete;
+use dap_frame::Framer;
 use dap_input::{Limits, Refused};
-use dap_mask::{MaskRule, MaskRules};
-use serde_json::Value;
+use dap_mask::MaskRules;
 use std::alloc::{AllocError, Global};
 
-/// Explains the rejection of a record that contains this value.
-fn explain_value(
+/// An input that was rejected.
+#[derive(Clone, Copy)]
+pub struct Input<'a> {
+    pub bytes: &'a [u8],
+    pub format: Format,
+    /// The rules that were applied to the messages before their numbers were checked.
+    pub rules: Option<&'a MaskRules>,
+}
+
+/// Adds the lines about the rejection of the content of a record.
+fn add_content(
     lines: &mut Lines,
-    input: &[u8],
-    record: Part<'_>,
-    message: &Value,
+    records: Records<'_>,
+    number: u64,
+    rules: Option<&MaskRules>,
     refused: Refused,
-    rules: &[MaskRule],
     limits: Limits,
 ) {
-    if let Refused::Message(_, fault) = refused {
-        return explain_message(lines, record, message, fault);
+    let Some(record) = records
+        .from_number(number)
+        .and_then(|records| records.first())
+    else {
+        return;
+    };
+    if let Refused::Json(_) = refused {
+        return explain_json(lines, record);
     }
-    let head = Head::of(record.side, message);
-    add_head(lines, record.number, &head);
+    let Some(message) = read_message(lines, record.content, rules) else {
+        return;
+    };
+    if let Refused::Message(_, fault) = refused {
+        return explain_message(lines, record, &message, fault);
+    }
+    let head = Head::of(record.side, &message);
+    add_head(lines, number, &head);
     match refused {
-        Refused::Fraction(_) => explain_fraction(lines, record.content, message, head, rules),
-        Refused::Rule(_, rule) => explain_rule(lines, input, record.number, &head, rule),
+        Refused::Fraction(_) => explain_fraction(lines, record.content, &message, head),
+        Refused::Rule(_, rule) => explain_rule(lines, records, number, &head, rule),
         Refused::TooManyIds(_) => lines.write(format_args!(
             "the limit is {} different ids of a kind: record shorter sessions",
             limits.ids,
@@ -50,99 +70,55 @@ fn explain_value(
     }
 }
 
-/// Explains the rejection of the content of a record.
-fn explain_content(
-    lines: &mut Lines,
-    input: &[u8],
-    number: u64,
-    refused: Refused,
-    rules: &[MaskRule],
-    limits: Limits,
-) {
-    let Some(record) = record_numbered(input, number) else {
-        return;
-    };
-    if let Refused::Json(_) = refused {
-        explain_json(lines, record);
-    } else if let Some(message) = read_value(lines, record.content) {
-        explain_value(lines, input, record, &message, refused, rules, limits);
-    }
-}
-
-/// Adds the line about an input that is too long.
-fn add_too_long(lines: &mut Lines, limits: Limits) {
-    lines.write(format_args!(
-        "the limit of an input is {} bytes: record shorter sessions",
-        limits.input,
-    ));
-}
-
 /// Adds the lines about a rejection.
-fn add_refusal(
-    lines: &mut Lines,
-    input: &[u8],
-    refused: Refused,
-    rules: &[MaskRule],
-    limits: Limits,
-)
+fn add_refusal(lines: &mut Lines, input: Input<'_>, refused: Refused, limits: Limits)
     requires { IsSound limits.frame }
     ensures { IsFailure refused → lines.new ≡ lines.old }
 {
+    let framer = Framer::new(lines.alloc(), limits.frame);
+    let records = Records::new(&framer, input.format, input.bytes);
     match refused {
-        Refused::InputTooLong(_) | Refused::TraceTooLong(_) => add_too_long(lines, limits),
+        Refused::InputTooLong(_) | Refused::TraceTooLong(_) => lines.write(format_args!(
+            "the limit of an input is {} bytes: record shorter sessions",
+            limits.input,
+        )),
         Refused::Record(number, cause) => {
-            explain_record(lines, input, number, cause, limits.frame)
+            explain_record(lines, records, number, cause, limits.frame)
         }
-        Refused::Trace(number, cause) => explain_piece(lines, input, number, cause),
+        Refused::Trace(number, cause) => explain_piece(lines, input.bytes, number, cause),
         Refused::Recorder(number, fault) => {
-            explain_recorder(lines, input, number, fault, limits.frame)
+            explain_recorder(lines, &framer, input.bytes, number, fault, limits.frame)
         }
         Refused::Incomplete(client, adapter) => {
-            explain_incomplete(lines, input, client.saturating_add(adapter))
+            explain_incomplete(lines, records, client.saturating_add(adapter))
         }
         Refused::Json(number)
         | Refused::Fraction(number)
         | Refused::Message(number, _)
         | Refused::Rule(number, _)
         | Refused::TooManyIds(number)
-        | Refused::Grew(number) => { explain_content(lines, input, number, refused, rules, limits) }
+        | Refused::Grew(number) => {
+            add_content(lines, records, number, input.rules, refused, limits)
+        }
         Refused::ReadFault | Refused::WriteFault | Refused::Memory => {}
     }
 }
 
-/// Explains the rejection of an input to which these rules were applied.
-fn explanation(
-    alloc: Global,
-    input: &[u8],
-    rules: &[MaskRule],
-    refused: Refused,
-    limits: Limits,
-) -> Result<String, AllocError>
-    requires { IsSound limits.frame }
-    ensures lines { IfOk result (λ text. ∥ AreLines (string_bytes text) ∥₁) }
-    ensures nothing { IsFailure refused → IsEmpty result }
-{
-    let mut lines = Lines::new(alloc);
-    add_refusal(&mut lines, input, refused, rules, limits);
-    lines.into_text()
-}
-
 /// Explains a rejection in lines for people.
 ///
-/// `input` is the recording, the trace or the frames that were rejected, `refused` is the
-/// rejection, and `limits` are those of the call that rejected the input. Reads the input again,
-/// record by record. The time is linear in its length, and for `Incomplete` has an additional
-/// factor, the logarithm of the number of requests.
+/// `refused` is the rejection of the input, and `limits` are those of the call that rejected it.
+/// Reads the input again, record by record. The time is linear in its length, and for `Incomplete`
+/// has an additional factor, the logarithm of the number of requests.
 ///
 /// The result is empty if there is nothing to add, for example after `ReadFault`. If the input is
-/// not rejected for this reason, the explanation is shorter.
+/// not rejected for this reason, the lines may be wrong.
 ///
 /// # Errors
 ///
 /// `AllocError`: an allocation failed.
 pub fn explain(
     alloc: Global,
-    input: &[u8],
+    input: Input<'_>,
     refused: Refused,
     limits: Limits,
 ) -> Result<String, AllocError>
@@ -152,29 +128,9 @@ pub fn explain(
     // If a reader, a writer or an allocation failed, there is nothing to explain.
     ensures nothing { IsFailure refused → IsEmpty result }
 {
-    explanation(alloc, input, &[], refused, limits)
-}
-
-/// Explains a rejection as [`explain`] does, if these rules were applied to the messages of the
-/// input before their numbers were checked.
-///
-/// # Errors
-///
-/// `AllocError`: an allocation failed.
-pub fn explain_masked(
-    alloc: Global,
-    input: &[u8],
-    rules: &MaskRules,
-    refused: Refused,
-    limits: Limits,
-) -> Result<String, AllocError>
-    requires { IsSound limits.frame }
-    ensures lines { IfOk result (λ text. ∥ AreLines (string_bytes text) ∥₁) }
-
-    // If a reader, a writer or an allocation failed, there is nothing to explain.
-    ensures nothing { IsFailure refused → IsEmpty result }
-{
-    explanation(alloc, input, rules.changes(), refused, limits)
+    let mut lines = Lines::new(alloc);
+    add_refusal(&mut lines, input, refused, limits);
+    lines.into_text()
 }
 
 /// Explains that a file cannot be read: returns its name and the reason that the system returned.

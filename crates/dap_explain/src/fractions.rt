@@ -1,57 +1,15 @@
 //! Finds the numbers of a message that are not integers of 64 bits, and proposes mask rules that
 //! blank them.
-use crate::head::{Head, kind_word};
+use crate::head::Head;
 use crate::lines::Lines;
 use crate::rules_file::fault_in;
 use crate::words::{Cut, Name, Path, Step};
-use dap_mask::{MaskRule, Verb};
+use dap_tree::Tree;
 use json::{Reader, Scratch, Token};
-use serde_json::Value;
 use std::alloc::{AllocError, Global};
 use std::str;
 
-/// The rules that are applied to a message before its numbers are checked.
-#[derive(Clone, Copy)]
-struct Masking<'r> {
-    rules: &'r [MaskRule],
-    head: Head<'r>,
-}
-
-impl Masking<'_> {
-    /// Returns whether a rule blanks the value at a path, or a value that contains it.
-    fn blanks(&self, path: &[Step<'_>]) -> bool {
-        for rule in self.rules {
-            if self.is_applied(rule) && is_within(path, &rule.place) {
-                return true;
-            }
-        }
-        false
-    }
-
-    /// Returns whether a rule blanks values of the message.
-    fn is_applied(&self, rule: &MaskRule) -> bool {
-        rule.verb == Verb::Blank
-            && self.head.kind == Some(rule.kind)
-            && match &rule.name {
-                Some(name) => self.head.name == Some(name.as_str()),
-                None => true,
-            }
-    }
-}
-
-/// Returns whether a path starts with the path of a rule.
-fn is_within(path: &[Step<'_>], place: &[dap_mask::Step]) -> bool {
-    for (step, rule_step) in path.iter().zip(place) {
-        match (step, rule_step) {
-            (Step::Member(name), dap_mask::Step::Member(own)) if *name == own.as_str() => {}
-            (Step::Element(_), dap_mask::Step::Each) => {}
-            _ => return false,
-        }
-    }
-    path.len() >= place.len()
-}
-
-/// The numbers of a message that are not integers of 64 bits and that no rule blanks.
+/// The numbers of a message that are not integers of 64 bits.
 #[derive(Drop)]
 struct Fractions<'m> {
     /// The path of the first number.
@@ -68,36 +26,28 @@ impl<'m> Fractions<'m> {
     fn search_step(
         &mut self,
         step: Step<'m>,
-        value: &'m Value,
-        masking: &Masking<'_>,
+        value: &'m Tree,
         path: &mut Vec<Step<'m>>,
     ) -> Result<(), AllocError> {
         path.push(step)?;
-        self.search(value, masking, path)?;
+        self.search(value, path)?;
         path.pop();
         Ok(())
     }
 
     /// Adds the numbers in a value at a path.
     #[cycle(search)]
-    fn search(
-        &mut self,
-        value: &'m Value,
-        masking: &Masking<'_>,
-        path: &mut Vec<Step<'m>>,
-    ) -> Result<(), AllocError> {
+    fn search(&mut self, value: &'m Tree, path: &mut Vec<Step<'m>>) -> Result<(), AllocError> {
         match value {
-            Value::Number(number) if number.is_f64() && !masking.blanks(path.as_slice()) => {
-                self.note(path.as_slice())?;
-            }
-            Value::Array(items) => {
+            Tree::Whole(number) if *number > i128::from(u64::MAX) => self.add(path.as_slice())?,
+            Tree::List(items) => {
                 for (index, item) in items.iter().enumerate() {
-                    self.search_step(Step::Element(index), item, masking, path)?;
+                    self.search_step(Step::Element(index), item, path)?;
                 }
             }
-            Value::Object(members) => {
+            Tree::Object(members) => {
                 for (name, member) in members.iter() {
-                    self.search_step(Step::Member(name.as_str()), member, masking, path)?;
+                    self.search_step(Step::Member(name.as_str()), member, path)?;
                 }
             }
             _ => {}
@@ -106,7 +56,7 @@ impl<'m> Fractions<'m> {
     }
 
     /// Adds the path of one more number.
-    fn note(&mut self, path: &[Step<'m>]) -> Result<(), AllocError> {
+    fn add(&mut self, path: &[Step<'m>]) -> Result<(), AllocError> {
         if self.count == 0 {
             self.first.extend_from_slice(path)?;
             self.shared = path.len();
@@ -142,31 +92,20 @@ fn fault_of(text: &str) -> &'static str {
     }
 }
 
-/// Moves a path past a value. In an array, the next element follows.
-fn pass_value(path: &mut Vec<Step<'_>>) {
-    if let Some(Step::Element(index)) = path.last_mut() {
-        *index = index.saturating_add(1);
-    }
-}
-
-/// Moves a path to the member of the innermost object with this name.
-fn enter_member<'t>(path: &mut Vec<Step<'t>>, name: &'t str) {
-    if let Some(step) = path.last_mut() {
-        *step = Step::Member(name);
-    }
-}
-
 /// Moves a path past a token.
 fn take<'t>(path: &mut Vec<Step<'t>>, token: Token<'t>) -> Result<(), AllocError> {
     match token {
         Token::BeginObject => return Ok(path.push(Step::Member(""))?),
         Token::BeginArray => return Ok(path.push(Step::Element(0))?),
-        Token::Key(name) => enter_member(path, name),
         Token::EndObject | Token::EndArray => {
             path.pop();
-            pass_value(path);
         }
-        _ => pass_value(path),
+        _ => {}
+    }
+    match (token, path.last_mut()) {
+        (Token::Key(name), Some(step)) => *step = Step::Member(name),
+        (_, Some(Step::Element(index))) => *index = index.saturating_add(1),
+        _ => {}
     }
     Ok(())
 }
@@ -193,11 +132,11 @@ fn number_text<'t>(
 /// Adds the line that states which number is at a path, and what is wrong with it.
 fn add_number(lines: &mut Lines, content: &str, steps: &[Step<'_>]) {
     let mut scratch = Scratch::new(lines.alloc());
-    let Some(mut reader) = lines.noted(Reader::new(content, &mut scratch)) else {
+    let Some(mut reader) = lines.value_of(Reader::new(content, &mut scratch)) else {
         return;
     };
     let text = number_text(lines.alloc(), &mut reader, steps);
-    if let Some(Some(text)) = lines.noted(text) {
+    if let Some(Some(text)) = lines.value_of(text) {
         let path = Path {
             steps,
             is_rule: false,
@@ -223,8 +162,8 @@ fn add_rule(lines: &mut Lines, head: Head<'_>, what: &str, steps: &[Step<'_>]) -
         steps,
         is_rule: true,
     };
-    let rule = format!(in lines.alloc(); "blank {} {} {path}", kind_word(kind), Name(name));
-    let Some(rule) = lines.noted(rule) else {
+    let rule = format!(in lines.alloc(); "blank {} {} {path}", kind.word(), Name(name));
+    let Some(rule) = lines.value_of(rule) else {
         return false;
     };
     let is_rule = rule.len() <= LONGEST_RULE && fault_in(lines, rule.as_bytes()).is_none();
@@ -249,23 +188,17 @@ fn add_rules(lines: &mut Lines, head: Head<'_>, found: &Fractions<'_>) {
     });
 }
 
-/// Explains that a number of a message is not an integer of 64 bits after these rules are applied.
-/// `content` is the text of the message.
-pub(crate) fn explain_fraction(
-    lines: &mut Lines,
-    content: &[u8],
-    message: &Value,
-    head: Head<'_>,
-    rules: &[MaskRule],
-) {
+/// Explains that a number of a message is not an integer of 64 bits. `content` is the text of the
+/// message, and `message` its tree after the rules are applied.
+pub(crate) fn explain_fraction(lines: &mut Lines, content: &[u8], message: &Tree, head: Head<'_>) {
     let mut found = Fractions {
         first: Vec::new(lines.alloc()),
         shared: 0,
         count: 0,
     };
     let mut path = Vec::new(lines.alloc());
-    let searched = found.search(message, &Masking { rules, head }, &mut path);
-    if lines.noted(searched).is_none() || found.count == 0 {
+    let searched = found.search(message, &mut path);
+    if lines.value_of(searched).is_none() || found.count == 0 {
         return;
     }
     if let Ok(text) = str::from_utf8(content) {

@@ -32,27 +32,25 @@ impl fmt::Display for FrameName {
 #[derive(Clone, Copy)]
 pub(crate) struct BadFrame<'a> {
     pub(crate) name: FrameName,
-    /// A prefix of the frame: at least its header part, or as much of it as was received.
-    pub(crate) front: &'a [u8],
-    /// The number of bytes of the frame that were received.
-    pub(crate) len: usize,
+    /// The input from the start of the frame on.
+    pub(crate) bytes: &'a [u8],
 }
 
 /// Adds the lines about an incomplete frame.
 fn add_cut(lines: &mut Lines, frame: BadFrame<'_>) {
     let name = frame.name;
-    let Some((header, _)) = split_header(frame.front) else {
+    let Some((header, rest)) = split_header(frame.bytes) else {
         lines.write(format_args!(
             "the input ends in the header part of {name}: {}",
-            Bytes(frame.front),
+            Bytes(frame.bytes),
         ));
-        if !has_converted_line_end(frame.front) {
+        if !has_converted_line_end(frame.bytes) {
             lines.add("the program that wrote the input may have been stopped early");
         }
         return;
     };
     if let Some(len) = content_len(header) {
-        let missing = len.saturating_sub(frame.len.saturating_sub(header.len()) as u64);
+        let missing = len.saturating_sub(rest.len() as u64);
         lines.write(format_args!(
             "the content of {name} has {len} bytes by its header part, and {missing} of them are missing",
         ));
@@ -64,7 +62,7 @@ fn add_cut(lines: &mut Lines, frame: BadFrame<'_>) {
 
 /// Adds the lines about the error of a frame.
 fn add_fault(lines: &mut Lines, frame: BadFrame<'_>, fault: FrameFault, limits: FrameLimits) {
-    let (name, header) = (frame.name, header_of(frame.front));
+    let (name, header) = (frame.name, header_of(frame.bytes));
     match fault {
         FrameFault::HeaderLine => match bad_line(header) {
             Some(line) => lines.write(format_args!(
@@ -91,7 +89,7 @@ fn add_fault(lines: &mut Lines, frame: BadFrame<'_>, fault: FrameFault, limits: 
         FrameFault::HeaderTooLong => lines.write(format_args!(
             "no header part ends in the first {} bytes of {name}: {}",
             limits.header,
-            Bytes(frame.front),
+            Bytes(frame.bytes),
         )),
         FrameFault::ContentTooLong => add_content_too_long(lines, name, header, limits.content),
         FrameFault::Cut => add_cut(lines, frame),
@@ -118,11 +116,11 @@ pub(crate) fn explain_frame(
 ) {
     add_fault(lines, frame, fault, limits);
     let may_be_printed = matches!(fault, FrameFault::HeaderLine | FrameFault::NoLength);
-    if may_be_printed && has_text_before(header_of(frame.front)) {
+    if may_be_printed && has_text_before(header_of(frame.bytes)) {
         lines.add("a program may have printed text between two frames");
         lines.add("let it print to standard error, or send output events instead");
     }
-    if has_converted_line_end(frame.front) {
+    if has_converted_line_end(frame.bytes) {
         lines.add("its header lines do not end with CR LF: line ends may have been converted");
         lines.add(KEEP_LINE_ENDS);
     }

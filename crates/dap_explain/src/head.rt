@@ -1,14 +1,14 @@
 //! Reads the head of a message: its sender, its kind and its name.
 use crate::lines::Lines;
 use crate::words::Quoted;
+use dap_mask::{MaskRules, mask, read_loosely, read_with_words};
 use dap_profile::Kind;
-use dap_tree::Side;
-use serde_json::Value;
+use dap_tree::{Scratch, Side, Tree, TreeFault};
 use std::fmt;
 
 /// The members that every message of a kind has. A member that is absent or has another type is
 /// `None`.
-#[derive(Clone, Copy)]
+#[derive(Clone, Copy, Default)]
 pub(crate) struct Head<'m> {
     /// The sender. `None` in frames of one direction.
     pub(crate) side: Option<Side>,
@@ -24,8 +24,8 @@ pub(crate) struct Head<'m> {
 
 impl<'m> Head<'m> {
     /// Reads the head of a message.
-    pub(crate) fn of(side: Option<Side>, message: &'m Value) -> Head<'m> {
-        let kind = text_at(message, "type").and_then(kind_named);
+    pub(crate) fn of(side: Option<Side>, message: &'m Tree) -> Head<'m> {
+        let kind = text_at(message, "type").and_then(Kind::named);
         let is_response = kind == Some(Kind::Response);
         let name = match kind {
             Some(Kind::Event) => "event",
@@ -41,17 +41,23 @@ impl<'m> Head<'m> {
             } else {
                 None
             },
-            is_success: is_response && matches!(message.get("success"), Some(Value::Bool(true))),
+            is_success: is_response && matches!(message.child("success"), Some(Tree::Bool(true))),
         }
     }
 }
 
-fn text_at<'m>(message: &'m Value, name: &str) -> Option<&'m str> {
-    message.get(name)?.as_str()
+fn text_at<'m>(message: &'m Tree, name: &str) -> Option<&'m str> {
+    match message.child(name)? {
+        Tree::Text(text) => Some(text.as_str()),
+        _ => None,
+    }
 }
 
-fn number_at(message: &Value, name: &str) -> Option<i64> {
-    message.get(name)?.as_i64()
+fn number_at(message: &Tree, name: &str) -> Option<i64> {
+    match message.child(name)? {
+        Tree::Whole(number) => i64::try_from(*number).ok(),
+        _ => None,
+    }
 }
 
 /// Displays the marker of the sender, the kind and the name of a message, and the request that it
@@ -64,7 +70,7 @@ impl fmt::Display for Head<'_> {
             None => "",
         })?;
         f.write_str(match self.kind {
-            Some(kind) => kind_word(kind),
+            Some(kind) => kind.word(),
             None => "message of unknown type",
         })?;
         Named(self.name).fmt(f)?;
@@ -91,25 +97,6 @@ impl fmt::Display for Named<'_> {
     }
 }
 
-/// Returns the kind that the string of a `type` names.
-pub(crate) fn kind_named(name: &str) -> Option<Kind> {
-    match name {
-        "request" => Some(Kind::Request),
-        "response" => Some(Kind::Response),
-        "event" => Some(Kind::Event),
-        _ => None,
-    }
-}
-
-/// Returns the word for a kind.
-pub(crate) fn kind_word(kind: Kind) -> &'static str {
-    match kind {
-        Kind::Request => "request",
-        Kind::Response => "response",
-        Kind::Event => "event",
-    }
-}
-
 /// Adds the line that states which message a record contains.
 pub(crate) fn add_head(lines: &mut Lines, number: u64, head: &Head<'_>) {
     lines.write(format_args!("record {number} is {head}"));
@@ -124,15 +111,33 @@ pub(crate) fn add_sender(lines: &mut Lines, side: Option<Side>) {
     });
 }
 
-/// Reads a content as a JSON value. Returns `None` if it is not JSON, or after a failed allocation.
-pub(crate) fn read_value(lines: &mut Lines, content: &[u8]) -> Option<Value> {
-    match Value::from_slice(lines.alloc(), content) {
-        Ok(value) => Some(value),
-        Err(error) => {
-            if error.is_memory() {
-                lines.fail();
+/// Reads a content. If it has a number that is not an integer of 64 bits, applies the rules to it;
+/// such numbers that remain are 2^64. Returns `None` if the content is not JSON, or after a failed
+/// allocation.
+pub(crate) fn read_message(
+    lines: &mut Lines,
+    content: &[u8],
+    rules: Option<&MaskRules>,
+) -> Option<Tree> {
+    let alloc = lines.alloc();
+    let mut scratch = Scratch::new(alloc);
+    let mut read = read_loosely(alloc, content, &mut scratch);
+    match (&read, rules) {
+        (Ok(tree), Some(rules)) if !tree.sound() => {
+            read = read_with_words(alloc, content, rules, &mut scratch);
+            if let Ok(tree) = &mut read {
+                mask(tree, rules);
             }
-            None
         }
+        _ => {}
     }
+    if matches!(read, Err(TreeFault::Memory)) {
+        lines.fail();
+    }
+    read.ok()
+}
+
+/// Returns whether a text is JSON.
+pub(crate) fn is_json(lines: &mut Lines, text: &[u8]) -> bool {
+    read_message(lines, text, None).is_some()
 }

@@ -1,4 +1,7 @@
 //! Analyses the start of a frame, or of a piece of a trace, for an explanation.
+use dap_frame::{is_name_byte, is_value_byte};
+use std::str;
+
 /// How to keep line ends unchanged.
 pub(crate) const KEEP_LINE_ENDS: &str =
     "git keeps line ends if .gitattributes has -text for recordings and traces";
@@ -16,24 +19,7 @@ pub(crate) fn split_header(bytes: &[u8]) -> Option<(&[u8], &[u8])> {
 
 /// Returns the header part at the start of the bytes, or all bytes if it is incomplete.
 pub(crate) fn header_of(bytes: &[u8]) -> &[u8] {
-    match split_header(bytes) {
-        Some((header, _)) => header,
-        None => bytes,
-    }
-}
-
-/// Returns the content of the frame at the start of the bytes, and the bytes after the frame.
-pub(crate) fn split_frame(bytes: &[u8]) -> Option<(&[u8], &[u8])> {
-    let (header, rest) = split_header(bytes)?;
-    rest.split_at_checked(content_len(header)? as usize)
-}
-
-/// Returns the bytes of the piece at the start of these, without its marker, and the bytes after
-/// it. The piece may be incomplete.
-pub(crate) fn split_piece(bytes: &[u8]) -> Option<(&[u8], &[u8])> {
-    let len = count_of(bytes)? as usize;
-    let rest = after_first_line(bytes);
-    Some(rest.split_at(len.min(rest.len())))
+    split_header(bytes).map_or(bytes, |(header, _)| header)
 }
 
 /// Returns the first line of a header part that is not a field line, without its LF.
@@ -50,19 +36,11 @@ pub(crate) fn bad_line(header: &[u8]) -> Option<&[u8]> {
 
 /// Returns whether a line without its line end consists of a name, a colon and a value.
 fn is_field(line: &[u8]) -> bool {
-    match name_and_value(line) {
-        Some((name, value)) => {
-            !name.is_empty()
-                && name.iter().all(u8::is_ascii_graphic)
-                && value.iter().all(is_value_byte)
-        }
-        None => false,
-    }
-}
-
-/// Returns whether the value of a field may contain a byte.
-fn is_value_byte(byte: &u8) -> bool {
-    matches!(*byte, b' '..=b'~' | b'\t')
+    name_and_value(line).is_some_and(|(name, value)| {
+        !name.is_empty()
+            && name.iter().all(|byte| is_name_byte(*byte))
+            && value.iter().all(|byte| is_value_byte(*byte))
+    })
 }
 
 /// Returns the parts of a line before and after its first colon.
@@ -73,15 +51,9 @@ fn name_and_value(line: &[u8]) -> Option<(&[u8], &[u8])> {
 
 /// Returns the value of the first field named `Content-Length`, without the surrounding blanks.
 pub(crate) fn length_value(header: &[u8]) -> Option<&[u8]> {
-    for line in header.split(is_lf) {
-        match name_and_value(line) {
-            Some((name, value)) if name.eq_ignore_ascii_case(LENGTH_NAME) => {
-                return Some(value.trim_ascii());
-            }
-            _ => {}
-        }
-    }
-    None
+    let mut fields = header.split(is_lf).filter_map(name_and_value);
+    let (_, value) = fields.find(|(name, _)| name.eq_ignore_ascii_case(LENGTH_NAME))?;
+    Some(value.trim_ascii())
 }
 
 /// Returns the length of the content that a header part declares, if it is 1 to 10 digits.
@@ -91,10 +63,9 @@ pub(crate) fn content_len(header: &[u8]) -> Option<u64> {
 
 /// Returns whether the bytes start like a frame: with the field that every frame has.
 pub(crate) fn is_like_frames(bytes: &[u8]) -> bool {
-    match bytes.split_at_checked(15) {
-        Some((name, _)) => name.eq_ignore_ascii_case(b"Content-Length:"),
-        None => false,
-    }
+    bytes
+        .get(..15)
+        .is_some_and(|name| name.eq_ignore_ascii_case(b"Content-Length:"))
 }
 
 /// Returns whether a header part contains the name `Content-Length` but does not start with this
@@ -126,30 +97,15 @@ pub(crate) fn count_of(bytes: &[u8]) -> Option<u64> {
 
 /// Returns the number that 1 to 10 decimal digits represent.
 fn number_of(digits: &[u8]) -> Option<u64> {
-    if digits.is_empty() || digits.len() > 10 {
+    if digits.len() > 10 || !digits.iter().all(u8::is_ascii_digit) {
         return None;
     }
-    let mut number = 0u64;
-    for digit in digits {
-        if !digit.is_ascii_digit() {
-            return None;
-        }
-        number = number
-            .saturating_mul(10)
-            .saturating_add(u64::from(digit.saturating_sub(b'0')));
-    }
-    Some(number)
+    str::from_utf8(digits).ok()?.parse::<u64>().ok()
 }
 
 /// Returns whether a byte ends a line.
 pub(crate) fn is_lf(byte: &u8) -> bool {
     *byte == b'\n'
-}
-
-/// Returns the bytes after the first LF. There are none if there is no LF.
-fn after_first_line(bytes: &[u8]) -> &[u8] {
-    let after = first_line(bytes).len().saturating_add(1);
-    bytes.get(after..).unwrap_or(&[])
 }
 
 /// Returns the bytes before the first LF, or all bytes if there is no LF.

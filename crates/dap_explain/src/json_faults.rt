@@ -1,7 +1,7 @@
 //! Explains contents that are not JSON.
-use crate::head::{Head, add_head, add_sender, kind_named};
+use crate::head::{Head, add_head, add_sender};
 use crate::lines::Lines;
-use crate::records::Part;
+use crate::records::Record;
 use crate::words::{Bytes, Cut};
 use dap_profile::Kind;
 use dap_tree::Side;
@@ -31,49 +31,40 @@ struct Shown<'t> {
     depth: usize,
     /// The name of the last member that is not inside an inner object.
     member: &'t str,
-    kind: Option<Kind>,
-    command: Option<&'t str>,
+    /// The head of the message; its name is the command.
+    head: Head<'t>,
     event: Option<&'t str>,
-    request_seq: Option<i64>,
     /// The first error.
     fault: Option<TokenFault<'t>>,
 }
 
 impl<'t> Shown<'t> {
     /// Updates the information for a token.
-    fn note(&mut self, token: Token<'t>) {
+    fn take(&mut self, token: Token<'t>) {
         match token {
-            Token::BeginObject | Token::BeginArray => self.enter(),
+            Token::BeginObject | Token::BeginArray => {
+                self.depth = self.depth.saturating_add(1);
+                if self.depth > MAX_DEPTH && self.fault.is_none() {
+                    self.fault = Some(TokenFault::Depth);
+                }
+            }
             Token::EndObject | Token::EndArray => self.depth = self.depth.saturating_sub(1),
             Token::Key(name) if self.depth == 1 => self.member = name,
-            Token::String(text) if self.depth == 1 => self.note_text(text),
-            Token::Number(text) => self.note_number(text),
-            _ => {}
-        }
-    }
-
-    /// Updates the information for the start of an array or an object.
-    fn enter(&mut self) {
-        self.depth = self.depth.saturating_add(1);
-        if self.depth > MAX_DEPTH && self.fault.is_none() {
-            self.fault = Some(TokenFault::Depth);
-        }
-    }
-
-    /// Stores the string value of a member of the message.
-    fn note_text(&mut self, text: &'t str) {
-        match self.member {
-            "type" => self.kind = kind_named(text),
-            "command" => self.command = Some(text),
-            "event" => self.event = Some(text),
+            Token::String(text) if self.depth == 1 => match self.member {
+                "type" => self.head.kind = Kind::named(text),
+                "command" => self.head.name = Some(text),
+                "event" => self.event = Some(text),
+                _ => {}
+            },
+            Token::Number(text) => self.take_number(text),
             _ => {}
         }
     }
 
     /// Updates the information for a number.
-    fn note_number(&mut self, text: &'t str) {
+    fn take_number(&mut self, text: &'t str) {
         if self.depth == 1 && self.member == "request_seq" {
-            self.request_seq = text.parse::<i64>().ok();
+            self.head.request_seq = text.parse::<i64>().ok();
         }
         if self.fault.is_none() && is_past_floats(text) {
             self.fault = Some(TokenFault::Number(text));
@@ -82,20 +73,17 @@ impl<'t> Shown<'t> {
 
     /// Returns the head of the message, which this side sent, if the kind is known.
     fn head(&self, side: Option<Side>) -> Option<Head<'t>> {
-        let kind = self.kind?;
-        let (name, request_seq) = match kind {
-            Kind::Request => (self.command, None),
-            Kind::Response => (self.command, self.request_seq),
-            Kind::Event => (self.event, None),
-        };
-        Some(Head {
-            side,
-            kind: Some(kind),
-            name,
-            seq: None,
-            request_seq,
-            is_success: false,
-        })
+        let mut head = self.head;
+        head.side = side;
+        match head.kind? {
+            Kind::Request => head.request_seq = None,
+            Kind::Response => {}
+            Kind::Event => {
+                head.name = self.event;
+                head.request_seq = None;
+            }
+        }
+        Some(head)
     }
 }
 
@@ -112,7 +100,7 @@ fn shown_by<'t>(text: &'t str, scratch: &'t mut Scratch<Global>) -> Result<Shown
     let mut reader = Reader::new(text, scratch)?;
     let mut shown = Shown::default();
     while let Some(token) = reader.next() {
-        shown.note(token);
+        shown.take(token);
     }
     Ok(shown)
 }
@@ -165,7 +153,7 @@ fn add_surrogate(lines: &mut Lines, number: u64, escape: &str) {
 }
 
 /// Adds the lines about a string that is not JSON.
-fn add_syntax(lines: &mut Lines, record: Part<'_>, text: &str, error: &Error) {
+fn add_syntax(lines: &mut Lines, record: Record<'_>, text: &str, error: &Error) {
     let number = record.number;
     if error.is_eof() {
         lines.write(format_args!(
@@ -188,7 +176,7 @@ fn add_syntax(lines: &mut Lines, record: Part<'_>, text: &str, error: &Error) {
 
 /// Adds the lines about a string whose tokens contain this information, and that is not JSON
 /// because of this error.
-fn add_shown(lines: &mut Lines, record: Part<'_>, text: &str, shown: &Shown<'_>, error: &Error) {
+fn add_shown(lines: &mut Lines, record: Record<'_>, text: &str, shown: &Shown<'_>, error: &Error) {
     let number = record.number;
     if let Some(head) = shown.head(record.side) {
         add_head(lines, number, &head);
@@ -209,7 +197,7 @@ fn add_shown(lines: &mut Lines, record: Part<'_>, text: &str, shown: &Shown<'_>,
 }
 
 /// Explains that a string is not JSON.
-fn explain_text(lines: &mut Lines, record: Part<'_>, text: &str) {
+fn explain_text(lines: &mut Lines, record: Record<'_>, text: &str) {
     let Err(error) = Value::from_str(lines.alloc(), text) else {
         return;
     };
@@ -217,13 +205,13 @@ fn explain_text(lines: &mut Lines, record: Part<'_>, text: &str) {
         return lines.fail();
     }
     let mut scratch = Scratch::new(lines.alloc());
-    if let Some(shown) = lines.noted(shown_by(text, &mut scratch)) {
+    if let Some(shown) = lines.value_of(shown_by(text, &mut scratch)) {
         add_shown(lines, record, text, &shown, &error);
     }
 }
 
 /// Explains that the content of a record is not JSON.
-pub(crate) fn explain_json(lines: &mut Lines, record: Part<'_>) {
+pub(crate) fn explain_json(lines: &mut Lines, record: Record<'_>) {
     match str::from_utf8(record.content) {
         Ok(text) => explain_text(lines, record, text),
         Err(error) => {

@@ -37,5 +37,6 @@ mod trace_faults;
 mod unanswered;
 mod words;
 
-pub use explaining::{explain, explain_masked, explain_unreadable};
+pub use explaining::{Input, explain, explain_unreadable};
+pub use records::Format;
 pub use rules_file::explain_rules;

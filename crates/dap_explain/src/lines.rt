@@ -4,7 +4,7 @@ ghost use Rattle.std.specs.Prelude.{string_bytes};
 ghost use Rattle.dap_explain.specs.Lines.{AreLines, IsPrinted};
 
 use crate::words::first_characters;
-use serde_json::Value;
+use dap_tree::{Tree, write_tree};
 use std::alloc::{AllocError, Global};
 use std::fmt::Display;
 
@@ -48,7 +48,7 @@ impl Lines {
     }
 
     /// Returns the value of a result. After a failed allocation, stores this and returns `None`.
-    pub(crate) fn noted<T>(&mut self, outcome: Result<T, AllocError>) -> Option<T> {
+    pub(crate) fn value_of<T>(&mut self, outcome: Result<T, AllocError>) -> Option<T> {
         match outcome {
             Ok(value) => Some(value),
             Err(_) => {
@@ -60,27 +60,26 @@ impl Lines {
 
     /// Returns a value as JSON, or `missing` if there is none. After a failed allocation, stores
     /// this and returns an empty string.
-    pub(crate) fn json(&mut self, value: Option<&Value>) -> String {
+    pub(crate) fn json(&mut self, value: Option<&Tree>) -> String {
         let text = match value {
-            Some(value) => value.to_string(self.alloc),
-            None => String::from_str(self.alloc, "missing"),
+            Some(value) if value.sound() => write_tree(self.alloc, value).or(Err(AllocError)),
+            _ => String::from_str(self.alloc, "missing"),
         };
-        self.noted(text).unwrap_or(String::new(self.alloc))
+        self.value_of(text).unwrap_or(String::new(self.alloc))
     }
 
     /// Appends a line. It is truncated after 1,000 characters. A character that a terminal does not
     /// print is written as a JSON escape.
     pub(crate) fn add(&mut self, words: &str) {
-        if self.append(words).is_err() {
-            self.has_failed = true;
-        }
+        let added = self.append(words);
+        self.value_of(added);
     }
 
     /// Appends a line that is displayed so.
     pub(crate) fn write<D: Display + Drop>(&mut self, words: D) {
-        match words.to_string(self.alloc) {
-            Ok(words) => self.add(words.as_str()),
-            Err(_) => self.has_failed = true,
+        let words = words.to_string(self.alloc);
+        if let Some(words) = self.value_of(words) {
+            self.add(words.as_str());
         }
     }
 
@@ -110,7 +109,8 @@ fn printed(alloc: Global, text: &str) -> Result<String, AllocError>
 {
     let shown = first_characters(text, LONGEST);
     let mut words = String::new(alloc);
-    for character in shown.chars() {
+    let escaped = escaped(alloc, shown)?;
+    for character in escaped.chars() {
         push_printed(&mut words, character)?;
     }
     if shown.len() < text.len() {
@@ -119,7 +119,7 @@ fn printed(alloc: Global, text: &str) -> Result<String, AllocError>
     Ok(words)
 }
 
-/// Appends a character, or its escape.
+/// Appends a character, if a terminal prints it.
 fn push_printed(words: &mut String, character: char) -> Result<(), AllocError>
     requires { All IsPrinted (string_bytes words.old) }
     ensures { OnOk result (All IsPrinted (string_bytes words.new)) }
@@ -127,8 +127,22 @@ fn push_printed(words: &mut String, character: char) -> Result<(), AllocError>
     if is_printed(character) {
         words.push(character)
     } else {
-        push_escape(words, u32::from(character))
+        Ok(())
     }
+}
+
+/// Returns a string in which each character that a terminal does not print is a JSON escape.
+fn escaped(alloc: Global, text: &str) -> Result<String, AllocError> {
+    let mut words = String::new(alloc);
+    for character in text.chars() {
+        if is_printed(character) {
+            words.push(character)?;
+        } else {
+            let escape = format!(in alloc; "\\u{:04x}", u32::from(character))?;
+            words.push_str(escape.as_str())?;
+        }
+    }
+    Ok(words)
 }
 
 /// Returns whether a terminal prints a character. This excludes control characters of Unicode, line
@@ -144,36 +158,4 @@ fn is_printed(character: char) -> bool
             | '\u{2028}'..='\u{202e}'
             | '\u{2066}'..='\u{2069}'
     )
-}
-
-/// Appends a number below 65,536 as a JSON escape: `\u` and four hexadecimal digits.
-fn push_escape(words: &mut String, number: u32) -> Result<(), AllocError>
-    requires { All IsPrinted (string_bytes words.old) }
-    ensures { OnOk result (All IsPrinted (string_bytes words.new)) }
-{
-    words.push_str("\\u")?;
-    push_digit(words, number >> 12)?;
-    push_digit(words, number >> 8)?;
-    push_digit(words, number >> 4)?;
-    push_digit(words, number)
-}
-
-/// Appends the low four bits of a number as a hexadecimal digit.
-fn push_digit(words: &mut String, number: u32) -> Result<(), AllocError>
-    requires { All IsPrinted (string_bytes words.old) }
-    ensures { OnOk result (All IsPrinted (string_bytes words.new)) }
-{
-    words.push(hex_digit(number % 16))
-}
-
-/// Returns a hexadecimal digit.
-fn hex_digit(digit: u32) -> char
-    requires { digit < 16 }
-    ensures { (48 ≤ result) × (result < 127) }
-{
-    if digit < 10 {
-        char::from(b'0' + digit as u8)
-    } else {
-        char::from(b'a' + (digit - 10) as u8)
-    }
 }

@@ -1,129 +1,117 @@
-//! Splits an input into its records or pieces, and recognises inputs of another format.
+//! Splits an input into its records, and recognises inputs of another format.
 ghost use Rattle.std.specs.Prelude.{length};
 
-use crate::header::{count_of, is_like_frames, split_frame, split_piece};
+use crate::header::{count_of, is_like_frames, split_header};
 use crate::lines::Lines;
 use crate::words::Bytes;
+use dap_frame::Framer;
 use dap_tree::Side;
 
 /// The format of an input.
 #[derive(Clone, Copy, PartialEq, Eq)]
-pub(crate) enum Format {
+pub enum Format {
     /// Records, each of which is a marker, a frame and LF.
     Recording,
     /// Frames of one direction only, as `compact` reads them.
     Frames,
-    /// Pieces, each of which is a marker, a length, LF and as many bytes. The last one may be
-    /// incomplete.
+    /// Pieces, each of which is a marker, a length, LF and as many bytes.
     Trace,
 }
 
-impl Format {
-    /// Returns the format that the first byte of a recording or of frames indicates.
-    fn of(input: &[u8]) -> Format {
-        match input {
-            [] | [b'>' | b'<', ..] => Format::Recording,
-            _ => Format::Frames,
-        }
-    }
-
-    /// Splits the marker of a record or a piece from the bytes after it.
-    pub(crate) fn split_marker(self, bytes: &[u8]) -> Option<(Option<Side>, &[u8])> {
-        match (self, bytes) {
-            (Format::Frames, _) => Some((None, bytes)),
-            (_, [b'>', rest @ ..]) => Some((Some(Side::Client), rest)),
-            (_, [b'<', rest @ ..]) => Some((Some(Side::Adapter), rest)),
-            _ => None,
-        }
-    }
-
-    /// Splits the content of a record, or the bytes of a piece, from those after the record or the
-    /// piece. `bytes` are those after its marker.
-    fn split_content(self, bytes: &[u8]) -> Option<(&[u8], &[u8])> {
-        match self {
-            Format::Trace => split_piece(bytes),
-            Format::Frames => split_frame(bytes),
-            Format::Recording => {
-                let (content, rest) = split_frame(bytes)?;
-                Some((content, rest.strip_prefix(b"\n")?))
-            }
-        }
-    }
-}
-
-/// A record of an input, or a piece of a trace.
+/// A record of an input.
 #[derive(Clone, Copy)]
-pub(crate) struct Part<'a> {
+pub(crate) struct Record<'a> {
     /// Its number, counted from 1.
     pub(crate) number: u64,
     /// The sender. `None` in frames of one direction.
     pub(crate) side: Option<Side>,
-    /// The content of the record, or the bytes of the piece.
     pub(crate) content: &'a [u8],
+    /// The bytes after the record.
+    pub(crate) rest: &'a [u8],
 }
 
-/// An iterator over the records or pieces of an input, up to the first bytes that are not one.
+/// An iterator over the records of an input, up to the first bytes that are not a record.
 #[derive(Clone, Copy)]
-pub(crate) struct Parts<'a> {
-    format: Format,
+pub(crate) struct Records<'a> {
+    framer: &'a Framer,
+    pub(crate) format: Format,
     /// The bytes of those that are left.
     pub(crate) rest: &'a [u8],
     number: u64,
 }
 
-impl<'a> Parts<'a> {
-    /// Returns the records or pieces of an input.
-    pub(crate) fn new(format: Format, input: &'a [u8]) -> Parts<'a> {
-        Parts {
+impl<'a> Records<'a> {
+    /// Returns the records of an input, whose frames have the limits of the framer.
+    pub(crate) fn new(framer: &'a Framer, format: Format, input: &'a [u8]) -> Records<'a> {
+        Records {
+            framer,
             format,
             rest: input,
             number: 1,
         }
     }
 
-    /// Returns the records or pieces of an input from the one with this number on, if those before
-    /// it exist.
-    pub(crate) fn from_number(format: Format, input: &'a [u8], number: u64) -> Option<Parts<'a>> {
-        let mut parts = Parts::new(format, input);
+    /// Returns the next record, if there is one.
+    pub(crate) fn first(self) -> Option<Record<'a>> {
+        let mut records = self;
+        records.next()
+    }
+
+    /// Returns the records from the one with this number on, if those before it exist.
+    pub(crate) fn from_number(self, number: u64) -> Option<Records<'a>> {
+        let mut records = self;
         for _ in 1..number {
-            parts.next()?;
+            records.next()?;
         }
-        Some(parts)
+        Some(records)
+    }
+
+    /// Returns the sender of the record at the start of the bytes, and the bytes after its marker.
+    pub(crate) fn split_marker(&self) -> Option<(Option<Side>, &'a [u8])> {
+        match (self.format, self.rest) {
+            (Format::Frames, _) => Some((None, self.rest)),
+            (_, [b'>', rest @ ..]) => Some((Some(Side::Client), rest)),
+            (_, [b'<', rest @ ..]) => Some((Some(Side::Adapter), rest)),
+            _ => None,
+        }
+    }
+
+    /// Returns the content of the frame at the start of the bytes, and the bytes after the frame.
+    pub(crate) fn split_frame(&self, bytes: &'a [u8]) -> Option<(&'a [u8], &'a [u8])> {
+        let (frame, rest) = bytes.split_at_checked(self.framer.frame_in(bytes)?)?;
+        Some((split_header(frame)?.1, rest))
     }
 }
 
-impl<'a> Iterator for Parts<'a> {
+impl<'a> Iterator for Records<'a> {
     ghost use Rattle.std.specs.Iterator.{at_most};
 
-    type Item = Part<'a>;
+    type Item = Record<'a>;
 
     ghost remaining = { λ s. at_most (length s.rest.now) };
 
-    fn next(&mut self) -> Option<Part<'a>> {
-        let (side, bytes) = self.format.split_marker(self.rest)?;
-        let (content, rest) = self.format.split_content(bytes)?;
-        // Each record or piece has bytes.
+    fn next(&mut self) -> Option<Record<'a>> {
+        let (side, bytes) = self.split_marker()?;
+        let (content, after) = self.split_frame(bytes)?;
+        let rest = match self.format {
+            Format::Frames => after,
+            _ => after.strip_prefix(b"\n")?,
+        };
+        // Each record has bytes.
         if rest.len() >= self.rest.len() {
             return None;
         }
         let number = self.number;
         self.rest = rest;
         self.number = number.saturating_add(1);
-        Some(Part {
+        Some(Record {
             number,
             side,
             content,
+            rest,
         })
     }
 }
-
-/// Returns the record with this number, if the input contains it.
-pub(crate) fn record_numbered(input: &[u8], number: u64) -> Option<Part<'_>> {
-    Parts::from_number(Format::of(input), input, number)?.next()
-}
-
-/// The bytes of the byte order mark that some editors write before UTF-8.
-const BYTE_ORDER_MARK: &[u8] = b"\xef\xbb\xbf";
 
 /// Returns which format an input seems to have, and what to do, if the format is recognised and is
 /// not the expected one.
@@ -132,7 +120,8 @@ fn likeness_of(input: &[u8], expected: Format) -> Option<&'static str> {
         [b'>' | b'<', rest @ ..] => rest,
         _ => &[],
     };
-    if input.starts_with(BYTE_ORDER_MARK) {
+    // The byte order mark that some editors write before UTF-8.
+    if input.starts_with(b"\xef\xbb\xbf") {
         Some("the input begins with a UTF-8 byte order mark: save it without one")
     } else if count_of(after_marker).is_some() && expected != Format::Trace {
         Some("this looks like a trace: dapnorm record makes a recording of it")

@@ -5,9 +5,9 @@ ghost use Rattle.dap_explain.specs.Unexplained.{IsEmpty};
 
 use crate::header::is_lf;
 use crate::lines::Lines;
-use crate::rules_line::{is_end, place_of, split_verb};
+use crate::rules_line::{place_of, split_verb};
 use crate::words::{Bytes, Cut};
-use dap_mask::{MaskRules, RulesCause, RulesFault};
+use dap_mask::{MaskRules, RulesCause, RulesFault, is_end};
 use std::alloc::{AllocError, Global};
 use std::str;
 
@@ -45,7 +45,7 @@ fn add_line(lines: &mut Lines, number: usize, line: &[u8]) {
 
 /// Adds the line about a line that is not a rule.
 fn add_bad_rule(lines: &mut Lines, line: &[u8]) {
-    let Err(fault) = place_of(line) else {
+    let Err(fault) = place_of(lines, line) else {
         return lines.add(
             "a rule is VERB KIND NAME PLACE, drop event NAME, swap KIND NAME KIND NAME, word TEXT WORD, or per-stop",
         );
@@ -71,15 +71,13 @@ fn place_words(place: &[u8]) -> &'static str {
 
 /// Returns whether a path is a member by which messages are recognised.
 fn is_head_member(place: &[u8]) -> bool {
-    match str::from_utf8(place) {
-        Ok(name) => matches!(name, "type" | "command" | "event" | "success"),
-        Err(_) => false,
-    }
+    let names = ["type", "command", "event", "success"];
+    names.iter().any(|name| name.as_bytes() == place)
 }
 
 /// Adds the line about a rule with a path that no rule may change.
 fn add_bad_place(lines: &mut Lines, line: &[u8]) {
-    if let Ok(place) = place_of(line) {
+    if let Ok(place) = place_of(lines, line) {
         let what = place_words(place);
         lines.write(format_args!("{} is {what}: leave the rule out", Bytes(place)));
     }
@@ -98,7 +96,7 @@ pub(crate) fn fault_in(lines: &mut Lines, rules: &[u8]) -> Option<RulesFault> {
 /// for this reason.
 fn is_second_refused(lines: &mut Lines, parts: &[&[u8]], cause: RulesCause) -> bool {
     let rules = parts.concat(lines.alloc());
-    let Some(rules) = lines.noted(rules) else {
+    let Some(rules) = lines.value_of(rules) else {
         return false;
     };
     fault_in(lines, rules.as_slice()) == Some(RulesFault { line: 2, cause })

@@ -1,11 +1,10 @@
 //! Explains messages that violate a session rule.
-use crate::head::{Head, Named, read_value};
+use crate::head::{Head, Named, read_message};
 use crate::lines::Lines;
-use crate::records::{Format, Parts};
+use crate::records::Records;
 use dap_profile::Kind;
 use dap_session::Rule;
-use dap_tree::Side;
-use serde_json::Value;
+use dap_tree::{Side, Tree};
 
 /// A message to search for among the messages before the rejected one.
 #[derive(Clone, Copy)]
@@ -47,71 +46,23 @@ fn other(side: Side) -> Side {
 /// The records of an input before one of them, to be searched.
 #[derive(Clone, Copy)]
 struct Earlier<'a> {
-    input: &'a [u8],
+    records: Records<'a>,
     /// The number of that record.
     before: u64,
 }
 
 /// Returns the first matching message, and the number of its record.
-fn find(lines: &mut Lines, earlier: Earlier<'_>, sought: Sought) -> Option<(u64, Value)> {
-    for record in Parts::new(Format::Recording, earlier.input) {
+fn find(lines: &mut Lines, earlier: Earlier<'_>, sought: Sought) -> Option<(u64, Tree)> {
+    for record in earlier.records {
         if record.number >= earlier.before {
             break;
         }
-        let message = read_value(lines, record.content)?;
+        let message = read_message(lines, record.content, None)?;
         if sought.is_met_by(&Head::of(record.side, &message)) {
             return Some((record.number, message));
         }
     }
     None
-}
-
-/// What may be sent before the response to `initialize`.
-const INITIALIZING: &str =
-    "before the response to initialize, only the adapter sends: responses and output events";
-
-/// What to do if a session may have started again.
-const SPLIT: &str =
-    "if the recording has two sessions, split it; otherwise fix the program that sent it";
-
-/// What to do if a response is wrong.
-const FIX_SENDER: &str = "fix the program that sent the response";
-
-/// Returns the meaning of a rule, in a sentence, and what to do about a violation.
-fn meaning_and_advice(rule: Rule) -> (&'static str, &'static str) {
-    match rule {
-        Rule::EventFromClient => (
-            "only the adapter sends events",
-            "if > and < are exchanged in the input, fix the program that wrote it",
-        ),
-        Rule::NotInitialized => (
-            "only output events may come before the client's initialize request",
-            "start to record before the client connects",
-        ),
-        Rule::StillInitializing => (
-            INITIALIZING,
-            "let the sender wait for that response; a trace made from a log may have another order",
-        ),
-        Rule::InitializeTwice => ("a session has one initialize request", SPLIT),
-        Rule::AfterDisconnect => {
-            (
-                "the client sends no request after a successful disconnect response",
-                SPLIT,
-            )
-        }
-        Rule::SeqUsed => ("each request of a side has a seq of its own", SPLIT),
-        Rule::ConfiguredEarly => (
-            "configurationDone comes after an initialized event",
-            "let the client wait for that event; a trace made from a log may have another order",
-        ),
-        Rule::ConfiguredTwice => ("the client sends configurationDone once", "fix the client"),
-        Rule::NoRequest => (
-            "a response answers an earlier request of the other side",
-            "let the recorder write each message before it passes it on",
-        ),
-        Rule::AnsweredTwice => ("a request has one response", FIX_SENDER),
-        Rule::OtherCommand => ("a response has the command of its request", FIX_SENDER),
-    }
 }
 
 /// Adds a line about the first matching message: what it is, and the number of its record.
@@ -168,17 +119,16 @@ fn add_earlier(lines: &mut Lines, earlier: Earlier<'_>, head: &Head<'_>, rule: R
 /// Explains that the message of the record with this number violates a session rule.
 pub(crate) fn explain_rule(
     lines: &mut Lines,
-    input: &[u8],
+    records: Records<'_>,
     number: u64,
     head: &Head<'_>,
     rule: Rule,
 ) {
     let earlier = Earlier {
-        input,
+        records,
         before: number,
     };
-    let (meaning, advice) = meaning_and_advice(rule);
-    lines.add(meaning);
+    lines.add(rule.meaning());
     add_earlier(lines, earlier, head, rule);
-    lines.add(advice);
+    lines.add(rule.fix());
 }

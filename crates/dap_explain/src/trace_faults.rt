@@ -1,38 +1,40 @@
 //! Explains bytes that are not a piece of a trace, and invalid frames in its pieces.
-ghost use Rattle.std.specs.Prelude.{◌≡◌};
-ghost use Rattle.dap_frame.specs.Limits.{IsSound};
-
 use crate::frame_faults::{BadFrame, FrameName, explain_frame};
-use crate::header::{KEEP_LINE_ENDS, count_of, first_line, split_piece};
+use crate::header::{KEEP_LINE_ENDS, count_of, first_line};
 use crate::lines::Lines;
-use crate::records::{Format, Parts, add_likeness};
+use crate::records::{Format, Records, add_likeness};
 use crate::words::Bytes;
-use dap_frame::{FrameFault, FrameLimits, Framer};
-use dap_recording::{RecorderFault, TraceCause, TraceReader};
+use dap_frame::{FrameLimits, Framer};
+use dap_recording::{FedTrace, RecorderFault, TraceCause, TraceReader};
 use dap_tree::Side;
 use std::alloc::{AllocError, Global};
 
-/// Returns whether the first piece of the bytes is rejected for this reason.
-fn is_refused(bytes: &[u8], cause: TraceCause) -> bool {
+/// Returns the bytes of a trace from the piece with this number on, if those before it exist.
+fn from_piece(trace: &[u8], number: u64) -> Option<&[u8]> {
     let mut reader = TraceReader::new();
-    let fault = match reader.feed(bytes) {
-        Err(fault) => Some(fault),
-        Ok(_) => reader.finish().err(),
-    };
-    matches!(fault, Some(fault) if fault.cause == cause)
+    let mut rest = trace;
+    for _ in 1..number {
+        let fed = reader.feed(rest).ok()?;
+        fed.part?;
+        rest = &rest[fed.used..];
+    }
+    Some(rest)
 }
 
 /// Adds the lines about an incomplete piece.
 fn add_cut(lines: &mut Lines, number: u64, bytes: &[u8]) {
     let after = bytes.get(1..).unwrap_or(bytes);
-    match (count_of(after), split_piece(after)) {
-        (Some(count), Some((came, _))) => {
-            let missing = count.saturating_sub(came.len() as u64);
+    match count_of(after) {
+        Some(count) => {
+            let received = after
+                .len()
+                .saturating_sub(first_line(after).len().saturating_add(1));
+            let missing = count.saturating_sub(received as u64);
             lines.write(format_args!(
                 "piece {number} has {count} bytes, and {missing} of them are missing",
             ));
         }
-        _ => lines.write(format_args!(
+        None => lines.write(format_args!(
             "the trace ends in the length of piece {number}: {}",
             Bytes(bytes),
         )),
@@ -55,10 +57,10 @@ fn add_bad_piece(lines: &mut Lines, number: u64, bytes: &[u8], cause: TraceCause
 
 /// Explains that the bytes of a piece are not a piece of a trace.
 pub(crate) fn explain_piece(lines: &mut Lines, trace: &[u8], number: u64, cause: TraceCause) {
-    let Some(Parts { rest: bytes, .. }) = Parts::from_number(Format::Trace, trace, number) else {
+    let Some(bytes) = from_piece(trace, number) else {
         return;
     };
-    if !is_refused(bytes, cause) || (number == 1 && add_likeness(lines, trace, Format::Trace)) {
+    if number == 1 && add_likeness(lines, trace, Format::Trace) {
         return;
     }
     match cause {
@@ -67,91 +69,52 @@ pub(crate) fn explain_piece(lines: &mut Lines, trace: &[u8], number: u64, cause:
     }
 }
 
-/// The last frame of a side, while its pieces are read.
-#[derive(Drop)]
-struct LastFrame {
-    framer: Framer,
-    /// The maximum number of its first bytes that are stored.
-    limit: usize,
-    front: Vec<u8>,
-    len: usize,
-}
-
-impl LastFrame {
-    /// Reads bytes of the frame, or of the frames after it.
-    fn take(&mut self, piece: &[u8]) -> Result<(), AllocError> {
-        let mut rest = piece;
-        'frames: while !rest.is_empty() {
-            match self.framer.feed(rest) {
-                Ok(fed) if fed.content.is_some() => {
-                    self.front.clear();
-                    self.len = 0;
-                    rest = &rest[fed.used..];
-                }
-                Err(FrameFault::Memory) => return Err(AllocError),
-                Ok(_) | Err(_) => {
-                    let room = self.limit.saturating_sub(self.front.len());
-                    self.len = self.len.saturating_add(rest.len());
-                    return self
-                        .front
-                        .extend_from_slice(rest.get(..room).unwrap_or(rest));
-                }
-            }
-        }
-        Ok(())
-    }
-}
-
-/// Returns the last frame that a side has started by the end of the piece with this number.
-fn frame_in_piece(
-    alloc: Global,
-    trace: &[u8],
-    number: u64,
-    side: Side,
-    limits: FrameLimits,
-) -> Result<LastFrame, AllocError>
-    requires { IsSound limits }
-{
-    let mut frame = LastFrame {
-        framer: Framer::new(alloc, limits),
-        limit: limits.header,
-        front: Vec::new(alloc),
-        len: 0,
-    };
-    for piece in Parts::new(Format::Trace, trace) {
-        if piece.number > number {
+/// Returns the bytes that a side has sent by the end of the piece with this number.
+fn bytes_sent(alloc: Global, trace: &[u8], number: u64, side: Side) -> Result<Vec<u8>, AllocError> {
+    let mut reader = TraceReader::new();
+    let mut rest = trace;
+    let mut sent = Vec::new(alloc);
+    while !rest.is_empty() {
+        let Ok(
+            FedTrace {
+                used,
+                part: Some(part),
+            },
+        ) = reader.feed(rest)
+        else {
+            break;
+        };
+        if part.piece > number {
             break;
         }
-        if piece.side == Some(side) {
-            frame.take(piece.content)?;
+        if part.side == side {
+            sent.extend_from_slice(part.bytes)?;
         }
+        rest = &rest[used..];
     }
-    Ok(frame)
+    Ok(sent)
 }
 
 /// Explains that a frame of a side is invalid in the piece with this number, or is incomplete.
 pub(crate) fn explain_recorder(
     lines: &mut Lines,
+    framer: &Framer,
     trace: &[u8],
     number: u64,
     fault: RecorderFault,
     limits: FrameLimits,
-)
-    requires { IsSound limits }
-{
+) {
     let RecorderFault::Frame(side, fault) = fault else {
         return;
     };
-    let last = frame_in_piece(lines.alloc(), trace, number, side, limits);
-    let Some(last) = lines.noted(last) else {
+    let sent = bytes_sent(lines.alloc(), trace, number, side);
+    let Some(sent) = lines.value_of(sent) else {
         return;
     };
-    if last.framer.finish() == Err(fault) {
-        let frame = BadFrame {
-            name: FrameName::Of(side),
-            front: last.front.as_slice(),
-            len: last.len,
-        };
-        explain_frame(lines, frame, fault, limits);
+    let mut bytes = sent.as_slice();
+    for frame in Records::new(framer, Format::Frames, bytes) {
+        bytes = frame.rest;
     }
+    let name = FrameName::Of(side);
+    explain_frame(lines, BadFrame { name, bytes }, fault, limits);
 }

@@ -1,9 +1,10 @@
 //! Explains requests without a response.
-use crate::head::{Head, Named, read_value};
+use crate::head::{Head, Named, read_message};
 use crate::lines::Lines;
-use crate::records::{Format, Part, Parts};
+use crate::records::{Record, Records};
 use dap_profile::Kind;
 use dap_tree::Side;
+use std::alloc::AllocError;
 use std::collections::BTreeSet;
 
 /// The maximum number of requests that are named.
@@ -12,22 +13,9 @@ const NAMED: usize = 5;
 /// The requests that have a response: whether the client sent it, and its `seq`.
 type Answered = BTreeSet<(bool, i64)>;
 
-/// Adds the request that the message of a record answers.
-fn note_message(lines: &mut Lines, answered: &mut Answered, record: Part<'_>) {
-    let Some(message) = read_value(lines, record.content) else {
-        return;
-    };
-    if let Some(seq) = Head::of(record.side, &message).request_seq {
-        let added = answered.insert((record.side == Some(Side::Adapter), seq));
-        if added.is_err() {
-            lines.fail();
-        }
-    }
-}
-
 /// Adds a line about the request of a record, if it has no response. Returns whether it did.
-fn add_unanswered(lines: &mut Lines, record: Part<'_>, answered: &Answered) -> bool {
-    let Some(message) = read_value(lines, record.content) else {
+fn add_unanswered(lines: &mut Lines, record: Record<'_>, answered: &Answered) -> bool {
+    let Some(message) = read_message(lines, record.content, None) else {
         return false;
     };
     let head = Head::of(record.side, &message);
@@ -46,13 +34,19 @@ fn add_unanswered(lines: &mut Lines, record: Part<'_>, answered: &Answered) -> b
 }
 
 /// Explains that `count` requests have no response, and names the first five of them.
-pub(crate) fn explain_incomplete(lines: &mut Lines, input: &[u8], count: usize) {
+pub(crate) fn explain_incomplete(lines: &mut Lines, records: Records<'_>, count: usize) {
     let mut answered = BTreeSet::new(lines.alloc());
-    for record in Parts::new(Format::Recording, input) {
-        note_message(lines, &mut answered, record);
+    for record in records {
+        let Some(message) = read_message(lines, record.content, None) else {
+            return;
+        };
+        if let Some(seq) = Head::of(record.side, &message).request_seq {
+            let added = answered.insert((record.side == Some(Side::Adapter), seq));
+            lines.value_of(added.or(Err(AllocError)));
+        }
     }
     let mut named = 0usize;
-    for record in Parts::new(Format::Recording, input) {
+    for record in records {
         if named < NAMED && add_unanswered(lines, record, &answered) {
             named = named.saturating_add(1);
         }

@@ -12,7 +12,7 @@ ghost use Rattle.dap_rename.specs.IndexNames.{index_limit, index_numbers};
 use dap_commands::Job;
 use dap_compact::compact;
 use dap_device::{MemorySource, StdSink};
-use dap_explain::{explain, explain_masked, explain_rules};
+use dap_explain::{Format, Input, explain, explain_rules};
 use dap_golden::{GoldenRefused, recording_of};
 use dap_input::{Limits, Refused};
 use dap_mask::MaskRules;
@@ -25,10 +25,19 @@ use std::alloc::{AllocError, Global};
 use std::hash::RandomState;
 use std::io;
 
+/// Returns a recording to which these rules are applied.
+fn recording<'a>(bytes: &'a [u8], rules: Option<&'a MaskRules>) -> Input<'a> {
+    Input {
+        bytes,
+        format: Format::Recording,
+        rules,
+    }
+}
+
 /// Explains why an input is rejected, if it is.
 fn explain_found(
     alloc: Global,
-    input: &[u8],
+    input: Input<'_>,
     found: Option<Refused>,
     limits: Limits,
 ) -> Result<String, AllocError>
@@ -66,6 +75,16 @@ pub fn explain_job(
     ensures nothing { reads_input_alone job.now ≡ false → IsEmpty result }
 {
     let found = refused_by_job(alloc, job, input, limits, hasher);
+    let format = match job {
+        Job::Compact => Format::Frames,
+        Job::Record => Format::Trace,
+        _ => Format::Recording,
+    };
+    let input = Input {
+        bytes: input,
+        format,
+        rules: None,
+    };
     explain_found(alloc, input, found, limits)
 }
 
@@ -111,7 +130,7 @@ pub fn explain_view(
     ensures { IfOk result (λ text. ∥ AreLines (string_bytes text) ∥₁) }
 {
     let found = refused_by_view(alloc, request, input, limits);
-    explain_found(alloc, input, found, limits)
+    explain_found(alloc, recording(input, None), found, limits)
 }
 
 /// Returns why an input is not shown, or why the first marked record is marked.
@@ -160,7 +179,7 @@ pub fn explain_mask(
     };
     match mask_bytes(alloc, &rules, input, limits) {
         Ok(_) => Ok(String::new(alloc)),
-        Err(refused) => explain_masked(alloc, input, &rules, refused, limits),
+        Err(refused) => explain(alloc, recording(input, Some(&rules)), refused, limits),
     }
 }
 
@@ -185,7 +204,7 @@ pub fn explain_order(
     };
     match order_bytes(alloc, rules.swaps(), input, limits, Mode::Whole) {
         Ok(_) | Err(Refused::Grew(_)) => Ok(String::new(alloc)),
-        Err(refused) => explain(alloc, input, refused, limits),
+        Err(refused) => explain(alloc, recording(input, None), refused, limits),
     }
 }
 
@@ -195,7 +214,7 @@ pub fn explain_order(
 /// order, not in the masked recording.
 pub fn explain_applying(
     alloc: Global,
-    recording: &[u8],
+    bytes: &[u8],
     rules: &MaskRules,
     refused: ApplyRefused,
     limits: Limits,
@@ -207,11 +226,11 @@ pub fn explain_applying(
     ensures nothing { IsApplyFailure refused → IsEmpty result }
 {
     match refused {
-        ApplyRefused::Mask(why) => explain_masked(alloc, recording, rules, why, limits),
+        ApplyRefused::Mask(why) => explain(alloc, recording(bytes, Some(rules)), why, limits),
         ApplyRefused::Order(Refused::Grew(_) | Refused::TooManyIds(_))
             if !rules.swaps().is_empty() => { Ok(String::new(alloc)) }
-        ApplyRefused::Order(why) => match mask_bytes(alloc, rules, recording, limits) {
-            Ok(masked) => explain(alloc, masked.as_slice(), why, limits),
+        ApplyRefused::Order(why) => match mask_bytes(alloc, rules, bytes, limits) {
+            Ok(masked) => explain(alloc, recording(masked.as_slice(), None), why, limits),
             Err(_) => Ok(String::new(alloc)),
         },
         ApplyRefused::ReadFault | ApplyRefused::Memory => Ok(String::new(alloc)),
@@ -235,17 +254,26 @@ pub fn explain_golden(
     ensures nothing { IsGoldenFailure refused → IsEmpty result }
 {
     let why = match refused {
-        GoldenRefused::Trace(why) => return explain(alloc, input, why, limits),
+        GoldenRefused::Trace(why) => {
+            let input = Input {
+                bytes: input,
+                format: Format::Trace,
+                rules: None,
+            };
+            return explain(alloc, input, why, limits);
+        }
         GoldenRefused::Mask(why) => ApplyRefused::Mask(why),
         GoldenRefused::Session(why) => ApplyRefused::Order(why),
         GoldenRefused::NoRecords | GoldenRefused::Memory => return Ok(String::new(alloc)),
     };
-    let Ok(recording) = recording_of(alloc, input, limits) else {
+    let Ok(session) = recording_of(alloc, input, limits) else {
         return Ok(String::new(alloc));
     };
     match (rules, why) {
-        (Some(rules), _) => explain_applying(alloc, recording.as_slice(), rules, why, limits),
-        (None, ApplyRefused::Order(why)) => explain(alloc, recording.as_slice(), why, limits),
+        (Some(rules), _) => explain_applying(alloc, session.as_slice(), rules, why, limits),
+        (None, ApplyRefused::Order(why)) => {
+            explain(alloc, recording(session.as_slice(), None), why, limits)
+        }
         _ => Ok(String::new(alloc)),
     }
 }

@@ -1,7 +1,6 @@
 //! Compares the recordings of two files, or prints how they differ.
-use crate::explaining::explain_no_rules;
+use crate::explaining::{explain_no_rules, explain_recording};
 use crate::{REFUSED, Setting, tables};
-use dap_explain::explain as explain_refused;
 use dap_explain_commands::explain_applying;
 use dap_system::{SystemInput, errors, line_output, print, report_input, report_reason};
 use dapnorm::{
@@ -41,7 +40,7 @@ fn explain(
             Which::B => b,
         };
         if let Some(bytes) = input.bytes() {
-            print(rt, explain_refused(rt.alloc(), bytes, refused, LIMITS));
+            explain_recording(rt, bytes, refused);
         }
     }
 }

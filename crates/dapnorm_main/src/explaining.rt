@@ -1,10 +1,20 @@
 //! Prints explanations on standard error, after the line of a refusal.
 use dap_device::FileAt;
-use dap_explain::{explain, explain_rules};
+use dap_explain::{Format, Input, explain, explain_rules};
 use dap_explain_commands::{explain_mask, explain_order};
 use dap_system::{print, report_reason};
 use dapnorm::{LIMITS, NoRules, Refused, Replaceable, RulesFault, RulesOpenFault, RulesRefused};
 use std::fs;
+
+/// Explains why a recording is rejected.
+pub fn explain_recording(rt: &HostRuntime, bytes: &[u8], refused: Refused) {
+    let input = Input {
+        bytes,
+        format: Format::Recording,
+        rules: None,
+    };
+    print(rt, explain(rt.alloc(), input, refused, LIMITS));
+}
 
 /// Explains why a golden file is rejected, which is read again.
 pub fn explain_file(rt: &HostRuntime, name: &str, refused: Refused) {
@@ -12,7 +22,7 @@ pub fn explain_file(rt: &HostRuntime, name: &str, refused: Refused) {
         return;
     };
     if let Ok(Some(golden)) = file.read(rt.alloc(), LIMITS.input) {
-        print(rt, explain(rt.alloc(), golden.as_slice(), refused, LIMITS));
+        explain_recording(rt, golden.as_slice(), refused);
     }
 }
 
