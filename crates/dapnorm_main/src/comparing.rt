@@ -2,10 +2,13 @@
 use crate::explaining::{explain_no_rules, explain_recording};
 use crate::{REFUSED, Setting, tables};
 use dap_explain_commands::explain_applying;
-use dap_system::{SystemInput, errors, line_output, print, report_input, report_reason};
+use dap_system::{
+    OpenedInput, SystemInput, errors, line_output, print, report_input, report_reason,
+};
 use dapnorm::{
-    CompareRefused, IndexNames, LIMITS, Mode, OpenFault, OpenStop, PairRun, Printed, RuledPairRun,
-    RulesStop, TableMaker, Tables, TwoFilesRun, Which, compare_by_rules, compare_files,
+    CompareRefused, IndexNames, LIMITS, Mode, OpenFault, OpenStop, PairRun, Printed, Refused,
+    RuledPairRun, RulesStop, TableMaker, Tables, TwoFilesRun, Which, compare_by_rules,
+    compare_files,
 };
 use std::alloc::Global;
 use std::hash::RandomState;
@@ -24,6 +27,13 @@ pub struct Comparison<'a> {
     pub printed: Printed,
 }
 
+/// Explains why an input is rejected, if its bytes are stored.
+fn explain_input(rt: &HostRuntime, input: &OpenedInput, refused: Refused) {
+    if let Some(bytes) = input.bytes() {
+        explain_recording(rt, bytes, refused);
+    }
+}
+
 /// Explains why one of two inputs was refused, or could not be read.
 fn explain(
     rt: &HostRuntime,
@@ -34,14 +44,10 @@ fn explain(
     let (a, b) = (inputs.0.reader(), inputs.1.reader());
     report_input(rt, Some(names.0), a, run.status == REFUSED);
     report_input(rt, Some(names.1), b, run.status == REFUSED);
-    if let Some(CompareRefused::Input(which, refused)) = run.refused {
-        let input = match which {
-            Which::A => a,
-            Which::B => b,
-        };
-        if let Some(bytes) = input.bytes() {
-            explain_recording(rt, bytes, refused);
-        }
+    match run.refused {
+        Some(CompareRefused::Input(Which::A, refused)) => explain_input(rt, a, refused),
+        Some(CompareRefused::Input(Which::B, refused)) => explain_input(rt, b, refused),
+        _ => {}
     }
 }
 

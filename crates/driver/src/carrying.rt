@@ -10,13 +10,16 @@ use dap_rename::{Mode, Renaming};
 use dap_tree::Scratch;
 use std::alloc::Global;
 
-/// Appends the message of a record. `None`: it is rejected, or an allocation failed.
+/// Appends the message of a record, if one ended. `None`: it is rejected, or an allocation failed.
 fn add(
     alloc: Global,
-    record: Record,
+    ended: Option<Record>,
     scratch: &mut Scratch,
     messages: &mut Vec<Message>,
 ) -> Option<()> {
+    let Some(record) = ended else {
+        return Some(());
+    };
     let content = record.content.as_slice();
     let message = read_message(alloc, 1, record.side, content, scratch).ok()?;
     messages.push(message).ok()
@@ -32,10 +35,8 @@ fn messages_of(alloc: Global, recording: &[u8], limits: FrameLimits) -> Option<V
     let mut rest = recording;
     for _ in 0..recording.len() {
         let fed = reader.feed(rest).ok()?;
-        if let Some(record) = fed.whole {
-            add(alloc, record, &mut scratch, &mut messages)?;
-        }
         rest = &rest[fed.used..];
+        add(alloc, fed.whole, &mut scratch, &mut messages)?;
     }
     Some(messages)
 }
