@@ -38,10 +38,7 @@ fn add_content(
     refused: Refused,
     limits: Limits,
 ) {
-    let Some(record) = records
-        .from_number(number)
-        .and_then(|records| records.first())
-    else {
+    let Some(record) = records.from_number(number).and_then(|mut rest| rest.next()) else {
         return;
     };
     if let Refused::Json(_) = refused {

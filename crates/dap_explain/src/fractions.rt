@@ -62,20 +62,14 @@ impl<'m> Fractions<'m> {
             self.shared = path.len();
         } else {
             let mut steps = self.first.iter().zip(path);
-            let apart = steps.position(|(step, other)| !are_one_place(*step, *other));
+            let apart = steps.position(|pair| match pair {
+                (Step::Element(_), Step::Element(_)) => false,
+                (step, other) => step != other,
+            });
             self.shared = apart.unwrap_or(path.len()).min(self.shared);
         }
         self.count = self.count.saturating_add(1);
         Ok(())
-    }
-}
-
-/// Returns whether two steps are equal, counting all elements of an array as equal.
-fn are_one_place(step: Step<'_>, other: Step<'_>) -> bool {
-    match (step, other) {
-        (Step::Element(_), Step::Element(_)) => true,
-        (Step::Member(name), Step::Member(other)) => name == other,
-        _ => false,
     }
 }
 
@@ -137,14 +131,9 @@ fn add_number(lines: &mut Lines, content: &str, steps: &[Step<'_>]) {
     };
     let text = number_text(lines.alloc(), &mut reader, steps);
     if let Some(Some(text)) = lines.value_of(text) {
-        let path = Path {
-            steps,
-            is_rule: false,
-        };
+        let (path, number, fault) = (Path::of(steps), Cut(text), fault_of(text));
         lines.write(format_args!(
-            "{path} is {}, which {}; dapnorm takes only integers of 64 bits",
-            Cut(text),
-            fault_of(text),
+            "{path} is {number}, which {fault}; dapnorm takes only integers of 64 bits",
         ));
     }
 }
@@ -158,11 +147,8 @@ fn add_rule(lines: &mut Lines, head: Head<'_>, what: &str, steps: &[Step<'_>]) -
     let (Some(kind), Some(name)) = (head.kind, head.name) else {
         return false;
     };
-    let path = Path {
-        steps,
-        is_rule: true,
-    };
-    let rule = format!(in lines.alloc(); "blank {} {} {path}", kind.word(), Name(name));
+    let (kind, name, place) = (kind.word(), Name(name), Path::of_rule(steps));
+    let rule = format!(in lines.alloc(); "blank {kind} {name} {place}");
     let Some(rule) = lines.value_of(rule) else {
         return false;
     };

@@ -22,8 +22,7 @@ impl fmt::Display for FrameName {
     fn fmt<W: fmt::Write>(&self, f: &mut fmt::Formatter<W>) -> fmt::Result {
         match self {
             FrameName::Record(number) => write!(f, "record {number}"),
-            FrameName::Of(Side::Client) => f.write_str("the frame of the client"),
-            FrameName::Of(Side::Adapter) => f.write_str("the frame of the adapter"),
+            FrameName::Of(side) => write!(f, "the frame of the {side}"),
         }
     }
 }
@@ -40,10 +39,8 @@ pub(crate) struct BadFrame<'a> {
 fn add_cut(lines: &mut Lines, frame: BadFrame<'_>) {
     let name = frame.name;
     let Some((header, rest)) = split_header(frame.bytes) else {
-        lines.write(format_args!(
-            "the input ends in the header part of {name}: {}",
-            Bytes(frame.bytes),
-        ));
+        let bytes = Bytes(frame.bytes);
+        lines.write(format_args!("the input ends in the header part of {name}: {bytes}"));
         if !has_converted_line_end(frame.bytes) {
             lines.add("the program that wrote the input may have been stopped early");
         }
@@ -60,51 +57,48 @@ fn add_cut(lines: &mut Lines, frame: BadFrame<'_>) {
     }
 }
 
+/// Adds the line about the number of fields named `Content-Length`.
+fn add_lengths(lines: &mut Lines, name: FrameName, header: &[u8], count: &str) {
+    let header = Bytes(header);
+    lines.write(format_args!(
+        "the header part of {name} has {count} Content-Length; it is {header}",
+    ));
+}
+
 /// Adds the lines about the error of a frame.
 fn add_fault(lines: &mut Lines, frame: BadFrame<'_>, fault: FrameFault, limits: FrameLimits) {
     let (name, header) = (frame.name, header_of(frame.bytes));
     match fault {
-        FrameFault::HeaderLine => match bad_line(header) {
+        FrameFault::HeaderLine => match bad_line(header).map(Bytes) {
             Some(line) => lines.write(format_args!(
-                "the header part of {name} has the line {}, which is not NAME: VALUE",
-                Bytes(line),
+                "the header part of {name} has the line {line}, which is not NAME: VALUE",
             )),
             None => lines.write(format_args!("the header part of {name} is empty")),
         },
-        FrameFault::NoLength | FrameFault::TwoLengths => {
-            let count = if fault == FrameFault::NoLength {
-                "no"
-            } else {
-                "more than one"
-            };
+        FrameFault::NoLength => add_lengths(lines, name, header, "no"),
+        FrameFault::TwoLengths => add_lengths(lines, name, header, "more than one"),
+        FrameFault::BadLength => {
+            let length = Bytes(length_value(header).unwrap_or(&[]));
             lines.write(format_args!(
-                "the header part of {name} has {count} Content-Length; it is {}",
-                Bytes(header),
+                "the Content-Length of {name} is {length}, not 1 to 10 digits"
             ));
         }
-        FrameFault::BadLength => lines.write(format_args!(
-            "the Content-Length of {name} is {}, not 1 to 10 digits",
-            Bytes(length_value(header).unwrap_or(&[])),
-        )),
-        FrameFault::HeaderTooLong => lines.write(format_args!(
-            "no header part ends in the first {} bytes of {name}: {}",
-            limits.header,
-            Bytes(frame.bytes),
-        )),
-        FrameFault::ContentTooLong => add_content_too_long(lines, name, header, limits.content),
+        FrameFault::HeaderTooLong => {
+            let (limit, bytes) = (limits.header, Bytes(frame.bytes));
+            lines.write(format_args!(
+                "no header part ends in the first {limit} bytes of {name}: {bytes}",
+            ));
+        }
+        FrameFault::ContentTooLong => {
+            let (len, limit) = (content_len(header).unwrap_or(0), limits.content);
+            lines.write(format_args!(
+                "the content of {name} has {len} bytes; the limit is {limit} bytes",
+            ));
+            lines.add("request less at once, such as by start and count of variables");
+        }
         FrameFault::Cut => add_cut(lines, frame),
         FrameFault::Memory => {}
     }
-}
-
-/// Adds the lines about a content that is too long.
-fn add_content_too_long(lines: &mut Lines, name: FrameName, header: &[u8], limit: usize) {
-    if let Some(len) = content_len(header) {
-        lines.write(format_args!(
-            "the content of {name} has {len} bytes; the limit is {limit} bytes",
-        ));
-    }
-    lines.add("request less at once, such as by start and count of variables");
 }
 
 /// Explains that a frame is invalid or incomplete.

@@ -36,11 +36,7 @@ impl<'m> Head<'m> {
             kind,
             name: text_at(message, name),
             seq: number_at(message, "seq"),
-            request_seq: if is_response {
-                number_at(message, "request_seq")
-            } else {
-                None
-            },
+            request_seq: number_at(message, "request_seq").filter(|_| is_response),
             is_success: is_response && matches!(message.child("success"), Some(Tree::Bool(true))),
         }
     }

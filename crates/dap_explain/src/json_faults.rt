@@ -89,10 +89,7 @@ impl<'t> Shown<'t> {
 
 /// Returns whether the absolute value of a number exceeds the largest 64-bit float.
 fn is_past_floats(text: &str) -> bool {
-    match text.parse::<f64>() {
-        Ok(number) => number.is_infinite(),
-        Err(_) => false,
-    }
+    text.parse::<f64>().is_ok_and(|number| number.is_infinite())
 }
 
 /// Reads the tokens of a string up to the first token that is not JSON.
@@ -107,11 +104,9 @@ fn shown_by<'t>(text: &'t str, scratch: &'t mut Scratch<Global>) -> Result<Shown
 
 /// Returns the position of an error in a string, in bytes.
 fn offset_of(text: &str, error: &Error) -> usize {
-    let start = match error.line().checked_sub(2) {
-        Some(breaks) => match text.match_indices('\n').nth(breaks) {
-            Some((index, _)) => index.saturating_add(1),
-            None => 0,
-        },
+    let breaks = error.line().checked_sub(2);
+    let start = match breaks.and_then(|breaks| text.match_indices('\n').nth(breaks)) {
+        Some((index, _)) => index.saturating_add(1),
         None => 0,
     };
     start.saturating_add(error.column()).saturating_sub(1)
@@ -156,9 +151,9 @@ fn add_surrogate(lines: &mut Lines, number: u64, escape: &str) {
 fn add_syntax(lines: &mut Lines, record: Record<'_>, text: &str, error: &Error) {
     let number = record.number;
     if error.is_eof() {
+        let len = text.len();
         lines.write(format_args!(
-            "the content of record {number} ends after {} bytes, before its JSON text does",
-            text.len(),
+            "the content of record {number} ends after {len} bytes, before its JSON text does",
         ));
     } else {
         let offset = offset_of(text, error);
@@ -166,9 +161,9 @@ fn add_syntax(lines: &mut Lines, record: Record<'_>, text: &str, error: &Error) 
             return add_surrogate(lines, number, escape);
         }
         let near = text.as_bytes().get(offset.saturating_sub(BEFORE)..);
+        let near = Bytes(near.unwrap_or(&[]));
         lines.write(format_args!(
-            "the content of record {number} is not JSON near byte {offset}: {}",
-            Bytes(near.unwrap_or(&[])),
+            "the content of record {number} is not JSON near byte {offset}: {near}",
         ));
     }
     add_sender(lines, record.side);
@@ -186,9 +181,9 @@ fn add_shown(lines: &mut Lines, record: Record<'_>, text: &str, shown: &Shown<'_
             "record {number} has more than {MAX_DEPTH} arrays and objects inside one another, which dapnorm does not read",
         )),
         Some(TokenFault::Number(text)) => {
+            let text = Cut(text);
             lines.write(format_args!(
-                "the number {} of record {number} is outside the range of 64-bit floats",
-                Cut(text),
+                "the number {text} of record {number} is outside the range of 64-bit floats",
             ));
             lines.add("let the program that sent it write a number of that range");
         }
@@ -216,10 +211,12 @@ pub(crate) fn explain_json(lines: &mut Lines, record: Record<'_>) {
         Ok(text) => explain_text(lines, record, text),
         Err(error) => {
             let valid = error.valid_up_to();
-            lines.write(format_args!(
-                "the content of record {} is not UTF-8 after {valid} bytes: {}",
+            let (number, rest) = (
                 record.number,
                 Bytes(record.content.get(valid..).unwrap_or(&[])),
+            );
+            lines.write(format_args!(
+                "the content of record {number} is not UTF-8 after {valid} bytes: {rest}",
             ));
             add_sender(lines, record.side);
         }

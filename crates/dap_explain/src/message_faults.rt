@@ -3,7 +3,7 @@ use crate::head::{Head, add_head, add_sender};
 use crate::lines::Lines;
 use crate::records::Record;
 use crate::words::Cut;
-use dap_message::{Break, MessageFault, first_break};
+use dap_message::{MessageFault, first_break};
 use dap_profile::{Place, Row, Want, profile_rows};
 use dap_tree::Tree;
 use std::alloc::{AllocError, Global};
@@ -70,20 +70,6 @@ fn path_of(alloc: Global, place: Place, element: usize) -> Result<String, AllocE
     }
 }
 
-/// Adds the line about the value at the path of a row.
-fn add_place(lines: &mut Lines, row: &Row, fault: Break<'_>) {
-    let path = path_of(lines.alloc(), row.place, fault.element);
-    if let Some(path) = lines.value_of(path) {
-        let found = lines.json(fault.value);
-        lines.write(format_args!(
-            "{path} is {}; the profile requires {} there (dapnorm rows {})",
-            Cut(found.as_str()),
-            want_words(row.want),
-            row.number,
-        ));
-    }
-}
-
 /// Adds the lines about a message that violates the row with this number.
 fn add_row(lines: &mut Lines, record: Record<'_>, message: &Tree, number: u16) {
     add_head(lines, record.number, &Head::of(record.side, message));
@@ -91,10 +77,18 @@ fn add_row(lines: &mut Lines, record: Record<'_>, message: &Tree, number: u16) {
     let Some(row) = rows.get(usize::from(number).saturating_sub(1)) else {
         return;
     };
-    if let Some(fault) = first_break(row, message) {
-        add_place(lines, row, fault);
-        add_sender(lines, record.side);
+    let Some(fault) = first_break(row, message) else {
+        return;
+    };
+    let path = path_of(lines.alloc(), row.place, fault.element);
+    if let Some(path) = lines.value_of(path) {
+        let found = lines.json(fault.value);
+        let (found, wanted) = (Cut(found.as_str()), want_words(row.want));
+        lines.write(format_args!(
+            "{path} is {found}; the profile requires {wanted} there (dapnorm rows {number})",
+        ));
     }
+    add_sender(lines, record.side);
 }
 
 /// Explains that the content of a record, which is this value, is not a message.
@@ -106,10 +100,9 @@ pub(crate) fn explain_message(
 ) {
     match fault {
         MessageFault::NotObject => {
+            let (number, found) = (record.number, type_words(message));
             lines.write(format_args!(
-                "the content of record {} is {}; a message is a JSON object",
-                record.number,
-                type_words(message),
+                "the content of record {number} is {found}; a message is a JSON object",
             ));
             add_sender(lines, record.side);
         }

@@ -14,10 +14,8 @@ const RECORD_START: &str =
 
 /// Adds the lines about a record whose frame is not followed by LF.
 fn add_no_line_end(lines: &mut Lines, number: u64, frame: &[u8], content: &[u8], after: &[u8]) {
-    lines.write(format_args!(
-        "after the frame of record {number} comes {} instead of LF",
-        Bytes(after),
-    ));
+    let found = Bytes(after);
+    lines.write(format_args!("after the frame of record {number} comes {found} instead of LF"));
     if after.starts_with(b"\r\n") {
         lines.add("line ends were converted to CR LF");
         lines.add(KEEP_LINE_ENDS);
@@ -27,9 +25,9 @@ fn add_no_line_end(lines: &mut Lines, number: u64, frame: &[u8], content: &[u8],
     let rest = frame.get(header_of(frame).len()..).unwrap_or(&[]);
     let text = rest.get(..text_len).unwrap_or(&[]);
     if !is_json(lines, content) && is_json(lines, text) {
+        let len = content.len();
         lines.write(format_args!(
-            "Content-Length is {}, and the JSON text there has {text_len} bytes",
-            content.len(),
+            "Content-Length is {len}, and the JSON text there has {text_len} bytes",
         ));
         lines.add("Content-Length counts bytes of UTF-8: the sender may have counted characters");
     }

@@ -51,12 +51,6 @@ impl<'a> Records<'a> {
         }
     }
 
-    /// Returns the next record, if there is one.
-    pub(crate) fn first(self) -> Option<Record<'a>> {
-        let mut records = self;
-        records.next()
-    }
-
     /// Returns the records from the one with this number on, if those before it exist.
     pub(crate) fn from_number(self, number: u64) -> Option<Records<'a>> {
         let mut records = self;
@@ -113,39 +107,30 @@ impl<'a> Iterator for Records<'a> {
     }
 }
 
-/// Returns which format an input seems to have, and what to do, if the format is recognised and is
-/// not the expected one.
-fn likeness_of(input: &[u8], expected: Format) -> Option<&'static str> {
+/// Adds the lines about an input that seems to have another format than the expected one: how it
+/// begins, and what to do. Returns whether it seems so.
+pub(crate) fn add_likeness(lines: &mut Lines, input: &[u8], expected: Format) -> bool {
     let after_marker = match input {
         [b'>' | b'<', rest @ ..] => rest,
         _ => &[],
     };
     // The byte order mark that some editors write before UTF-8.
-    if input.starts_with(b"\xef\xbb\xbf") {
-        Some("the input begins with a UTF-8 byte order mark: save it without one")
+    let likeness = if input.starts_with(b"\xef\xbb\xbf") {
+        "the input begins with a UTF-8 byte order mark: save it without one"
     } else if count_of(after_marker).is_some() && expected != Format::Trace {
-        Some("this looks like a trace: dapnorm record makes a recording of it")
-    } else if is_like_frames(after_marker) && expected != Format::Recording {
-        Some(match expected {
-            Format::Trace => "this looks like a recording: leave out dapnorm record",
-            _ => "this looks like a recording: dapnorm compact reads frames without > and <",
-        })
+        "this looks like a trace: dapnorm record makes a recording of it"
+    } else if is_like_frames(after_marker) && expected == Format::Trace {
+        "this looks like a recording: leave out dapnorm record"
+    } else if is_like_frames(after_marker) && expected == Format::Frames {
+        "this looks like a recording: dapnorm compact reads frames without > and <"
     } else if is_like_frames(input) && expected != Format::Frames {
-        Some("this looks like frames without > and <: only dapnorm compact reads these")
+        "this looks like frames without > and <: only dapnorm compact reads these"
     } else if matches!(input, [b'{' | b'[', ..]) {
-        Some("this looks like JSON without frames: each message needs a header part")
+        "this looks like JSON without frames: each message needs a header part"
     } else {
-        None
-    }
-}
-
-/// Adds the lines about an input that seems to have another format than the expected one. Returns
-/// whether it does.
-pub(crate) fn add_likeness(lines: &mut Lines, input: &[u8], expected: Format) -> bool {
-    let likeness = likeness_of(input, expected);
-    if let Some(likeness) = likeness {
-        lines.write(format_args!("the input begins {}", Bytes(input)));
-        lines.add(likeness);
-    }
-    likeness.is_some()
+        return false;
+    };
+    lines.write(format_args!("the input begins {}", Bytes(input)));
+    lines.add(likeness);
+    true
 }

@@ -24,8 +24,8 @@ fn line_of(rules: &[u8], number: usize) -> &[u8] {
 }
 
 /// Returns whether a line starts with a verb.
-fn has_verb(line: &[u8], verb: &[u8]) -> bool {
-    split_verb(line).0 == verb
+fn has_verb(line: &[u8], verb: &str) -> bool {
+    split_verb(line).0 == verb.as_bytes()
 }
 
 /// Adds a line of the file, unchanged.
@@ -34,31 +34,27 @@ fn add_line(lines: &mut Lines, number: usize, line: &[u8]) {
         Ok(text) => lines.write(format_args!("line {number} is: {}", Cut(text.trim()))),
         Err(error) => {
             let valid = error.valid_up_to();
-            let rest = line.get(valid..).unwrap_or(&[]);
-            lines.write(format_args!(
-                "line {number} is not UTF-8 after {valid} bytes: {}",
-                Bytes(rest),
-            ));
+            let rest = Bytes(line.get(valid..).unwrap_or(&[]));
+            lines.write(format_args!("line {number} is not UTF-8 after {valid} bytes: {rest}"));
         }
     }
 }
 
 /// Adds the line about a line that is not a rule.
 fn add_bad_rule(lines: &mut Lines, line: &[u8]) {
-    let Err(fault) = place_of(lines, line) else {
-        return lines.add(
+    if place_of(lines, line).is_some() {
+        lines.add(
             "a rule is VERB KIND NAME PLACE, drop event NAME, swap KIND NAME KIND NAME, word TEXT WORD, or per-stop",
         );
-    };
-    match fault.word {
-        Some(word) => lines.write(format_args!("{}{}", Bytes(word), fault.what)),
-        None => lines.add(fault.what),
     }
 }
 
 /// Returns what is wrong with a path that no rule may change.
 fn place_words(place: &[u8]) -> &'static str {
-    if is_head_member(place) {
+    if ["type", "command", "event", "success"]
+        .iter()
+        .any(|name| name.as_bytes() == place)
+    {
         "a member by which dapnorm recognises messages"
     } else if place.ends_with(b".name") || place.ends_with(b".\"name\"") {
         "the name by which the rule finds its element"
@@ -69,17 +65,11 @@ fn place_words(place: &[u8]) -> &'static str {
     }
 }
 
-/// Returns whether a path is a member by which messages are recognised.
-fn is_head_member(place: &[u8]) -> bool {
-    let names = ["type", "command", "event", "success"];
-    names.iter().any(|name| name.as_bytes() == place)
-}
-
 /// Adds the line about a rule with a path that no rule may change.
 fn add_bad_place(lines: &mut Lines, line: &[u8]) {
-    if let Ok(place) = place_of(lines, line) {
-        let what = place_words(place);
-        lines.write(format_args!("{} is {what}: leave the rule out", Bytes(place)));
+    if let Some(place) = place_of(lines, line) {
+        let (place, what) = (Bytes(place), place_words(place));
+        lines.write(format_args!("{place} is {what}: leave the rule out"));
     }
 }
 
@@ -137,7 +127,7 @@ fn is_renaming(lines: &mut Lines, earlier: &[u8], line: &[u8]) -> bool {
 /// Adds the lines about a rule that an earlier one excludes.
 fn add_clash(lines: &mut Lines, rules: &[u8], fault: RulesFault) {
     let line = line_of(rules, fault.line);
-    if has_verb(line, b"drop") {
+    if has_verb(line, "drop") {
         add_earlier(lines, rules, fault, "changes the category");
         return lines.add(CATEGORY_ADVICE);
     }
@@ -145,7 +135,7 @@ fn add_clash(lines: &mut Lines, rules: &[u8], fault: RulesFault) {
         return;
     };
     let earlier = line_of(rules, number);
-    let (what, advice) = if has_verb(earlier, b"drop") {
+    let (what, advice) = if has_verb(earlier, "drop") {
         ("drops events by this category", CATEGORY_ADVICE)
     } else if is_renaming(lines, earlier, line) {
         (
@@ -164,7 +154,7 @@ fn add_clash(lines: &mut Lines, rules: &[u8], fault: RulesFault) {
 
 /// Adds the lines about a rule that is there already.
 fn add_repeated(lines: &mut Lines, rules: &[u8], fault: RulesFault) {
-    let what = if has_verb(line_of(rules, fault.line), b"word") {
+    let what = if has_verb(line_of(rules, fault.line), "word") {
         "has a word for this text"
     } else {
         "has the same rule"

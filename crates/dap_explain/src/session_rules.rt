@@ -35,14 +35,6 @@ impl Sought {
     }
 }
 
-/// Returns the other side.
-fn other(side: Side) -> Side {
-    match side {
-        Side::Client => Side::Adapter,
-        Side::Adapter => Side::Client,
-    }
-}
-
 /// The records of an input before one of them, to be searched.
 #[derive(Clone, Copy)]
 struct Earlier<'a> {
@@ -67,24 +59,19 @@ fn find(lines: &mut Lines, earlier: Earlier<'_>, sought: Sought) -> Option<(u64,
 
 /// Adds a line about the first matching message: what it is, and the number of its record.
 fn add_found(lines: &mut Lines, earlier: Earlier<'_>, sought: Sought) {
-    match (find(lines, earlier, sought), sought) {
-        (Some((number, message)), _) => {
-            add_sought(lines, sought, number, Head::of(None, &message).name)
+    let Some((record, message)) = find(lines, earlier, sought) else {
+        if let Sought::Request(side, seq) = sought {
+            lines.write(format_args!("the {side} sent no request with seq {seq} before it"));
         }
-        (None, Sought::Request(side, seq)) => lines.write(format_args!(
-            "the {side} sent no request with seq {seq} before it",
-        )),
-        _ => {}
-    }
-}
-
-/// Adds the line about a message that was found in a record, with this name.
-fn add_sought(lines: &mut Lines, sought: Sought, record: u64, name: Option<&str>) {
+        return;
+    };
     match sought {
-        Sought::Request(side, seq) => lines.write(format_args!(
-            "the {side}'s request with seq {seq} is{}, in record {record}",
-            Named(name),
-        )),
+        Sought::Request(side, seq) => {
+            let name = Named(Head::of(None, &message).name);
+            lines.write(format_args!(
+                "the {side}'s request with seq {seq} is{name}, in record {record}",
+            ));
+        }
         Sought::Response(..) => lines.write(format_args!("record {record} is its first response")),
         Sought::Command(name) => {
             lines.write(format_args!("the client's {name} request is record {record}"))
@@ -107,7 +94,11 @@ fn add_earlier(lines: &mut Lines, earlier: Earlier<'_>, head: &Head<'_>, rule: R
             add_found(lines, earlier, Sought::Request(side, seq))
         }
         (Rule::NoRequest | Rule::OtherCommand | Rule::AnsweredTwice, Some(side), _, Some(seq)) => {
-            add_found(lines, earlier, Sought::Request(other(side), seq));
+            let other = match side {
+                Side::Client => Side::Adapter,
+                Side::Adapter => Side::Client,
+            };
+            add_found(lines, earlier, Sought::Request(other, seq));
             if rule == Rule::AnsweredTwice {
                 add_found(lines, earlier, Sought::Response(side, seq));
             }
@@ -116,18 +107,16 @@ fn add_earlier(lines: &mut Lines, earlier: Earlier<'_>, head: &Head<'_>, rule: R
     }
 }
 
-/// Explains that the message of the record with this number violates a session rule.
+/// Explains that the message of a record violates a session rule. The records before it are
+/// searched.
 pub(crate) fn explain_rule(
     lines: &mut Lines,
     records: Records<'_>,
-    number: u64,
+    before: u64,
     head: &Head<'_>,
     rule: Rule,
 ) {
-    let earlier = Earlier {
-        records,
-        before: number,
-    };
+    let earlier = Earlier { records, before };
     lines.add(rule.meaning());
     add_earlier(lines, earlier, head, rule);
     lines.add(rule.fix());

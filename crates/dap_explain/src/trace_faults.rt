@@ -34,25 +34,12 @@ fn add_cut(lines: &mut Lines, number: u64, bytes: &[u8]) {
                 "piece {number} has {count} bytes, and {missing} of them are missing",
             ));
         }
-        None => lines.write(format_args!(
-            "the trace ends in the length of piece {number}: {}",
-            Bytes(bytes),
-        )),
+        None => {
+            let bytes = Bytes(bytes);
+            lines.write(format_args!("the trace ends in the length of piece {number}: {bytes}"));
+        }
     }
     lines.add("the program that wrote the input may have been stopped early");
-}
-
-/// Adds the lines about a piece that starts incorrectly.
-fn add_bad_piece(lines: &mut Lines, number: u64, bytes: &[u8], cause: TraceCause) {
-    lines.write(format_args!("piece {number} begins {}", Bytes(bytes)));
-    lines.add("a piece begins with > or <, its length in decimal digits without leading 0, and LF");
-    if cause == TraceCause::BadMarker && number > 1 {
-        lines.add("the length of the piece before it may be wrong: it counts bytes");
-    }
-    if cause == TraceCause::BadCount && first_line(bytes).ends_with(b"\r") {
-        lines.add("line ends may have been converted");
-        lines.add(KEEP_LINE_ENDS);
-    }
 }
 
 /// Explains that the bytes of a piece are not a piece of a trace.
@@ -63,9 +50,17 @@ pub(crate) fn explain_piece(lines: &mut Lines, trace: &[u8], number: u64, cause:
     if number == 1 && add_likeness(lines, trace, Format::Trace) {
         return;
     }
-    match cause {
-        TraceCause::Cut => add_cut(lines, number, bytes),
-        _ => add_bad_piece(lines, number, bytes, cause),
+    if cause == TraceCause::Cut {
+        return add_cut(lines, number, bytes);
+    }
+    lines.write(format_args!("piece {number} begins {}", Bytes(bytes)));
+    lines.add("a piece begins with > or <, its length in decimal digits without leading 0, and LF");
+    if cause == TraceCause::BadMarker && number > 1 {
+        lines.add("the length of the piece before it may be wrong: it counts bytes");
+    }
+    if cause == TraceCause::BadCount && first_line(bytes).ends_with(b"\r") {
+        lines.add("line ends may have been converted");
+        lines.add(KEEP_LINE_ENDS);
     }
 }
 

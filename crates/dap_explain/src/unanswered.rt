@@ -24,10 +24,9 @@ fn add_unanswered(lines: &mut Lines, record: Record<'_>, answered: &Answered) ->
     };
     let is_open = !answered.contains(&(side == Side::Client, seq));
     if is_open {
+        let (name, number) = (Named(head.name), record.number);
         lines.write(format_args!(
-            "the {side}'s request{} with seq {seq}, in record {}, has no response",
-            Named(head.name),
-            record.number,
+            "the {side}'s request{name} with seq {seq}, in record {number}, has no response",
         ));
     }
     is_open

@@ -107,39 +107,38 @@ pub(crate) enum Step<'a> {
 /// that matches it, such as `body.stackFrames[].line`.
 #[derive(Clone, Copy)]
 pub(crate) struct Path<'p> {
-    pub(crate) steps: &'p [Step<'p>],
-    /// Whether it is the path of a rule.
-    pub(crate) is_rule: bool,
+    steps: &'p [Step<'p>],
+    is_of_rule: bool,
+}
+
+impl<'p> Path<'p> {
+    pub(crate) fn of(steps: &'p [Step<'p>]) -> Path<'p> {
+        let is_of_rule = false;
+        Path { steps, is_of_rule }
+    }
+
+    pub(crate) fn of_rule(steps: &'p [Step<'p>]) -> Path<'p> {
+        let is_of_rule = true;
+        Path { steps, is_of_rule }
+    }
 }
 
 impl fmt::Display for Path<'_> {
     fn fmt<W: fmt::Write>(&self, f: &mut fmt::Formatter<W>) -> fmt::Result {
-        if self.steps.is_empty() && !self.is_rule {
+        if self.steps.is_empty() && !self.is_of_rule {
             f.write_str(".")?;
         }
         for (index, step) in self.steps.iter().enumerate() {
-            self.write_step(f, *step, index == 0)?;
+            match step {
+                Step::Member(name) => {
+                    f.write_str(if index == 0 { "" } else { "." })?;
+                    Name(name).fmt(f)?;
+                }
+                Step::Element(_) if self.is_of_rule => f.write_str("[]")?,
+                Step::Element(element) => write!(f, "[{element}]")?,
+            }
         }
         Ok(())
-    }
-}
-
-impl Path<'_> {
-    /// Writes a step of the path.
-    fn write_step<W: fmt::Write>(
-        &self,
-        f: &mut fmt::Formatter<W>,
-        step: Step<'_>,
-        is_first: bool,
-    ) -> fmt::Result {
-        match step {
-            Step::Member(name) => {
-                f.write_str(if is_first { "" } else { "." })?;
-                Name(name).fmt(f)
-            }
-            Step::Element(_) if self.is_rule => f.write_str("[]"),
-            Step::Element(element) => write!(f, "[{element}]"),
-        }
     }
 }
 
