@@ -60,7 +60,7 @@ pub enum Rule {
     /// The `command` of a response is not that of its request.
     ///
     /// - Cause: the adapter writes another name, or an empty one, as delve does for a command that
-    ///   it does not know.
+    ///   it does not know. Leave such a request out of the session.
     OtherCommand,
 }
 
