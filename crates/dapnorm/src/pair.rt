@@ -6,7 +6,7 @@ ghost use Rattle.dap_input.specs.Limits.{AreSound};
 ghost use Rattle.dap_normalise.specs.NameTables.{AreReady};
 ghost use Rattle.dap_compare.specs.Which.{compare_refused_text};
 ghost use Rattle.dap_runs.specs.Printing.{IsPrinted, refusal_status};
-ghost use Rattle.dap_runs.specs.Reporting.{HasSent};
+ghost use Rattle.dap_runs.specs.Reporting.{HasSent, fault_line};
 ghost use Rattle.dapnorm.specs.Pairs.{CompareIsReported, PairIsRun, all_status, all_text};
 ghost use Rattle.dapnorm.specs.Pairs.{diff_status, diff_text};
 ghost use Rattle.dapnorm.specs.Pairs.{differ_line, first_line, pair_line, pairs_in, same_line};
