@@ -1,12 +1,10 @@
 //! Compares two recordings, prints the verdict or the differences, and returns a status.
-ghost use Rattle.std.specs.Prelude.{◌≡◌, ◌+◌, ◌<◌, ◌≤◌, ◌^◌, None, Some};
+ghost use Rattle.std.specs.Prelude.{◌≡◌, ◌+◌, ◌<◌, ◌≤◌, ◌^◌};
 ghost use Rattle.std.specs.List.{flat_map};
 ghost use Rattle.dap_device.specs.Written.{HasSentAll, HasWrittenAll};
 ghost use Rattle.dap_input.specs.Limits.{AreSound};
 ghost use Rattle.dap_normalise.specs.NameTables.{AreReady};
-ghost use Rattle.dap_compare.specs.Which.{compare_refused_text};
-ghost use Rattle.dap_runs.specs.Printing.{IsPrinted, refusal_status};
-ghost use Rattle.dap_runs.specs.Reporting.{HasSent, fault_line};
+ghost use Rattle.dap_runs.specs.Printing.{IsPrinted};
 ghost use Rattle.dapnorm.specs.Pairs.{CompareIsReported, PairIsRun, all_status, all_text};
 ghost use Rattle.dapnorm.specs.Pairs.{diff_status, diff_text};
 ghost use Rattle.dapnorm.specs.Pairs.{differ_line, first_line, pair_line, pairs_in, same_line};
@@ -14,7 +12,7 @@ ghost use Rattle.dapnorm.specs.Pairs.{shows_stop, verdict_status, verdict_text};
 
 use arrayvec::ArrayString;
 use dap_commands::Printed;
-use dap_compare::{CompareRefused, Verdict, compare_with};
+use dap_compare::{Verdict, compare_with};
 use dap_device::{DeviceFault, Sink, Source, write_all};
 use dap_diff::{AllDifferences, Diff, diff_all_with, diff_with};
 use dap_input::{Limits, Refused};
@@ -172,29 +170,6 @@ fn print_all<W: Sink, E: Sink>(writer: &mut W, errors: &mut E, all: &AllDifferen
     }
 }
 
-/// Returns the run of a comparison whose result was printed.
-fn finished(status: u8) -> PairRun
-    ensures { result ≡ record { status = status; refused = None } }
-{
-    PairRun {
-        status,
-        refused: None,
-    }
-}
-
-/// Reports in one line why two recordings were not compared, and returns the run.
-fn stopped<E: Sink>(errors: &mut E, refused: CompareRefused) -> PairRun
-    requires { E.failures errors.old < 2 ^ 62 }
-    ensures line { HasSent E.Sink errors.old errors.new
-        (fault_line (compare_refused_text refused)) }
-    ensures run { result ≡ record { status = refusal_status refused; refused = Some refused } }
-{
-    PairRun {
-        status: report_refused(errors, refused),
-        refused: Some(refused),
-    }
-}
-
 /// Compares two recordings, and returns the status of the program. An error is reported on
 /// `errors`, in one line.
 ///
@@ -328,20 +303,38 @@ pub fn run_pair_with<A: Source, B: Source, W: Sink, E: Sink, T: NameTable + Drop
     match printed {
         Printed::Verdict => {
             match compare_with(alloc, reader_a, reader_b, limits, tables_a, tables_b, mode) {
-                Ok(verdict) => finished(print_verdict(writer, errors, mode, &verdict)),
-                Err(refused) => stopped(errors, refused),
+                Ok(verdict) => PairRun {
+                    status: print_verdict(writer, errors, mode, &verdict),
+                    refused: None,
+                },
+                Err(refused) => PairRun {
+                    status: report_refused(errors, refused),
+                    refused: Some(refused),
+                },
             }
         }
         Printed::FirstDifference => {
             match diff_with(alloc, reader_a, reader_b, limits, tables_a, tables_b, mode) {
-                Ok(diff) => finished(print_diff(writer, errors, &diff)),
-                Err(refused) => stopped(errors, refused),
+                Ok(diff) => PairRun {
+                    status: print_diff(writer, errors, &diff),
+                    refused: None,
+                },
+                Err(refused) => PairRun {
+                    status: report_refused(errors, refused),
+                    refused: Some(refused),
+                },
             }
         }
         Printed::AllDifferences => {
             match diff_all_with(alloc, reader_a, reader_b, limits, tables_a, tables_b, mode) {
-                Ok(all) => finished(print_all(writer, errors, &all)),
-                Err(refused) => stopped(errors, refused),
+                Ok(all) => PairRun {
+                    status: print_all(writer, errors, &all),
+                    refused: None,
+                },
+                Err(refused) => PairRun {
+                    status: report_refused(errors, refused),
+                    refused: Some(refused),
+                },
             }
         }
     }

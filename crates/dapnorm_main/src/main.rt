@@ -123,7 +123,8 @@ fn run_words(rt: &HostRuntime, alloc: Global, words: &[String]) -> u8 {
         Err(fault) => return report_usage(rt, &fault),
     };
     let explain = request.explain || requests_explanations(rt);
-    let rules = match rules_given(rt, &request.command, request.words.as_slice()) {
+    let files = SystemRules { rt, text: None };
+    let rules = match rules_given(rt, &files, &request.command, request.words.as_slice()) {
         Ok(rules) => rules,
         Err(status) => return status,
     };

@@ -1,30 +1,34 @@
 //! The rules of a command that takes the option `--word`.
-ghost use Rattle.std.specs.Prelude.{◌≡◌, ◌<◌, IfErr, IfOk};
+ghost use Rattle.std.specs.Prelude.{◌≡◌, ◌<◌, IfErr, IfOk, Some};
 ghost use Rattle.dap_commands.specs.Reading.{text_in};
 ghost use Rattle.dapnorm_main.specs.CommandRules.{AreRulesOf, AreRulesWith, rules_name};
-ghost use Rattle.dapnorm_main.specs.CommandRules.{takes_words};
+ghost use Rattle.dapnorm_main.specs.CommandRules.{IsTextOf, takes_words};
 
 use crate::explaining::explain_no_rules;
 use crate::report_usage;
 use dap_commands::{Command, Name, Task};
-use dap_runs::report_no_rules;
-use dap_system::{OpenedInput, errors, is_out_of_memory};
+use dap_runs::{RulesFiles, report_no_rules};
+use dap_system::errors;
 use dap_word_option::with_values;
-use dapnorm::{NoRules, RulesOpenFault, RulesRefused, StdSource, Stop, read_all};
+use dapnorm::{NoRules, RulesRefused, Source, Stop, read_all};
 
 /// The maximum number of bytes of a rules file.
 const RULES: u64 = 65_536;
 
-/// Reads the text of a rules file, with at most one byte past the limit.
-fn text_of(rt: &HostRuntime, name: &str) -> Result<Vec<u8>, NoRules> {
-    let file = match OpenedInput::open_rules(rt, name) {
+/// Opens and reads the rules file that a name leads to, with at most one byte past the limit.
+fn text_of<J: Source + Drop, G: RulesFiles<J>>(
+    alloc: Global,
+    files: &G,
+    name: &str,
+) -> Result<Vec<u8>, NoRules>
+    ensures { IfOk result
+        (λ text. IsTextOf (G.opened files.now) J.Source (Some name.now) text.items) }
+{
+    let mut file = match files.open_rules(name, false) {
         Ok(file) => file,
-        Err(error) if is_out_of_memory(&error) => {
-            return Err(NoRules::Unopened(RulesOpenFault::Memory));
-        }
-        Err(error) => return Err(NoRules::Unopened(RulesOpenFault::Unread(error))),
+        Err(fault) => return Err(NoRules::Unopened(fault)),
     };
-    let Ok(read) = read_all(rt.alloc(), &mut StdSource::new(file), RULES) else {
+    let Ok(read) = read_all(alloc, &mut file, RULES) else {
         return Err(NoRules::Refused(RulesRefused::Memory));
     };
     match read.stop {
@@ -69,9 +73,14 @@ fn rules_name<'a>(command: &Command<'a>) -> Option<&'a str>
 
 /// Returns the text of the rules of a command with the words of the option, which are checked
 /// before the rules file is opened.
-fn rules_with(rt: &HostRuntime, name: Option<&str>, values: &[Name<'_>]) -> Result<Vec<u8>, u8>
-    ensures ok { IfOk result
-        (λ rules. AreRulesWith (text_in name.entry) values.now rules.items) }
+fn rules_with<J: Source + Drop, G: RulesFiles<J>>(
+    rt: &HostRuntime,
+    files: &G,
+    name: Option<&str>,
+    values: &[Name<'_>],
+) -> Result<Vec<u8>, u8>
+    ensures ok { IfOk result (λ rules. AreRulesWith (G.opened files.now) J.Source
+        (text_in name.entry) values.now rules.items) }
     ensures err { IfErr result (λ status. 0 < status) }
 {
     let alone = match with_values(rt.alloc(), Vec::new(rt.alloc()), values) {
@@ -81,7 +90,7 @@ fn rules_with(rt: &HostRuntime, name: Option<&str>, values: &[Name<'_>]) -> Resu
     let Some(name) = name else {
         return Ok(alone);
     };
-    match text_of(rt, name) {
+    match text_of(rt.alloc(), files, name) {
         Ok(text) => match with_values(rt.alloc(), text, values) {
             Ok(rules) => Ok(rules),
             Err(fault) => Err(report_usage(rt, &fault)),
@@ -96,12 +105,14 @@ fn rules_with(rt: &HostRuntime, name: Option<&str>, values: &[Name<'_>]) -> Resu
 
 /// Returns the text of the rules of a command with the words of the option `--word`. `None`: there
 /// are no words. The error is the status of the program, after the report.
-pub fn rules_given(
+pub fn rules_given<J: Source + Drop, G: RulesFiles<J>>(
     rt: &HostRuntime,
+    files: &G,
     command: &Command<'_>,
     values: &[Name<'_>],
 ) -> Result<Option<Vec<u8>>, u8>
-    ensures ok { IfOk result (AreRulesOf command.now values.now) }
+    ensures ok { IfOk result
+        (AreRulesOf (G.opened files.now) J.Source command.now values.now) }
     ensures err { IfErr result (λ status. 0 < status) }
 {
     if !takes_words(command) {
@@ -110,7 +121,7 @@ pub fn rules_given(
     if values.is_empty() {
         return Ok(None);
     }
-    match rules_with(rt, rules_name(command), values) {
+    match rules_with(rt, files, rules_name(command), values) {
         Ok(rules) => Ok(Some(rules)),
         Err(status) => Err(status),
     }
