@@ -26,5 +26,5 @@ returns g c =
           c.in-Ok.texts.mode reader ran.new.reader_a c.new-2.result
           ran.new.reader_b c.args.printed c.args.writer.now ran.new.writer
           c.args.errors.now ran.new.errors ran.result) one
-          ran.ensures.reported);
+          ran.ensures.run);
     }
