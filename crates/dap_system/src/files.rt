@@ -6,10 +6,12 @@ use crate::output::OpenOutput;
 use crate::reports::is_out_of_memory;
 use dap_device::{FileAt, StdSink, StdSource, stream_number};
 use dap_runs::{Devices, Files, OpenFault, RulesFiles, RulesOpenFault, Targets, is_standard};
+use std::alloc::Global;
 use std::fs::{self, OpenOptions};
 use std::hash::{BuildHasher, Hasher, RandomState};
 use std::io::{self, Error, ErrorKind};
 use std::os::unix::fs::MetadataExt;
+use std::rt::Files as RuntimeFiles;
 
 /// Returns why a file was not opened or found.
 fn fault_of(error: Error) -> OpenFault {
@@ -72,32 +74,32 @@ impl<'a> RulesFiles<SystemInput<'a>> for SystemRules<'a> {
 
 /// The files of the operating system that are replaced as a whole, or only read.
 #[derive(Clone, Copy)]
-pub struct SystemTargets<'a> {
-    pub rt: &'a HostRuntime,
+pub struct SystemTargets<'a, R: RuntimeFiles> {
+    pub alloc: Global,
+    pub rt: &'a R,
     /// Random words for the names of temporary files. `None`: the files are only read, so they may
     /// be pipes.
     pub hasher: Option<RandomState>,
 }
 
-impl<'a> SystemTargets<'a> {
+impl<'a, R: RuntimeFiles> SystemTargets<'a, R> {
     /// Finds a file.
-    fn file(&self, name: &str) -> io::Result<FileAt<'a, HostRuntime>>
+    fn file(&self, name: &str) -> io::Result<FileAt<'a, R>>
         ensures { IfOk result (λ file. file.failures ≡ 0) }
     {
-        let alloc = self.rt.alloc();
         match self.hasher {
-            Some(hasher) => FileAt::new(alloc, self.rt, name, hasher.build_hasher().finish()),
-            None => FileAt::to_read(alloc, self.rt, name),
+            Some(hasher) => FileAt::new(self.alloc, self.rt, name, hasher.build_hasher().finish()),
+            None => FileAt::to_read(self.alloc, self.rt, name),
         }
     }
 }
 
-impl<'a> Targets<FileAt<'a, HostRuntime>> for SystemTargets<'a> {
+impl<'a, R: RuntimeFiles> Targets<FileAt<'a, R>> for SystemTargets<'a, R> {
     ghost found = { λ targets name file. Unit {0} };
 
     ghost unfound = { λ targets name fault. Unit {0} };
 
-    fn find(&self, name: &str) -> Result<FileAt<'a, HostRuntime>, OpenFault> {
+    fn find(&self, name: &str) -> Result<FileAt<'a, R>, OpenFault> {
         match self.file(name) {
             Ok(file) => Ok(file),
             Err(error) => Err(fault_of(error)),

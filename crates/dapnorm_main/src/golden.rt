@@ -71,6 +71,7 @@ fn run_golden<'a>(
     setting: Setting<'a>,
 ) -> GoldenFilesRun<SystemInput<'a>, FileAt<'a, HostRuntime>> {
     let targets = SystemTargets {
+        alloc: rt.alloc(),
         rt,
         hasher: if golden.update {
             Some(setting.hasher)

@@ -143,6 +143,7 @@ fn save_task<'a>(
     setting: Setting<'a>,
 ) -> SavedRun<SystemInput<'a>, FileAt<'a, HostRuntime>> {
     let targets = SystemTargets {
+        alloc: rt.alloc(),
         rt,
         hasher: Some(setting.hasher),
     };
