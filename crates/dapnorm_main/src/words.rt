@@ -11,6 +11,7 @@ use dap_runs::{RulesFiles, report_no_rules};
 use dap_system::errors;
 use dap_word_option::with_values;
 use dapnorm::{NoRules, RulesRefused, Source, Stop, read_all};
+use std::alloc::Global;
 
 /// The maximum number of bytes of a rules file.
 const RULES: u64 = 65_536;
