@@ -1,11 +1,13 @@
 """Tests of the recorders `dapnorm.tee` and `dapnorm.proxy`, and what the tests of the package python/dapnorm share. `tests/adapter_kit.py` calls
 them."""
+import contextlib
 import io
 import os
 import shutil
 import signal
 import subprocess
 import sys
+import threading
 import time
 
 import fake_adapter
@@ -61,11 +63,23 @@ while True:
 """
 
 
+@contextlib.contextmanager
+def limited(words, environment, **streams):
+    """A process whose standard error a test reads. After a minute it is killed, with all that it started, so that no test waits forever."""
+    with subprocess.Popen(words, stderr=subprocess.PIPE, text=True, env=environment, start_new_session=True, **streams) as process:
+        timer = threading.Timer(60, os.killpg, (process.pid, signal.SIGKILL))
+        timer.start()
+        try:
+            yield process
+        finally:
+            timer.cancel()
+
+
 def tee_signals(report, folder):
     """Signals reach the adapter; its standard error and its status are those of the tee. An orphan does not keep the tee."""
     words = [sys.executable, "-m", "dapnorm.tee", os.path.join(folder, "trace")]
     environment = {**os.environ, "PYTHONPATH": PACKAGE}
-    with subprocess.Popen([*words, sys.executable, "-c", STAND_IN], stdin=subprocess.PIPE, stdout=subprocess.PIPE, stderr=subprocess.PIPE, text=True, env=environment) as tee:
+    with limited([*words, sys.executable, "-c", STAND_IN], environment, stdin=subprocess.PIPE, stdout=subprocess.PIPE) as tee:
         lines = [tee.stderr.readline()]
         for number in (signal.SIGHUP, signal.SIGINT, signal.SIGTERM):
             tee.send_signal(number)
@@ -95,7 +109,7 @@ def proxy_starts(report, folder):
     for fault, wanted in (("complains", 0), ("status=3", 3), ("crashes", 128 + 11)):
         trace = os.path.join(folder, fault)
         words = [sys.executable, "-m", "dapnorm.proxy", trace, "0", str(port), *ADAPTER, "7", "complains", fault, f"listens={port}"]
-        with subprocess.Popen(words, stderr=subprocess.PIPE, text=True, env=environment) as process:
+        with limited(words, environment) as process:
             listening = process.stderr.readline()
             with dapnorm.Adapter.connect("127.0.0.1", int(listening.rsplit(":", 1)[1]), timeout=SLACK) as adapter:
                 launched(adapter)
@@ -106,7 +120,7 @@ def proxy_starts(report, folder):
         with open(trace, "rb") as file, open(adapter.trace, "rb") as own:
             report.check("and its trace has the messages of the client", len(file.read()) > 0.9 * len(own.read()))
     words = [sys.executable, "-m", "dapnorm.proxy", os.path.join(folder, "trace"), "0", str(port), sys.executable, "-c", STAND_IN]
-    with subprocess.Popen(words, stderr=subprocess.PIPE, text=True, env=environment) as process:
+    with limited(words, environment) as process:
         lines = sorted(process.stderr.readline().split(" on ")[0].strip() for _ in range(2))
         proxy_port = dapnorm.free_port()
         process.send_signal(signal.SIGTERM)
