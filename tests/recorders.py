@@ -63,6 +63,18 @@ while True:
 """
 
 
+# The tee, on a machine that is busy after the adapter has started.
+LATE_TEE = """import subprocess, sys, time
+from dapnorm import tee
+class Late(subprocess.Popen):
+    def __init__(self, *words, **how):
+        super().__init__(*words, **how)
+        time.sleep(1)
+subprocess.Popen = Late
+sys.exit(tee.main(sys.argv[1:]))
+"""
+
+
 @contextlib.contextmanager
 def limited(words, environment, **streams):
     """A process whose standard error a test reads. After a minute it is killed, with all that it started, so that no test waits forever."""
@@ -79,14 +91,15 @@ def tee_signals(report, folder):
     """Signals reach the adapter; its standard error and its status are those of the tee. An orphan does not keep the tee."""
     words = [sys.executable, "-m", "dapnorm.tee", os.path.join(folder, "trace")]
     environment = {**os.environ, "PYTHONPATH": PACKAGE}
-    with limited([*words, sys.executable, "-c", STAND_IN], environment, stdin=subprocess.PIPE, stdout=subprocess.PIPE) as tee:
-        lines = [tee.stderr.readline()]
-        for number in (signal.SIGHUP, signal.SIGINT, signal.SIGTERM):
-            tee.send_signal(number)
-            lines.append(tee.stderr.readline())
-        status = tee.wait(timeout=60)
-    report.check("signals reach the adapter of the tee", lines == ["ready\n", "signal 1\n", "signal 2\n", "signal 15\n"], repr(lines))
-    report.check("and the tee has the adapter's status", status == 9, repr(status))
+    for name, tee in (("the tee", words), ("a tee that starts slowly", [sys.executable, "-c", LATE_TEE, words[3]])):
+        with limited([*tee, sys.executable, "-c", STAND_IN], environment, stdin=subprocess.PIPE, stdout=subprocess.PIPE) as process:
+            lines = [process.stderr.readline()]
+            for number in (signal.SIGHUP, signal.SIGINT, signal.SIGTERM):
+                process.send_signal(number)
+                lines.append(process.stderr.readline())
+            status = process.wait(timeout=60)
+        report.check(f"signals reach the adapter of {name}", lines == ["ready\n", "signal 1\n", "signal 2\n", "signal 15\n"], repr(lines))
+        report.check(f"and {name} has the adapter's status", status == 9, repr(status))
     given = framed([{"seq": 1, "type": "request", "command": "initialize"}, {"seq": 2, "type": "request", "command": "threads"}])
     begun = time.monotonic()
     with open(os.path.join(folder, "errors"), "w+b") as errors:

@@ -35,7 +35,7 @@ from typing import BinaryIO, List, Optional, Sequence, Tuple
 
 from . import channel
 from .errors import described
-from .tee import PASSED_ON, SIZE, asks_for_help, own_name, pass_signals_on, status_of
+from .tee import PASSED_ON, SIZE, asks_for_help, own_name, pass_signals_on, signals_wait, status_of
 from .trace import ADAPTER, CLIENT, Trace
 
 # Seconds until the adapter listens, and until it ends after the last session or after a signal.
@@ -143,8 +143,9 @@ class Proxy:
         self._stop = number
 
     def start(self, command: List[str]) -> None:
-        self._adapter = subprocess.Popen(command, stdin=subprocess.DEVNULL)
-        pass_signals_on(self._adapter, set(PASSED_ON) - set(ENDING))
+        with signals_wait() as let_in:
+            self._adapter = subprocess.Popen(command, stdin=subprocess.DEVNULL, preexec_fn=let_in)
+            pass_signals_on(self._adapter, set(PASSED_ON) - set(ENDING))
 
     def kill(self) -> None:
         if self._adapter is not None:

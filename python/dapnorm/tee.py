@@ -17,7 +17,7 @@ import subprocess
 import sys
 import threading
 from types import FrameType
-from typing import Iterable, Iterator, List, Optional, Sequence
+from typing import Callable, Iterable, Iterator, List, Optional, Sequence
 
 from .trace import ADAPTER, CLIENT, Trace
 
@@ -48,6 +48,23 @@ def write_all(target: int, piece: bytes) -> None:
             rest = rest[os.write(target, rest):]
         except BlockingIOError:
             select.select([], [target], [], 1)
+
+
+@contextlib.contextmanager
+def signals_wait(numbers: Iterable[signal.Signals] = PASSED_ON) -> Iterator[Callable[[], None]]:
+    """Signals of these numbers wait until the end of the block. Yields the call with which a child gets them at once.
+
+    So a signal that arrives while the adapter starts is passed on, and does not end this process without the adapter.
+    """
+    before = signal.pthread_sigmask(signal.SIG_BLOCK, numbers)
+
+    def let_in() -> None:
+        signal.pthread_sigmask(signal.SIG_SETMASK, before)
+
+    try:
+        yield let_in
+    finally:
+        let_in()
 
 
 def pass_signals_on(process: "subprocess.Popen[bytes]", numbers: Iterable[signal.Signals] = PASSED_ON) -> None:
@@ -109,10 +126,11 @@ def main(words: Optional[Sequence[str]] = None) -> int:
     if len(arguments) < 2:
         sys.exit(__doc__)
     try:
-        adapter = subprocess.Popen(arguments[1:], stdin=subprocess.PIPE, stdout=subprocess.PIPE, bufsize=0)
+        with signals_wait() as let_in:
+            adapter = subprocess.Popen(arguments[1:], stdin=subprocess.PIPE, stdout=subprocess.PIPE, bufsize=0, preexec_fn=let_in)
+            pass_signals_on(adapter)
     except OSError as error:
         sys.exit(f"{own_name('tee')}: the adapter does not start: {error}")
-    pass_signals_on(adapter)
     try:
         with open(arguments[0], "wb") as file:
             trace = Trace(file)
