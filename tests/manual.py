@@ -42,7 +42,7 @@ def told_by_program():
     for name in commands.keys() - {"help"}:
         options = run([name, "--help"])[1].decode().split("Options:")[1]
         commands[name] = [option for option in re.findall(r"^ +(?:-\w, |)--([\w-]+)", options, re.MULTILINE) if option != "help"]
-    statuses = re.findall(r"^pub const \w+: u8 = (\d+);", read("crates", "dap_runs", "src", "status.rt"), re.MULTILINE)
+    statuses = re.findall(r"^pub\(crate\) const \w+: u8 = (\d+);", read("crates", "dapnorm", "src", "reporting.rt"), re.MULTILINE)
     return commands, statuses
 
 

@@ -4,7 +4,7 @@
 //! the rejected input again and returns the lines that may follow: which message the record
 //! contains, which value is at the position of the error, what is expected there, and what to do.
 //! [`explain_rules`] does the same for a file of rules, and [`explain_unreadable`] for a file that
-//! cannot be read. `dap_explain_commands` first does the work of a command again to find the error.
+//! cannot be read.
 //!
 //! # What is proved
 //!

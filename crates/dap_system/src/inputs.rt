@@ -1,55 +1,36 @@
-//! The inputs of the program: files, standard input, and texts that the program made.
+//! The inputs of the program: files and standard input.
 use arrayvec::ArrayVec;
 use dap_device::StdSource;
 use dap_golden::is_trace;
-use dap_runs::is_standard;
-use std::fs::{self, File};
-use std::io::{self, Error, ErrorKind, Read, Stdin};
+use std::alloc::Global;
+use std::io::{self, Error, Read, Stdin};
 
 /// The number of first bytes of an input that are stored. The first line of a trace is shorter.
 const HEAD: usize = 32;
 
 /// The source of an input.
 #[derive(Drop)]
-enum Origin<'a> {
-    File(File),
+enum Origin<F> {
+    File(F),
     Standard(Stdin),
-    /// The rest of a text, which was not read yet.
-    Text(&'a [u8]),
-}
-
-impl Read for Origin<'_> {
-    fn read(&mut self, buffer: &mut [u8]) -> io::Result<usize> {
-        match self {
-            Origin::File(file) => file.read(buffer),
-            Origin::Standard(stdin) => stdin.read(buffer),
-            Origin::Text(text) => {
-                let count = text.len().min(buffer.len());
-                let (front, rest) = text.split_at(count);
-                buffer[..count].copy_from_slice(front);
-                *text = rest;
-                Ok(count)
-            }
-        }
-    }
 }
 
 /// An input that was opened. It has the reason of the last read, if that failed, and stores the
 /// bytes that were read, if they are required to explain a rejection.
 #[derive(Drop)]
-pub struct OpenedInput<'a> {
-    origin: Origin<'a>,
+pub struct OpenedInput<F> {
+    origin: Origin<F>,
     bytes: Option<Vec<u8>>,
     head: ArrayVec<u8, HEAD>,
     failure: Option<Error>,
 }
 
 /// An input that was opened. It counts what it gave and how often it failed.
-pub type SystemInput<'a> = StdSource<OpenedInput<'a>>;
+pub type SystemInput<F> = StdSource<OpenedInput<F>>;
 
-impl<'a> OpenedInput<'a> {
+impl<F> OpenedInput<F> {
     /// Returns an input of which nothing was read.
-    fn new(origin: Origin<'a>) -> OpenedInput<'a> {
+    fn new(origin: Origin<F>) -> OpenedInput<F> {
         OpenedInput {
             origin,
             bytes: None,
@@ -58,32 +39,19 @@ impl<'a> OpenedInput<'a> {
         }
     }
 
-    /// Opens an input. The name `-` is that of standard input. Stores the bytes that are read only
-    /// if `is_kept` is set.
-    pub fn open(rt: &HostRuntime, name: &str, is_kept: bool) -> io::Result<OpenedInput<'a>> {
-        let mut input = OpenedInput::new(if is_standard(name) {
-            Origin::Standard(rt.stdin())
-        } else {
-            Origin::File(fs::open(rt, name)?)
-        });
-        if is_kept {
-            input.bytes = Some(Vec::new(rt.alloc()));
-        }
-        Ok(input)
+    /// Returns a file as an input.
+    pub(crate) fn file(file: F) -> OpenedInput<F> {
+        OpenedInput::new(Origin::File(file))
     }
 
-    /// Opens a rules file. A folder is not a file.
-    pub fn open_rules(rt: &HostRuntime, name: &str) -> io::Result<OpenedInput<'a>> {
-        let file = fs::open(rt, name)?;
-        if file.metadata()?.is_dir() {
-            return Err(ErrorKind::IsADirectory.into());
-        }
-        Ok(OpenedInput::new(Origin::File(file)))
+    /// Returns standard input as an input.
+    pub(crate) fn standard(stdin: Stdin) -> OpenedInput<F> {
+        OpenedInput::new(Origin::Standard(stdin))
     }
 
-    /// Returns a text as an input.
-    pub fn text(text: &'a [u8]) -> OpenedInput<'a> {
-        OpenedInput::new(Origin::Text(text))
+    /// Stores the bytes that are read from now on.
+    pub(crate) fn keep(&mut self, alloc: Global) {
+        self.bytes = Some(Vec::new(alloc));
     }
 
     /// Returns the bytes that were read, or `None` if they are not stored or an allocation failed.
@@ -121,7 +89,16 @@ impl<'a> OpenedInput<'a> {
     }
 }
 
-impl Read for OpenedInput<'_> {
+impl<F: Read> Read for Origin<F> {
+    fn read(&mut self, buffer: &mut [u8]) -> io::Result<usize> {
+        match self {
+            Origin::File(file) => file.read(buffer),
+            Origin::Standard(stdin) => stdin.read(buffer),
+        }
+    }
+}
+
+impl<F: Read> Read for OpenedInput<F> {
     fn read(&mut self, buffer: &mut [u8]) -> io::Result<usize> {
         match self.origin.read(buffer) {
             Ok(count) => {

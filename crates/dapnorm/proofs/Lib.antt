@@ -1,1 +1,5 @@
-pub mod GoldenRuns
+pub mod Kept
+pub mod Reasons
+pub mod RulesLines
+pub mod Values
+pub mod WordLines

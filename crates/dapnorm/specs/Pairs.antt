@@ -1,10 +1,9 @@
 -- What the program prints and reports of two recordings: the verdict, the first difference or all
 -- differences. Source: own.
 use Rattle.std.specs.Prelude.{◌≡◌, ℕ, List, [], ◌++◌, codes, decimal, Bool, true, false, cond}
-use Rattle.std.specs.Prelude.{Result}
+use Rattle.std.specs.Prelude.{Result, Ok, Err}
 use Rattle.std.specs.Fmt.{signed_decimal}
 use Rattle.std.specs.List.{flat_map}
-use Rattle.std.specs.Result.{result_err}
 use Rattle.dap_commands.specs.declared.commands.Printed.{Printed}
 use Rattle.dap_commands.specs.declared.commands.Printed.TheVariants as printed
 use Rattle.dap_compare.specs.Verdicts.{Compares}
@@ -24,8 +23,7 @@ use Rattle.dap_rename.specs.Renaming.{pairs_of}
 use Rattle.dap_rename.specs.declared.mode.Mode.{Mode}
 use Rattle.dap_rename.specs.declared.mode.Mode.TheVariants.{PerStop}
 use Rattle.dap_rename.specs.declared.pair.Pair.{Pair}
-use Rattle.dap_runs.specs.Printing.{ComparisonIsReported, ResultIsReported}
-use Rattle.dap_runs.specs.declared.two_inputs.PairRun.{PairRun}
+use Rattle.dapnorm.specs.Reporting.{ResultIsReported}
 use Rattle.dap_tree.specs.Sorts.{sort_word}
 use Rattle.dap_tree.specs.declared.sort.Sort.{Sort}
 use Rattle.dap_tree.specs.declared.sort.Sort.TheVariants.{Frame, Reference}
@@ -89,29 +87,9 @@ all_status (all.Differ lines) = 1
 
 -- ---- what is printed or reported of two inputs
 
-module _ {W E V : Type 0} (sink : Sink W) (errors : Sink E) (text : V → List ℕ)
-    (status_for : V → ℕ) (Finds : Result V CompareRefused → Type 0) where
-  -- A result for which `Finds` holds is printed, or an error is reported. The run has its status,
-  -- and the error.
-  pub record IsRun (before after : W) (silent spoken : E) (run : PairRun) : Type 0 where
-    pub outcome : Result V CompareRefused
-    pub finds : Finds outcome
-    pub tells : ComparisonIsReported sink errors text status_for outcome before after silent spoken
-        run.status
-    pub refused_is : run.refused ≡ result_err outcome
-
 module _ {R S W E : Type 0} (source_a : Source R) (source_b : Source S) (sink : Sink W)
     (errors : Sink E) (limits : Limits) (mode : Mode) (old_a new_a : R) (old_b new_b : S) where
   -- The verdict on these readers is printed, or an error is reported.
   abbrev pub CompareIsReported : W → W → E → E → ℕ → Type 0
   CompareIsReported = ResultIsReported sink errors (verdict_text mode) verdict_status
       (Compares source_a source_b limits mode old_a new_a old_b new_b)
-
-  -- What the command finds about these readers is printed, or an error is reported.
-  abbrev pub PairIsRun : Printed → W → W → E → E → PairRun → Type 0
-  PairIsRun printed.Verdict = IsRun sink errors (verdict_text mode) verdict_status
-      (Compares source_a source_b limits mode old_a new_a old_b new_b)
-  PairIsRun printed.FirstDifference = IsRun sink errors diff_text diff_status
-      (DescribesDifference source_a source_b limits mode old_a new_a old_b new_b)
-  PairIsRun printed.AllDifferences = IsRun sink errors all_text all_status
-      (DiffersAll source_a source_b limits mode old_a new_a old_b new_b)

@@ -13,7 +13,7 @@ use Rattle.dap_normalise.specs.declared.checked.Checked.{Checked}
 use Rattle.dap_rename.specs.declared.mode.Mode.{Mode}
 use Rattle.dap_record.specs.TracingRun.{RecordsTrace}
 use Rattle.dap_input.specs.RefusedText.{refused_text}
-use Rattle.dap_runs.specs.Reporting.{Answered, HasSent, IsReported, IsSent, fault_line, status_of}
+use Rattle.dapnorm.specs.Reporting.{Answered, HasSent, IsReported, IsSent, fault_line, status_of}
 use Rattle.dap_input.specs.Engine.{Answers, ReadsNoneOrAll}
 use Rattle.dap_input.specs.Refusals.{IsRefused}
 use Rattle.dap_input.specs.declared.limits.Limits.{Limits}

@@ -1,174 +1,29 @@
-//! Compares two recordings, prints the verdict or the differences, and returns a status.
+//! Compares two recordings: readers, or the files that names lead to.
 ghost use Rattle.std.specs.Prelude.{◌≡◌, ◌+◌, ◌<◌, ◌≤◌, ◌^◌};
-ghost use Rattle.std.specs.List.{flat_map};
-ghost use Rattle.dap_device.specs.Written.{HasSentAll, HasWrittenAll};
+ghost use Rattle.dap_commands.specs.Reading.{text_in};
+ghost use Rattle.dap_host.specs.declared.limits.TheConstants.{LIMITS};
 ghost use Rattle.dap_input.specs.Limits.{AreSound};
 ghost use Rattle.dap_normalise.specs.NameTables.{AreReady};
-ghost use Rattle.dap_runs.specs.Printing.{IsPrinted};
-ghost use Rattle.dapnorm.specs.Pairs.{CompareIsReported, PairIsRun, all_status, all_text};
-ghost use Rattle.dapnorm.specs.Pairs.{diff_status, diff_text};
-ghost use Rattle.dapnorm.specs.Pairs.{differ_line, first_line, pair_line, pairs_in, same_line};
-ghost use Rattle.dapnorm.specs.Pairs.{shows_stop, verdict_status, verdict_text};
+ghost use Rattle.dapnorm.specs.Comparisons.{AreCompared, AreComparedBy, Finds, PairIsReported};
+ghost use Rattle.dapnorm.specs.Comparisons.{PairIsRun, are_both_standard};
+ghost use Rattle.dapnorm.specs.Desks.{TakesAtMost, empty, here};
+ghost use Rattle.dapnorm.specs.Pairs.{CompareIsReported};
 
-use arrayvec::ArrayString;
-use dap_commands::Printed;
-use dap_compare::{Verdict, compare_with};
-use dap_device::{DeviceFault, Sink, Source, write_all};
-use dap_diff::{AllDifferences, Diff, diff_all_with, diff_with};
-use dap_input::{Limits, Refused};
-use dap_rename::{Mode, NameTable, Pair, Tables, index_tables};
-use dap_runs::{DIFFERENT, DONE, FAULT, LINE, PairRun, print_found, report_refused, tell};
-use dap_tree::Sort;
-use itoa::Buffer;
+use crate::answer::Answer;
+use crate::desk::Desk;
+use crate::reporting::{refusal_status, report_pair};
+use crate::rules::rules_of;
+use crate::texts::text_by_rules;
+use crate::why::{Mistake, Why};
+use dap_commands::{Name, Printed};
+use dap_compare::{CompareRefused, Which, compare_with};
+use dap_device::{MemorySource, Sink, Source};
+use dap_diff::{diff_all_with, diff_with};
+use dap_host::{Host, LIMITS, Purpose, is_standard};
+use dap_input::Limits;
+use dap_rename::{Mode, NameTable, Tables, index_tables};
+use dap_rules::mode_by;
 use std::alloc::Global;
-
-/// Returns the line of a pair, with its LF.
-fn line_of(mode: Mode, pair: Pair) -> ArrayString<LINE>
-    ensures { result.bytes ≡ pair_line mode pair }
-{
-    let mut number = Buffer::new();
-    let mut line = ArrayString::new();
-    line.push_str(pair.sort.word());
-    if shows_stop(mode, pair.sort) {
-        line.push_str("@");
-        line.push_str(number.format(pair.stop));
-    }
-    line.push_str(" ");
-    line.push_str(number.format(pair.from));
-    line.push_str(" ");
-    line.push_str(number.format(pair.to));
-    line.push_str("\n");
-    line
-}
-
-/// Returns whether the line of a pair of this kind shows its stop: if the numbering of the kind
-/// restarts there.
-fn shows_stop(mode: Mode, sort: Sort) -> bool
-    ensures { result ≡ shows_stop mode sort }
-{
-    match (mode, sort) {
-        (Mode::PerStop, Sort::Frame | Sort::Reference) => true,
-        _ => false,
-    }
-}
-
-/// Returns the line for two recordings that are the same, with its LF.
-pub(crate) fn same_line() -> ArrayString<LINE>
-    ensures { result.bytes ≡ same_line }
-{
-    let mut line = ArrayString::new();
-    line.push_str("same\n");
-    line
-}
-
-/// Returns the line for two recordings that differ at this record, with its LF.
-pub(crate) fn differ_line(number: u64) -> ArrayString<LINE>
-    ensures { result.bytes ≡ differ_line number }
-{
-    let mut digits = Buffer::new();
-    let mut line = ArrayString::new();
-    line.push_str("differ ");
-    line.push_str(digits.format(number));
-    line.push_str("\n");
-    line
-}
-
-/// Returns the first line of a verdict, with its LF.
-fn first_line_of(verdict: &Verdict) -> ArrayString<LINE>
-    ensures { result.bytes ≡ first_line verdict.now }
-{
-    match verdict {
-        Verdict::Same(_) => same_line(),
-        Verdict::Differ(record) => differ_line(*record),
-    }
-}
-
-/// Returns the pairs of a verdict that has some.
-fn pairs(verdict: &Verdict) -> &[Pair]
-    ensures { result.now ≡ pairs_in verdict.now }
-{
-    match verdict {
-        Verdict::Same(renaming) => renaming.pairs(),
-        Verdict::Differ(_) => &[],
-    }
-}
-
-/// Writes the lines of pairs.
-fn write_pairs<W: Sink>(writer: &mut W, mode: Mode, pairs: &[Pair]) -> Result<(), DeviceFault>
-    requires { W.failures writer.old < 2 ^ 63 }
-    ensures { HasWrittenAll W.Sink writer.old writer.new result
-        (flat_map (pair_line mode) pairs.now) }
-{
-    for pair in pairs {
-        write_all(writer, line_of(mode, *pair).as_bytes())?;
-    }
-    Ok(())
-}
-
-/// Writes the lines of a verdict and flushes.
-fn write_verdict<W: Sink>(writer: &mut W, mode: Mode, verdict: &Verdict) -> Result<(), DeviceFault>
-    requires { W.failures writer.old < 2 ^ 62 }
-    ensures { HasSentAll W.Sink writer.old writer.new result (verdict_text mode verdict.now) }
-{
-    write_all(writer, first_line_of(verdict).as_bytes())?;
-    write_pairs(writer, mode, pairs(verdict))?;
-    writer.flush()
-}
-
-/// Prints a verdict, and returns the status for it.
-fn print_verdict<W: Sink, E: Sink>(
-    writer: &mut W,
-    errors: &mut E,
-    mode: Mode,
-    verdict: &Verdict,
-) -> u8
-    requires write_failures { W.failures writer.old < 2 ^ 62 }
-    requires error_failures { E.failures errors.old < 2 ^ 62 }
-    ensures { IsPrinted W.Sink E.Sink (verdict_text mode verdict.now) (verdict_status verdict.now)
-        writer.old writer.new errors.old errors.new result }
-{
-    match (write_verdict(writer, mode, verdict), verdict) {
-        (Ok(()), Verdict::Same(_)) => DONE,
-        (Ok(()), Verdict::Differ(_)) => DIFFERENT,
-        (Err(_), _) => {
-            tell(errors, Refused::WriteFault);
-            FAULT
-        }
-    }
-}
-
-/// Prints the first difference, and returns the status for it.
-fn print_diff<W: Sink, E: Sink>(writer: &mut W, errors: &mut E, diff: &Diff) -> u8
-    requires write_failures { W.failures writer.old < 2 ^ 62 }
-    requires error_failures { E.failures errors.old < 2 ^ 62 }
-    ensures { IsPrinted W.Sink E.Sink (diff_text diff.now) (diff_status diff.now) writer.old
-        writer.new errors.old errors.new result }
-{
-    match diff {
-        Diff::Same => print_found(writer, errors, &[same_line().as_bytes()], DONE),
-        Diff::Differ { record, lines } => print_found(
-            writer,
-            errors,
-            &[differ_line(*record).as_bytes(), lines.as_slice()],
-            DIFFERENT,
-        ),
-    }
-}
-
-/// Prints all differences, and returns the status for them.
-fn print_all<W: Sink, E: Sink>(writer: &mut W, errors: &mut E, all: &AllDifferences) -> u8
-    requires write_failures { W.failures writer.old < 2 ^ 62 }
-    requires error_failures { E.failures errors.old < 2 ^ 62 }
-    ensures { IsPrinted W.Sink E.Sink (all_text all.now) (all_status all.now) writer.old writer.new
-        errors.old errors.new result }
-{
-    match all {
-        AllDifferences::Same => print_found(writer, errors, &[same_line().as_bytes()], DONE),
-        AllDifferences::Differ { lines } => {
-            print_found(writer, errors, &[lines.as_slice()], DIFFERENT)
-        }
-    }
-}
 
 /// Compares two recordings, and returns the status of the program. An error is reported on
 /// `errors`, in one line.
@@ -245,24 +100,63 @@ pub fn run_compare_with<A: Source, B: Source, W: Sink, E: Sink, T: NameTable + D
     ensures taken_a { A.given reader_a.new ≤ A.given reader_a.old + limits.input + 1 }
     ensures taken_b { B.given reader_b.new ≤ B.given reader_b.old + limits.input + 1 }
 {
-    run_pair_with(
-        alloc,
-        Printed::Verdict,
-        reader_a,
-        reader_b,
-        writer,
-        errors,
-        limits,
-        tables_a,
-        tables_b,
-        mode,
-    )
-    .status
+    match compare_with(alloc, reader_a, reader_b, limits, tables_a, tables_b, mode) {
+        Ok(verdict) => Answer::Verdict(mode, verdict).print(writer, errors),
+        Err(refused) => {
+            report_pair(errors, refused);
+            refusal_status(refused)
+        }
+    }
+}
+
+/// Compares two recordings, and returns what the command finds. The tables must be empty, each with
+/// the limit `limits.ids`.
+fn found<'a, A: Source, B: Source, T: NameTable + Drop>(
+    alloc: Global,
+    printed: Printed,
+    reader_a: &mut A,
+    reader_b: &mut B,
+    limits: Limits,
+    tables_a: Tables<T>,
+    tables_b: Tables<T>,
+    mode: Mode,
+) -> Result<Answer<'a>, CompareRefused>
+    requires limits { AreSound limits }
+    requires tables_a { AreReady T.numbers T.limit limits tables_a }
+    requires tables_b { AreReady T.numbers T.limit limits tables_b }
+    requires given_a { A.given reader_a.old < 2 ^ 62 }
+    requires given_b { B.given reader_b.old < 2 ^ 62 }
+    requires failures_a { A.failures reader_a.old < 2 ^ 62 }
+    requires failures_b { B.failures reader_b.old < 2 ^ 62 }
+    ensures finds { Finds A.Source B.Source limits mode reader_a.old reader_a.new reader_b.old
+        reader_b.new printed result }
+    ensures taken_a { A.given reader_a.new ≤ A.given reader_a.old + limits.input + 1 }
+    ensures taken_b { B.given reader_b.new ≤ B.given reader_b.old + limits.input + 1 }
+{
+    match printed {
+        Printed::Verdict => {
+            match compare_with(alloc, reader_a, reader_b, limits, tables_a, tables_b, mode) {
+                Ok(verdict) => Ok(Answer::Verdict(mode, verdict)),
+                Err(refused) => Err(refused),
+            }
+        }
+        Printed::FirstDifference => {
+            match diff_with(alloc, reader_a, reader_b, limits, tables_a, tables_b, mode) {
+                Ok(diff) => Ok(Answer::Difference(diff)),
+                Err(refused) => Err(refused),
+            }
+        }
+        Printed::AllDifferences => {
+            match diff_all_with(alloc, reader_a, reader_b, limits, tables_a, tables_b, mode) {
+                Ok(all) => Ok(Answer::Differences(all)),
+                Err(refused) => Err(refused),
+            }
+        }
+    }
 }
 
 /// Compares two recordings, and prints the verdict or the differences. An error is reported on
-/// `errors`, in one line. The tables must be empty, each with the
-/// limit `limits.ids`.
+/// `errors`, in one line. The tables must be empty, each with the limit `limits.ids`.
 ///
 /// The output is `same` if the recordings are the same, for [`Printed::Verdict`] with the pairs of
 /// [`run_compare`]. Otherwise it is `differ K`, with the number of the first record that differs,
@@ -280,7 +174,7 @@ pub fn run_pair_with<A: Source, B: Source, W: Sink, E: Sink, T: NameTable + Drop
     tables_a: Tables<T>,
     tables_b: Tables<T>,
     mode: Mode,
-) -> PairRun
+) -> u8
     requires limits { AreSound limits }
     requires tables_a { AreReady T.numbers T.limit limits tables_a }
     requires tables_b { AreReady T.numbers T.limit limits tables_b }
@@ -293,49 +187,152 @@ pub fn run_pair_with<A: Source, B: Source, W: Sink, E: Sink, T: NameTable + Drop
 
     // The output is the lines, flushed. A rejected input or a failed writer is reported, and the
     // status is that of the result.
-    ensures run { PairIsRun A.Source B.Source W.Sink E.Sink limits mode reader_a.old reader_a.new
-        reader_b.old reader_b.new printed writer.old writer.new errors.old errors.new result }
+    ensures run { PairIsReported A.Source B.Source limits mode reader_a.old reader_a.new
+        reader_b.old reader_b.new W.Sink E.Sink printed writer.old writer.new errors.old errors.new
+        result }
 
     // It reads at most one byte past the limit of each.
     ensures taken_a { A.given reader_a.new ≤ A.given reader_a.old + limits.input + 1 }
     ensures taken_b { B.given reader_b.new ≤ B.given reader_b.old + limits.input + 1 }
 {
-    match printed {
-        Printed::Verdict => {
-            match compare_with(alloc, reader_a, reader_b, limits, tables_a, tables_b, mode) {
-                Ok(verdict) => PairRun {
-                    status: print_verdict(writer, errors, mode, &verdict),
-                    refused: None,
-                },
-                Err(refused) => PairRun {
-                    status: report_refused(errors, refused),
-                    refused: Some(refused),
-                },
-            }
-        }
-        Printed::FirstDifference => {
-            match diff_with(alloc, reader_a, reader_b, limits, tables_a, tables_b, mode) {
-                Ok(diff) => PairRun {
-                    status: print_diff(writer, errors, &diff),
-                    refused: None,
-                },
-                Err(refused) => PairRun {
-                    status: report_refused(errors, refused),
-                    refused: Some(refused),
-                },
-            }
-        }
-        Printed::AllDifferences => {
-            match diff_all_with(alloc, reader_a, reader_b, limits, tables_a, tables_b, mode) {
-                Ok(all) => PairRun {
-                    status: print_all(writer, errors, &all),
-                    refused: None,
-                },
-                Err(refused) => PairRun {
-                    status: report_refused(errors, refused),
-                    refused: Some(refused),
-                },
-            }
+    match found(
+        alloc, printed, reader_a, reader_b, limits, tables_a, tables_b, mode,
+    ) {
+        Ok(answer) => answer.print(writer, errors),
+        Err(refused) => {
+            report_pair(errors, refused);
+            refusal_status(refused)
         }
     }
+}
+
+/// Returns whether both inputs are standard input.
+pub(crate) fn are_both_standard(a: &str, b: &str) -> bool
+    ensures { result ≡ are_both_standard a.now b.now }
+{
+    is_standard(a) && is_standard(b)
+}
+
+/// Compares the recordings that two names lead to. A is opened before B.
+fn compare_inputs<'a, H: Host>(
+    alloc: Global,
+    host: &H,
+    printed: Printed,
+    mode: Mode,
+    a: &str,
+    b: &str,
+    desk: &mut Desk<H::Input, H::Output, H::Target>,
+) -> Result<Option<Answer<'a>>, Why<'a>>
+    requires { desk.old ≡ empty }
+    ensures compared { AreCompared (here (H.files host.now) H.Input.Source H.Output.Sink
+        H.Target.Replaceable) printed mode a.now b.now desk.new result }
+    ensures taken_a { TakesAtMost H.Input.given (LIMITS.input + 1) desk.new.a }
+    ensures taken_b { TakesAtMost H.Input.given (LIMITS.input + 1) desk.new.b }
+{
+    if are_both_standard(a, b) {
+        return Err(Why::Mistake(Mistake::TwoStandard));
+    }
+    let input_a = match host.open(Purpose::Input, a) {
+        Ok(input) => input,
+        Err(fault) => return Err(Why::Unopened(Some(Which::A), fault)),
+    };
+    let reader_a = desk.a.insert(input_a);
+    let input_b = match host.open(Purpose::Input, b) {
+        Ok(input) => input,
+        Err(fault) => return Err(Why::Unopened(Some(Which::B), fault)),
+    };
+    let reader_b = desk.b.insert(input_b);
+    let (tables_a, tables_b) = (host.tables(alloc), host.tables(alloc));
+    match found(
+        alloc, printed, reader_a, reader_b, LIMITS, tables_a, tables_b, mode,
+    ) {
+        Ok(answer) => Ok(Some(answer)),
+        Err(refused) => Err(Why::Pair(refused)),
+    }
+}
+
+/// Compares what rules make of the recordings that two names lead to. The rules are read first.
+/// Then A and B are opened, and A is read before B.
+fn compare_by_rules<'a, H: Host>(
+    alloc: Global,
+    host: &H,
+    printed: Printed,
+    mode: Mode,
+    a: &str,
+    b: &str,
+    rules: Option<&str>,
+    values: &[Name<'_>],
+    desk: &mut Desk<H::Input, H::Output, H::Target>,
+) -> Result<Option<Answer<'a>>, Why<'a>>
+    requires { desk.old ≡ empty }
+    ensures compared { AreComparedBy (here (H.files host.now) H.Input.Source H.Output.Sink
+        H.Target.Replaceable) printed mode a.now b.now desk.new (text_in rules.entry) values.now
+        result }
+    ensures taken_a { TakesAtMost H.Input.given (LIMITS.input + 1) desk.new.a }
+    ensures taken_b { TakesAtMost H.Input.given (LIMITS.input + 1) desk.new.b }
+{
+    let rules = match rules_of(alloc, host, rules, values) {
+        Ok(rules) => rules,
+        Err(why) => return Err(Why::Rules(why)),
+    };
+    if are_both_standard(a, b) {
+        return Err(Why::Mistake(Mistake::TwoStandard));
+    }
+    let input_a = match host.open(Purpose::Input, a) {
+        Ok(input) => input,
+        Err(fault) => return Err(Why::Unopened(Some(Which::A), fault)),
+    };
+    let reader_a = desk.a.insert(input_a);
+    let input_b = match host.open(Purpose::Input, b) {
+        Ok(input) => input,
+        Err(fault) => return Err(Why::Unopened(Some(Which::B), fault)),
+    };
+    let reader_b = desk.b.insert(input_b);
+    let used = mode_by(&rules, mode);
+    let text_a = match text_by_rules(alloc, &rules, reader_a, host.tables(alloc), used) {
+        Ok(text) => text,
+        Err(refused) => return Err(Why::Unapplied(Which::A, refused, rules)),
+    };
+    let text_b = match text_by_rules(alloc, &rules, reader_b, host.tables(alloc), used) {
+        Ok(text) => text,
+        Err(refused) => return Err(Why::Unapplied(Which::B, refused, rules)),
+    };
+    match found(
+        alloc,
+        printed,
+        &mut MemorySource::new(text_a.as_slice()),
+        &mut MemorySource::new(text_b.as_slice()),
+        LIMITS,
+        host.tables(alloc),
+        host.tables(alloc),
+        used,
+    ) {
+        Ok(answer) => Ok(Some(answer)),
+        Err(refused) => Err(Why::Pair(refused)),
+    }
+}
+
+/// Compares the recordings that two names lead to, or what rules make of them.
+pub(crate) fn run_pair<'a, H: Host>(
+    alloc: Global,
+    host: &H,
+    printed: Printed,
+    mode: Mode,
+    a: &str,
+    b: &str,
+    rules: Option<&str>,
+    values: &[Name<'_>],
+    desk: &mut Desk<H::Input, H::Output, H::Target>,
+) -> Result<Option<Answer<'a>>, Why<'a>>
+    requires { desk.old ≡ empty }
+    ensures run { PairIsRun (here (H.files host.now) H.Input.Source H.Output.Sink
+        H.Target.Replaceable) printed mode a.now b.now desk.new (text_in rules.entry) values.now
+        result }
+    ensures taken_a { TakesAtMost H.Input.given (LIMITS.input + 1) desk.new.a }
+    ensures taken_b { TakesAtMost H.Input.given (LIMITS.input + 1) desk.new.b }
+{
+    if rules.is_none() && values.is_empty() {
+        return compare_inputs(alloc, host, printed, mode, a, b, desk);
+    }
+    compare_by_rules(alloc, host, printed, mode, a, b, rules, values, desk)
 }

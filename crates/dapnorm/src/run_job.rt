@@ -2,9 +2,10 @@
 ghost use Rattle.std.specs.Prelude.{◌≡◌, ◌+◌, ◌<◌, ◌≤◌, ◌^◌};
 ghost use Rattle.dap_input.specs.Limits.{AreSound};
 ghost use Rattle.dap_normalise.specs.NameTables.{AreReady};
-ghost use Rattle.dapnorm.specs.Run.{CheckIsPrinted, JobIsDone, ReportsUsage, accepted_line};
+ghost use Rattle.dapnorm.specs.Run.{CheckIsPrinted, JobIsDone, ReportsUsage};
 
-use arrayvec::ArrayString;
+use crate::answer::accepted_line;
+use crate::reporting::{DONE, FAULT, MEMORY, USAGE, report_outcome, report_refused, send};
 use dap_commands::{Job, UsageFault};
 use dap_compact::compact;
 use dap_device::{Sink, Source, write_and_flush};
@@ -12,26 +13,8 @@ use dap_input::{Limits, Refused};
 use dap_normalise::{Checked, check_with, normalise_with};
 use dap_record::record;
 use dap_rename::{NameTable, Tables, index_tables};
-use dap_runs::{DONE, FAULT, LINE, MEMORY, USAGE, send, tell, tell_answer};
 use dap_show::show;
-use itoa::Buffer;
 use std::alloc::Global;
-
-/// Returns the line of an accepted recording, with its LF. Does not allocate.
-fn accepted_line(checked: &Checked) -> ArrayString<LINE>
-    ensures { result.bytes ≡ accepted_line checked.now }
-{
-    let mut number = Buffer::new();
-    let mut line = ArrayString::new();
-    line.push_str("accepted records=");
-    line.push_str(number.format(checked.records));
-    line.push_str(" open=");
-    line.push_str(number.format(checked.client_open));
-    line.push_str(",");
-    line.push_str(number.format(checked.adapter_open));
-    line.push_str("\n");
-    line
-}
 
 /// Prints the line of an accepted recording.
 fn print<W: Sink>(writer: &mut W, outcome: Result<Checked, Refused>) -> Result<(), Refused>
@@ -111,17 +94,17 @@ pub fn run_stream_with<R: Source, W: Sink, E: Sink, T: NameTable + Drop>(
     ensures taken { R.given reader.new ≤ R.given reader.old + limits.input + 1 }
 {
     match *job {
-        Job::Compact => tell_answer(errors, compact(alloc, reader, writer, limits)),
-        Job::Record => tell_answer(errors, record(alloc, reader, writer, limits)),
-        Job::Normalise { .. } => tell_answer(
+        Job::Compact => report_outcome(errors, compact(alloc, reader, writer, limits)),
+        Job::Record => report_outcome(errors, record(alloc, reader, writer, limits)),
+        Job::Normalise { .. } => report_outcome(
             errors,
             normalise_with(alloc, reader, writer, limits, tables, job.mode()),
         ),
         Job::Check { complete, .. } => {
             let outcome = check_with(alloc, reader, limits, complete, tables, job.mode());
-            tell_answer(errors, print(writer, outcome))
+            report_outcome(errors, print(writer, outcome))
         }
-        Job::Show => tell_answer(errors, show(alloc, reader, writer, limits)),
+        Job::Show => report_outcome(errors, show(alloc, reader, writer, limits)),
         Job::Compare { .. } => unreachable!(),
     }
 }
@@ -147,7 +130,7 @@ pub fn run_usage<W: Sink, E: Sink>(fault: &UsageFault, writer: &mut W, errors: &
             USAGE
         }
         UsageFault::Memory => {
-            tell(errors, Refused::Memory);
+            report_refused(errors, Refused::Memory);
             MEMORY
         }
     }

@@ -1,2 +1,2 @@
+pub mod Unexplained
 pub mod Usage
-pub mod CommandRules

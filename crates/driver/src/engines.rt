@@ -282,21 +282,18 @@ fn pair_printed_with<T: NameTable + Drop>(
     requires tables_a { AreReady T.numbers T.limit call.now.limits tables_a }
     requires tables_b { AreReady T.numbers T.limit call.now.limits tables_b }
 {
-    Outcome::Status(
-        run_pair_with(
-            alloc,
-            printed,
-            &mut devices.a,
-            &mut devices.b,
-            &mut devices.output,
-            &mut devices.errors,
-            call.limits,
-            tables_a,
-            tables_b,
-            call.mode,
-        )
-        .status,
-    )
+    Outcome::Status(run_pair_with(
+        alloc,
+        printed,
+        &mut devices.a,
+        &mut devices.b,
+        &mut devices.output,
+        &mut devices.errors,
+        call.limits,
+        tables_a,
+        tables_b,
+        call.mode,
+    ))
 }
 
 /// Calls a command function that creates its own name tables.

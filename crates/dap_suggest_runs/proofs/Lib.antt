@@ -1,2 +1,0 @@
-pub mod MemoryStatus
-pub mod SuggestRuns

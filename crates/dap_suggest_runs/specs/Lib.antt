@@ -1,2 +1,0 @@
-pub mod SuggestFiles
-pub mod SuggestRun

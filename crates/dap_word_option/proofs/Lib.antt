@@ -1,4 +1,0 @@
-pub mod Reasons
-pub mod RulesLines
-pub mod Values
-pub mod WordLines

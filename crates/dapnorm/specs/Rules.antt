@@ -1,0 +1,101 @@
+-- The rules of a command: those of its rules file, and a line for each word. Source: own.
+use Rattle.std.specs.Prelude.{◌≡◌, ◌≢◌, ◌⊎◌, ℕ, List, [], ◌∷◌, Option, Some, None, Result, Ok, Err}
+use Rattle.std.specs.Prelude.{Vec}
+use Rattle.std.specs.declared.alloc.Global.{Global}
+use Rattle.dap_commands.specs.declared.commands.UsageFault.{UsageFault}
+use Rattle.dap_device.specs.Reading.{HasReadInput, HasReadPartly}
+use Rattle.dap_device.specs.declared.device.Source.{Ghosts as Source}
+use Rattle.dap_device.specs.declared.reading.Stop.{Stop}
+use Rattle.dap_device.specs.declared.reading.Stop.TheVariants.{Failed}
+use Rattle.dap_host.specs.Files.{Files}
+use Rattle.dap_host.specs.declared.host.Purpose.TheVariants.{Rules}
+use Rattle.dap_mask.specs.KeptRules.{mask_of}
+use Rattle.dap_mask.specs.RulesFile.{rules_said}
+use Rattle.dap_mask.specs.declared.mask_rules.MaskRules.{MaskRules}
+use Rattle.dapnorm.specs.WordOption.{HasLinesOf, HasNoLines, IsAccepted}
+use Rattle.dapnorm.specs.declared.rules.NoRules.{NoRules}
+use Rattle.dapnorm.specs.declared.rules.NoRules.TheVariants as no_rules
+
+-- ---- a file that is read whole
+
+-- A file was opened, and these bytes of it were read until it stopped for this reason.
+pub record IsRead {I : Type 0} (opened : I → Type 0) (source : Source I) (limit : ℕ) (new : I)
+    (bytes : List ℕ) (stop : Stop) : Type 0 where
+  pub old : I
+  pub opens : opened old
+  pub came : HasReadInput source old new limit bytes stop
+
+-- A file was opened, and a prefix of it was read. The reader did not fail.
+pub record IsReadPartly {I : Type 0} (opened : I → Type 0) (source : Source I) (limit : ℕ) (new : I)
+    : Type 0 where
+  pub old : I
+  pub opens : opened old
+  pub partly : HasReadPartly source old new limit
+
+-- A file was opened, and these are its bytes, or its first bytes up to one past the limit.
+pub record IsWhole {I : Type 0} (opened : I → Type 0) (source : Source I) (limit : ℕ) (new : I)
+    (bytes : List ℕ) : Type 0 where
+  pub stop : Stop
+  pub read : IsRead opened source limit new bytes stop
+  pub not_failed : stop ≢ Failed
+
+-- ---- the text of the rules
+
+module _ {I O T : Type 0} (files : Files I O T) (source : Source I) where
+  -- The text is that of the file of the name, by all of its bytes or by the first 65,537 of them.
+  -- Or the file did not open, a read of it failed, or an allocation failed.
+  abbrev pub IsFileText : List ℕ → Result (Vec ℕ Global) NoRules → Type 0
+  IsFileText name (Ok text) =
+      (new : I) × IsWhole (files.opens Rules name) source 65536 new text.items
+  IsFileText name (Err (no_rules.Unopened why)) = files.closed Rules name why
+  IsFileText name (Err no_rules.Unread) =
+      (new : I) × (bytes : List ℕ) × IsRead (files.opens Rules name) source 65536 new bytes Failed
+  IsFileText name (Err no_rules.Memory) =
+      (new : I) × IsReadPartly (files.opens Rules name) source 65536 new
+  IsFileText name (Err why) = ⊥
+
+  -- Without a name the text is empty.
+  abbrev pub IsTextOf : Option (List ℕ) → Result (Vec ℕ Global) NoRules → Type 0
+  IsTextOf None (Ok text) = text.items ≡ []
+  IsTextOf None (Err why) = ⊥
+  IsTextOf (Some name) outcome = IsFileText name outcome
+
+  module _ (name : Option (List ℕ)) (values : List (List ℕ)) where
+    -- The rules are the text of the file, and lines for the values. The lines are accepted alone.
+    pub record HasLines (rules : List ℕ) : Type 0 where
+      pub text : Vec ℕ Global
+      pub is_text : IsTextOf name (Ok text)
+      pub lines : HasLinesOf values text.items rules
+      pub alone : List ℕ
+      pub lines_alone : HasLinesOf values [] alone
+      pub accepted_alone : IsAccepted alone
+
+    -- The values add no lines to no text, or to that of the file.
+    pub record AddNoLines (why : UsageFault) : Type 0 where
+      pub text : Vec ℕ Global
+      pub from : (text.items ≡ []) ⊎ IsTextOf name (Ok text)
+      pub no_lines : HasNoLines values text.items why
+
+    -- The text of the rules, or why there is none. Without values it is that of the file.
+    abbrev pub IsRulesText : Result (Vec ℕ Global) NoRules → Type 0
+    IsRulesText (Ok rules) =
+        ((values ≡ []) × IsTextOf name (Ok rules)) ⊎ ((values ≢ []) × HasLines rules.items)
+    IsRulesText (Err (no_rules.Words why)) = AddNoLines why
+    IsRulesText (Err why) = IsTextOf name (Err why)
+
+    -- The rules are accepted, or the text has no rules: a line of it is rejected, or an allocation
+    -- failed.
+    pub record AreRead (rules : MaskRules) : Type 0 where
+      pub text : Vec ℕ Global
+      pub is_text : IsRulesText (Ok text)
+      pub says : rules_said text.items ≡ Ok (mask_of rules)
+
+    abbrev pub IsNotParsed : NoRules → Type 0
+    IsNotParsed (no_rules.Line fault text) =
+        IsRulesText (Ok text) × (rules_said text.items ≡ Err fault)
+    IsNotParsed no_rules.Memory = (text : Vec ℕ Global) × IsRulesText (Ok text)
+    IsNotParsed why = ⊥
+
+    abbrev pub AreRules : Result MaskRules NoRules → Type 0
+    AreRules (Ok rules) = AreRead rules
+    AreRules (Err why) = IsRulesText (Err why) ⊎ IsNotParsed why

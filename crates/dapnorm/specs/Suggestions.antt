@@ -1,0 +1,109 @@
+-- What the program does with `suggest` over files that are given by their names. Source: own.
+use Rattle.std.specs.Prelude.{◌≡◌, ◌⊎◌, ℕ, ◌≤◌, ◌++◌, true, false, List, [], Option, Some, None, Result, Ok, Err, Vec}
+use Rattle.std.specs.Prelude.{length}
+use Rattle.std.specs.declared.alloc.Global.{Global}
+use Rattle.dap_compare.specs.declared.verdict.CompareRefused.TheVariants as comparing
+use Rattle.dap_compare.specs.declared.verdict.Which.{Which}
+use Rattle.dap_compare.specs.declared.verdict.Which.TheVariants.{A, B}
+use Rattle.dap_host.specs.declared.host.Purpose.TheVariants as purpose
+use Rattle.dap_host.specs.declared.limits.TheConstants.{LIMITS}
+use Rattle.dap_input.specs.declared.refused.Refused.TheVariants.{Memory, ReadFault}
+use Rattle.dap_mask.specs.KeptRules.{mask_of}
+use Rattle.dap_mask.specs.RulesFile.{rules_said}
+use Rattle.dap_mask.specs.declared.mask_rules.MaskRules.{MaskRules}
+use Rattle.dap_rename.specs.declared.mode.Mode.{Mode}
+use Rattle.dap_rules.specs.declared.fault.ApplyRefused.{ApplyRefused}
+use Rattle.dap_rules.specs.declared.fault.ApplyRefused.TheVariants as step
+use Rattle.dap_suggest.specs.NotSuggested.{AreAccepted, IsInputRejected}
+use Rattle.dap_suggest.specs.Suggested.{AreSameBy}
+use Rattle.dapnorm.specs.Comparisons.{are_both_standard}
+use Rattle.dapnorm.specs.Desks.{IsLeft, Place, empty}
+use Rattle.dapnorm.specs.Goldens.{IsReadWhole}
+use Rattle.dapnorm.specs.Rules.{IsRulesText}
+use Rattle.dapnorm.specs.declared.answer.Answer.{Answer}
+use Rattle.dapnorm.specs.declared.answer.Answer.TheVariants as answer
+use Rattle.dapnorm.specs.declared.desk.Desk.{Desk}
+use Rattle.dapnorm.specs.declared.reading.Unread.{Unread}
+use Rattle.dapnorm.specs.declared.reading.Unread.TheVariants as unread
+use Rattle.dapnorm.specs.declared.rules.NoRules.{NoRules}
+use Rattle.dapnorm.specs.declared.rules.NoRules.TheVariants as no_rules
+use Rattle.dapnorm.specs.declared.why.Mistake.TheVariants.{TwoStandard}
+use Rattle.dapnorm.specs.declared.why.Why.{Why}
+use Rattle.dapnorm.specs.declared.why.Why.TheVariants as why
+
+-- Without rules that were given, a session that is rejected is the recording itself.
+abbrev pub reported_refusal : List ℕ → ApplyRefused → ApplyRefused
+reported_refusal [] (step.Order refused) = step.Mask refused
+reported_refusal given refused = refused
+
+-- By the rules that are given, an input is rejected.
+pub record IsRejected (which : Which) (refused : ApplyRefused) (used : MaskRules)
+    (given read_a read_b : List ℕ) : Type 0 where
+  pub because : ApplyRefused
+  pub rejected : IsInputRejected LIMITS given read_a read_b which because
+  pub refused_is : refused ≡ reported_refusal given because
+  pub used_is : rules_said given ≡ Ok (mask_of used)
+
+-- The rules that are found make both recordings the same, together with those that are given. Or a
+-- line of the given rules is rejected, or an input by them, or no rules are found. A failed
+-- allocation is reported only if the rules that are given are not too long.
+abbrev pub Suggests : Vec ℕ Global → List ℕ → List ℕ → Result (Option Answer) Why → Type 0
+Suggests given read_a read_b (Ok (Some (answer.Rules found))) =
+    (mode : Mode) × AreSameBy LIMITS mode (given.items ++ found.items) read_a read_b
+Suggests given read_a read_b (Err (why.Rules (no_rules.Line fault text))) =
+    (text ≡ given) × (rules_said given.items ≡ Err fault)
+Suggests given read_a read_b (Err (why.Unapplied which refused used)) =
+    IsRejected which refused used given.items read_a read_b
+Suggests given read_a read_b (Err (why.NoSuggestion line)) = AreAccepted given.items
+Suggests given read_a read_b (Err (why.Input Memory)) = length given.items ≤ 65536
+Suggests given read_a read_b outcome = ⊥
+
+module _ {I O T : Type 0} (place : Place I O T) (a b : List ℕ) (rules : Option (List ℕ))
+    (values : List (List ℕ)) (desk : Desk I O T) where
+  -- The text of the rules that are given.
+  abbrev pub GivenIs : Result (Vec ℕ Global) NoRules → Type 0
+  GivenIs = IsRulesText place.files place.source rules values
+
+  abbrev pub HasGiven : Type 0
+  HasGiven = (given : Vec ℕ Global) × GivenIs (Ok given)
+
+  -- The inputs are those of their names, and this became of reading them whole.
+  abbrev pub InputA : Result (Vec ℕ Global) Unread → Type 0
+  InputA outcome = IsLeft (place.files.opens purpose.Input a) desk.a
+      (λ old new. IsReadWhole place.source old new outcome)
+
+  abbrev pub InputB : Result (Vec ℕ Global) Unread → Type 0
+  InputB outcome = IsLeft (place.files.opens purpose.Input b) desk.b
+      (λ old new. IsReadWhole place.source old new outcome)
+
+  abbrev pub HasA : Type 0
+  HasA = (read : Vec ℕ Global) × InputA (Ok read)
+
+  -- The rules that are given and both inputs are read, and this is suggested for them.
+  pub record AreAllRead (outcome : Result (Option Answer) Why) : Type 0 where
+    pub given : Vec ℕ Global
+    pub read_a : Vec ℕ Global
+    pub read_b : Vec ℕ Global
+    pub apart : are_both_standard a b ≡ false
+    pub given_is : GivenIs (Ok given)
+    pub is_a : InputA (Ok read_a)
+    pub is_b : InputB (Ok read_b)
+    pub suggests : Suggests given read_a.items read_b.items outcome
+
+  -- A file is not read. The rules that are given are read first, then A whole, and then B.
+  abbrev pub IsStopped : Result (Option Answer) Why → Type 0
+  IsStopped (Err (why.Mistake TwoStandard)) = (are_both_standard a b ≡ true) × (desk ≡ empty)
+  IsStopped (Err (why.Rules one)) = GivenIs (Err one) × (desk ≡ empty)
+  IsStopped (Err (why.Unopened (Some A) fault)) =
+      HasGiven × (desk ≡ empty) × place.files.closed purpose.Input a fault
+  IsStopped (Err (why.Unopened (Some B) fault)) =
+      HasGiven × HasA × (desk.b ≡ None) × place.files.closed purpose.Input b fault
+  IsStopped (Err (why.Pair (comparing.Input A ReadFault))) = HasGiven × InputA (Err unread.Failed)
+  IsStopped (Err (why.Pair (comparing.Input B ReadFault))) =
+      HasGiven × HasA × InputB (Err unread.Failed)
+  IsStopped (Err (why.Pair comparing.Memory)) =
+      HasGiven × (InputA (Err unread.Memory) ⊎ (HasA × InputB (Err unread.Memory)))
+  IsStopped outcome = ⊥
+
+  abbrev pub SuggestionIsRun : Result (Option Answer) Why → Type 0
+  SuggestionIsRun outcome = IsStopped outcome ⊎ AreAllRead outcome

@@ -1,0 +1,130 @@
+//! Runs `golden` over the files that names lead to.
+ghost use Rattle.std.specs.Prelude.{◌≡◌, ◌+◌, None, option_map};
+ghost use Rattle.dap_golden.specs.Golden.{mask_given};
+ghost use Rattle.dap_host.specs.declared.limits.TheConstants.{LIMITS};
+ghost use Rattle.dap_mask.specs.KeptRules.{mask_of};
+ghost use Rattle.dapnorm.specs.Desks.{TakesAtMost, empty, here};
+ghost use Rattle.dapnorm.specs.Goldens.{AreNamedRules, GoldenIsRun, Replaces, request_of};
+ghost use Rattle.dapnorm.specs.Streams.{input_name};
+
+use crate::answer::Answer;
+use crate::desk::Desk;
+use crate::reading::{Unread, read_whole};
+use crate::rules::{NoRules, rules_of};
+use crate::stream::{input_name, text_of};
+use crate::why::{Overlap, Why};
+use dap_commands::{Golden, Name};
+use dap_device::MemorySource;
+use dap_golden::{GoldenRequest, golden_file};
+use dap_host::{Host, LIMITS, Purpose};
+use dap_input::Refused;
+use dap_mask::MaskRules;
+use std::alloc::Global;
+
+/// Returns what the options request.
+fn request_of(golden: &Golden<'_>) -> GoldenRequest
+    ensures { result ≡ request_of golden.now }
+{
+    GoldenRequest {
+        update: golden.update,
+        allow_open: golden.open,
+        mode: golden.mode,
+    }
+}
+
+/// Reads the rules that the options name. Without a rules file and words, there are none.
+fn golden_rules<H: Host>(
+    alloc: Global,
+    host: &H,
+    golden: &Golden<'_>,
+    values: &[Name<'_>],
+) -> Result<Option<MaskRules>, NoRules>
+    ensures { AreNamedRules (H.files host.now) H.Input.Source golden.now.rules values.now result }
+{
+    if golden.rules.is_none() && values.is_empty() {
+        return Ok(None);
+    }
+    match rules_of(alloc, host, text_of(&golden.rules), values) {
+        Ok(rules) => Ok(Some(rules)),
+        Err(why) => Err(why),
+    }
+}
+
+/// Returns the rules as a reference.
+fn given(rules: &Option<MaskRules>) -> Option<&MaskRules>
+    ensures { mask_given result ≡ option_map mask_of rules.now }
+{
+    match rules {
+        Some(rules) => Some(rules),
+        None => None,
+    }
+}
+
+/// Returns which file an update would replace that it reads.
+fn replaced<H: Host>(host: &H, golden: &Golden<'_>, name: &str) -> Option<Overlap>
+    ensures { Replaces (H.files host.now) golden.now name.now result }
+{
+    if !golden.update {
+        return None;
+    }
+    if host.are_same(golden.golden.as_str(), name) {
+        return Some(Overlap::GoldenAndInput);
+    }
+    match &golden.rules {
+        None => None,
+        Some(rules) => {
+            if host.are_same(golden.golden.as_str(), rules.as_str()) {
+                Some(Overlap::GoldenAndRules)
+            } else {
+                None
+            }
+        }
+    }
+}
+
+/// Compares a session with its golden file, or makes or renews the golden file. The rules are read
+/// first, then the session whole, and then the golden file is found.
+pub(crate) fn run_golden<'a, H: Host>(
+    alloc: Global,
+    host: &H,
+    golden: &Golden<'a>,
+    values: &[Name<'_>],
+    desk: &mut Desk<H::Input, H::Output, H::Target>,
+) -> Result<Option<Answer<'a>>, Why<'a>>
+    requires { desk.old ≡ empty }
+    ensures run { GoldenIsRun (here (H.files host.now) H.Input.Source H.Output.Sink
+        H.Target.Replaceable) golden.now values.now (input_name golden.now.input) desk.new result }
+    ensures taken { TakesAtMost H.Input.given (LIMITS.input + 1) desk.new.a }
+    ensures one { desk.new.b ≡ None }
+{
+    let name = input_name(&golden.input);
+    let path = golden.golden.as_str();
+    if let Some(files) = replaced(host, golden, name) {
+        return Err(Why::SameFile(files, Name::new(path)));
+    }
+    let rules = match golden_rules(alloc, host, golden, values) {
+        Ok(rules) => rules,
+        Err(why) => return Err(Why::Rules(why)),
+    };
+    let input = match host.open(Purpose::Input, name) {
+        Ok(input) => input,
+        Err(fault) => return Err(Why::Session(fault)),
+    };
+    let reader = desk.a.insert(input);
+    let session = match read_whole(alloc, reader) {
+        Ok(session) => session,
+        Err(Unread::Failed) => return Err(Why::UnreadSession),
+        Err(Unread::Memory) => return Err(Why::Input(Refused::Memory)),
+    };
+    let file = match host.target(path, golden.update) {
+        Ok(file) => file,
+        Err(fault) => return Err(Why::GoldenFile(Name::new(path), golden.update, fault)),
+    };
+    let target = desk.target.insert(file);
+    let mut bytes = MemorySource::new(session.as_slice());
+    let request = request_of(golden);
+    match golden_file(alloc, &mut bytes, given(&rules), target, request, LIMITS) {
+        Ok(done) => Ok(Some(Answer::Golden(Name::new(path), done))),
+        Err(stop) => Err(Why::Golden(Name::new(path), stop, session, rules)),
+    }
+}

@@ -1,0 +1,199 @@
+//! Reads the rules of a command.
+ghost use Rattle.std.specs.Prelude.{◌≡◌, ◌<◌, ◌≤◌, ◌^◌, [], IfErr, length};
+ghost use Rattle.dap_commands.specs.Reading.{text_in};
+ghost use Rattle.dapnorm.specs.Reasons.{no_rules_line, no_rules_status, rules_line, words_line};
+ghost use Rattle.dapnorm.specs.Reasons.{unopened_rules_line};
+ghost use Rattle.dapnorm.specs.Reporting.{HasSent};
+ghost use Rattle.dapnorm.specs.WordOption.{HasNoLines};
+ghost use Rattle.dapnorm.specs.Rules.{AreRules, IsFileText, IsRulesText, IsTextOf};
+
+use crate::reporting::{FAULT, LINE, MEMORY, REFUSED, USAGE, report_refused, send, send_line};
+use crate::words::with_values;
+use arrayvec::ArrayString;
+use dap_commands::{Name, UsageFault};
+use dap_device::{Sink, Stop, read_all};
+use dap_host::{Host, OpenFault, Purpose};
+use dap_input::Refused;
+use dap_mask::{MaskRules, RulesCause, RulesFault};
+use itoa::Buffer;
+use std::alloc::Global;
+
+/// The maximum number of bytes of a rules file.
+const RULES: u64 = 65_536;
+
+/// The line for a rules file that could not be read.
+const UNREAD: &str = "dapnorm: rules: read fault\n";
+
+/// Why there are no rules.
+#[derive(Drop)]
+pub enum NoRules {
+    /// A value of the option `--word` adds no rule.
+    Words(UsageFault),
+    /// The rules file did not open.
+    Unopened(OpenFault),
+    /// The rules file could not be read.
+    Unread,
+    /// A line of this text is rejected.
+    Line(RulesFault, Vec<u8>),
+    /// An allocation failed.
+    Memory,
+}
+
+impl NoRules {
+    /// Returns the status of the program.
+    pub(crate) fn status(&self) -> u8
+        ensures { result ≡ no_rules_status self.now }
+    {
+        match self {
+            NoRules::Words(UsageFault::Memory) => MEMORY,
+            NoRules::Words(_) => USAGE,
+            NoRules::Unopened(OpenFault::Memory) | NoRules::Memory => MEMORY,
+            NoRules::Unopened(OpenFault::Unread(_)) | NoRules::Unread => FAULT,
+            NoRules::Line(..) => REFUSED,
+        }
+    }
+}
+
+/// Returns the line for a rules file that is rejected. Does not allocate.
+fn rules_line(fault: RulesFault) -> ArrayString<LINE>
+    ensures { result.bytes ≡ rules_line fault }
+{
+    let mut number = Buffer::new();
+    let mut line = ArrayString::new();
+    line.push_str("dapnorm: rules: line ");
+    line.push_str(number.format(fault.line));
+    line.push_str(": ");
+    line.push_str(fault.cause.name());
+    line.push_str("\n");
+    line
+}
+
+/// Reports a value of the option `--word` that adds no rule.
+fn report_words<E: Sink>(errors: &mut E, fault: &UsageFault)
+    requires { E.failures errors.old < 2 ^ 62 }
+    ensures { HasSent E.Sink errors.old errors.new (words_line fault.now) }
+{
+    match fault {
+        UsageFault::Usage(text) | UsageFault::Help(text) => send(errors, text),
+        UsageFault::Memory => report_refused(errors, Refused::Memory),
+    }
+}
+
+/// Reports in one line that a rules file did not open.
+fn report_unopened_rules<E: Sink>(errors: &mut E, fault: OpenFault)
+    requires { E.failures errors.old < 2 ^ 62 }
+    ensures { HasSent E.Sink errors.old errors.new (unopened_rules_line fault) }
+{
+    match fault {
+        OpenFault::Memory => report_refused(errors, Refused::Memory),
+        OpenFault::Unread(_) => send(errors, UNREAD),
+    }
+}
+
+/// Reports in one line why there are no rules. A failure to write the line is not reported.
+pub(crate) fn report_no_rules<E: Sink>(errors: &mut E, why: &NoRules)
+    requires { E.failures errors.old < 2 ^ 62 }
+    ensures { HasSent E.Sink errors.old errors.new (no_rules_line why.now) }
+{
+    match why {
+        NoRules::Words(fault) => report_words(errors, fault),
+        NoRules::Unopened(fault) => report_unopened_rules(errors, *fault),
+        NoRules::Unread => send(errors, UNREAD),
+        NoRules::Line(fault, _) => send_line(errors, &rules_line(*fault)),
+        NoRules::Memory => report_refused(errors, Refused::Memory),
+    }
+}
+
+/// Reads the text of the rules file that a name leads to, with at most one byte past the limit.
+fn file_text<H: Host>(alloc: Global, host: &H, name: &str) -> Result<Vec<u8>, NoRules>
+    ensures { IsFileText (H.files host.now) H.Input.Source name.now result }
+{
+    let mut file = match host.open(Purpose::Rules, name) {
+        Ok(file) => file,
+        Err(fault) => return Err(NoRules::Unopened(fault)),
+    };
+    let read = match read_all(alloc, &mut file, RULES) {
+        Ok(read) => read,
+        Err(_) => return Err(NoRules::Memory),
+    };
+    match read.stop {
+        Stop::Failed => Err(NoRules::Unread),
+        _ => Ok(read.bytes),
+    }
+}
+
+/// Reads the text of a rules file. Without a name it is empty.
+fn text_of<H: Host>(alloc: Global, host: &H, name: Option<&str>) -> Result<Vec<u8>, NoRules>
+    ensures { IsTextOf (H.files host.now) H.Input.Source (text_in name.entry) result }
+{
+    match name {
+        Some(name) => file_text(alloc, host, name),
+        None => Ok(Vec::new(alloc)),
+    }
+}
+
+/// Checks the values of the option `--word` alone.
+pub(crate) fn check_words(alloc: Global, values: &[Name<'_>]) -> Result<(), UsageFault>
+    ensures { IfErr result (HasNoLines values.now []) }
+{
+    if values.is_empty() {
+        return Ok(());
+    }
+    match with_values(alloc, Vec::new(alloc), values) {
+        Ok(_) => Ok(()),
+        Err(fault) => Err(fault),
+    }
+}
+
+/// Reads the text of the rules of a command: that of its rules file, and a line for each value of
+/// the option `--word`. The values are checked before the file is opened.
+pub(crate) fn rules_text<H: Host>(
+    alloc: Global,
+    host: &H,
+    name: Option<&str>,
+    values: &[Name<'_>],
+) -> Result<Vec<u8>, NoRules>
+    ensures { IsRulesText (H.files host.now) H.Input.Source (text_in name.entry) values.now
+        result }
+{
+    if values.is_empty() {
+        return text_of(alloc, host, name);
+    }
+    let alone = match with_values(alloc, Vec::new(alloc), values) {
+        Ok(alone) => alone,
+        Err(fault) => return Err(NoRules::Words(fault)),
+    };
+    let Some(name) = name else {
+        return Ok(alone);
+    };
+    let text = match file_text(alloc, host, name) {
+        Ok(text) => text,
+        Err(why) => return Err(why),
+    };
+    match with_values(alloc, text, values) {
+        Ok(rules) => Ok(rules),
+        Err(fault) => Err(NoRules::Words(fault)),
+    }
+}
+
+/// Reads the rules of a command.
+pub(crate) fn rules_of<H: Host>(
+    alloc: Global,
+    host: &H,
+    name: Option<&str>,
+    values: &[Name<'_>],
+) -> Result<MaskRules, NoRules>
+    ensures { AreRules (H.files host.now) H.Input.Source (text_in name.entry) values.now result }
+{
+    let text = match rules_text(alloc, host, name, values) {
+        Ok(text) => text,
+        Err(why) => return Err(why),
+    };
+    match MaskRules::read(alloc, text.as_slice()) {
+        Ok(rules) => Ok(rules),
+        Err(fault) => match fault.cause {
+            RulesCause::Memory => Err(NoRules::Memory),
+            _ => Err(NoRules::Line(fault, text)),
+        },
+    }
+}

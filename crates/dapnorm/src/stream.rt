@@ -1,0 +1,391 @@
+//! Does a task over one input, and writes or saves its output.
+ghost use Rattle.std.specs.Prelude.{◌≡◌, ◌+◌, ◌<◌, ◌≤◌, ◌^◌, [], IfErr, IfOk, None};
+ghost use Rattle.dap_commands.specs.Reading.{text_in};
+ghost use Rattle.dap_host.specs.declared.limits.TheConstants.{LIMITS};
+ghost use Rattle.dap_mask.specs.KeptRules.{mask_of};
+ghost use Rattle.dap_normalise.specs.NameTables.{AreReady};
+ghost use Rattle.dapnorm.specs.Desks.{TakesAtMost, empty, here};
+ghost use Rattle.dapnorm.specs.Reasons.{no_record_line, unstreamed_line, unstreamed_status};
+ghost use Rattle.dapnorm.specs.Reporting.{HasSent};
+ghost use Rattle.std.specs.Option.{unwrap_or};
+ghost use Rattle.dapnorm.specs.Streams.{LosesRules};
+ghost use Rattle.dapnorm.specs.Streams.{GoesTo, IsNoOutput, IsOutput, IsSavedIn, IsShown};
+ghost use Rattle.dapnorm.specs.Streams.{IsStreamed, IsWritten, Requests, StreamIsRun};
+ghost use Rattle.dapnorm.specs.Streams.{TaskRequests, input_name, output_name, task_rules};
+ghost use Rattle.dapnorm.specs.Streams.{unstreamed_of};
+
+use crate::answer::Answer;
+use crate::desk::Desk;
+use crate::reporting::{LINE, REFUSED, refused_status, report_refused, send_line};
+use crate::rules::rules_of;
+use crate::why::{Mistake, Overlap, Why};
+use arrayvec::ArrayString;
+use dap_commands::{Name, Show, Task};
+use dap_compact::compact;
+use dap_device::{Sink, Source, replace};
+use dap_host::{Host, LIMITS, OpenFault, Purpose, Stream, is_standard};
+use dap_input::Refused;
+use dap_mask::MaskRules;
+use dap_normalise::normalise_with;
+use dap_record::record;
+use dap_rename::{Mode, NameTable, Tables};
+use dap_rules::{TextSink, mask, order};
+use dap_show::{Detail, RecordShown, ShowRequest, show, show_faulty, show_record, show_with};
+use itoa::Buffer;
+use std::alloc::Global;
+
+/// Why a task was not done over an input.
+#[derive(Clone, Copy, Debug, PartialEq, Eq)]
+pub enum Unstreamed {
+    /// The input is rejected, or a device or an allocation failed.
+    Input(Refused),
+    /// The recording does not have the record of this number. Has the number of its records.
+    NoRecord(u64, u64),
+}
+
+impl Unstreamed {
+    /// Returns the status of the program.
+    pub(crate) fn status(self) -> u8
+        ensures { result ≡ unstreamed_status self }
+    {
+        match self {
+            Unstreamed::Input(refused) => refused_status(refused),
+            Unstreamed::NoRecord(..) => REFUSED,
+        }
+    }
+}
+
+/// Returns the line about a record that a recording does not have, with its LF. Does not allocate.
+fn no_record_line(number: u64, count: u64) -> ArrayString<LINE>
+    ensures { result.bytes ≡ no_record_line number count }
+{
+    let mut digits = Buffer::new();
+    let mut line = ArrayString::new();
+    line.push_str("dapnorm: no record ");
+    line.push_str(digits.format(number));
+    line.push_str(": the recording has ");
+    line.push_str(digits.format(count));
+    line.push_str("\n");
+    line
+}
+
+/// Reports in one line why a task was not done. A failure to write the line is not reported.
+pub(crate) fn report_unstreamed<E: Sink>(errors: &mut E, why: Unstreamed)
+    requires { E.failures errors.old < 2 ^ 62 }
+    ensures { HasSent E.Sink errors.old errors.new (unstreamed_line why) }
+{
+    match why {
+        Unstreamed::Input(refused) => report_refused(errors, refused),
+        Unstreamed::NoRecord(number, count) => {
+            send_line(errors, &no_record_line(number, count));
+        }
+    }
+}
+
+/// Returns what the options of `show` request. `None`: they request nothing.
+fn show_request(show: &Show<'_>) -> Result<Option<ShowRequest>, Mistake>
+    ensures { Requests show.now result }
+{
+    let detail = if show.full {
+        Detail::Leaves
+    } else {
+        Detail::Lists
+    };
+    match &show.record {
+        Some(_) if show.full || show.faulty => Err(Mistake::RecordAlone),
+        Some(name) => match name.as_str().parse::<u64>() {
+            Ok(number) if number > 0 => Ok(Some(ShowRequest::Record(number))),
+            _ => Err(Mistake::RecordNumber),
+        },
+        None if show.faulty => Ok(Some(ShowRequest::Faulty(detail))),
+        None if show.full => Ok(Some(ShowRequest::Lines(detail))),
+        None => Ok(None),
+    }
+}
+
+/// Returns what the options of a task request, if it is `show`.
+fn request_of(task: &Task<'_>) -> Result<Option<ShowRequest>, Mistake>
+    ensures { TaskRequests task.now result }
+{
+    match task {
+        Task::Show(show) => show_request(show),
+        _ => Ok(None),
+    }
+}
+
+/// Returns the name of the rules file of a task.
+fn task_rules<'a>(task: &Task<'a>) -> Option<&'a str>
+    ensures { text_in result ≡ task_rules task.now }
+{
+    match task {
+        Task::Mask(rules) | Task::Order(rules) => Some(rules.as_str()),
+        _ => None,
+    }
+}
+
+/// Returns the text of a name, if there is one.
+pub(crate) fn text_of<'a>(name: &Option<Name<'a>>) -> Option<&'a str>
+    ensures { text_in result ≡ name.now }
+{
+    match name {
+        Some(name) => Some(name.as_str()),
+        None => None,
+    }
+}
+
+/// Returns the name of an input. Without one it is standard input.
+pub(crate) fn input_name<'a>(name: &Option<Name<'a>>) -> &'a str
+    ensures { result.now ≡ input_name name.now }
+{
+    match name {
+        Some(name) => name.as_str(),
+        None => "-",
+    }
+}
+
+/// Returns the name of an output that is not standard output.
+fn output_name<'a>(name: &Option<Name<'a>>) -> Option<&'a str>
+    ensures { text_in result ≡ output_name name.now }
+{
+    match name {
+        Some(name) if !is_standard(name.as_str()) => Some(name.as_str()),
+        _ => None,
+    }
+}
+
+/// Shows the records of an input as requested.
+fn shown<R: Source, W: Sink>(
+    alloc: Global,
+    request: Option<ShowRequest>,
+    reader: &mut R,
+    writer: &mut W,
+) -> Result<(), Unstreamed>
+    requires given { R.given reader.old < 2 ^ 62 }
+    requires read_failures { R.failures reader.old < 2 ^ 62 }
+    requires write_failures { W.failures writer.old < 2 ^ 62 }
+    ensures shown { IsShown R.Source W.Sink reader.old reader.new writer.old writer.new request
+        result }
+    ensures taken { R.given reader.new ≤ R.given reader.old + LIMITS.input + 1 }
+{
+    match request {
+        None => ended(show(alloc, reader, writer, LIMITS)),
+        Some(ShowRequest::Lines(detail)) => {
+            ended(show_with(alloc, reader, writer, LIMITS, detail))
+        }
+        Some(ShowRequest::Faulty(detail)) => {
+            match show_faulty(alloc, reader, writer, LIMITS, detail) {
+                Ok(None) => Ok(()),
+                Ok(Some(refused)) => Err(Unstreamed::Input(refused)),
+                Err(refused) => Err(Unstreamed::Input(refused)),
+            }
+        }
+        Some(ShowRequest::Record(number)) => {
+            match show_record(alloc, reader, writer, LIMITS, number) {
+                Ok(RecordShown::Shown) => Ok(()),
+                Ok(RecordShown::Missing(count)) => Err(Unstreamed::NoRecord(number, count)),
+                Err(refused) => Err(Unstreamed::Input(refused)),
+            }
+        }
+    }
+}
+
+/// Returns the result of an engine as that of a task.
+fn ended(outcome: Result<(), Refused>) -> Result<(), Unstreamed>
+    ensures { result ≡ unstreamed_of outcome }
+{
+    match outcome {
+        Ok(()) => Ok(()),
+        Err(refused) => Err(Unstreamed::Input(refused)),
+    }
+}
+
+/// Does a task over a reader and a writer, by these rules if it takes some.
+fn streamed<R: Source, W: Sink, T: NameTable + Drop>(
+    alloc: Global,
+    task: &Task<'_>,
+    request: Option<ShowRequest>,
+    rules: &MaskRules,
+    reader: &mut R,
+    writer: &mut W,
+    tables: Tables<T>,
+) -> Result<(), Unstreamed>
+    requires tables { AreReady T.numbers T.limit LIMITS tables }
+    requires given { R.given reader.old < 2 ^ 62 }
+    requires read_failures { R.failures reader.old < 2 ^ 62 }
+    requires write_failures { W.failures writer.old < 2 ^ 62 }
+    ensures done { IsStreamed R.Source W.Sink reader.old reader.new writer.old writer.new task.now
+        request (mask_of rules.now) result }
+    ensures taken { R.given reader.new ≤ R.given reader.old + LIMITS.input + 1 }
+{
+    match task {
+        Task::Compact => ended(compact(alloc, reader, writer, LIMITS)),
+        Task::Record => ended(record(alloc, reader, writer, LIMITS)),
+        Task::Normalise(mode) => {
+            ended(normalise_with(alloc, reader, writer, LIMITS, tables, *mode))
+        }
+        Task::Show(_) => shown(alloc, request, reader, writer),
+        Task::Mask(_) => ended(mask(alloc, rules, reader, writer, LIMITS)),
+        Task::Order(_) => {
+            let swaps = rules.swaps();
+            ended(order(alloc, swaps, reader, writer, LIMITS, Mode::Whole))
+        }
+    }
+}
+
+/// Opens the output that is written directly: standard output, or the device of a name.
+fn open_output<H: Host>(host: &H, name: Option<&str>) -> Result<H::Output, OpenFault>
+    ensures ok { IfOk result (IsOutput (H.files host.now) (text_in name.entry)) }
+    ensures failures { IfOk result (λ output. H.Output.failures output ≡ 0) }
+    ensures err { IfErr result (IsNoOutput (H.files host.now) (text_in name.entry)) }
+{
+    match name {
+        None => Ok(host.stream(Stream::Bytes)),
+        Some(name) => host.device(name),
+    }
+}
+
+/// Returns a name. Without one it is empty.
+fn name_or_none<'a>(name: Option<&'a str>) -> Name<'a>
+    ensures { result ≡ unwrap_or (text_in name.entry) [] }
+{
+    match name {
+        Some(name) => Name::new(name),
+        None => Name::new(""),
+    }
+}
+
+/// Does a task over the input that a name leads to, and writes its output directly.
+fn write_stream<'a, H: Host>(
+    alloc: Global,
+    host: &H,
+    task: &Task<'_>,
+    request: Option<ShowRequest>,
+    values: &[Name<'_>],
+    name: &str,
+    output: Option<&'a str>,
+    desk: &mut Desk<H::Input, H::Output, H::Target>,
+) -> Result<Option<Answer<'a>>, Why<'a>>
+    requires { desk.old ≡ empty }
+    ensures written { IsWritten (here (H.files host.now) H.Input.Source H.Output.Sink
+        H.Target.Replaceable) task.now request values.now name.now desk.new (text_in output.entry)
+        result }
+    ensures taken { TakesAtMost H.Input.given (LIMITS.input + 1) desk.new.a }
+    ensures one { desk.new.b ≡ None }
+{
+    let input = match host.open(Purpose::Input, name) {
+        Ok(input) => input,
+        Err(fault) => return Err(Why::Unopened(None, fault)),
+    };
+    let reader = desk.a.insert(input);
+    let device = match open_output(host, output) {
+        Ok(device) => device,
+        Err(fault) => return Err(Why::Output(name_or_none(output), fault)),
+    };
+    let writer = desk.output.insert(device);
+    let rules = match rules_of(alloc, host, task_rules(task), values) {
+        Ok(rules) => rules,
+        Err(why) => return Err(Why::Rules(why)),
+    };
+    let tables = host.tables(alloc);
+    match streamed(alloc, task, request, &rules, reader, writer, tables) {
+        Ok(()) => Ok(None),
+        Err(why) => Err(Why::Stream(why, rules)),
+    }
+}
+
+/// Does a task over the input that a name leads to, and saves its output in a file. The output is
+/// held in memory before that.
+fn save_stream<'a, H: Host>(
+    alloc: Global,
+    host: &H,
+    task: &Task<'_>,
+    request: Option<ShowRequest>,
+    values: &[Name<'_>],
+    name: &str,
+    output: &'a str,
+    desk: &mut Desk<H::Input, H::Output, H::Target>,
+) -> Result<Option<Answer<'a>>, Why<'a>>
+    requires { desk.old ≡ empty }
+    ensures saved { IsSavedIn (here (H.files host.now) H.Input.Source H.Output.Sink
+        H.Target.Replaceable) task.now request values.now name.now desk.new output.now result }
+    ensures taken { TakesAtMost H.Input.given (LIMITS.input + 1) desk.new.a }
+    ensures one { desk.new.b ≡ None }
+{
+    let input = match host.open(Purpose::Input, name) {
+        Ok(input) => input,
+        Err(fault) => return Err(Why::Unopened(None, fault)),
+    };
+    let reader = desk.a.insert(input);
+    let file = match host.target(output, true) {
+        Ok(file) => file,
+        Err(fault) => return Err(Why::Output(Name::new(output), fault)),
+    };
+    let target = desk.target.insert(file);
+    let rules = match rules_of(alloc, host, task_rules(task), values) {
+        Ok(rules) => rules,
+        Err(why) => return Err(Why::Rules(why)),
+    };
+    let mut text = TextSink::new(alloc);
+    let tables = host.tables(alloc);
+    let outcome = streamed(alloc, task, request, &rules, reader, &mut text, tables);
+    if text.failures() > 0 {
+        return Err(Why::Input(Refused::Memory));
+    }
+    if let Err(why) = outcome {
+        return Err(Why::Stream(why, rules));
+    }
+    let bytes = text.into_bytes();
+    match replace(target, bytes.as_slice()) {
+        Ok(()) => Ok(None),
+        Err(fault) => Err(Why::Unsaved(Name::new(output), fault)),
+    }
+}
+
+/// Returns the name of the rules file of a task, if that is the file of the output.
+fn lost_rules<'a, H: Host>(host: &H, task: &Task<'a>, output: &str) -> Option<&'a str>
+    ensures { LosesRules (H.files host.now) (task_rules task.now) output.now (text_in result) }
+{
+    match task_rules(task) {
+        None => None,
+        Some(rules) => {
+            if host.are_same(output, rules) {
+                Some(rules)
+            } else {
+                None
+            }
+        }
+    }
+}
+
+/// Does a task over one input, and writes its output, or saves it in a file.
+pub(crate) fn run_stream_task<'a, H: Host>(
+    alloc: Global,
+    host: &H,
+    task: &Task<'a>,
+    values: &[Name<'a>],
+    input: &Option<Name<'a>>,
+    output: &Option<Name<'a>>,
+    desk: &mut Desk<H::Input, H::Output, H::Target>,
+) -> Result<Option<Answer<'a>>, Why<'a>>
+    requires { desk.old ≡ empty }
+    ensures run { StreamIsRun (here (H.files host.now) H.Input.Source H.Output.Sink
+        H.Target.Replaceable) task.now values.now (input_name input.now) desk.new output.now result }
+    ensures taken { TakesAtMost H.Input.given (LIMITS.input + 1) desk.new.a }
+    ensures one { desk.new.b ≡ None }
+{
+    let request = match request_of(task) {
+        Ok(request) => request,
+        Err(mistake) => return Err(Why::Mistake(mistake)),
+    };
+    let name = input_name(input);
+    let Some(output) = output_name(output) else {
+        return write_stream(alloc, host, task, request, values, name, None, desk);
+    };
+    if host.is_device(output) {
+        return write_stream(alloc, host, task, request, values, name, Some(output), desk);
+    }
+    if let Some(rules) = lost_rules(host, task, output) {
+        return Err(Why::SameFile(Overlap::OutputAndRules, Name::new(rules)));
+    }
+    save_stream(alloc, host, task, request, values, name, output, desk)
+}

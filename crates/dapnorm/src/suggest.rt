@@ -1,0 +1,155 @@
+//! Suggests rules for the recordings that two names lead to.
+ghost use Rattle.std.specs.Prelude.{◌≡◌, ◌+◌};
+ghost use Rattle.dap_commands.specs.Reading.{text_in};
+ghost use Rattle.dap_host.specs.declared.limits.TheConstants.{LIMITS};
+ghost use Rattle.dapnorm.specs.Desks.{TakesAtMost, empty, here};
+ghost use Rattle.dapnorm.specs.Suggestions.{SuggestionIsRun, Suggests, reported_refusal};
+
+use crate::answer::Answer;
+use crate::desk::Desk;
+use crate::pair::are_both_standard;
+use crate::reading::{Unread, read_whole};
+use crate::rules::{NoRules, rules_text};
+use crate::why::{Mistake, Why};
+use dap_commands::Name;
+use dap_compare::{CompareRefused, Which};
+use dap_host::{Host, LIMITS, Purpose};
+use dap_input::Refused;
+use dap_mask::MaskRules;
+use dap_rules::ApplyRefused;
+use dap_suggest::{Obstacle, Reason, SuggestRefused, suggest};
+use std::alloc::{AllocError, Global};
+
+/// Returns what is wrong with a record.
+fn reason_words(reason: Reason) -> &'static str {
+    match reason {
+        Reason::NoCounterpart => "has no counterpart in",
+        Reason::Differs => "differs where no rule may change it from",
+        Reason::OutOfOrder => "comes in an order that no rule allows in",
+    }
+}
+
+/// Returns the line that says why no rules make two recordings the same.
+fn obstacle_line(alloc: Global, obstacle: &Obstacle) -> Result<String, AllocError> {
+    match obstacle {
+        Obstacle::Record {
+            reason,
+            which,
+            number,
+            head,
+        } => {
+            let (one, other) = match which {
+                Which::A => ("A", "B"),
+                Which::B => ("B", "A"),
+            };
+            // The kind and the name follow the marker of the side and a space.
+            let message = head.get(2..).unwrap_or(head.as_str());
+            let words = reason_words(*reason);
+            format!(in alloc;
+                "no rules can: record {number} of {one}, {message}, {words} {other}\n"
+            )
+        }
+        Obstacle::Unapplied(which, refused) => {
+            format!(in alloc; "no rules can: {which}: after the rules: {refused}\n")
+        }
+        Obstacle::Unread => String::from_str(
+            alloc,
+            "no rules can: a file cannot have the rules that would be needed\n",
+        ),
+        Obstacle::StillDiffers(number) => {
+            format!(in alloc; "no rules can: after the rules, record {number} still differs\n")
+        }
+    }
+}
+
+/// Returns how a rejected input is reported: without rules that were given, the session is the
+/// recording itself.
+fn reported_refusal(given: &[u8], refused: ApplyRefused) -> ApplyRefused
+    ensures { result ≡ reported_refusal given.now refused }
+{
+    match given {
+        [] => match refused {
+            ApplyRefused::Order(refused) => ApplyRefused::Mask(refused),
+            refused => refused,
+        },
+        _ => refused,
+    }
+}
+
+/// Suggests rules for two recordings that were read.
+fn suggestion<'a>(
+    alloc: Global,
+    given: Vec<u8>,
+    a: &[u8],
+    b: &[u8],
+) -> Result<Option<Answer<'a>>, Why<'a>>
+    ensures { Suggests given a.now b.now result }
+{
+    match suggest(alloc, given.as_slice(), a, b, LIMITS) {
+        Ok(found) => Ok(Some(Answer::Rules(found.rules))),
+        Err(SuggestRefused::Rules(fault)) => Err(Why::Rules(NoRules::Line(fault, given))),
+        Err(SuggestRefused::Input(which, refused)) => {
+            let refused = reported_refusal(given.as_slice(), refused);
+            match MaskRules::read(alloc, given.as_slice()) {
+                Ok(rules) => Err(Why::Unapplied(which, refused, rules)),
+                Err(_) => Err(Why::Input(Refused::Memory)),
+            }
+        }
+        Err(SuggestRefused::NoRules(obstacle)) => match obstacle_line(alloc, &obstacle) {
+            Ok(line) => Err(Why::NoSuggestion(line)),
+            Err(_) => Err(Why::Input(Refused::Memory)),
+        },
+        Err(SuggestRefused::Memory) => Err(Why::Input(Refused::Memory)),
+    }
+}
+
+/// Suggests rules that make the recordings that two names lead to the same, in addition to the rules
+/// that are given. These are read first, then A whole, and then B.
+pub(crate) fn run_suggest<'a, H: Host>(
+    alloc: Global,
+    host: &H,
+    a: &str,
+    b: &str,
+    rules: Option<&str>,
+    values: &[Name<'_>],
+    desk: &mut Desk<H::Input, H::Output, H::Target>,
+) -> Result<Option<Answer<'a>>, Why<'a>>
+    requires { desk.old ≡ empty }
+    ensures run { SuggestionIsRun (here (H.files host.now) H.Input.Source H.Output.Sink
+        H.Target.Replaceable) a.now b.now (text_in rules.entry) values.now desk.new result }
+    ensures taken_a { TakesAtMost H.Input.given (LIMITS.input + 1) desk.new.a }
+    ensures taken_b { TakesAtMost H.Input.given (LIMITS.input + 1) desk.new.b }
+{
+    if are_both_standard(a, b) {
+        return Err(Why::Mistake(Mistake::TwoStandard));
+    }
+    let given = match rules_text(alloc, host, rules, values) {
+        Ok(given) => given,
+        Err(why) => return Err(Why::Rules(why)),
+    };
+    let input_a = match host.open(Purpose::Input, a) {
+        Ok(input) => input,
+        Err(fault) => return Err(Why::Unopened(Some(Which::A), fault)),
+    };
+    let reader_a = desk.a.insert(input_a);
+    let read_a = match read_whole(alloc, reader_a) {
+        Ok(read) => read,
+        Err(Unread::Failed) => {
+            return Err(Why::Pair(CompareRefused::Input(Which::A, Refused::ReadFault)));
+        }
+        Err(Unread::Memory) => return Err(Why::Pair(CompareRefused::Memory)),
+    };
+    let input_b = match host.open(Purpose::Input, b) {
+        Ok(input) => input,
+        Err(fault) => return Err(Why::Unopened(Some(Which::B), fault)),
+    };
+    let reader_b = desk.b.insert(input_b);
+    let read_b = match read_whole(alloc, reader_b) {
+        Ok(read) => read,
+        Err(Unread::Failed) => {
+            return Err(Why::Pair(CompareRefused::Input(Which::B, Refused::ReadFault)));
+        }
+        Err(Unread::Memory) => return Err(Why::Pair(CompareRefused::Memory)),
+    };
+    suggestion(alloc, given, read_a.as_slice(), read_b.as_slice())
+}

@@ -1,0 +1,114 @@
+//! The text that rules make of an input.
+ghost use Rattle.std.specs.Prelude.{◌≡◌, ◌↔◌, ◌+◌, ◌<◌, ◌≤◌, ◌^◌, [], IsTrue};
+ghost use Rattle.dap_host.specs.declared.limits.TheConstants.{LIMITS};
+ghost use Rattle.dap_mask.specs.KeptRules.{mask_of};
+ghost use Rattle.dap_normalise.specs.NameTables.{AreReady};
+ghost use Rattle.dapnorm.specs.Comparisons.{ChecksText, HasText};
+ghost use Rattle.dapnorm.specs.Reasons.{after_rules_line, unapplied_line, unapplied_status};
+ghost use Rattle.dapnorm.specs.Reporting.{HasSent};
+
+use crate::reporting::{FAULT, MEMORY, refused_status, report_pair, report_parts};
+use dap_compare::{CompareRefused, Which};
+use dap_device::{MemorySource, Sink, Source};
+use dap_host::LIMITS;
+use dap_input::Refused;
+use dap_mask::MaskRules;
+use dap_normalise::check_with;
+use dap_rename::{Mode, NameTable, Tables};
+use dap_rules::{ApplyRefused, read_by_rules};
+use std::alloc::Global;
+
+/// Reports that one of two recordings is rejected after the rules.
+fn report_after_rules<E: Sink>(errors: &mut E, which: Which, refused: Refused)
+    requires { E.failures errors.old < 2 ^ 62 }
+    ensures { HasSent E.Sink errors.old errors.new (after_rules_line which refused) }
+{
+    let reason = refused.text();
+    report_parts(
+        errors,
+        &[
+            b"dapnorm: ",
+            which.letter().as_bytes(),
+            b": after the rules: ",
+            reason.as_bytes(),
+            b"\n",
+        ],
+    );
+}
+
+/// Reports in one line why rules cannot be applied to one of two inputs. A failure to write the
+/// line is not reported.
+pub(crate) fn report_unapplied<E: Sink>(errors: &mut E, which: Which, refused: ApplyRefused)
+    requires { E.failures errors.old < 2 ^ 62 }
+    ensures { HasSent E.Sink errors.old errors.new (unapplied_line which refused) }
+{
+    match refused {
+        ApplyRefused::Mask(refused) => report_pair(errors, CompareRefused::Input(which, refused)),
+        ApplyRefused::Order(refused) => report_after_rules(errors, which, refused),
+        ApplyRefused::ReadFault => {
+            report_pair(errors, CompareRefused::Input(which, Refused::ReadFault));
+        }
+        ApplyRefused::Memory => report_pair(errors, CompareRefused::Memory),
+    }
+}
+
+/// Returns the status of the program if rules cannot be applied to an input.
+pub(crate) fn unapplied_status(refused: ApplyRefused) -> u8
+    ensures { result ≡ unapplied_status refused }
+{
+    match refused {
+        ApplyRefused::Mask(refused) | ApplyRefused::Order(refused) => refused_status(refused),
+        ApplyRefused::ReadFault => FAULT,
+        ApplyRefused::Memory => MEMORY,
+    }
+}
+
+/// Checks the text that rules made of an input.
+fn check_text<T: NameTable + Drop>(
+    alloc: Global,
+    text: &[u8],
+    tables: Tables<T>,
+    mode: Mode,
+) -> Result<(), ApplyRefused>
+    requires { AreReady T.numbers T.limit LIMITS tables }
+    ensures { ChecksText mode text.now result }
+{
+    let mut reader = MemorySource::new(text);
+    match check_with(alloc, &mut reader, LIMITS, false, tables, mode) {
+        Ok(_) => Ok(()),
+        Err(Refused::Memory) => Err(ApplyRefused::Memory),
+        Err(refused) => Err(ApplyRefused::Order(refused)),
+    }
+}
+
+/// Returns whether rules have none for the order.
+fn has_no_order(rules: &MaskRules) -> bool
+    ensures { IsTrue result ↔ ((mask_of rules.now).swaps ≡ []) }
+{
+    rules.swaps().is_empty()
+}
+
+/// Reads an input, and applies the rules to its recording. The text is an accepted recording:
+/// putting it in order checks it, and without rules for the order it is checked here.
+pub(crate) fn text_by_rules<R: Source, T: NameTable + Drop>(
+    alloc: Global,
+    rules: &MaskRules,
+    reader: &mut R,
+    tables: Tables<T>,
+    mode: Mode,
+) -> Result<Vec<u8>, ApplyRefused>
+    requires tables { AreReady T.numbers T.limit LIMITS tables }
+    requires given { R.given reader.old < 2 ^ 62 }
+    requires failures { R.failures reader.old < 2 ^ 62 }
+    ensures text { HasText R.Source mode (mask_of rules.now) reader.old reader.new result }
+    ensures taken { R.given reader.new ≤ R.given reader.old + LIMITS.input + 1 }
+{
+    let text = read_by_rules(alloc, rules, reader, LIMITS, mode)?;
+    if has_no_order(rules) {
+        return match check_text(alloc, text.as_slice(), tables, mode) {
+            Ok(()) => Ok(text),
+            Err(refused) => Err(refused),
+        };
+    }
+    Ok(text)
+}
