@@ -196,7 +196,7 @@ def run_diff_is_refused_in_turn(report, shim):
 
 
 def run_diff_all_is_refused_in_turn(report, shim):
-    """`run_pair_with` of all differences, with both kinds of tables."""
+    """`diff_all_with`, whose answer is printed, with both kinds of tables."""
     for tables in ("own", *HANDED):
         for a, b, mode, status, printed in ALL_DIFFERENCES:
             call = Call("run-diff-all", Input(recording(a)), Input(recording(b)), mode=mode, tables=tables)
@@ -249,7 +249,7 @@ def run_stream_with_tables_is_refused_in_turn(report, shim):
 
 
 def run_compare_and_run_diff_with_tables_are_refused_in_turn(report, shim):
-    """`run_pair_with`, with both kinds of tables."""
+    """`compare_with` and `diff_with`, whose answers are printed, with both kinds of tables."""
     for tables in HANDED:
         for a, b, mode, printed in ALIKE:
             call = Call("run-compare", Input(recording(a)), Input(recording(b)), mode=mode, tables=tables)

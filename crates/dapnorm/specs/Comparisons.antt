@@ -8,7 +8,6 @@ use Rattle.dap_compare.specs.Verdicts.{Compares}
 use Rattle.dap_compare.specs.declared.verdict.CompareRefused.{CompareRefused}
 use Rattle.dap_compare.specs.declared.verdict.Which.TheVariants.{A, B}
 use Rattle.dap_device.specs.Memory.{GivenBytes}
-use Rattle.dap_device.specs.declared.device.Sink.{Ghosts as Sink}
 use Rattle.dap_device.specs.declared.device.Source.{Ghosts as Source}
 use Rattle.dap_diff.specs.Diffs.{DescribesDifference}
 use Rattle.dap_diff.specs.Matching.{DiffersAll}
@@ -26,9 +25,7 @@ use Rattle.dap_rules.specs.Inputs.{ReadsByRules}
 use Rattle.dap_rules.specs.Modes.{mode_by}
 use Rattle.dap_rules.specs.declared.fault.ApplyRefused.{ApplyRefused}
 use Rattle.dap_rules.specs.declared.fault.ApplyRefused.TheVariants as because
-use Rattle.dapnorm.specs.Answers.{answer_status, answer_text}
 use Rattle.dapnorm.specs.Desks.{IsLeft, IsUnused, Place, empty}
-use Rattle.dapnorm.specs.Reporting.{ResultIsReported}
 use Rattle.dapnorm.specs.Rules.{AreRules}
 use Rattle.dapnorm.specs.declared.answer.Answer.{Answer}
 use Rattle.dapnorm.specs.declared.answer.Answer.TheVariants as answer
@@ -57,10 +54,6 @@ module _ {R S : Type 0} (source_a : Source R) (source_b : Source S) (limits : Li
   Finds printed.AllDifferences (Err refused) =
       DiffersAll source_a source_b limits mode old_a new_a old_b new_b (Err refused)
   Finds one outcome = ⊥
-
-  -- What it finds is printed, or an error is reported.
-  abbrev pub PairIsReported : {W E : Type 0} → Sink W → Sink E → Printed → W → W → E → E → ℕ → Type 0
-  PairIsReported sink errors one = ResultIsReported sink errors answer_text answer_status (Finds one)
 
 -- ---- the text that rules make of an input
 

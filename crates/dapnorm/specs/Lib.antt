@@ -3,6 +3,7 @@ pub mod Comparisons
 pub mod Desks
 pub mod GoldenLines
 pub mod Goldens
+pub mod Lines
 pub mod Pairs
 pub mod Reasons
 pub mod Reporting

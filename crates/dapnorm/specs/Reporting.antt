@@ -1,7 +1,5 @@
 -- What the program prints and reports, and its statuses. Source: own.
-use Rattle.std.specs.Prelude.{◌≡◌, ◌⊎◌, ℕ, List, ◌++◌, Result, Ok, Err, codes}
-use Rattle.std.specs.Borrow.{Bor}
-use Rattle.std.specs.List.{flat_map}
+use Rattle.std.specs.Prelude.{◌≡◌, ◌⊎◌, ℕ, List, [], ◌∷◌, Result, Ok, Err}
 use Rattle.dap_compare.specs.Which.{compare_refused_text}
 use Rattle.dap_compare.specs.declared.verdict.CompareRefused.{CompareRefused}
 use Rattle.dap_compare.specs.declared.verdict.CompareRefused.TheVariants as comparing
@@ -10,10 +8,7 @@ use Rattle.dap_device.specs.Written.{AllSent, PrefixWritten}
 use Rattle.dap_input.specs.declared.refused.Refused.{Refused}
 use Rattle.dap_input.specs.declared.refused.Refused.TheVariants.{ReadFault, WriteFault, Memory}
 use Rattle.dap_input.specs.RefusedText.{refused_text}
-
--- the line with this text
-abbrev pub fault_line : List ℕ → List ℕ
-fault_line text = codes "dapnorm: " ++ text ++ codes "\n"
+use Rattle.dapnorm.specs.Lines.{fault_line}
 
 -- the status of the program after an error: a reader or a writer failed, an allocation failed, or
 -- the input is rejected
@@ -33,10 +28,6 @@ abbrev pub status_of : {U : Type 0} → Result U Refused → ℕ
 status_of (Ok done) = 0
 status_of (Err refused) = refused_status refused
 
--- the text of all parts
-abbrev pub joined : List (Bor (List ℕ)) → List ℕ
-joined parts = flat_map (λ part. part.now) parts
-
 module _ {S : Type 0} (sink : Sink S) where
   -- The text was written and flushed, or a prefix of it was written and the device failed.
   abbrev pub HasSent : S → S → List ℕ → Type 0
@@ -45,7 +36,7 @@ module _ {S : Type 0} (sink : Sink S) where
   -- An error is reported in one line. If there is none, nothing is reported.
   abbrev pub IsReported : S → S → Result (Unit {0}) Refused → Type 0
   IsReported old new (Ok done) = new ≡ old
-  IsReported old new (Err refused) = HasSent old new (fault_line (refused_text refused))
+  IsReported old new (Err refused) = HasSent old new (fault_line (refused_text refused ∷ []))
 
   -- The text is written and flushed, and the status is this; or a prefix of it is written and the
   -- writer fails, and the status is that of a failed device.
@@ -69,7 +60,7 @@ module _ {W E : Type 0} (sink : Sink W) (errors : Sink E) where
   IsPrinted text given before after old new status =
       (AllSent sink before after text × (new ≡ old) × (status ≡ given))
       ⊎ (PrefixWritten sink before after text
-      × HasSent errors old new (fault_line (refused_text WriteFault)) × (status ≡ 4))
+      × HasSent errors old new (fault_line (refused_text WriteFault ∷ [])) × (status ≡ 4))
 
   module _ {V : Type 0} (text : V → List ℕ) (status_for : V → ℕ) where
     -- The text of a result is printed, with the status of the result. If an input is rejected, that
@@ -78,7 +69,7 @@ module _ {W E : Type 0} (sink : Sink W) (errors : Sink E) where
     ComparisonIsReported (Ok outcome) before after old new status =
         IsPrinted (text outcome) (status_for outcome) before after old new status
     ComparisonIsReported (Err because) before after old new status = (after ≡ before)
-        × HasSent errors old new (fault_line (compare_refused_text because))
+        × HasSent errors old new (fault_line (compare_refused_text because ∷ []))
         × (status ≡ refusal_status because)
 
     -- A result for which `Finds` holds is printed or reported.

@@ -1,6 +1,5 @@
 -- What the program prints and reports for a job. Source: own.
-use Rattle.std.specs.Prelude.{◌≡◌, ℕ, ◌++◌, Bool, IsErrOf, List, Result, Ok, Err, codes}
-use Rattle.std.specs.Prelude.{decimal, string_bytes}
+use Rattle.std.specs.Prelude.{◌≡◌, ℕ, Bool, IsErrOf, List, [], ◌∷◌, Result, Ok, Err, string_bytes}
 use Rattle.dap_commands.specs.Jobs.{mode_for}
 use Rattle.dap_commands.specs.declared.commands.Job.{Job}
 use Rattle.dap_commands.specs.declared.commands.Job.TheVariants as job
@@ -13,7 +12,9 @@ use Rattle.dap_normalise.specs.declared.checked.Checked.{Checked}
 use Rattle.dap_rename.specs.declared.mode.Mode.{Mode}
 use Rattle.dap_record.specs.TracingRun.{RecordsTrace}
 use Rattle.dap_input.specs.RefusedText.{refused_text}
-use Rattle.dapnorm.specs.Reporting.{Answered, HasSent, IsReported, IsSent, fault_line, status_of}
+use Rattle.dapnorm.specs.Answers.{accepted_line}
+use Rattle.dapnorm.specs.Lines.{fault_line}
+use Rattle.dapnorm.specs.Reporting.{Answered, HasSent, IsReported, IsSent, status_of}
 use Rattle.dap_input.specs.Engine.{Answers, ReadsNoneOrAll}
 use Rattle.dap_input.specs.Refusals.{IsRefused}
 use Rattle.dap_input.specs.declared.limits.Limits.{Limits}
@@ -50,12 +51,6 @@ module _ {R W : Type 0} (source : Source R) (sink : Sink W) (limits : Limits) wh
     pub memory : IsErrOf outcome Memory → source.failures new ≡ source.failures old
 
 -- ---- what is printed and reported
-
--- the line with the numbers of an accepted recording
-abbrev pub accepted_line : Checked → List ℕ
-accepted_line checked =
-    codes "accepted records=" ++ decimal checked.records ++ codes " open="
-    ++ decimal checked.client_open ++ codes "," ++ decimal checked.adapter_open ++ codes "\n"
 
 module _ {W : Type 0} (sink : Sink W) where
   -- If `check` accepts, its line is written and flushed, or a prefix of the line is written and the
@@ -107,4 +102,4 @@ module _ {W E : Type 0} (sink : Sink W) (errors : Sink E) where
   ReportsUsage (usage.Usage text) before after old new status = (status ≡ 3)
       × HasSent errors old new (string_bytes text) × (after ≡ before)
   ReportsUsage usage.Memory before after old new status = (status ≡ 5)
-      × HasSent errors old new (fault_line (refused_text Memory)) × (after ≡ before)
+      × HasSent errors old new (fault_line (refused_text Memory ∷ [])) × (after ≡ before)

@@ -1,21 +1,19 @@
 //! What a command found, and how it is printed.
-ghost use Rattle.std.specs.Prelude.{◌≡◌, ◌<◌, ◌^◌};
+ghost use Rattle.std.specs.Prelude.{◌≡◌, ◌∷◌, ◌<◌, ◌^◌, []};
 ghost use Rattle.std.specs.List.{flat_map};
 ghost use Rattle.dap_device.specs.Written.{HasSentAll, HasWrittenAll};
-ghost use Rattle.dapnorm.specs.Answers.{answer_status, answer_stream, answer_text};
-ghost use Rattle.dapnorm.specs.GoldenLines.{done_status, done_text};
-ghost use Rattle.dapnorm.specs.GoldenLines.{verdict_text as golden_text};
-ghost use Rattle.dapnorm.specs.Pairs.{all_status, all_text, diff_status, diff_text, differ_line};
-ghost use Rattle.dapnorm.specs.Pairs.{first_line, pair_line, pairs_in, same_line, shows_stop};
-ghost use Rattle.dapnorm.specs.Pairs.{verdict_status, verdict_text};
+ghost use Rattle.dapnorm.specs.Answers.{accepted_texts, answer_mode, answer_pairs, answer_status};
+ghost use Rattle.dapnorm.specs.Answers.{answer_stream, answer_text, answer_texts, differ_texts};
+ghost use Rattle.dapnorm.specs.Answers.{done_status, done_texts, golden_texts, pair_line};
+ghost use Rattle.dapnorm.specs.Answers.{same_texts, shows_stop};
+ghost use Rattle.dapnorm.specs.Lines.{joined, parts_text};
 ghost use Rattle.dapnorm.specs.Reporting.{IsPrinted};
-ghost use Rattle.dapnorm.specs.Run.{accepted_line};
 
-use crate::reporting::{DIFFERENT, DONE, FAULT, LINE, report_refused, send_parts};
-use arrayvec::ArrayString;
+use crate::line::{Part, fault, report_line, write_parts};
+use crate::reporting::{DIFFERENT, DONE, FAULT};
 use dap_commands::Name;
 use dap_compare::Verdict;
-use dap_device::{DeviceFault, Sink, write_all, write_and_flush};
+use dap_device::{DeviceFault, Sink};
 use dap_diff::{AllDifferences, Diff};
 use dap_golden::{GoldenDone, GoldenVerdict};
 use dap_host::Stream;
@@ -23,7 +21,6 @@ use dap_input::Refused;
 use dap_normalise::Checked;
 use dap_rename::{Mode, Pair};
 use dap_tree::Sort;
-use itoa::Buffer;
 
 /// What is printed of a golden file that has the session, but in another form.
 const NOT_NORMAL: &str =
@@ -48,20 +45,46 @@ pub enum Answer<'a> {
     Rules(Vec<u8>),
 }
 
-/// Returns the line of an accepted recording, with its LF. Does not allocate.
-pub(crate) fn accepted_line(checked: &Checked) -> ArrayString<LINE>
-    ensures { result.bytes ≡ accepted_line checked.now }
+/// The parts of the first lines of an answer. Unused ones are empty.
+type Parts<'a> = [Part<'a>; 7];
+
+/// Returns the parts of a text.
+fn text<'a>(text: Part<'a>) -> Parts<'a>
+    ensures { parts_text result ≡ parts_text (text.entry ∷ []) }
 {
-    let mut number = Buffer::new();
-    let mut line = ArrayString::new();
-    line.push_str("accepted records=");
-    line.push_str(number.format(checked.records));
-    line.push_str(" open=");
-    line.push_str(number.format(checked.client_open));
-    line.push_str(",");
-    line.push_str(number.format(checked.adapter_open));
-    line.push_str("\n");
-    line
+    let none = Part::Text("");
+    [text, none, none, none, none, none, none]
+}
+
+/// Returns the parts of the line for two recordings that are the same.
+fn same<'a>() -> Parts<'a>
+    ensures { parts_text result ≡ joined same_texts }
+{
+    text(Part::Text("same\n"))
+}
+
+/// Returns the parts of the lines for two recordings that differ at this record.
+fn differ<'a>(number: u64, lines: &'a [u8]) -> Parts<'a>
+    ensures { parts_text result ≡ joined (differ_texts number lines.entry.now) }
+{
+    let (number, lines) = (Part::Number(number), Part::Bytes(lines));
+    let (words, end, none) = (Part::Text("differ "), Part::Text("\n"), Part::Text(""));
+    [words, number, end, lines, none, none, none]
+}
+
+/// Returns the parts of the line of an accepted recording.
+pub(crate) fn accepted<'a>(checked: &Checked) -> Parts<'a>
+    ensures { parts_text result ≡ joined (accepted_texts checked.now) }
+{
+    [
+        Part::Text("accepted records="),
+        Part::Number(checked.records),
+        Part::Text(" open="),
+        Part::Count(checked.client_open),
+        Part::Text(","),
+        Part::Count(checked.adapter_open),
+        Part::Text("\n"),
+    ]
 }
 
 /// Returns whether the line of a pair of this kind shows its stop: if the numbering of the kind
@@ -75,63 +98,22 @@ fn shows_stop(mode: Mode, sort: Sort) -> bool
     }
 }
 
-/// Returns the line of a pair, with its LF.
-fn pair_line(mode: Mode, pair: Pair) -> ArrayString<LINE>
-    ensures { result.bytes ≡ pair_line mode pair }
+/// Writes the line of a pair.
+fn write_pair<W: Sink>(writer: &mut W, mode: Mode, pair: Pair) -> Result<(), DeviceFault>
+    requires { W.failures writer.old < 2 ^ 63 }
+    ensures { HasWrittenAll W.Sink writer.old writer.new result (pair_line mode pair) }
 {
-    let mut number = Buffer::new();
-    let mut line = ArrayString::new();
-    line.push_str(pair.sort.word());
+    let (word, space, end) = (
+        Part::Text(pair.sort.word()),
+        Part::Text(" "),
+        Part::Text("\n"),
+    );
+    let (from, to) = (Part::Signed(pair.from), Part::Signed(pair.to));
     if shows_stop(mode, pair.sort) {
-        line.push_str("@");
-        line.push_str(number.format(pair.stop));
-    }
-    line.push_str(" ");
-    line.push_str(number.format(pair.from));
-    line.push_str(" ");
-    line.push_str(number.format(pair.to));
-    line.push_str("\n");
-    line
-}
-
-/// Returns the line for two recordings that are the same, with its LF.
-fn same_line() -> ArrayString<LINE>
-    ensures { result.bytes ≡ same_line }
-{
-    let mut line = ArrayString::new();
-    line.push_str("same\n");
-    line
-}
-
-/// Returns the line for two recordings that differ at this record, with its LF.
-fn differ_line(number: u64) -> ArrayString<LINE>
-    ensures { result.bytes ≡ differ_line number }
-{
-    let mut digits = Buffer::new();
-    let mut line = ArrayString::new();
-    line.push_str("differ ");
-    line.push_str(digits.format(number));
-    line.push_str("\n");
-    line
-}
-
-/// Returns the first line of a verdict, with its LF.
-fn first_line(verdict: &Verdict) -> ArrayString<LINE>
-    ensures { result.bytes ≡ first_line verdict.now }
-{
-    match verdict {
-        Verdict::Same(_) => same_line(),
-        Verdict::Differ(record) => differ_line(*record),
-    }
-}
-
-/// Returns the pairs of a verdict that has some.
-fn pairs(verdict: &Verdict) -> &[Pair]
-    ensures { result.now ≡ pairs_in verdict.now }
-{
-    match verdict {
-        Verdict::Same(renaming) => renaming.pairs(),
-        Verdict::Differ(_) => &[],
+        let (at, stop) = (Part::Text("@"), Part::Number(pair.stop));
+        write_parts(writer, &[word, at, stop, space, from, space, to, end])
+    } else {
+        write_parts(writer, &[word, space, from, space, to, end])
     }
 }
 
@@ -142,82 +124,46 @@ fn write_pairs<W: Sink>(writer: &mut W, mode: Mode, pairs: &[Pair]) -> Result<()
         (flat_map (pair_line mode) pairs.now) }
 {
     for pair in pairs {
-        write_all(writer, pair_line(mode, *pair).as_bytes())?;
+        write_pair(writer, mode, *pair)?;
     }
     Ok(())
 }
 
-/// Writes the lines of a verdict and flushes.
-fn write_verdict<W: Sink>(writer: &mut W, mode: Mode, verdict: &Verdict) -> Result<(), DeviceFault>
-    requires { W.failures writer.old < 2 ^ 62 }
-    ensures { HasSentAll W.Sink writer.old writer.new result (verdict_text mode verdict.now) }
-{
-    write_all(writer, first_line(verdict).as_bytes())?;
-    write_pairs(writer, mode, pairs(verdict))?;
-    writer.flush()
-}
-
-/// Writes the first difference and flushes.
-fn write_difference<W: Sink>(writer: &mut W, diff: &Diff) -> Result<(), DeviceFault>
-    requires { W.failures writer.old < 2 ^ 62 }
-    ensures { HasSentAll W.Sink writer.old writer.new result (diff_text diff.now) }
-{
-    match diff {
-        Diff::Same => send_parts(writer, &[same_line().as_bytes()]),
-        Diff::Differ { record, lines } => send_parts(
-            writer,
-            &[differ_line(*record).as_bytes(), lines.as_slice()],
-        ),
-    }
-}
-
-/// Writes all differences and flushes.
-fn write_differences<W: Sink>(writer: &mut W, all: &AllDifferences) -> Result<(), DeviceFault>
-    requires { W.failures writer.old < 2 ^ 62 }
-    ensures { HasSentAll W.Sink writer.old writer.new result (all_text all.now) }
-{
-    match all {
-        AllDifferences::Same => send_parts(writer, &[same_line().as_bytes()]),
-        AllDifferences::Differ { lines } => send_parts(writer, &[lines.as_slice()]),
-    }
-}
-
-/// Writes the verdict on a golden file and flushes.
-fn write_golden_verdict<W: Sink>(writer: &mut W, verdict: &GoldenVerdict) -> Result<(), DeviceFault>
-    requires { W.failures writer.old < 2 ^ 62 }
-    ensures { HasSentAll W.Sink writer.old writer.new result (golden_text verdict.now) }
+/// Returns the parts of the lines of a verdict on a golden file.
+fn golden_verdict<'a>(verdict: &'a GoldenVerdict) -> Parts<'a>
+    ensures { parts_text result ≡ joined (golden_texts verdict.entry.now) }
 {
     match verdict {
-        GoldenVerdict::Same => send_parts(writer, &[same_line().as_bytes()]),
-        GoldenVerdict::Differs { record, lines } => send_parts(
-            writer,
-            &[differ_line(*record).as_bytes(), lines.as_slice()],
-        ),
-        GoldenVerdict::NotNormal => write_and_flush(writer, NOT_NORMAL.as_bytes()),
+        GoldenVerdict::Same => same(),
+        GoldenVerdict::Differs { record, lines } => differ(*record, lines.as_slice()),
+        GoldenVerdict::NotNormal => text(Part::Text(NOT_NORMAL)),
     }
 }
 
-/// Writes what was done with the golden file of this name and flushes.
-fn write_golden<W: Sink>(writer: &mut W, name: &str, done: &GoldenDone) -> Result<(), DeviceFault>
-    requires { W.failures writer.old < 2 ^ 62 }
-    ensures { HasSentAll W.Sink writer.old writer.new result (done_text name.now done.now) }
+/// Returns the parts of the lines that say what was done with the golden file of this name.
+fn golden_done<'a>(name: &'a str, done: &'a GoldenDone) -> Parts<'a>
+    ensures { parts_text result ≡ joined (done_texts name.entry.now done.entry.now) }
 {
     match done {
-        GoldenDone::Compared(verdict) => write_golden_verdict(writer, verdict),
-        GoldenDone::Unchanged => send_parts(writer, &[b"unchanged\n"]),
+        GoldenDone::Compared(verdict) => golden_verdict(verdict),
+        GoldenDone::Unchanged => text(Part::Text("unchanged\n")),
         GoldenDone::Written { records } => {
-            let mut number = Buffer::new();
-            let digits = number.format(*records);
             let end = if *records == 1 {
                 " record)\n"
             } else {
                 " records)\n"
             };
-            let name = name.as_bytes();
-            send_parts(
-                writer,
-                &[b"wrote ", name, b" (", digits.as_bytes(), end.as_bytes()],
-            )
+            let (wrote, name, open) = (Part::Text("wrote "), Part::Text(name), Part::Text(" ("));
+            let none = Part::Text("");
+            [
+                wrote,
+                name,
+                open,
+                Part::Number(*records),
+                Part::Text(end),
+                none,
+                none,
+            ]
         }
     }
 }
@@ -257,27 +203,61 @@ impl Answer<'_> {
         }
     }
 
+    /// Returns the parts of the first lines.
+    fn parts(&self) -> Parts<'_>
+        ensures { parts_text result ≡ joined (answer_texts self.now) }
+    {
+        match self {
+            Answer::Accepted(checked) => accepted(checked),
+            Answer::Verdict(_, Verdict::Same(_))
+            | Answer::Difference(Diff::Same)
+            | Answer::Differences(AllDifferences::Same) => same(),
+            Answer::Verdict(_, Verdict::Differ(record)) => differ(*record, &[]),
+            Answer::Difference(Diff::Differ { record, lines }) => {
+                differ(*record, lines.as_slice())
+            }
+            Answer::Differences(AllDifferences::Differ { lines }) => {
+                text(Part::Bytes(lines.as_slice()))
+            }
+            Answer::Golden(name, done) => golden_done(name.as_str(), done),
+            Answer::Rows(lines) => text(Part::Text(lines)),
+            Answer::Rules(lines) => text(Part::Bytes(lines.as_slice())),
+        }
+    }
+
+    /// Returns the pairs of ids that have a line after the first lines.
+    fn pairs(&self) -> &[Pair]
+        ensures { result.now ≡ answer_pairs self.now }
+    {
+        match self {
+            Answer::Verdict(_, Verdict::Same(renaming)) => renaming.pairs(),
+            _ => &[],
+        }
+    }
+
+    /// Returns the mode in which these ids are numbered.
+    fn mode(&self) -> Mode
+        ensures { result ≡ answer_mode self.now }
+    {
+        match self {
+            Answer::Verdict(mode, _) => *mode,
+            _ => Mode::Whole,
+        }
+    }
+
     /// Writes the text of the answer and flushes.
     fn write<W: Sink>(&self, writer: &mut W) -> Result<(), DeviceFault>
         requires { W.failures writer.old < 2 ^ 62 }
         ensures { HasSentAll W.Sink writer.old writer.new result (answer_text self.now) }
     {
-        match self {
-            Answer::Accepted(checked) => {
-                write_and_flush(writer, accepted_line(checked).as_bytes())
-            }
-            Answer::Verdict(mode, verdict) => write_verdict(writer, *mode, verdict),
-            Answer::Difference(diff) => write_difference(writer, diff),
-            Answer::Differences(all) => write_differences(writer, all),
-            Answer::Golden(name, done) => write_golden(writer, name.as_str(), done),
-            Answer::Rows(lines) => write_and_flush(writer, lines.as_bytes()),
-            Answer::Rules(lines) => write_and_flush(writer, lines.as_slice()),
-        }
+        write_parts(writer, &self.parts())?;
+        write_pairs(writer, self.mode(), self.pairs())?;
+        writer.flush()
     }
 
     /// Prints the answer, and returns the status for it. If the writer fails, reports that in one
     /// line and returns the status for that.
-    pub(crate) fn print<W: Sink, E: Sink>(&self, writer: &mut W, errors: &mut E) -> u8
+    pub fn print<W: Sink, E: Sink>(&self, writer: &mut W, errors: &mut E) -> u8
         requires write_failures { W.failures writer.old < 2 ^ 62 }
         requires error_failures { E.failures errors.old < 2 ^ 62 }
         ensures { IsPrinted W.Sink E.Sink (answer_text self.now) (answer_status self.now)
@@ -286,7 +266,7 @@ impl Answer<'_> {
         match self.write(writer) {
             Ok(()) => self.status(),
             Err(_) => {
-                report_refused(errors, Refused::WriteFault);
+                report_line(errors, fault(Part::Refused(Refused::WriteFault)));
                 FAULT
             }
         }

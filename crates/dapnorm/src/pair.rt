@@ -4,14 +4,15 @@ ghost use Rattle.dap_commands.specs.Reading.{text_in};
 ghost use Rattle.dap_host.specs.declared.limits.TheConstants.{LIMITS};
 ghost use Rattle.dap_input.specs.Limits.{AreSound};
 ghost use Rattle.dap_normalise.specs.NameTables.{AreReady};
-ghost use Rattle.dapnorm.specs.Comparisons.{AreCompared, AreComparedBy, Finds, PairIsReported};
+ghost use Rattle.dapnorm.specs.Comparisons.{AreCompared, AreComparedBy, Finds};
 ghost use Rattle.dapnorm.specs.Comparisons.{PairIsRun, are_both_standard};
 ghost use Rattle.dapnorm.specs.Desks.{TakesAtMost, empty, here};
 ghost use Rattle.dapnorm.specs.Pairs.{CompareIsReported};
 
 use crate::answer::Answer;
 use crate::desk::Desk;
-use crate::reporting::{refusal_status, report_pair};
+use crate::line::{Part, fault, report_line};
+use crate::reporting::refusal_status;
 use crate::rules::rules_of;
 use crate::texts::text_by_rules;
 use crate::why::{Mistake, Why};
@@ -103,7 +104,7 @@ pub fn run_compare_with<A: Source, B: Source, W: Sink, E: Sink, T: NameTable + D
     match compare_with(alloc, reader_a, reader_b, limits, tables_a, tables_b, mode) {
         Ok(verdict) => Answer::Verdict(mode, verdict).print(writer, errors),
         Err(refused) => {
-            report_pair(errors, refused);
+            report_line(errors, fault(Part::Pair(refused)));
             refusal_status(refused)
         }
     }
@@ -151,57 +152,6 @@ fn found<'a, A: Source, B: Source, T: NameTable + Drop>(
                 Ok(all) => Ok(Answer::Differences(all)),
                 Err(refused) => Err(refused),
             }
-        }
-    }
-}
-
-/// Compares two recordings, and prints the verdict or the differences. An error is reported on
-/// `errors`, in one line. The tables must be empty, each with the limit `limits.ids`.
-///
-/// The output is `same` if the recordings are the same, for [`Printed::Verdict`] with the pairs of
-/// [`run_compare`]. Otherwise it is `differ K`, with the number of the first record that differs,
-/// and for [`Printed::FirstDifference`] the lines of [`diff`](dap_diff::diff). For
-/// [`Printed::AllDifferences`] it is the lines of [`diff_all_with`]. The status is that of
-/// [`run_compare`].
-pub fn run_pair_with<A: Source, B: Source, W: Sink, E: Sink, T: NameTable + Drop>(
-    alloc: Global,
-    printed: Printed,
-    reader_a: &mut A,
-    reader_b: &mut B,
-    writer: &mut W,
-    errors: &mut E,
-    limits: Limits,
-    tables_a: Tables<T>,
-    tables_b: Tables<T>,
-    mode: Mode,
-) -> u8
-    requires limits { AreSound limits }
-    requires tables_a { AreReady T.numbers T.limit limits tables_a }
-    requires tables_b { AreReady T.numbers T.limit limits tables_b }
-    requires given_a { A.given reader_a.old < 2 ^ 62 }
-    requires given_b { B.given reader_b.old < 2 ^ 62 }
-    requires failures_a { A.failures reader_a.old < 2 ^ 62 }
-    requires failures_b { B.failures reader_b.old < 2 ^ 62 }
-    requires write_failures { W.failures writer.old < 2 ^ 62 }
-    requires error_failures { E.failures errors.old < 2 ^ 62 }
-
-    // The output is the lines, flushed. A rejected input or a failed writer is reported, and the
-    // status is that of the result.
-    ensures run { PairIsReported A.Source B.Source limits mode reader_a.old reader_a.new
-        reader_b.old reader_b.new W.Sink E.Sink printed writer.old writer.new errors.old errors.new
-        result }
-
-    // It reads at most one byte past the limit of each.
-    ensures taken_a { A.given reader_a.new ≤ A.given reader_a.old + limits.input + 1 }
-    ensures taken_b { B.given reader_b.new ≤ B.given reader_b.old + limits.input + 1 }
-{
-    match found(
-        alloc, printed, reader_a, reader_b, limits, tables_a, tables_b, mode,
-    ) {
-        Ok(answer) => answer.print(writer, errors),
-        Err(refused) => {
-            report_pair(errors, refused);
-            refusal_status(refused)
         }
     }
 }

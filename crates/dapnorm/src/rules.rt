@@ -1,28 +1,24 @@
 //! Reads the rules of a command.
-ghost use Rattle.std.specs.Prelude.{◌≡◌, ◌<◌, ◌≤◌, ◌^◌, [], IfErr, length};
+ghost use Rattle.std.specs.Prelude.{◌≡◌, [], IfErr};
 ghost use Rattle.dap_commands.specs.Reading.{text_in};
-ghost use Rattle.dapnorm.specs.Reasons.{no_rules_line, no_rules_status, rules_line, words_line};
-ghost use Rattle.dapnorm.specs.Reasons.{unopened_rules_line};
-ghost use Rattle.dapnorm.specs.Reporting.{HasSent};
+ghost use Rattle.dapnorm.specs.Lines.{line_text};
+ghost use Rattle.dapnorm.specs.Reasons.{no_rules_line, no_rules_status, words_line};
 ghost use Rattle.dapnorm.specs.WordOption.{HasNoLines};
 ghost use Rattle.dapnorm.specs.Rules.{AreRules, IsFileText, IsRulesText, IsTextOf};
 
-use crate::reporting::{FAULT, LINE, MEMORY, REFUSED, USAGE, report_refused, send, send_line};
+use crate::line::{Line, Part, fault};
+use crate::reporting::{FAULT, MEMORY, REFUSED, USAGE};
+use crate::why::{open_status, unless_memory};
 use crate::words::with_values;
-use arrayvec::ArrayString;
 use dap_commands::{Name, UsageFault};
-use dap_device::{Sink, Stop, read_all};
+use dap_device::{Stop, read_all};
 use dap_host::{Host, OpenFault, Purpose};
 use dap_input::Refused;
 use dap_mask::{MaskRules, RulesCause, RulesFault};
-use itoa::Buffer;
 use std::alloc::Global;
 
 /// The maximum number of bytes of a rules file.
 const RULES: u64 = 65_536;
-
-/// The line for a rules file that could not be read.
-const UNREAD: &str = "dapnorm: rules: read fault\n";
 
 /// Why there are no rules.
 #[derive(Drop)]
@@ -39,6 +35,16 @@ pub enum NoRules {
     Memory,
 }
 
+/// Returns the line that reports a value of the option `--word` that adds no rule.
+fn words_line(why: &UsageFault) -> Line<'_>
+    ensures { line_text result ≡ words_line why.now }
+{
+    match why {
+        UsageFault::Usage(text) | UsageFault::Help(text) => Line::Whole(text),
+        UsageFault::Memory => fault(Part::Refused(Refused::Memory)),
+    }
+}
+
 impl NoRules {
     /// Returns the status of the program.
     pub(crate) fn status(&self) -> u8
@@ -47,60 +53,30 @@ impl NoRules {
         match self {
             NoRules::Words(UsageFault::Memory) => MEMORY,
             NoRules::Words(_) => USAGE,
-            NoRules::Unopened(OpenFault::Memory) | NoRules::Memory => MEMORY,
-            NoRules::Unopened(OpenFault::Unread(_)) | NoRules::Unread => FAULT,
+            NoRules::Unopened(why) => open_status(*why),
+            NoRules::Unread => FAULT,
             NoRules::Line(..) => REFUSED,
+            NoRules::Memory => MEMORY,
         }
     }
-}
 
-/// Returns the line for a rules file that is rejected. Does not allocate.
-fn rules_line(fault: RulesFault) -> ArrayString<LINE>
-    ensures { result.bytes ≡ rules_line fault }
-{
-    let mut number = Buffer::new();
-    let mut line = ArrayString::new();
-    line.push_str("dapnorm: rules: line ");
-    line.push_str(number.format(fault.line));
-    line.push_str(": ");
-    line.push_str(fault.cause.name());
-    line.push_str("\n");
-    line
-}
-
-/// Reports a value of the option `--word` that adds no rule.
-fn report_words<E: Sink>(errors: &mut E, fault: &UsageFault)
-    requires { E.failures errors.old < 2 ^ 62 }
-    ensures { HasSent E.Sink errors.old errors.new (words_line fault.now) }
-{
-    match fault {
-        UsageFault::Usage(text) | UsageFault::Help(text) => send(errors, text),
-        UsageFault::Memory => report_refused(errors, Refused::Memory),
-    }
-}
-
-/// Reports in one line that a rules file did not open.
-fn report_unopened_rules<E: Sink>(errors: &mut E, fault: OpenFault)
-    requires { E.failures errors.old < 2 ^ 62 }
-    ensures { HasSent E.Sink errors.old errors.new (unopened_rules_line fault) }
-{
-    match fault {
-        OpenFault::Memory => report_refused(errors, Refused::Memory),
-        OpenFault::Unread(_) => send(errors, UNREAD),
-    }
-}
-
-/// Reports in one line why there are no rules. A failure to write the line is not reported.
-pub(crate) fn report_no_rules<E: Sink>(errors: &mut E, why: &NoRules)
-    requires { E.failures errors.old < 2 ^ 62 }
-    ensures { HasSent E.Sink errors.old errors.new (no_rules_line why.now) }
-{
-    match why {
-        NoRules::Words(fault) => report_words(errors, fault),
-        NoRules::Unopened(fault) => report_unopened_rules(errors, *fault),
-        NoRules::Unread => send(errors, UNREAD),
-        NoRules::Line(fault, _) => send_line(errors, &rules_line(*fault)),
-        NoRules::Memory => report_refused(errors, Refused::Memory),
+    /// Returns the line that reports it.
+    pub(crate) fn line(&self) -> Line<'_>
+        ensures { line_text result ≡ no_rules_line self.now }
+    {
+        let unread = fault(Part::Text("rules: read fault"));
+        match self {
+            NoRules::Words(why) => words_line(why),
+            NoRules::Unopened(why) => unless_memory(*why, unread),
+            NoRules::Unread => unread,
+            NoRules::Line(why, _) => Line::Fault(
+                Part::Text("rules: line "),
+                Part::Count(why.line),
+                Part::Text(": "),
+                Part::Text(why.cause.name()),
+            ),
+            NoRules::Memory => fault(Part::Refused(Refused::Memory)),
+        }
     }
 }
 

@@ -4,8 +4,9 @@ ghost use Rattle.dap_input.specs.Limits.{AreSound};
 ghost use Rattle.dap_normalise.specs.NameTables.{AreReady};
 ghost use Rattle.dapnorm.specs.Run.{CheckIsPrinted, JobIsDone, ReportsUsage};
 
-use crate::answer::accepted_line;
-use crate::reporting::{DONE, FAULT, MEMORY, USAGE, report_outcome, report_refused, send};
+use crate::answer::accepted;
+use crate::line::{Line, Part, fault, report_line, send_parts};
+use crate::reporting::{DONE, FAULT, MEMORY, USAGE, report_outcome};
 use dap_commands::{Job, UsageFault};
 use dap_compact::compact;
 use dap_device::{Sink, Source, write_and_flush};
@@ -21,8 +22,7 @@ fn print<W: Sink>(writer: &mut W, outcome: Result<Checked, Refused>) -> Result<(
     requires { W.failures writer.old < 2 ^ 62 }
     ensures { CheckIsPrinted W.Sink outcome writer.old writer.new result }
 {
-    let line = accepted_line(&outcome?);
-    match write_and_flush(writer, line.as_bytes()) {
+    match send_parts(writer, &accepted(&outcome?)) {
         Ok(()) => Ok(()),
         Err(_) => Err(Refused::WriteFault),
     }
@@ -126,11 +126,11 @@ pub fn run_usage<W: Sink, E: Sink>(fault: &UsageFault, writer: &mut W, errors: &
             Err(_) => FAULT,
         },
         UsageFault::Usage(text) => {
-            send(errors, text);
+            report_line(errors, Line::Whole(text));
             USAGE
         }
         UsageFault::Memory => {
-            report_refused(errors, Refused::Memory);
+            report_line(errors, crate::line::fault(Part::Refused(Refused::Memory)));
             MEMORY
         }
     }

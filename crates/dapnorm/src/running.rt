@@ -15,7 +15,7 @@ use crate::reporting::DONE;
 use crate::rules::{NoRules, check_words};
 use crate::stream::{input_name, run_stream_task, text_of};
 use crate::suggest::run_suggest;
-use crate::why::{Mistake, Why, report};
+use crate::why::{Mistake, Why};
 use dap_commands::{Command, Name, Request};
 use dap_host::{Host, LIMITS, Purpose, Stream};
 use dap_input::Refused;
@@ -169,7 +169,7 @@ fn finish<H: Host>(
             let writer = output.insert(host.stream(answer.stream()));
             answer.print(writer, errors)
         }
-        Err(why) => report(errors, why),
+        Err(why) => why.report(errors),
     }
 }
 

@@ -5,8 +5,8 @@ ghost use Rattle.dap_host.specs.declared.limits.TheConstants.{LIMITS};
 ghost use Rattle.dap_mask.specs.KeptRules.{mask_of};
 ghost use Rattle.dap_normalise.specs.NameTables.{AreReady};
 ghost use Rattle.dapnorm.specs.Desks.{TakesAtMost, empty, here};
-ghost use Rattle.dapnorm.specs.Reasons.{no_record_line, unstreamed_line, unstreamed_status};
-ghost use Rattle.dapnorm.specs.Reporting.{HasSent};
+ghost use Rattle.dapnorm.specs.Lines.{line_text};
+ghost use Rattle.dapnorm.specs.Reasons.{unstreamed_line, unstreamed_status};
 ghost use Rattle.std.specs.Option.{unwrap_or};
 ghost use Rattle.dapnorm.specs.Streams.{LosesRules};
 ghost use Rattle.dapnorm.specs.Streams.{GoesTo, IsNoOutput, IsOutput, IsSavedIn, IsShown};
@@ -16,10 +16,10 @@ ghost use Rattle.dapnorm.specs.Streams.{unstreamed_of};
 
 use crate::answer::Answer;
 use crate::desk::Desk;
-use crate::reporting::{LINE, REFUSED, refused_status, report_refused, send_line};
+use crate::line::{Line, Part, fault};
+use crate::reporting::{REFUSED, refused_status};
 use crate::rules::rules_of;
 use crate::why::{Mistake, Overlap, Why};
-use arrayvec::ArrayString;
 use dap_commands::{Name, Show, Task};
 use dap_compact::compact;
 use dap_device::{Sink, Source, replace};
@@ -31,7 +31,6 @@ use dap_record::record;
 use dap_rename::{Mode, NameTable, Tables};
 use dap_rules::{TextSink, mask, order};
 use dap_show::{Detail, RecordShown, ShowRequest, show, show_faulty, show_record, show_with};
-use itoa::Buffer;
 use std::alloc::Global;
 
 /// Why a task was not done over an input.
@@ -53,31 +52,19 @@ impl Unstreamed {
             Unstreamed::NoRecord(..) => REFUSED,
         }
     }
-}
 
-/// Returns the line about a record that a recording does not have, with its LF. Does not allocate.
-fn no_record_line(number: u64, count: u64) -> ArrayString<LINE>
-    ensures { result.bytes ≡ no_record_line number count }
-{
-    let mut digits = Buffer::new();
-    let mut line = ArrayString::new();
-    line.push_str("dapnorm: no record ");
-    line.push_str(digits.format(number));
-    line.push_str(": the recording has ");
-    line.push_str(digits.format(count));
-    line.push_str("\n");
-    line
-}
-
-/// Reports in one line why a task was not done. A failure to write the line is not reported.
-pub(crate) fn report_unstreamed<E: Sink>(errors: &mut E, why: Unstreamed)
-    requires { E.failures errors.old < 2 ^ 62 }
-    ensures { HasSent E.Sink errors.old errors.new (unstreamed_line why) }
-{
-    match why {
-        Unstreamed::Input(refused) => report_refused(errors, refused),
-        Unstreamed::NoRecord(number, count) => {
-            send_line(errors, &no_record_line(number, count));
+    /// Returns the line that reports it.
+    pub(crate) fn line<'a>(self) -> Line<'a>
+        ensures { line_text result ≡ unstreamed_line self }
+    {
+        match self {
+            Unstreamed::Input(refused) => fault(Part::Refused(refused)),
+            Unstreamed::NoRecord(number, count) => Line::Fault(
+                Part::Text("no record "),
+                Part::Number(number),
+                Part::Text(": the recording has "),
+                Part::Number(count),
+            ),
         }
     }
 }

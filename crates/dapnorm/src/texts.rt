@@ -4,12 +4,13 @@ ghost use Rattle.dap_host.specs.declared.limits.TheConstants.{LIMITS};
 ghost use Rattle.dap_mask.specs.KeptRules.{mask_of};
 ghost use Rattle.dap_normalise.specs.NameTables.{AreReady};
 ghost use Rattle.dapnorm.specs.Comparisons.{ChecksText, HasText};
-ghost use Rattle.dapnorm.specs.Reasons.{after_rules_line, unapplied_line, unapplied_status};
-ghost use Rattle.dapnorm.specs.Reporting.{HasSent};
+ghost use Rattle.dapnorm.specs.Lines.{line_text};
+ghost use Rattle.dapnorm.specs.Reasons.{unapplied_line, unapplied_status};
 
-use crate::reporting::{FAULT, MEMORY, refused_status, report_pair, report_parts};
+use crate::line::{Line, Part, fault};
+use crate::reporting::{FAULT, MEMORY, refused_status};
 use dap_compare::{CompareRefused, Which};
-use dap_device::{MemorySource, Sink, Source};
+use dap_device::{MemorySource, Source};
 use dap_host::LIMITS;
 use dap_input::Refused;
 use dap_mask::MaskRules;
@@ -18,37 +19,22 @@ use dap_rename::{Mode, NameTable, Tables};
 use dap_rules::{ApplyRefused, read_by_rules};
 use std::alloc::Global;
 
-/// Reports that one of two recordings is rejected after the rules.
-fn report_after_rules<E: Sink>(errors: &mut E, which: Which, refused: Refused)
-    requires { E.failures errors.old < 2 ^ 62 }
-    ensures { HasSent E.Sink errors.old errors.new (after_rules_line which refused) }
-{
-    let reason = refused.text();
-    report_parts(
-        errors,
-        &[
-            b"dapnorm: ",
-            which.letter().as_bytes(),
-            b": after the rules: ",
-            reason.as_bytes(),
-            b"\n",
-        ],
-    );
-}
-
-/// Reports in one line why rules cannot be applied to one of two inputs. A failure to write the
-/// line is not reported.
-pub(crate) fn report_unapplied<E: Sink>(errors: &mut E, which: Which, refused: ApplyRefused)
-    requires { E.failures errors.old < 2 ^ 62 }
-    ensures { HasSent E.Sink errors.old errors.new (unapplied_line which refused) }
+/// Returns the line that reports why rules cannot be applied to one of two inputs.
+pub(crate) fn unapplied_line<'a>(which: Which, refused: ApplyRefused) -> Line<'a>
+    ensures { line_text result ≡ unapplied_line which refused }
 {
     match refused {
-        ApplyRefused::Mask(refused) => report_pair(errors, CompareRefused::Input(which, refused)),
-        ApplyRefused::Order(refused) => report_after_rules(errors, which, refused),
+        ApplyRefused::Mask(refused) => fault(Part::Pair(CompareRefused::Input(which, refused))),
+        ApplyRefused::Order(refused) => Line::Fault(
+            Part::Text(which.letter()),
+            Part::Text(": after the rules: "),
+            Part::Refused(refused),
+            Part::Text(""),
+        ),
         ApplyRefused::ReadFault => {
-            report_pair(errors, CompareRefused::Input(which, Refused::ReadFault));
+            fault(Part::Pair(CompareRefused::Input(which, Refused::ReadFault)))
         }
-        ApplyRefused::Memory => report_pair(errors, CompareRefused::Memory),
+        ApplyRefused::Memory => fault(Part::Refused(Refused::Memory)),
     }
 }
 

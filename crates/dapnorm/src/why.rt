@@ -1,21 +1,16 @@
 //! Why a command did not finish. Each reason has one line and one status.
-ghost use Rattle.std.specs.Prelude.{◌≡◌, ◌<◌, ◌^◌, ◌++◌, codes};
-ghost use Rattle.dapnorm.specs.Reasons.{compare_unopened, mistake_line, overlap_words};
-ghost use Rattle.dapnorm.specs.Reasons.{output_line, unopened_as, unopened_line, why_line};
-ghost use Rattle.dapnorm.specs.Reasons.{why_status};
-ghost use Rattle.dapnorm.specs.Reporting.{HasSent, fault_line};
+ghost use Rattle.std.specs.Prelude.{◌≡◌, ◌<◌, ◌^◌};
+ghost use Rattle.dapnorm.specs.Lines.{line_text};
+ghost use Rattle.dapnorm.specs.Reasons.{lost_words, mistake_line, open_status, overlap_words};
+ghost use Rattle.dapnorm.specs.Reasons.{unless_memory, unopened_line, why_line, why_status};
+ghost use Rattle.dapnorm.specs.Reporting.{HasSent};
 
-use crate::golden_lines::{
-    report_golden_file, report_session, report_stop, report_unread_session, stop_status,
-    unsaved_words,
-};
-use crate::reporting::{
-    DIFFERENT, FAULT, USAGE, refusal_status, refused_status, report_pair, report_parts,
-    report_refused, send,
-};
-use crate::rules::{NoRules, report_no_rules};
-use crate::stream::{Unstreamed, report_unstreamed};
-use crate::texts::{report_unapplied, unapplied_status};
+use crate::golden_lines::{golden_line, stop_line, stop_status, unsaved_words};
+use crate::line::{Line, Part, fault, fault_of, report_line};
+use crate::reporting::{DIFFERENT, FAULT, MEMORY, USAGE, refusal_status, refused_status};
+use crate::rules::NoRules;
+use crate::stream::Unstreamed;
+use crate::texts::{unapplied_line, unapplied_status};
 use dap_commands::Name;
 use dap_compare::{CompareRefused, Which};
 use dap_device::{ReplaceFault, Sink};
@@ -68,14 +63,12 @@ impl Overlap {
         ensures { result.now ≡ overlap_words self }
     {
         match self {
-            Overlap::OutputAndRules => {
-                "dapnorm: the output and the rules file are the same file: "
-            }
+            Overlap::OutputAndRules => { "the output and the rules file are the same file: " }
             Overlap::GoldenAndInput => {
-                "dapnorm: golden: the golden file and the input are the same file: "
+                "golden: the golden file and the input are the same file: "
             }
             Overlap::GoldenAndRules => {
-                "dapnorm: golden: the golden file and the rules file are the same file: "
+                "golden: the golden file and the rules file are the same file: "
             }
         }
     }
@@ -115,23 +108,47 @@ pub enum Why<'a> {
     NoSuggestion(String),
 }
 
-/// Returns what is reported of an input that did not open: that it could not be read.
-fn unopened_as(fault: OpenFault) -> Refused
-    ensures { result ≡ unopened_as fault }
+/// Returns the status of the program if a file did not open.
+pub(crate) fn open_status(fault: OpenFault) -> u8
+    ensures { result ≡ open_status fault }
 {
     match fault {
-        OpenFault::Memory => Refused::Memory,
-        OpenFault::Unread(_) => Refused::ReadFault,
+        OpenFault::Memory => MEMORY,
+        OpenFault::Unread(_) => FAULT,
     }
 }
 
-/// Returns what is reported of one of two inputs that did not open.
-fn compare_unopened(which: Which, fault: OpenFault) -> CompareRefused
-    ensures { result ≡ compare_unopened which fault }
+/// Returns this line for a file that did not open, unless an allocation failed.
+pub(crate) fn unless_memory<'a>(why: OpenFault, line: Line<'a>) -> Line<'a>
+    ensures { line_text result ≡ unless_memory why (line_text line.entry) }
 {
-    match fault {
-        OpenFault::Memory => CompareRefused::Memory,
-        OpenFault::Unread(_) => CompareRefused::Input(which, Refused::ReadFault),
+    match why {
+        OpenFault::Memory => fault(Part::Refused(Refused::Memory)),
+        OpenFault::Unread(_) => line,
+    }
+}
+
+/// Returns the line for an input, or one of two, that did not open: it could not be read.
+fn unopened_line<'a>(which: Option<Which>, why: OpenFault) -> Line<'a>
+    ensures { line_text result ≡ unopened_line which why }
+{
+    unless_memory(
+        why,
+        match which {
+            None => fault(Part::Refused(Refused::ReadFault)),
+            Some(which) => fault(Part::Pair(CompareRefused::Input(which, Refused::ReadFault))),
+        },
+    )
+}
+
+/// Returns what is reported of a golden file that was not found.
+fn lost_words(update: bool) -> &'static str
+    ensures { result.now ≡ lost_words update }
+{
+    if update {
+        ": write fault"
+    } else {
+        ": read fault"
     }
 }
 
@@ -143,98 +160,63 @@ impl Why<'_> {
         match self {
             Why::Mistake(_) | Why::SameFile(..) => USAGE,
             Why::Rules(why) => why.status(),
-            Why::Unopened(_, fault) => refused_status(unopened_as(*fault)),
             Why::Input(refused) => refused_status(*refused),
             Why::Stream(why, _) => why.status(),
             Why::Pair(refused) => refusal_status(*refused),
             Why::Unapplied(_, refused, _) => unapplied_status(*refused),
-            Why::Output(_, fault) | Why::Session(fault) | Why::GoldenFile(_, _, fault) => {
-                refused_status(unopened_as(*fault))
-            }
+            Why::Unopened(_, why) | Why::Output(_, why) => open_status(*why),
+            Why::Session(why) | Why::GoldenFile(_, _, why) => open_status(*why),
             Why::Unsaved(..) | Why::UnreadSession => FAULT,
             Why::Golden(_, stop, _, _) => stop_status(*stop),
             Why::NoSuggestion(_) => DIFFERENT,
         }
     }
-}
 
-/// Reports in one line that an input did not open.
-fn report_unopened<E: Sink>(errors: &mut E, which: Option<Which>, fault: OpenFault)
-    requires { E.failures errors.old < 2 ^ 62 }
-    ensures { HasSent E.Sink errors.old errors.new (unopened_line which fault) }
-{
-    match which {
-        None => report_refused(errors, unopened_as(fault)),
-        Some(which) => report_pair(errors, compare_unopened(which, fault)),
-    }
-}
-
-/// Reports in one line what a file is or lacks.
-fn report_file<E: Sink>(errors: &mut E, name: &str, words: &str)
-    requires { E.failures errors.old < 2 ^ 62 }
-    ensures { HasSent E.Sink errors.old errors.new (fault_line (name.now ++ words.now)) }
-{
-    let (name, words) = (name.as_bytes(), words.as_bytes());
-    report_parts(errors, &[b"dapnorm: ", name, words, b"\n"]);
-}
-
-/// Reports in one line that an output did not open.
-fn report_output<E: Sink>(errors: &mut E, name: &str, fault: OpenFault)
-    requires { E.failures errors.old < 2 ^ 62 }
-    ensures { HasSent E.Sink errors.old errors.new (output_line name.now fault) }
-{
-    match fault {
-        OpenFault::Memory => report_refused(errors, Refused::Memory),
-        OpenFault::Unread(_) => report_file(errors, name, ": write fault"),
-    }
-}
-
-/// Reports in one line that two files are the same.
-fn report_same<E: Sink>(errors: &mut E, words: &str, name: &str)
-    requires { E.failures errors.old < 2 ^ 62 }
-    ensures { HasSent E.Sink errors.old errors.new (words.now ++ name.now ++ codes "\n") }
-{
-    let (words, name) = (words.as_bytes(), name.as_bytes());
-    report_parts(errors, &[words, name, b"\n"]);
-}
-
-/// Reports in one line why a command did not finish.
-fn report_line<E: Sink>(errors: &mut E, why: &Why<'_>)
-    requires { E.failures errors.old < 2 ^ 62 }
-    ensures { HasSent E.Sink errors.old errors.new (why_line why.now) }
-{
-    match why {
-        Why::Mistake(mistake) => send(errors, mistake.line()),
-        Why::SameFile(files, name) => report_same(errors, files.words(), name.as_str()),
-        Why::Rules(why) => report_no_rules(errors, why),
-        Why::Unopened(which, fault) => report_unopened(errors, *which, *fault),
-        Why::Input(refused) => report_refused(errors, *refused),
-        Why::Stream(why, _) => report_unstreamed(errors, *why),
-        Why::Pair(refused) => report_pair(errors, *refused),
-        Why::Unapplied(which, refused, _) => report_unapplied(errors, *which, *refused),
-        Why::Output(name, fault) => report_output(errors, name.as_str(), *fault),
-        Why::Unsaved(name, fault) => {
-            report_file(errors, name.as_str(), unsaved_words(fault.step));
+    /// Returns the line that reports the reason.
+    fn line(&self) -> Line<'_>
+        ensures { line_text result ≡ why_line self.now }
+    {
+        let unread = golden_line(Part::Text("read fault"), Part::Text(""));
+        match self {
+            Why::Mistake(mistake) => Line::Whole(mistake.line()),
+            Why::SameFile(files, name) => {
+                fault_of(Part::Text(files.words()), Part::Text(name.as_str()))
+            }
+            Why::Rules(why) => why.line(),
+            Why::Unopened(which, why) => unopened_line(*which, *why),
+            Why::Input(refused) => fault(Part::Refused(*refused)),
+            Why::Stream(why, _) => why.line(),
+            Why::Pair(refused) => fault(Part::Pair(*refused)),
+            Why::Unapplied(which, refused, _) => unapplied_line(*which, *refused),
+            Why::Output(name, why) => unless_memory(
+                *why,
+                fault_of(Part::Text(name.as_str()), Part::Text(": write fault")),
+            ),
+            Why::Unsaved(name, why) => fault_of(
+                Part::Text(name.as_str()),
+                Part::Text(unsaved_words(why.step)),
+            ),
+            Why::Session(why) => unless_memory(*why, unread),
+            Why::UnreadSession => unread,
+            Why::GoldenFile(name, update, why) => unless_memory(
+                *why,
+                golden_line(Part::Text(name.as_str()), Part::Text(lost_words(*update))),
+            ),
+            Why::Golden(name, stop, _, rules) => {
+                stop_line(rules.is_some(), name.as_str(), *stop)
+            }
+            Why::NoSuggestion(line) => Line::Whole(line),
         }
-        Why::Session(fault) => report_session(errors, *fault),
-        Why::UnreadSession => report_unread_session(errors),
-        Why::GoldenFile(name, update, fault) => {
-            report_golden_file(errors, name.as_str(), *update, *fault);
-        }
-        Why::Golden(name, stop, _, rules) => {
-            report_stop(errors, rules.is_some(), name.as_str(), *stop);
-        }
-        Why::NoSuggestion(line) => send(errors, line),
     }
-}
 
-/// Reports in one line why a command did not finish, and returns the status of the program. A
-/// failure to write the line is not reported.
-pub(crate) fn report<E: Sink>(errors: &mut E, why: &Why<'_>) -> u8
-    requires { E.failures errors.old < 2 ^ 62 }
-    ensures line { HasSent E.Sink errors.old errors.new (why_line why.now) }
-    ensures status { result ≡ why_status why.now }
-{
-    report_line(errors, why);
-    why.status()
+    /// Reports the reason in one line, and returns the status of the program. A failure to write
+    /// the line is not reported.
+    pub fn report<E: Sink>(&self, errors: &mut E) -> u8
+        requires { E.failures errors.old < 2 ^ 62 }
+        ensures line { HasSent E.Sink errors.old errors.new (why_line self.now) }
+        ensures status { result ≡ why_status self.now }
+    {
+        report_line(errors, self.line());
+        self.status()
+    }
 }

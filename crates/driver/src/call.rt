@@ -23,7 +23,7 @@ pub enum Function {
     SameTexts,
     /// `run_stream` with this job.
     RunStream(Job<'static>),
-    /// `run_compare` for a verdict without tables, and `run_pair_with` otherwise.
+    /// `run_compare` for a verdict without tables, and otherwise an engine, whose answer is printed.
     RunPair(Printed),
 }
 

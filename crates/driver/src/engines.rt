@@ -5,16 +5,17 @@ ghost use Rattle.dap_rename.specs.IndexNames.{index_limit, index_numbers};
 ghost use Rattle.dap_rename.specs.PlainNames.{plain_limit, plain_numbers};
 ghost use Rattle.dapnorm.specs.Limits.{AreSound};
 ghost use Rattle.dapnorm.specs.NameTables.{AreReady};
-ghost use Rattle.driver.specs.Devices.{AreNew};
+ghost use Rattle.driver.specs.Devices.{AreNew, AreUnwritten};
 
 use crate::call::{Call, Function, Handed};
 use crate::carrying::is_carried;
 use crate::devices::Devices;
 use dap_rename::{IndexNames, PlainNames, index_tables};
 use dapnorm::{
-    Checked, CompareRefused, Job, Limits, NameTable, Normalised, Printed, Refused, Tables, Verdict,
-    check, check_with, compact, compare, compare_with, normalise, normalise_bytes, normalise_with,
-    record, run_compare, run_pair_with, run_stream, run_stream_with, show,
+    Answer, Checked, CompareRefused, Job, Limits, NameTable, Normalised, Printed, Refused, Tables,
+    Verdict, Why, check, check_with, compact, compare, compare_with, diff_all_with, diff_with,
+    normalise, normalise_bytes, normalise_with, record, run_compare, run_stream, run_stream_with,
+    show,
 };
 use std::alloc::Global;
 use std::hash::RandomState;
@@ -269,6 +270,37 @@ fn pair_printed(
     pair_printed_with(alloc, call, printed, devices, tables_a, tables_b)
 }
 
+/// Compares two recordings by the engine of a command.
+fn answered<'a, T: NameTable + Drop>(
+    alloc: Global,
+    call: &Call<'_>,
+    printed: Printed,
+    devices: &mut Devices<'_>,
+    tables_a: Tables<T>,
+    tables_b: Tables<T>,
+) -> Result<Answer<'a>, CompareRefused>
+    requires limits { AreSound call.now.limits }
+    requires new { AreNew devices.old }
+    requires tables_a { AreReady T.numbers T.limit call.now.limits tables_a }
+    requires tables_b { AreReady T.numbers T.limit call.now.limits tables_b }
+    ensures unused { AreUnwritten devices.old devices.new }
+{
+    let (a, b) = (&mut devices.a, &mut devices.b);
+    let (limits, mode) = (call.limits, call.mode);
+    match printed {
+        Printed::Verdict => Ok(Answer::Verdict(
+            mode,
+            compare_with(alloc, a, b, limits, tables_a, tables_b, mode)?,
+        )),
+        Printed::FirstDifference => Ok(Answer::Difference(diff_with(
+            alloc, a, b, limits, tables_a, tables_b, mode,
+        )?)),
+        Printed::AllDifferences => Ok(Answer::Differences(diff_all_with(
+            alloc, a, b, limits, tables_a, tables_b, mode,
+        )?)),
+    }
+}
+
 fn pair_printed_with<T: NameTable + Drop>(
     alloc: Global,
     call: &Call<'_>,
@@ -282,18 +314,11 @@ fn pair_printed_with<T: NameTable + Drop>(
     requires tables_a { AreReady T.numbers T.limit call.now.limits tables_a }
     requires tables_b { AreReady T.numbers T.limit call.now.limits tables_b }
 {
-    Outcome::Status(run_pair_with(
-        alloc,
-        printed,
-        &mut devices.a,
-        &mut devices.b,
-        &mut devices.output,
-        &mut devices.errors,
-        call.limits,
-        tables_a,
-        tables_b,
-        call.mode,
-    ))
+    let outcome = answered(alloc, call, printed, devices, tables_a, tables_b);
+    Outcome::Status(match outcome {
+        Ok(answer) => answer.print(&mut devices.output, &mut devices.errors),
+        Err(refused) => Why::Pair(refused).report(&mut devices.errors),
+    })
 }
 
 /// Calls a command function that creates its own name tables.

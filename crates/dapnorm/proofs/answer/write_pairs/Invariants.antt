@@ -1,7 +1,7 @@
 use Rattle.std.proofs.Common.{take}
 use Rattle.std.specs.List.{flat_map}
-use Rattle.dapnorm.specs.Pairs.{pair_line}
 use Rattle.dap_device.specs.Written.{AllWritten}
+use Rattle.dapnorm.specs.Answers.{pair_line}
 use Rattle.dapnorm.proofs.answer.write_pairs.Given as goal
 
 -- the lines of the pairs so far went out
