@@ -38,13 +38,6 @@ module _ {R : Type 0} (source : Source R) (limits : Limits) (mode : Mode) (old n
   Reads which text (Err (Input whose why)) = (whose ≡ which) × ChecksRefused why
   Reads which text (Err Memory) = RanOutOfMemory
 
--- Differences are found, or an allocation failed.
-abbrev pub FindsDifferences : Result AllDifferences CompareRefused → Type 0
-FindsDifferences (Ok Same) = ⊥
-FindsDifferences (Ok (Differ lines)) = Unit {0}
-FindsDifferences (Err (Input whose why)) = ⊥
-FindsDifferences (Err Memory) = Unit {0}
-
 -- Two inputs, A and then B.
 module _ {R S : Type 0} (source_a : Source R) (source_b : Source S) (limits : Limits) (mode : Mode)
     (old_a new_a : R) (old_b new_b : S) where

@@ -12,6 +12,7 @@ use dap_compare::{CompareRefused, Verdict, compare_texts_with};
 use dap_device::Source;
 use dap_input::Limits;
 use dap_rename::{Mode, NameTable, Tables, index_tables};
+use dap_tree::Scratch;
 use std::alloc::{AllocError, Global};
 
 /// Returns the lines for the stored records of A and of B.
@@ -26,9 +27,10 @@ fn lines_of(
     requires is_left_b { IsLeftText limits text_b.now }
     ensures { IfOk result (λ lines. DescribesTexts limits text_a.now text_b.now lines.items) }
 {
-    let message_a = message_in(alloc, text_a, limits)?;
-    let message_b = message_in(alloc, text_b, limits)?;
-    let lines = diff_lines(alloc, &message_a, &message_b)?;
+    let mut scratch = Scratch::new(alloc);
+    let message_a = message_in(alloc, text_a, limits, &mut scratch)?;
+    let message_b = message_in(alloc, text_b, limits, &mut scratch)?;
+    let lines = diff_lines(alloc, &message_a, &message_b, &mut scratch)?;
     Ok(lines)
 }
 

@@ -2,7 +2,7 @@
 ghost use Rattle.std.specs.Prelude.{◌+◌, ◌<◌, ◌≤◌, ◌^◌};
 ghost use Rattle.dap_input.specs.Limits.{AreSound};
 ghost use Rattle.dap_normalise.specs.NameTables.{AreReady};
-ghost use Rattle.dap_diff.specs.Matching.{DiffersAll, FindsDifferences};
+ghost use Rattle.dap_diff.specs.Matching.{DiffersAll};
 
 use crate::all_differences::AllDifferences;
 use crate::entry::Recording;
@@ -13,20 +13,6 @@ use dap_device::Source;
 use dap_input::Limits;
 use dap_rename::{Mode, NameTable, Tables};
 use std::alloc::Global;
-
-/// Returns the differences of two recordings in memory, which have two normal forms.
-fn differences_of(
-    alloc: Global,
-    a: &mut Recording,
-    b: &mut Recording,
-) -> Result<AllDifferences, CompareRefused>
-    ensures { FindsDifferences result }
-{
-    match report_lines(alloc, a, b) {
-        Ok(lines) => Ok(AllDifferences::Differ { lines }),
-        Err(_) => Err(CompareRefused::Memory),
-    }
-}
 
 /// Compares two recordings record by record, and reports each pair of records that differs and each
 /// record without a counterpart.
@@ -80,5 +66,8 @@ pub fn diff_all_with<A: Source, B: Source, T: NameTable + Drop>(
     if a.text.as_slice() == b.text.as_slice() {
         return Ok(AllDifferences::Same);
     }
-    differences_of(alloc, &mut a, &mut b)
+    match report_lines(alloc, &mut a, &mut b) {
+        Ok(lines) => Ok(AllDifferences::Differ { lines }),
+        Err(_) => Err(CompareRefused::Memory),
+    }
 }

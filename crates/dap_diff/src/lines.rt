@@ -5,6 +5,7 @@ ghost use Rattle.dap_diff.specs.Diffs.{diff_lines, have_one_head, head_line, inp
 
 use crate::record_lines::{head_of, push_leaves};
 use dap_message::Message;
+use dap_tree::Scratch;
 use std::alloc::{AllocError, Global};
 
 /// Appends the head line of a message.
@@ -48,6 +49,7 @@ pub fn diff_lines(
     alloc: Global,
     a: &Option<Message>,
     b: &Option<Message>,
+    scratch: &mut Scratch,
 ) -> Result<Vec<u8>, AllocError>
     ensures { IfOk result (λ lines. lines.items
         ≡ diff_lines (option_map sent a.now) (option_map sent b.now)) }
@@ -56,7 +58,7 @@ pub fn diff_lines(
     if let (Some(x), Some(y)) = (a, b) {
         if have_one_head(x, y) {
             push_head(alloc, x, &mut out)?;
-            push_leaves(alloc, x, y, &mut out)?;
+            push_leaves(alloc, x, y, scratch, &mut out)?;
             return Ok(out);
         }
     }

@@ -12,27 +12,23 @@ struct Seq {
     number: i64,
 }
 
-/// Returns the sequence number of a message.
-fn own_seq(message: &Message) -> Seq {
-    let sort = match message.side() {
+/// Returns a sequence number of a message of this side.
+fn seq_of(side: Side, number: i64) -> Seq {
+    let sort = match side {
         Side::Client => Sort::ClientSeq,
         Side::Adapter => Sort::AdapterSeq,
     };
-    Seq {
-        sort,
-        number: message.seq(),
-    }
+    Seq { sort, number }
 }
 
 /// Returns the sequence number of the request that a response answers, and nothing for any other
 /// message.
 fn answered_seq(message: &Message) -> Option<Seq> {
     let number = message.request_seq()?;
-    let sort = match message.side() {
-        Side::Client => Sort::AdapterSeq,
-        Side::Adapter => Sort::ClientSeq,
-    };
-    Some(Seq { sort, number })
+    match message.side() {
+        Side::Client => Some(seq_of(Side::Adapter, number)),
+        Side::Adapter => Some(seq_of(Side::Client, number)),
+    }
 }
 
 /// A request or an event of A that has no counterpart yet.
@@ -72,7 +68,7 @@ impl Matcher {
         let queue = self.waiting.entry(head)?.or_insert(VecDeque::new(alloc));
         queue.push_back(Waiting {
             index,
-            seq: own_seq(&entry.message),
+            seq: seq_of(entry.message.side(), entry.message.seq()),
         })?;
         Ok(())
     }
@@ -96,7 +92,8 @@ impl Matcher {
         let Some(found) = self.take(entry.head.as_str()) else {
             return Ok(None);
         };
-        let _ = self.requests.insert(own_seq(&entry.message), found.seq)?;
+        let seq = seq_of(entry.message.side(), entry.message.seq());
+        let _ = self.requests.insert(seq, found.seq)?;
         Ok(Some(found.index))
     }
 }

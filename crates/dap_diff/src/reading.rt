@@ -13,18 +13,22 @@ use dap_input::{Limits, Refused};
 use dap_message::Message;
 use dap_normalise::read_message;
 use dap_recording::{FedRecord, Record, RecordCause, RecordReader};
-use dap_tree::{Scratch, Tree, TreeFault, read_tree};
+use dap_tree::{Scratch, Tree, TreeFault, read_tree_with};
 use std::alloc::{AllocError, Global};
 
 /// Returns the tree of a message as plain JSON, with each id as its number.
-pub fn plain_tree(alloc: Global, message: &Message) -> Result<Tree, AllocError>
+pub fn plain_tree(
+    alloc: Global,
+    message: &Message,
+    scratch: &mut Scratch,
+) -> Result<Tree, AllocError>
     ensures plain { IfOk result (λ tree. view tree ≡ without_ids (doc_of message.now)) }
     ensures sound { IfOk result (λ tree. is_sound (view tree) ≡ true) }
 {
     let Ok(text) = message.content(alloc) else {
         return Err(AllocError);
     };
-    match read_tree(alloc, text.as_bytes()) {
+    match read_tree_with(alloc, text.as_bytes(), scratch) {
         Ok(tree) => Ok(tree),
         Err(TreeFault::Memory) => Err(AllocError),
         Err(TreeFault::Json) => unreachable!(),
@@ -60,14 +64,18 @@ fn record_in(alloc: Global, text: &[u8], limits: Limits) -> Result<Record, Alloc
 }
 
 /// Returns the message of the record whose text this is.
-pub fn message_of(alloc: Global, text: &[u8], limits: Limits) -> Result<Message, AllocError>
+pub fn message_of(
+    alloc: Global,
+    text: &[u8],
+    limits: Limits,
+    scratch: &mut Scratch,
+) -> Result<Message, AllocError>
     requires sound { AreSound limits }
     requires is_record { IsRecordText limits text.now }
     ensures { IfOk result (λ message. IsRecordOf limits text.now (sent message)) }
 {
     let whole = record_in(alloc, text, limits)?;
-    let mut scratch = Scratch::new(alloc);
-    match read_message(alloc, 1, whole.side, whole.content.as_slice(), &mut scratch) {
+    match read_message(alloc, 1, whole.side, whole.content.as_slice(), scratch) {
         Ok(message) => Ok(message),
         Err(refused) => match refused {
             Refused::Memory => Err(AllocError),
@@ -78,7 +86,12 @@ pub fn message_of(alloc: Global, text: &[u8], limits: Limits) -> Result<Message,
 
 /// Returns the message in the text of a record, or `None` if the text is empty, without an
 /// allocation.
-pub fn message_in(alloc: Global, text: &[u8], limits: Limits) -> Result<Option<Message>, AllocError>
+pub fn message_in(
+    alloc: Global,
+    text: &[u8],
+    limits: Limits,
+    scratch: &mut Scratch,
+) -> Result<Option<Message>, AllocError>
     requires sound { AreSound limits }
     requires is_left { IsLeftText limits text.now }
     ensures holds { IfOk result (λ message. Holds limits text.now (option_map sent message)) }
@@ -87,6 +100,5 @@ pub fn message_in(alloc: Global, text: &[u8], limits: Limits) -> Result<Option<M
     if text.is_empty() {
         return Ok(None);
     }
-    let message = message_of(alloc, text, limits)?;
-    Ok(Some(message))
+    Ok(Some(message_of(alloc, text, limits, scratch)?))
 }

@@ -7,7 +7,7 @@ ghost use Rattle.dap_diff.specs.RecordLines.{place_line, record_text};
 use crate::reading::plain_tree;
 use dap_difference::difference_text;
 use dap_message::{Kind, Message, Side};
-use dap_tree::{Tree, write_tree};
+use dap_tree::{Scratch, Tree, write_tree};
 use itoa::Buffer;
 use std::alloc::{AllocError, Global};
 
@@ -90,13 +90,14 @@ pub fn push_leaves(
     alloc: Global,
     a: &Message,
     b: &Message,
+    scratch: &mut Scratch,
     out: &mut Vec<u8>,
 ) -> Result<(), AllocError>
     ensures { OnOk result
         (out.new.items ≡ out.old.items ++ leaf_lines (doc_of a.now) (doc_of b.now)) }
 {
-    let tree_a = plain_tree(alloc, a)?;
-    let tree_b = plain_tree(alloc, b)?;
+    let tree_a = plain_tree(alloc, a, scratch)?;
+    let tree_b = plain_tree(alloc, b, scratch)?;
     let text = difference_text(alloc, &tree_a, &tree_b)?;
     out.extend_from_slice(text.as_slice())
 }

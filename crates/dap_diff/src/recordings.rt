@@ -19,6 +19,7 @@ use dap_input::{Limits, Refused};
 use dap_message::{Kind, Message};
 use dap_normalise::NormalRecords;
 use dap_rename::{Mode, NameTable, Tables};
+use dap_tree::Scratch;
 use std::alloc::{AllocError, Global};
 
 /// Returns whether a message is a `stopped` event.
@@ -59,6 +60,7 @@ fn add_record(
     text: &[u8],
     limits: Limits,
     mode: Mode,
+    scratch: &mut Scratch,
     recording: &mut Recording,
 ) -> Result<(), AllocError>
     requires sound { AreSound limits }
@@ -66,7 +68,7 @@ fn add_record(
     ensures { OnOk result
         (AddsEntry limits mode number text.now recording.old recording.new) }
 {
-    let message = message_of(alloc, text, limits)?;
+    let message = message_of(alloc, text, limits, scratch)?;
     let head = head_of(alloc, &message)?;
     let stop = recording.stop;
     recording.stop = stop_after(mode, number, &message, stop);
@@ -113,6 +115,7 @@ fn read_records<R: Source, T: NameTable + Drop>(
     ensures taken { R.given reader.new ≤ R.given reader.old + limits.input + 1 }
 {
     let mut text = Vec::new(alloc);
+    let mut scratch = Scratch::new(alloc);
     'records: loop {
         let number = records.number();
         text.clear();
@@ -121,7 +124,8 @@ fn read_records<R: Source, T: NameTable + Drop>(
             Ok(false) => return Ok(()),
             Err(refused) => return Err(refusal_of(which, refused)),
         }
-        if add_record(alloc, number, text.as_slice(), limits, mode, recording).is_err() {
+        let record = text.as_slice();
+        if add_record(alloc, number, record, limits, mode, &mut scratch, recording).is_err() {
             return Err(CompareRefused::Memory);
         }
     }

@@ -10,6 +10,7 @@ use crate::record_lines::{push_count, push_leaves, push_place};
 use crate::rows::{Row, first_out_of_order, rows_of};
 use dap_compare::Which;
 use dap_message::Message;
+use dap_tree::Scratch;
 use std::alloc::{AllocError, Global};
 
 /// How many rows differ, and their lines.
@@ -22,6 +23,7 @@ struct Report {
     /// How many records are in B alone.
     only_b: u64,
     lines: Vec<u8>,
+    scratch: Scratch,
 }
 
 impl Report {
@@ -31,6 +33,7 @@ impl Report {
             only_a: 0,
             only_b: 0,
             lines: Vec::new(alloc),
+            scratch: Scratch::new(alloc),
         }
     }
 
@@ -53,7 +56,7 @@ impl Report {
             entry.head.as_str(),
             &mut self.lines,
         )?;
-        push_leaves(alloc, a, b, &mut self.lines)
+        push_leaves(alloc, a, b, &mut self.scratch, &mut self.lines)
     }
 
     /// Adds a row, if it differs.
@@ -88,10 +91,7 @@ impl Report {
 
 /// Returns whether two messages have one content.
 fn have_one_content(alloc: Global, a: &Message, b: &Message) -> Result<bool, AllocError> {
-    let Ok(content) = a.content(alloc) else {
-        return Err(AllocError);
-    };
-    let Ok(other) = b.content(alloc) else {
+    let (Ok(content), Ok(other)) = (a.content(alloc), b.content(alloc)) else {
         return Err(AllocError);
     };
     Ok(content.as_str() == other.as_str())

@@ -13,8 +13,7 @@ pub enum Row<'m> {
 /// Returns the counterpart of a record and its index.
 fn counterpart_of<'m>(entry: &Entry, others: &'m [Entry]) -> Option<(usize, &'m Entry)> {
     let index = entry.counterpart?;
-    let other = others.get(index)?;
-    Some((index, other))
+    Some((index, others.get(index)?))
 }
 
 /// Appends the records of B from one index to another that have no counterpart.
@@ -25,10 +24,10 @@ fn push_only_b<'m>(
     rows: &mut Vec<Row<'m>>,
 ) -> Result<(), AllocError> {
     for index in from..to {
-        if let Some(entry) = b.get(index) {
-            if entry.counterpart.is_none() {
-                rows.push(Row::OnlyB(entry))?;
-            }
+        if let Some(entry) = b.get(index)
+            && entry.counterpart.is_none()
+        {
+            rows.push(Row::OnlyB(entry))?;
         }
     }
     Ok(())

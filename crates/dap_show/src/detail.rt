@@ -1,4 +1,5 @@
 //! The level of detail that is printed for each record.
+use dap_input::Limits;
 
 /// Selects the lines that are printed under the first line of a message.
 #[derive(Clone, Copy, Debug, PartialEq, Eq)]
@@ -14,6 +15,7 @@ pub enum Detail {
 #[derive(Clone, Copy, Debug, PartialEq, Eq)]
 pub(crate) struct View {
     pub(crate) detail: Detail,
+    pub(crate) limits: Limits,
     /// Whether records with errors are marked and the lines of the other records follow.
     pub(crate) marks_faults: bool,
 }

@@ -1,5 +1,5 @@
 //! Formats one record, and returns the error that it is marked with.
-ghost use Rattle.std.specs.Prelude.{◌≡◌, ◌≢◌, ◌+◌, ◌<◌, ◌++◌, List, [], true, false};
+ghost use Rattle.std.specs.Prelude.{◌≡◌, ◌+◌, ◌++◌, List, false};
 ghost use Rattle.std.specs.Prelude.{IfOk, IfSome, IsErrOf, None, OnOk, length};
 ghost use Rattle.dap_input.specs.Refusals.{RejectsPayload};
 ghost use Rattle.dap_flat_message.specs.FlatMessages.{flat_sent};
@@ -10,23 +10,22 @@ ghost use Rattle.dap_show.specs.Viewing.{Entry, detail_lines, fits_in, head_line
 ghost use Rattle.dap_show.specs.Viewing.{lines_of, rule_refusal};
 ghost use Rattle.dap_session.specs.SessionState.{SessionState};
 ghost use Rattle.dap_show.specs.ViewingSteps.{AreListed, Enters, IsJudged, StandsIf};
-ghost use Rattle.dap_show.specs.Leaves.{leaf_lines};
 ghost use Rattle.dap_tree.specs.Doc.{Doc};
 ghost use Rattle.dap_tree.specs.Json.{IsRead};
 
 use crate::detail::{Detail, View};
 use crate::fault_words::{push_fault, push_untyped};
 use crate::flat_lines::flat_lines;
-use crate::leaves::{LeafFault, push_leaves};
+use crate::leaves::{Buffers, LeafFault, push_content};
 use crate::message_lines::{push_message, tree_lines};
 use dap_flat::Unread;
 use dap_flat_message::FlatMessage;
-use dap_input::{Limits, Refused};
+use dap_input::Refused;
 use dap_message::{AnyMessage, Message};
 use dap_normalise::{read_flat, read_message};
 use dap_recording::Record;
 use dap_session::{Rule, Session, SessionFault};
-use dap_tree::{Scratch, TreeFault, read_tree};
+use dap_tree::Scratch;
 use std::alloc::{AllocError, Global};
 
 /// Returns the rule that a message violates, if rules are checked. A message that violates no rule
@@ -69,65 +68,41 @@ fn push_head<M: AnyMessage>(
     Ok(())
 }
 
-/// Appends the lines of the leaves of a content that is JSON.
-fn push_content(
-    alloc: Global,
-    content: &[u8],
-    limit: u64,
-    lines: &mut Vec<u8>,
-) -> Result<(), LeafFault>
-    requires { (d : Doc) × IsRead content.now d }
-    ensures lines { (d : Doc) → IsRead content.now d → OnOk result
-        (lines.new.items ≡ lines.old.items ++ leaf_lines [] d) }
-    ensures full { (d : Doc) → IsRead content.now d → IsErrOf result LeafFault.Full → limit
-        < length lines.old.items + length (leaf_lines [] d) }
-{
-    match read_tree(alloc, content) {
-        Ok(tree) => {
-            let mut path = Vec::new(alloc);
-            push_leaves(alloc, &tree, &mut path, limit, lines)
-        }
-        Err(TreeFault::Memory) => Err(LeafFault::Memory),
-        Err(TreeFault::Json) => unreachable!(),
-        Err(TreeFault::Fraction) => unreachable!(),
-    }
-}
-
 /// Appends the detail lines of a record. With `Detail::Lists` these are the lines `listed`. With
 /// `Detail::Leaves`, returns `Full` if the output exceeds the limit.
 fn push_detail(
     alloc: Global,
-    detail: Detail,
+    view: View,
     content: &[u8],
     listed: &[u8],
-    limit: u64,
+    buffers: &mut Buffers,
     lines: &mut Vec<u8>,
 ) -> Result<(), LeafFault>
     requires { (d : Doc) × IsRead content.now d }
     ensures lines { (d : Doc) (message : Sent) → IsRead content.now d
-        → AreListed detail message listed.now
-        → OnOk result (lines.new.items ≡ lines.old.items ++ detail_lines detail message d) }
+        → AreListed view.detail message listed.now
+        → OnOk result (lines.new.items ≡ lines.old.items ++ detail_lines view.detail message d) }
     ensures full { (d : Doc) (message : Sent) → IsRead content.now d
-        → IsErrOf result LeafFault.Full → fits_in detail limit
-        (length lines.old.items + length (detail_lines detail message d)) ≡ false }
+        → IsErrOf result LeafFault.Full → fits_in view.detail view.limits.input
+        (length lines.old.items + length (detail_lines view.detail message d)) ≡ false }
 {
-    match detail {
+    match view.detail {
         Detail::Lists => match lines.extend_from_slice(listed) {
             Ok(()) => Ok(()),
             Err(_) => Err(LeafFault::Memory),
         },
-        Detail::Leaves => push_content(alloc, content, limit, lines),
+        Detail::Leaves => push_content(alloc, content, view.limits.input, buffers, lines),
     }
 }
 
 /// Returns whether an output of this length is within the limit. Only the lines of leaves have a
 /// limit.
-fn fits(detail: Detail, limit: u64, lines: &Vec<u8>) -> bool
-    ensures { result ≡ fits_in detail limit (length lines.now.items) }
+fn fits(view: View, lines: &Vec<u8>) -> bool
+    ensures { result ≡ fits_in view.detail view.limits.input (length lines.now.items) }
 {
-    match detail {
+    match view.detail {
         Detail::Lists => true,
-        Detail::Leaves => lines.len() as u64 <= limit,
+        Detail::Leaves => lines.len() as u64 <= view.limits.input,
     }
 }
 
@@ -145,72 +120,43 @@ fn rule_refusal(number: u64, rule: Option<Rule>) -> Option<Refused>
 fn append_message<M: AnyMessage>(
     alloc: Global,
     view: View,
-    limits: Limits,
     number: u64,
     whole: &Record,
     message: &M,
     listed: &[u8],
     session: &mut Session,
+    buffers: &mut Buffers,
     lines: &mut Vec<u8>,
 ) -> Result<Option<Refused>, Refused>
     requires message { IsMessage (payload_of whole.now) (M.sent message.now) }
     requires listed { AreListed view.detail (M.sent message.now) listed.now }
     ensures { (before : List Entry) → StandsIf view.marks_faults session.old (kept before)
         → lines.old.items ≡ lines_of view.detail 1 before → number ≡ length before + 1
-        → Enters view.marks_faults view.detail limits before number (payload_of whole.now)
-        session.new
-        lines.new.items result }
+        → Enters view.marks_faults view.detail view.limits before number (payload_of whole.now)
+        session.new lines.new.items result }
 {
     let Ok(rule) = judge(view.marks_faults, session, message) else {
         return Err(Refused::Memory);
     };
-    match push_head(alloc, number, message, rule, lines) {
-        Ok(()) => {}
-        Err(_) => return Err(Refused::Memory),
-    }
+    let Ok(()) = push_head(alloc, number, message, rule, lines) else {
+        return Err(Refused::Memory);
+    };
     let content = whole.content.as_slice();
-    match push_detail(alloc, view.detail, content, listed, limits.input, lines) {
+    match push_detail(alloc, view, content, listed, buffers, lines) {
         Ok(()) => {}
         Err(LeafFault::Full) => return Err(Refused::Grew(number)),
         Err(LeafFault::Memory) => return Err(Refused::Memory),
     }
-    if !fits(view.detail, limits.input, lines) {
+    if !fits(view, lines) {
         return Err(Refused::Grew(number));
     }
     Ok(rule_refusal(number, rule))
-}
-
-/// Appends the line of a record that does not contain a message, for the reason `refused`.
-fn append_no_message(
-    detail: Detail,
-    limits: Limits,
-    number: u64,
-    whole: &Record,
-    refused: Refused,
-    lines: &mut Vec<u8>,
-) -> Result<Option<Refused>, Refused>
-    requires reported { RejectsPayload (HoldsNoMessage (payload_of whole.now)) number refused }
-    requires memory { refused ≢ Refused.Memory }
-    ensures { (before : List Entry) (session : SessionState) → StandsIf true session (kept before)
-        → lines.old.items ≡ lines_of detail 1 before → number ≡ length before + 1
-        → Enters true detail limits before number (payload_of whole.now) session lines.new.items
-        result }
-{
-    match push_untyped(lines, number, whole.side, refused) {
-        Ok(()) => {}
-        Err(_) => return Err(Refused::Memory),
-    }
-    if !fits(detail, limits.input, lines) {
-        return Err(Refused::Grew(number));
-    }
-    Ok(Some(refused))
 }
 
 /// Marks a record that does not contain a message, for the reason `refused`, if errors are marked.
 /// Otherwise returns that reason.
 fn append_refused(
     view: View,
-    limits: Limits,
     number: u64,
     whole: &Record,
     refused: Refused,
@@ -220,18 +166,22 @@ fn append_refused(
     ensures { (before : List Entry) (session : SessionState)
         → StandsIf view.marks_faults session (kept before)
         → lines.old.items ≡ lines_of view.detail 1 before → number ≡ length before + 1
-        → Enters view.marks_faults view.detail limits before number (payload_of whole.now) session
-        lines.new.items result }
+        → Enters view.marks_faults view.detail view.limits before number (payload_of whole.now)
+        session lines.new.items result }
 {
-    match refused {
-        Refused::Memory => Err(Refused::Memory),
-        refused => {
-            if !view.marks_faults {
-                return Err(refused);
-            }
-            append_no_message(view.detail, limits, number, whole, refused, lines)
-        }
+    if !view.marks_faults {
+        return Err(refused);
     }
+    if let Refused::Memory = refused {
+        return Err(Refused::Memory);
+    }
+    let Ok(()) = push_untyped(lines, number, whole.side, refused) else {
+        return Err(Refused::Memory);
+    };
+    if !fits(view, lines) {
+        return Err(Refused::Grew(number));
+    }
+    Ok(Some(refused))
 }
 
 /// Returns the lines of what a flat message lists, if the detail requires them.
@@ -249,17 +199,17 @@ fn flat_listed(alloc: Global, detail: Detail, message: &FlatMessage<'_>) -> Resu
 fn append_flat(
     alloc: Global,
     view: View,
-    limits: Limits,
     number: u64,
     whole: &Record,
     session: &mut Session,
     scratch: &mut Scratch,
+    buffers: &mut Buffers,
     lines: &mut Vec<u8>,
 ) -> Option<Result<Option<Refused>, Refused>>
     ensures appended { (before : List Entry)
         → StandsIf view.marks_faults session.old (kept before)
         → lines.old.items ≡ lines_of view.detail 1 before → number ≡ length before + 1
-        → IfSome result (Enters view.marks_faults view.detail limits before number
+        → IfSome result (Enters view.marks_faults view.detail view.limits before number
         (payload_of whole.now) session.new lines.new.items) }
     ensures unchanged { result ≡ None
         → (session.new ≡ session.old) × (lines.new.items ≡ lines.old.items) }
@@ -268,13 +218,13 @@ fn append_flat(
     let message = match read_flat(alloc, number, whole.side, content, scratch) {
         Ok(Some(message)) => message,
         Ok(None) => return None,
-        Err(refused) => return Some(append_refused(view, limits, number, whole, refused, lines)),
+        Err(refused) => return Some(append_refused(view, number, whole, refused, lines)),
     };
     match flat_listed(alloc, view.detail, &message) {
         Ok(listed) => {
             let listed = listed.as_slice();
             Some(append_message(
-                alloc, view, limits, number, whole, &message, listed, session, lines,
+                alloc, view, number, whole, &message, listed, session, buffers, lines,
             ))
         }
         Err(Unread::Unclear) => None,
@@ -296,29 +246,28 @@ fn tree_listed(alloc: Global, detail: Detail, message: &Message) -> Result<Vec<u
 fn append_tree(
     alloc: Global,
     view: View,
-    limits: Limits,
     number: u64,
     whole: &Record,
     session: &mut Session,
     scratch: &mut Scratch,
+    buffers: &mut Buffers,
     lines: &mut Vec<u8>,
 ) -> Result<Option<Refused>, Refused>
     ensures { (before : List Entry) → StandsIf view.marks_faults session.old (kept before)
         → lines.old.items ≡ lines_of view.detail 1 before → number ≡ length before + 1
-        → Enters view.marks_faults view.detail limits before number (payload_of whole.now)
-        session.new
-        lines.new.items result }
+        → Enters view.marks_faults view.detail view.limits before number (payload_of whole.now)
+        session.new lines.new.items result }
 {
     let content = whole.content.as_slice();
     let message = match read_message(alloc, number, whole.side, content, scratch) {
         Ok(message) => message,
-        Err(refused) => return append_refused(view, limits, number, whole, refused, lines),
+        Err(refused) => return append_refused(view, number, whole, refused, lines),
     };
     match tree_listed(alloc, view.detail, &message) {
         Ok(listed) => {
             let listed = listed.as_slice();
             append_message(
-                alloc, view, limits, number, whole, &message, listed, session, lines,
+                alloc, view, number, whole, &message, listed, session, buffers, lines,
             )
         }
         Err(_) => Err(Refused::Memory),
@@ -337,21 +286,20 @@ fn append_tree(
 pub fn append_entry(
     alloc: Global,
     view: View,
-    limits: Limits,
     number: u64,
     whole: &Record,
     session: &mut Session,
     scratch: &mut Scratch,
+    buffers: &mut Buffers,
     lines: &mut Vec<u8>,
 ) -> Result<Option<Refused>, Refused>
     ensures { (before : List Entry) → StandsIf view.marks_faults session.old (kept before)
         → lines.old.items ≡ lines_of view.detail 1 before → number ≡ length before + 1
-        → Enters view.marks_faults view.detail limits before number (payload_of whole.now)
-        session.new
-        lines.new.items result }
+        → Enters view.marks_faults view.detail view.limits before number (payload_of whole.now)
+        session.new lines.new.items result }
 {
-    match append_flat(alloc, view, limits, number, whole, session, scratch, lines) {
+    match append_flat(alloc, view, number, whole, session, scratch, buffers, lines) {
         Some(outcome) => outcome,
-        None => append_tree(alloc, view, limits, number, whole, session, scratch, lines),
+        None => append_tree(alloc, view, number, whole, session, scratch, buffers, lines),
     }
 }

@@ -7,7 +7,8 @@ ghost use Rattle.dap_tree.specs.Doc.{text};
 ghost use Rattle.dap_tree.specs.Json.{text_of};
 ghost use Rattle.dap_tree.specs.View.{items_view, members_view, view};
 
-use dap_tree::{Tree, write_tree, write_tree_to};
+use crate::message_lines::push_quoted;
+use dap_tree::{Tree, write_tree};
 use std::alloc::{AllocError, Global};
 use std::collections::BTreeMap;
 
@@ -16,12 +17,9 @@ fn push_name(alloc: Global, name: &str, out: &mut Vec<u8>) -> Result<(), AllocEr
     ensures { OnOk result
         (out.new.items ≡ out.old.items ++ (text_of (text name.now) ++ codes ": ")) }
 {
-    let tree = Tree::Text(String::from_str(alloc, name)?);
-    let Ok(string) = write_tree(alloc, &tree) else {
-        return Err(AllocError);
-    };
-    out.extend_from_slice(string.as_bytes())?;
-    out.extend_from_slice(b": ")
+    push_quoted(alloc, out, "", name)?;
+    out.extend_from_slice(b": ")?;
+    Ok(())
 }
 
 /// Appends `before`, a line end and the margin of the next line.
@@ -84,10 +82,10 @@ fn push_leaf(alloc: Global, leaf: &Tree, out: &mut Vec<u8>) -> Result<(), AllocE
     requires in_range { all_in_range (view leaf.now) ≡ true }
     ensures { OnOk result (out.new.items ≡ out.old.items ++ text_of (view leaf.now)) }
 {
-    match write_tree_to(alloc, leaf, out) {
-        Ok(()) => Ok(()),
-        Err(_) => Err(AllocError),
-    }
+    let Ok(text) = write_tree(alloc, leaf) else {
+        return Err(AllocError);
+    };
+    out.extend_from_slice(text.as_bytes())
 }
 
 #[cycle(push_indented)]

@@ -3,13 +3,33 @@ ghost use Rattle.std.specs.Prelude.{◌≡◌, ◌+◌, ◌<◌, ◌∷◌, ◌+
 ghost use Rattle.std.specs.Prelude.{IfErr, IsErrOf, OnOk};
 ghost use Rattle.dap_difference.specs.Shown.{path_of};
 ghost use Rattle.dap_show.specs.Leaves.{has_parts, item_lines, leaf_line, leaf_lines, member_lines};
-ghost use Rattle.dap_tree.specs.Doc.{all_in_range, items_in_range, members_in_range};
+ghost use Rattle.dap_tree.specs.Doc.{Doc, all_in_range, items_in_range, members_in_range};
+ghost use Rattle.dap_tree.specs.Json.{IsRead};
 ghost use Rattle.dap_tree.specs.View.{items_view, members_view, view};
 
 use dap_difference::{Step, push_path};
-use dap_tree::{Tree, write_tree_to};
+use dap_tree::{Scratch, Tree, TreeFault, read_tree_with, write_tree_to};
 use std::alloc::{AllocError, Global};
 use std::collections::BTreeMap;
+
+/// Buffers that are reused for each content.
+#[derive(Drop)]
+pub struct Buffers {
+    scratch: Scratch,
+    /// The text of one leaf. The writer of `json` initializes a part of its buffer ahead that grows
+    /// with the text before, so it does not write to the output.
+    value: Vec<u8>,
+}
+
+impl Buffers {
+    /// Creates empty buffers. Does not allocate.
+    pub fn new(alloc: Global) -> Buffers {
+        Buffers {
+            scratch: Scratch::new(alloc),
+            value: Vec::new(alloc),
+        }
+    }
+}
 
 /// Why lines were not appended.
 #[derive(Clone, Copy, Debug, PartialEq, Eq, Drop)]
@@ -25,6 +45,7 @@ fn push_line(
     alloc: Global,
     path: &[Step<'_>],
     leaf: &Tree,
+    value: &mut Vec<u8>,
     out: &mut Vec<u8>,
 ) -> Result<(), AllocError>
     requires leaf { has_parts (view leaf.now) ≡ false }
@@ -32,12 +53,14 @@ fn push_line(
     ensures { OnOk result
         (out.new.items ≡ out.old.items ++ leaf_line (path_of path.now) (view leaf.now)) }
 {
+    value.clear();
+    if write_tree_to(alloc, leaf, value).is_err() {
+        return Err(AllocError);
+    }
     out.extend_from_slice(b"  ")?;
     push_path(alloc, path, out)?;
     out.extend_from_slice(b" ")?;
-    if write_tree_to(alloc, leaf, out).is_err() {
-        return Err(AllocError);
-    }
+    out.extend_from_slice(value.as_slice())?;
     out.extend_from_slice(b"\n")
 }
 
@@ -47,6 +70,7 @@ fn push_leaf(
     path: &[Step<'_>],
     leaf: &Tree,
     limit: u64,
+    value: &mut Vec<u8>,
     out: &mut Vec<u8>,
 ) -> Result<(), LeafFault>
     requires leaf { has_parts (view leaf.now) ≡ false }
@@ -56,7 +80,7 @@ fn push_leaf(
     ensures full { IsErrOf result LeafFault.Full → limit
         < length out.old.items + length (leaf_lines (path_of path.now) (view leaf.now)) }
 {
-    let Ok(()) = push_line(alloc, path, leaf, out) else {
+    let Ok(()) = push_line(alloc, path, leaf, value, out) else {
         return Err(LeafFault::Memory);
     };
     if limit < out.len() as u64 {
@@ -79,11 +103,12 @@ fn push_step<'t>(path: &mut Vec<Step<'t>>, step: Step<'t>) -> Result<(), LeafFau
 /// Appends the lines of the leaves of a tree at `path`, unless the output would exceed the limit.
 /// On success, leaves the path unchanged.
 #[cycle(push_leaves)]
-pub fn push_leaves<'t>(
+fn push_leaves<'t>(
     alloc: Global,
     tree: &'t Tree,
     path: &mut Vec<Step<'t>>,
     limit: u64,
+    value: &mut Vec<u8>,
     out: &mut Vec<u8>,
 ) -> Result<(), LeafFault>
     requires { all_in_range (view tree.now) ≡ true }
@@ -96,18 +121,18 @@ pub fn push_leaves<'t>(
     match tree {
         Tree::List(items) => {
             if items.is_empty() {
-                return push_leaf(alloc, path.as_slice(), tree, limit, out);
+                return push_leaf(alloc, path.as_slice(), tree, limit, value, out);
             }
-            push_items(alloc, items, path, limit, out)
+            push_items(alloc, items, path, limit, value, out)
         }
         Tree::Object(members) => {
             if members.is_empty() {
-                return push_leaf(alloc, path.as_slice(), tree, limit, out);
+                return push_leaf(alloc, path.as_slice(), tree, limit, value, out);
             }
-            push_members(alloc, members, path, limit, out)
+            push_members(alloc, members, path, limit, value, out)
         }
         Tree::Null | Tree::Bool(_) | Tree::Whole(_) | Tree::Text(_) | Tree::Id(..) => {
-            push_leaf(alloc, path.as_slice(), tree, limit, out)
+            push_leaf(alloc, path.as_slice(), tree, limit, value, out)
         }
     }
 }
@@ -118,6 +143,7 @@ fn push_items<'t>(
     items: &'t Vec<Tree>,
     path: &mut Vec<Step<'t>>,
     limit: u64,
+    value: &mut Vec<u8>,
     out: &mut Vec<u8>,
 ) -> Result<(), LeafFault>
     requires { items_in_range (items_view items.now.items) ≡ true }
@@ -129,7 +155,7 @@ fn push_items<'t>(
 {
     for (place, item) in items.iter().enumerate() {
         push_step(path, Step::Item(place))?;
-        if let Err(fault) = push_leaves(alloc, item, path, limit, out) {
+        if let Err(fault) = push_leaves(alloc, item, path, limit, value, out) {
             return Err(fault);
         }
         path.pop();
@@ -143,6 +169,7 @@ fn push_members<'t>(
     members: &'t BTreeMap<String, Tree>,
     path: &mut Vec<Step<'t>>,
     limit: u64,
+    value: &mut Vec<u8>,
     out: &mut Vec<u8>,
 ) -> Result<(), LeafFault>
     requires { members_in_range (members_view members.now.entries) ≡ true }
@@ -154,10 +181,36 @@ fn push_members<'t>(
 {
     for (name, member) in members.iter() {
         push_step(path, Step::Member(name.as_str()))?;
-        if let Err(fault) = push_leaves(alloc, member, path, limit, out) {
+        if let Err(fault) = push_leaves(alloc, member, path, limit, value, out) {
             return Err(fault);
         }
         path.pop();
     }
     Ok(())
+}
+
+/// Appends the lines of the leaves of a content that is JSON, unless the output would exceed the
+/// limit.
+pub fn push_content(
+    alloc: Global,
+    content: &[u8],
+    limit: u64,
+    buffers: &mut Buffers,
+    out: &mut Vec<u8>,
+) -> Result<(), LeafFault>
+    requires { (d : Doc) × IsRead content.now d }
+    ensures lines { (d : Doc) → IsRead content.now d → OnOk result
+        (out.new.items ≡ out.old.items ++ leaf_lines [] d) }
+    ensures full { (d : Doc) → IsRead content.now d → IsErrOf result LeafFault.Full → limit
+        < length out.old.items + length (leaf_lines [] d) }
+{
+    match read_tree_with(alloc, content, &mut buffers.scratch) {
+        Ok(tree) => {
+            let mut path = Vec::new(alloc);
+            push_leaves(alloc, &tree, &mut path, limit, &mut buffers.value, out)
+        }
+        Err(TreeFault::Memory) => Err(LeafFault::Memory),
+        Err(TreeFault::Json) => unreachable!(),
+        Err(TreeFault::Fraction) => unreachable!(),
+    }
 }

@@ -5,10 +5,9 @@ ghost use Rattle.dap_message.specs.Message.{doc_of};
 ghost use Rattle.dap_message.specs.ViewItems.{frame_shown, frames_left, scope_shown, scopes_left};
 ghost use Rattle.dap_message.specs.ViewItems.{variable_shown, variables_left};
 ghost use Rattle.dap_show.specs.Showing.{answered_words, frame_line, in_quotes, kind_word};
-ghost use Rattle.dap_show.specs.Showing.{listed_lines};
 ghost use Rattle.dap_show.specs.Showing.{message_line, message_lines, outcome_words, place_words};
 ghost use Rattle.dap_show.specs.Showing.{scope_line, side_words, start_words, success_words};
-ghost use Rattle.dap_show.specs.Showing.{title_words, variable_line};
+ghost use Rattle.dap_show.specs.Showing.{listed_lines, title_words, variable_line};
 
 use dap_flat::{Node, write_flat};
 use dap_message::{
@@ -32,12 +31,20 @@ pub(crate) fn push_number<I: Integer>(
 }
 
 /// Appends a word and a string as JSON, in quotes.
-fn push_quoted(alloc: Global, out: &mut Vec<u8>, word: &str, text: &str) -> Result<(), AllocError>
+pub(crate) fn push_quoted(
+    alloc: Global,
+    out: &mut Vec<u8>,
+    word: &str,
+    text: &str,
+) -> Result<(), AllocError>
     ensures { OnOk result (out.new.items
         ≡ out.old.items ++ word.now ++ in_quotes text.now) }
 {
+    let mut quoted = Vec::new(alloc);
+    write_flat(alloc, &[Node::Text(text)], &mut quoted)?;
     out.extend_from_slice(word.as_bytes())?;
-    write_flat(alloc, &[Node::Text(text)], out)
+    out.extend_from_slice(quoted.as_slice())?;
+    Ok(())
 }
 
 /// Appends the id, line and column of a stack frame.

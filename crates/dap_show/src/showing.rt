@@ -176,9 +176,8 @@ pub fn show<R: Source, W: Sink>(
     ensures taken { R.given reader.new ≤ R.given reader.old + limits.input + 1 }
 {
     let record_reader = RecordReader::new(alloc, limits.frame);
-    let mut records = match Records::new(alloc, record_reader, limits.input) {
-        Ok(records) => records,
-        Err(_) => return Err(Refused::Memory),
+    let Ok(mut records) = Records::new(alloc, record_reader, limits.input) else {
+        return Err(Refused::Memory);
     };
     match show_records(alloc, &mut records, reader) {
         Ok(lines) => match write_and_flush(writer, lines.as_slice()) {

@@ -10,6 +10,7 @@ ghost use Rattle.dap_show.specs.ViewingSteps.{Finishes, ShowsRecords};
 use crate::detail::{Detail, View};
 use crate::entries::append_entry;
 use crate::fault_words::push_stop;
+use crate::leaves::Buffers;
 use dap_device::{Sink, Source, write_and_flush};
 use dap_input::{Limits, Records, Refused};
 use dap_recording::RecordReader;
@@ -30,23 +31,23 @@ fn note(first: &mut Option<Refused>, refusal: Option<Refused>)
 fn view_records<R: Source>(
     alloc: Global,
     view: View,
-    limits: Limits,
     records: &mut Records<RecordReader>,
     reader: &mut R,
     lines: &mut Vec<u8>,
     first: &mut Option<Refused>,
 ) -> Result<(), Refused>
-    requires sound { AreSound limits }
-    requires start { IsAtStart (RepresentsRecord limits.frame) limits.input records.old }
+    requires sound { AreSound view.limits }
+    requires start { IsAtStart (RepresentsRecord view.limits.frame) view.limits.input records.old }
     requires lines { lines.old.items ≡ [] }
     requires first { first.old ≡ None }
     requires given { R.given reader.old < 2 ^ 62 }
     requires failures { R.failures reader.old < 2 ^ 62 }
-    ensures { ShowsRecords view.marks_faults view.detail limits R.Source reader.old reader.new
+    ensures { ShowsRecords view.marks_faults view.detail view.limits R.Source reader.old reader.new
         lines.new.items first.new result }
 {
     let mut session = Session::new(alloc);
     let mut scratch = Scratch::new(alloc);
+    let mut buffers = Buffers::new(alloc);
     'each: loop {
         let number = records.number();
         let Some(whole) = records.next(reader)? else {
@@ -55,11 +56,11 @@ fn view_records<R: Source>(
         let refusal = append_entry(
             alloc,
             view,
-            limits,
             number,
             &whole,
             &mut session,
             &mut scratch,
+            &mut buffers,
             lines,
         )?;
         note(first, refusal);
@@ -102,32 +103,23 @@ fn view_input<R: Source, W: Sink>(
     alloc: Global,
     reader: &mut R,
     writer: &mut W,
-    limits: Limits,
     view: View,
 ) -> Result<Option<Refused>, Refused>
-    requires limits { AreSound limits }
+    requires limits { AreSound view.limits }
     requires given { R.given reader.old < 2 ^ 62 }
     requires read_failures { R.failures reader.old < 2 ^ 62 }
     requires write_failures { W.failures writer.old < 2 ^ 62 }
-    ensures outcome { ViewsInput view.marks_faults view.detail limits R.Source W.Sink reader.old
-        reader.new writer.old writer.new result }
-    ensures taken { R.given reader.new ≤ R.given reader.old + limits.input + 1 }
+    ensures outcome { ViewsInput view.marks_faults view.detail view.limits R.Source W.Sink
+        reader.old reader.new writer.old writer.new result }
+    ensures taken { R.given reader.new ≤ R.given reader.old + view.limits.input + 1 }
 {
-    let record_reader = RecordReader::new(alloc, limits.frame);
-    let Ok(mut records) = Records::new(alloc, record_reader, limits.input) else {
+    let record_reader = RecordReader::new(alloc, view.limits.frame);
+    let Ok(mut records) = Records::new(alloc, record_reader, view.limits.input) else {
         return Err(Refused::Memory);
     };
     let mut lines = Vec::new(alloc);
     let mut first = None;
-    let stopped = view_records(
-        alloc,
-        view,
-        limits,
-        &mut records,
-        reader,
-        &mut lines,
-        &mut first,
-    );
+    let stopped = view_records(alloc, view, &mut records, reader, &mut lines, &mut first);
     if let Err(refused) = finish(view.marks_faults, stopped, &mut lines, &mut first) {
         return Err(refused);
     }
@@ -178,9 +170,10 @@ pub fn show_with<R: Source, W: Sink>(
 {
     let view = View {
         detail,
+        limits,
         marks_faults: false,
     };
-    match view_input(alloc, reader, writer, limits, view) {
+    match view_input(alloc, reader, writer, view) {
         Ok(_) => Ok(()),
         Err(refused) => Err(refused),
     }
@@ -221,7 +214,8 @@ pub fn show_faulty<R: Source, W: Sink>(
 {
     let view = View {
         detail,
+        limits,
         marks_faults: true,
     };
-    view_input(alloc, reader, writer, limits, view)
+    view_input(alloc, reader, writer, view)
 }

@@ -6,11 +6,11 @@ use Rattle.dap_tree.specs.Json.{IsRead, document, no_reading, fraction}
 use Rattle.dap_tree.specs.View.{view}
 use Rattle.dap_diff.proofs.reading.plain_tree.Goals as goal
 
-pub returns-in-Ok-read_tree-clause-plain : goal.returns-in-Ok-read_tree-clause-plain
-returns-in-Ok-read_tree-clause-plain c =
+pub returns-in-Ok-read_tree_with-clause-plain : goal.returns-in-Ok-read_tree_with-clause-plain
+returns-in-Ok-read_tree_with-clause-plain c =
     let d : Doc = without_ids (doc_of c.args.message.now) in
-    let reported : document d ≡ document (view c.in-Ok-read_tree.tree) =
-    c.in-Ok-read_tree.ensures.exactly (document d)
+    let reported : document d ≡ document (view c.in-Ok-read_tree_with.tree) =
+    c.in-Ok-read_tree_with.ensures.exactly (document d)
     (subst (λ t. IsRead t d) (sym c.as_bytes.ensures.value) c.in-Ok.ensures.reads_back) in cc
 
 pub unreachable-requires : goal.unreachable-requires

@@ -56,7 +56,7 @@ add_record-requires-clause-is_record g c =
     let more = gone was.going (c.in-Ok-true.ensures.next _ _ _ _ _ was.going.represents)
     c.in-Ok-true.field-0-test in (
       more.named,
-      is_record was c.requires.limits more (c.as_slice.ensures.value ∙ more.appended
+      is_record was c.requires.limits more (c.as_slice-record.ensures.value ∙ more.appended
           ∙ ap (λ t. t ++ record_of more.named) c.clear.ensures.items),
     )
 
@@ -84,6 +84,6 @@ records-preserved g c =
     let more = gone was.going (c.in-Ok-true.ensures.next _ _ _ _ _ was.going.represents)
     c.in-Ok-true.field-0-test in
     let adds : AddsEntry c.args.limits c.args.mode c.records.records.records.number
-    c.as_slice.result.now c.records.recording c.add_record.new.recording = search rules in
-    kept was c.requires.limits more (c.as_slice.ensures.value ∙ more.appended
+    c.as_slice-record.result.now c.records.recording c.add_record.new.recording = search rules in
+    kept was c.requires.limits more (c.as_slice-record.ensures.value ∙ more.appended
     ∙ ap (λ t. t ++ record_of more.named) c.clear.ensures.items) _ adds

@@ -11,7 +11,7 @@ returns-in-Err-Full g c = λ before represents lines_are number_is.
     let is = c.requires.message in
     let d = is.1.0 in
     let reads = is.1.1 in
-    grown_detail c.args.view.detail c.args.limits before c.args.number number_is
+    grown_detail c.args.view.detail c.args.view.limits before c.args.number number_is
     c.args.lines.now.items lines_are c.args.view.marks_faults (payload_of c.args.whole.now)
     message d c.in-Ok.rule c.judge.new.session is reads
     (c.in-Ok.ensures (kept before) represents) c.push_head.new.lines.items c.in-Ok-push_head.ensures
@@ -25,7 +25,7 @@ returns-then-not-fits g c = λ before represents lines_are number_is.
     let is = c.requires.message in
     let d = is.1.0 in
     let reads = is.1.1 in
-    grown_typed c.args.view.detail c.args.limits before c.args.number number_is
+    grown_typed c.args.view.detail c.args.view.limits before c.args.number number_is
     c.args.lines.now.items lines_are c.args.view.marks_faults (payload_of c.args.whole.now)
     message d c.in-Ok.rule c.judge.new.session is reads
     (c.in-Ok.ensures (kept before) represents) c.push_head.new.lines.items c.in-Ok-push_head.ensures
@@ -41,7 +41,7 @@ returns g c = λ before represents lines_are number_is.
     let d = is.1.0 in
     let reads = is.1.1 in
     rw c.rule_refusal.ensures
-    (entered_typed c.args.view.detail c.args.limits before c.args.number number_is
+    (entered_typed c.args.view.detail c.args.view.limits before c.args.number number_is
     c.args.lines.now.items lines_are c.args.view.marks_faults (payload_of c.args.whole.now)
     message d c.in-Ok.rule c.judge.new.session is reads
     (c.in-Ok.ensures (kept before) represents) c.push_head.new.lines.items c.in-Ok-push_head.ensures

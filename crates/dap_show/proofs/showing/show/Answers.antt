@@ -54,55 +54,55 @@ returns-in-Ok-show_records-clause-taken g c =
 
 pub drain-requires-clause-given : goal.drain-requires-clause-given
 drain-requires-clause-given g c = λ goes_on.
-    let refused = c.in-Err-show_records.ensures c.args.limits
+    let refused = c.in-Err.ensures c.args.limits
     (c.in-Ok.ensures c.args.limits.frame
     (c.new-record_reader.ensures.limits, (1, c.new-record_reader.ensures.represents))) in
     rest_counts c.args.limits g.R.Source
     c.args.reader.now c.show_records.new.reader c.show_records.new.records
-    c.in-Err-show_records.refused refused goes_on c.requires.limits.input c.requires.given
+    c.in-Err.refused refused goes_on c.requires.limits.input c.requires.given
 
 pub drain-requires-clause-failures : goal.drain-requires-clause-failures
 drain-requires-clause-failures g c = λ goes_on.
-    let refused = c.in-Err-show_records.ensures c.args.limits
+    let refused = c.in-Err.ensures c.args.limits
     (c.in-Ok.ensures c.args.limits.frame
     (c.new-record_reader.ensures.limits, (1, c.new-record_reader.ensures.represents))) in
     rest_failures c.args.limits g.R.Source
     c.args.reader.now c.show_records.new.reader c.show_records.new.records
-    c.in-Err-show_records.refused refused goes_on c.requires.read_failures
+    c.in-Err.refused refused goes_on c.requires.read_failures
 
 pub returns-clause-outcome : goal.returns-clause-outcome
 returns-clause-outcome g c =
-    let refused = c.in-Err-show_records.ensures c.args.limits
+    let refused = c.in-Err.ensures c.args.limits
     (c.in-Ok.ensures c.args.limits.frame
     (c.new-record_reader.ensures.limits, (1, c.new-record_reader.ensures.represents))) in
     refused_answer (showing c.args.limits) g.R.Source
     (lines_from 1) c.args.reader.now c.drain.new.reader g.W.Sink
-    c.args.writer.now c.in-Err-show_records.refused
+    c.args.writer.now c.in-Err.refused
     (drained (showing c.args.limits) (record_items c.args.limits.frame) payload_of
     (reads_records c.args.limits) g.R.Source
     c.args.reader.now c.show_records.new.reader c.drain.new.reader c.show_records.new.records
-    c.in-Err-show_records.refused refused c.drain.ensures.over c.drain.ensures.rest)
+    c.in-Err.refused refused c.drain.ensures.over c.drain.ensures.rest)
 
 pub returns-clause-taken : goal.returns-clause-taken
 returns-clause-taken g c =
-    let refused = c.in-Err-show_records.ensures c.args.limits
+    let refused = c.in-Err.ensures c.args.limits
     (c.in-Ok.ensures c.args.limits.frame
     (c.new-record_reader.ensures.limits, (1, c.new-record_reader.ensures.represents))) in
     refused_taken c.args.limits g.R.Source
-    c.args.reader.now c.drain.new.reader c.in-Err-show_records.refused
+    c.args.reader.now c.drain.new.reader c.in-Err.refused
     (drained (showing c.args.limits) (record_items c.args.limits.frame) payload_of
     (reads_records c.args.limits) g.R.Source
     c.args.reader.now c.show_records.new.reader c.drain.new.reader c.show_records.new.records
-    c.in-Err-show_records.refused refused c.drain.ensures.over c.drain.ensures.rest)
+    c.in-Err.refused refused c.drain.ensures.over c.drain.ensures.rest)
 
 pub returns-clause-memory : goal.returns-clause-memory
 returns-clause-memory g c = λ _.
-    let refused = c.in-Err-show_records.ensures c.args.limits
+    let refused = c.in-Err.ensures c.args.limits
     (c.in-Ok.ensures c.args.limits.frame
     (c.new-record_reader.ensures.limits, (1, c.new-record_reader.ensures.represents))) in
     all_read (showing c.args.limits) g.R.Source
-    (lines_from 1) c.args.reader.now c.drain.new.reader c.in-Err-show_records.refused
+    (lines_from 1) c.args.reader.now c.drain.new.reader c.in-Err.refused
     (drained (showing c.args.limits) (record_items c.args.limits.frame) payload_of
     (reads_records c.args.limits) g.R.Source
     c.args.reader.now c.show_records.new.reader c.drain.new.reader c.show_records.new.records
-    c.in-Err-show_records.refused refused c.drain.ensures.over c.drain.ensures.rest)
+    c.in-Err.refused refused c.drain.ensures.over c.drain.ensures.rest)

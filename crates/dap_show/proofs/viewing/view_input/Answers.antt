@@ -5,7 +5,7 @@ use Rattle.dap_show.proofs.viewing.view_input.Goals as goal
 
 pub returns-in-Err-clause-outcome : goal.returns-in-Err-clause-outcome
 returns-in-Err-clause-outcome g c =
-    refused_view c.args.view.marks_faults c.args.view.detail c.args.limits g.R.Source
+    refused_view c.args.view.marks_faults c.args.view.detail c.args.view.limits g.R.Source
     c.args.reader.now c.view_records-stopped.new.reader g.W.Sink c.args.writer.now c.in-Err.refused
     c.view_records-stopped.result c.view_records-stopped.new.lines.items c.finish.new.lines.items
     c.view_records-stopped.new.first c.finish.new.first c.view_records-stopped.ensures
@@ -14,7 +14,7 @@ returns-in-Err-clause-outcome g c =
 pub returns-in-Ok-write_and_flush-clause-outcome : goal.returns-in-Ok-write_and_flush-clause-outcome
 returns-in-Ok-write_and_flush-clause-outcome g c = (
   c.finish.new.lines.items,
-  shown_lines c.args.view.marks_faults c.args.view.detail c.args.limits g.R.Source
+  shown_lines c.args.view.marks_faults c.args.view.detail c.args.view.limits g.R.Source
       c.args.reader.now c.view_records-stopped.new.reader c.in_default-finish.field-0
       c.view_records-stopped.result c.view_records-stopped.new.lines.items
       c.finish.new.lines.items c.view_records-stopped.new.first c.finish.new.first
@@ -27,7 +27,7 @@ pub returns-clause-outcome : goal.returns-clause-outcome
 returns-clause-outcome g c = (
   c.finish.new.lines.items,
   c.finish.new.first,
-  shown_lines c.args.view.marks_faults c.args.view.detail c.args.limits g.R.Source
+  shown_lines c.args.view.marks_faults c.args.view.detail c.args.view.limits g.R.Source
       c.args.reader.now c.view_records-stopped.new.reader c.in_default-finish.field-0
       c.view_records-stopped.result c.view_records-stopped.new.lines.items
       c.finish.new.lines.items c.view_records-stopped.new.first c.finish.new.first
@@ -38,5 +38,5 @@ returns-clause-outcome g c = (
 
 pub returns-in_default-clause-outcome : goal.returns-in_default-clause-outcome
 returns-in_default-clause-outcome g c =
-    none_viewed c.args.view.marks_faults c.args.view.detail c.args.limits g.R.Source
+    none_viewed c.args.view.marks_faults c.args.view.detail c.args.view.limits g.R.Source
     c.args.reader.now c.args.reader.now g.W.Sink c.args.writer.now
