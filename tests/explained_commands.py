@@ -50,6 +50,9 @@ EXPLAINED = [
     (["check", "folder"], ["folder: Is a directory"]),
     (["check", "none"], ["none: No such file or directory"]),
     (["mask", "none", "good"], ["none: No such file or directory"]),
+    (["mask", "-", "good"], ["  -: No such file or directory"]),
+    (["compare", "--rules", "-", "good", "good"], ["  -: No such file or directory"]),
+    (["mask", "/dev/zero", "good"], ["a file of rules has at most 65536 bytes"]),
     (["compare", "none", "good"], ["none: No such file or directory"]),
     (["diff", "good", "folder"], ["folder: Is a directory"]),
 ]
@@ -115,6 +118,14 @@ def successes(report, folder):
     report.check("standard input is named", "  standard input: " in closed(folder), closed(folder))
 
 
+def pipes(report, folder):
+    """A golden file that is a pipe is not read again to explain why it is rejected."""
+    words = ["bash", "-c", '"$0" golden <(printf x) good', PROGRAM]
+    done = subprocess.run(words, capture_output=True, cwd=folder.path, timeout=60)
+    lines = done.stderr.decode().splitlines()
+    report.check("a pipe as golden file", done.returncode == 2 and len(lines) == 1 and lines[0].endswith("record 1: BadMarker"), repr(lines))
+
+
 def closed(folder):
     """What is printed if standard input is a folder, which cannot be read."""
     done = subprocess.run([PROGRAM, "check", "--explain"], stdin=os.open(folder.path, os.O_RDONLY), capture_output=True, cwd=folder.path, timeout=60)
@@ -127,7 +138,7 @@ def main():
         return report.close()
     with Folder(**FILES) as folder:
         os.mkdir(folder.at("folder"))
-        for test in (explanations, ordering, refusals, successes):
+        for test in (explanations, ordering, refusals, successes, pipes):
             test(report, folder)
     return report.close()
 

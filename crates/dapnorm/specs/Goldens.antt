@@ -1,14 +1,11 @@
 -- What the program does with `golden` over files that are given by their names. Source: own.
-use Rattle.std.specs.Prelude.{◌≡◌, ◌≢◌, ℕ, Bool, true, false, List, [], Option, Some, None, Result}
+use Rattle.std.specs.Prelude.{◌≡◌, ℕ, Bool, true, false, List, [], Option, Some, None, Result}
 use Rattle.std.specs.Prelude.{Ok, Err, Vec, option_map}
 use Rattle.std.specs.declared.alloc.Global.{Global}
 use Rattle.dap_commands.specs.declared.commands.Golden.{Golden}
 use Rattle.dap_device.specs.Crash.{LeavesOnly}
 use Rattle.dap_device.specs.Memory.{GivenBytes}
-use Rattle.dap_device.specs.Reading.{HasReadInput, HasReadPartly}
 use Rattle.dap_device.specs.declared.device.Source.{Ghosts as Source}
-use Rattle.dap_device.specs.declared.reading.Stop.{Stop}
-use Rattle.dap_device.specs.declared.reading.Stop.TheVariants.{Failed}
 use Rattle.dap_golden.specs.GoldenUpdates.{Answers, MayBeLeft, request_by}
 use Rattle.dap_golden.specs.declared.updates.GoldenDone.{GoldenDone}
 use Rattle.dap_golden.specs.declared.updates.GoldenRequest.{GoldenRequest}
@@ -22,6 +19,7 @@ use Rattle.dap_mask.specs.KeptRules.{mask_of}
 use Rattle.dap_mask.specs.declared.mask_rules.MaskRules.{MaskRules}
 use Rattle.dapnorm.specs.Comparisons.{bytes_of, memory}
 use Rattle.dapnorm.specs.Desks.{IsLeft, Place, empty}
+use Rattle.dapnorm.specs.Readings.{IsReadWhole}
 use Rattle.dapnorm.specs.Rules.{AreRules}
 use Rattle.dapnorm.specs.declared.answer.Answer.{Answer}
 use Rattle.dapnorm.specs.declared.answer.Answer.TheVariants as answer
@@ -33,23 +31,6 @@ use Rattle.dapnorm.specs.declared.why.Overlap.{Overlap}
 use Rattle.dapnorm.specs.declared.why.Overlap.TheVariants.{GoldenAndInput, GoldenAndRules}
 use Rattle.dapnorm.specs.declared.why.Why.{Why}
 use Rattle.dapnorm.specs.declared.why.Why.TheVariants as why
-
--- ---- an input that is read whole
-
--- These are the bytes of the input, or its first bytes up to one past the limit; or a read failed;
--- or an allocation failed, and no read did.
-pub record HasWhole {R : Type 0} (source : Source R) (old new : R) (bytes : List ℕ) : Type 0 where
-  pub stop : Stop
-  pub came : HasReadInput source old new LIMITS.input bytes stop
-  pub not_failed : stop ≢ Failed
-
-abbrev pub IsReadWhole : {R : Type 0} → Source R → R → R → Result (Vec ℕ Global) Unread → Type 0
-IsReadWhole source old new (Ok bytes) = HasWhole source old new bytes.items
-IsReadWhole source old new (Err unread.Failed) =
-    (bytes : List ℕ) × HasReadInput source old new LIMITS.input bytes Failed
-IsReadWhole source old new (Err unread.Memory) = HasReadPartly source old new LIMITS.input
-
--- ---- the golden file
 
 -- what the options request
 abbrev pub request_of : Golden → GoldenRequest
@@ -93,7 +74,7 @@ module _ {I O T : Type 0} (place : Place I O T) (golden : Golden) (values : List
   -- The input is that of the name, and this became of reading it whole.
   abbrev pub IsInput : Result (Vec ℕ Global) Unread → Type 0
   IsInput outcome = IsLeft (place.files.opens purpose.Input name) desk.a
-      (λ old new. IsReadWhole place.source old new outcome)
+      (λ old new. IsReadWhole place.source LIMITS.input old new outcome)
 
   -- The golden file is that of its name.
   abbrev pub Target : (T → T → Type 0) → Type 0

@@ -5,6 +5,7 @@ pub mod GoldenLines
 pub mod Goldens
 pub mod Lines
 pub mod Pairs
+pub mod Readings
 pub mod Reasons
 pub mod Reporting
 pub mod Rules

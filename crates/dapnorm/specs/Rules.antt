@@ -3,55 +3,34 @@ use Rattle.std.specs.Prelude.{◌≡◌, ◌≢◌, ◌⊎◌, ℕ, List, [], �
 use Rattle.std.specs.Prelude.{Vec}
 use Rattle.std.specs.declared.alloc.Global.{Global}
 use Rattle.dap_commands.specs.declared.commands.UsageFault.{UsageFault}
-use Rattle.dap_device.specs.Reading.{HasReadInput, HasReadPartly}
 use Rattle.dap_device.specs.declared.device.Source.{Ghosts as Source}
-use Rattle.dap_device.specs.declared.reading.Stop.{Stop}
-use Rattle.dap_device.specs.declared.reading.Stop.TheVariants.{Failed}
 use Rattle.dap_host.specs.Files.{Files}
 use Rattle.dap_host.specs.declared.host.Purpose.TheVariants.{Rules}
 use Rattle.dap_mask.specs.KeptRules.{mask_of}
 use Rattle.dap_mask.specs.RulesFile.{rules_said}
 use Rattle.dap_mask.specs.declared.mask_rules.MaskRules.{MaskRules}
+use Rattle.dapnorm.specs.Readings.{IsReadWhole}
+use Rattle.dapnorm.specs.declared.reading.Unread.{Unread}
+use Rattle.dapnorm.specs.declared.reading.Unread.TheVariants as unread
 use Rattle.dapnorm.specs.WordOption.{HasLinesOf, HasNoLines, IsAccepted}
 use Rattle.dapnorm.specs.declared.rules.NoRules.{NoRules}
 use Rattle.dapnorm.specs.declared.rules.NoRules.TheVariants as no_rules
 
--- ---- a file that is read whole
-
--- A file was opened, and these bytes of it were read until it stopped for this reason.
-pub record IsRead {I : Type 0} (opened : I → Type 0) (source : Source I) (limit : ℕ) (new : I)
-    (bytes : List ℕ) (stop : Stop) : Type 0 where
-  pub old : I
-  pub opens : opened old
-  pub came : HasReadInput source old new limit bytes stop
-
--- A file was opened, and a prefix of it was read. The reader did not fail.
-pub record IsReadPartly {I : Type 0} (opened : I → Type 0) (source : Source I) (limit : ℕ) (new : I)
-    : Type 0 where
-  pub old : I
-  pub opens : opened old
-  pub partly : HasReadPartly source old new limit
-
--- A file was opened, and these are its bytes, or its first bytes up to one past the limit.
-pub record IsWhole {I : Type 0} (opened : I → Type 0) (source : Source I) (limit : ℕ) (new : I)
-    (bytes : List ℕ) : Type 0 where
-  pub stop : Stop
-  pub read : IsRead opened source limit new bytes stop
-  pub not_failed : stop ≢ Failed
-
--- ---- the text of the rules
-
 module _ {I O T : Type 0} (files : Files I O T) (source : Source I) where
+  -- The file of the name was opened and read whole, with this result.
+  pub record Reads (name : List ℕ) (outcome : Result (Vec ℕ Global) Unread) : Type 0 where
+    pub old : I
+    pub new : I
+    pub opens : files.opens Rules name old
+    pub reads : IsReadWhole source 65536 old new outcome
+
   -- The text is that of the file of the name, by all of its bytes or by the first 65,537 of them.
   -- Or the file did not open, a read of it failed, or an allocation failed.
   abbrev pub IsFileText : List ℕ → Result (Vec ℕ Global) NoRules → Type 0
-  IsFileText name (Ok text) =
-      (new : I) × IsWhole (files.opens Rules name) source 65536 new text.items
+  IsFileText name (Ok text) = Reads name (Ok text)
   IsFileText name (Err (no_rules.Unopened why)) = files.closed Rules name why
-  IsFileText name (Err no_rules.Unread) =
-      (new : I) × (bytes : List ℕ) × IsRead (files.opens Rules name) source 65536 new bytes Failed
-  IsFileText name (Err no_rules.Memory) =
-      (new : I) × IsReadPartly (files.opens Rules name) source 65536 new
+  IsFileText name (Err no_rules.Unread) = Reads name (Err unread.Failed)
+  IsFileText name (Err no_rules.Memory) = Reads name (Err unread.Memory)
   IsFileText name (Err why) = ⊥
 
   -- Without a name the text is empty.

@@ -18,7 +18,7 @@ use Rattle.dap_suggest.specs.NotSuggested.{AreAccepted, IsInputRejected}
 use Rattle.dap_suggest.specs.Suggested.{AreSameBy}
 use Rattle.dapnorm.specs.Comparisons.{are_both_standard}
 use Rattle.dapnorm.specs.Desks.{IsLeft, Place, empty}
-use Rattle.dapnorm.specs.Goldens.{IsReadWhole}
+use Rattle.dapnorm.specs.Readings.{IsReadWhole}
 use Rattle.dapnorm.specs.Rules.{IsRulesText}
 use Rattle.dapnorm.specs.declared.answer.Answer.{Answer}
 use Rattle.dapnorm.specs.declared.answer.Answer.TheVariants as answer
@@ -70,11 +70,11 @@ module _ {I O T : Type 0} (place : Place I O T) (a b : List ℕ) (rules : Option
   -- The inputs are those of their names, and this became of reading them whole.
   abbrev pub InputA : Result (Vec ℕ Global) Unread → Type 0
   InputA outcome = IsLeft (place.files.opens purpose.Input a) desk.a
-      (λ old new. IsReadWhole place.source old new outcome)
+      (λ old new. IsReadWhole place.source LIMITS.input old new outcome)
 
   abbrev pub InputB : Result (Vec ℕ Global) Unread → Type 0
   InputB outcome = IsLeft (place.files.opens purpose.Input b) desk.b
-      (λ old new. IsReadWhole place.source old new outcome)
+      (λ old new. IsReadWhole place.source LIMITS.input old new outcome)
 
   abbrev pub HasA : Type 0
   HasA = (read : Vec ℕ Global) × InputA (Ok read)

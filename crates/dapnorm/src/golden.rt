@@ -111,7 +111,7 @@ pub(crate) fn run_golden<'a, H: Host>(
         Err(fault) => return Err(Why::Session(fault)),
     };
     let reader = desk.a.insert(input);
-    let session = match read_whole(alloc, reader) {
+    let session = match read_whole(alloc, reader, LIMITS.input) {
         Ok(session) => session,
         Err(Unread::Failed) => return Err(Why::UnreadSession),
         Err(Unread::Memory) => return Err(Why::Input(Refused::Memory)),

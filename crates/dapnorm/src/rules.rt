@@ -7,11 +7,11 @@ ghost use Rattle.dapnorm.specs.WordOption.{HasNoLines};
 ghost use Rattle.dapnorm.specs.Rules.{AreRules, IsFileText, IsRulesText, IsTextOf};
 
 use crate::line::{Line, Part, fault};
+use crate::reading::{Unread, read_whole};
 use crate::reporting::{FAULT, MEMORY, REFUSED, USAGE};
 use crate::why::{open_status, unless_memory};
 use crate::words::with_values;
 use dap_commands::{Name, UsageFault};
-use dap_device::{Stop, read_all};
 use dap_host::{Host, OpenFault, Purpose};
 use dap_input::Refused;
 use dap_mask::{MaskRules, RulesCause, RulesFault};
@@ -88,13 +88,10 @@ fn file_text<H: Host>(alloc: Global, host: &H, name: &str) -> Result<Vec<u8>, No
         Ok(file) => file,
         Err(fault) => return Err(NoRules::Unopened(fault)),
     };
-    let read = match read_all(alloc, &mut file, RULES) {
-        Ok(read) => read,
-        Err(_) => return Err(NoRules::Memory),
-    };
-    match read.stop {
-        Stop::Failed => Err(NoRules::Unread),
-        _ => Ok(read.bytes),
+    match read_whole(alloc, &mut file, RULES) {
+        Ok(text) => Ok(text),
+        Err(Unread::Failed) => Err(NoRules::Unread),
+        Err(Unread::Memory) => Err(NoRules::Memory),
     }
 }
 

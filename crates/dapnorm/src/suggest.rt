@@ -132,7 +132,7 @@ pub(crate) fn run_suggest<'a, H: Host>(
         Err(fault) => return Err(Why::Unopened(Some(Which::A), fault)),
     };
     let reader_a = desk.a.insert(input_a);
-    let read_a = match read_whole(alloc, reader_a) {
+    let read_a = match read_whole(alloc, reader_a, LIMITS.input) {
         Ok(read) => read,
         Err(Unread::Failed) => {
             return Err(Why::Pair(CompareRefused::Input(Which::A, Refused::ReadFault)));
@@ -144,7 +144,7 @@ pub(crate) fn run_suggest<'a, H: Host>(
         Err(fault) => return Err(Why::Unopened(Some(Which::B), fault)),
     };
     let reader_b = desk.b.insert(input_b);
-    let read_b = match read_whole(alloc, reader_b) {
+    let read_b = match read_whole(alloc, reader_b, LIMITS.input) {
         Ok(read) => read,
         Err(Unread::Failed) => {
             return Err(Why::Pair(CompareRefused::Input(Which::B, Refused::ReadFault)));

@@ -3,17 +3,20 @@ use crate::rejections::{explain_applying, explain_golden};
 use crate::reports::{print, report_failure, report_file, report_input, report_reason};
 use dap_device::{FileAt, StdSink};
 use dap_explain::{Format, Input, explain, explain_rules};
+use dap_host::is_standard;
 use dap_system::{OpenOutput, OpenedInput, SystemInput};
 use dapnorm::{
     ApplyRefused, Command, CompareRefused, Desk, Ended, GoldenStop, LIMITS, MaskRules, Name,
-    NoRules, OpenFault, Refused, Replaceable, Request, RulesCause, RulesFault, Task, Unstreamed,
-    Which, Why,
+    NoRules, OpenFault, Refused, Replaceable, Request, Task, Unstreamed, Which, Why,
 };
 use std::fs::{self, File};
 use std::io::Error;
 
 /// The status if an input is rejected.
 const REFUSED: u8 = 2;
+
+/// How standard input is named in a report.
+const STANDARD_INPUT: &str = "standard input";
 
 /// The devices of a run over the operating system.
 pub type SystemDesk<'a> = Desk<
@@ -61,14 +64,19 @@ fn rules_name<'a>(command: &'a Command<'_>) -> &'a str {
     }
 }
 
-/// Returns the name of an input of a command.
+/// Returns the name of an input of a command in a report.
 fn input_name<'a>(command: &'a Command<'_>, which: Which) -> &'a str {
-    match (command, which) {
+    let name = match (command, which) {
         (Command::Pair { a, .. } | Command::Suggest { a, .. }, Which::A) => a.as_str(),
         (Command::Pair { b, .. } | Command::Suggest { b, .. }, Which::B) => b.as_str(),
         (Command::Stream { input, .. } | Command::Check { input, .. }, _) => text_of(input),
         (Command::Golden(golden), _) => text_of(&golden.input),
         (Command::Rows { .. }, _) => "-",
+    };
+    if is_standard(name) {
+        STANDARD_INPUT
+    } else {
+        name
     }
 }
 
@@ -211,33 +219,27 @@ impl Stopped<'_> {
         }
     }
 
-    /// Explains why a line of the rules is rejected. A file that is too long was not read whole, so
-    /// it is read again.
-    fn explain_line(&self, fault: RulesFault, text: &[u8]) {
-        let alloc = self.rt.alloc();
-        if fault.cause == RulesCause::TooLong && self.request.words.is_empty() {
-            if let Ok(whole) = fs::read(self.rt, rules_name(&self.request.command)) {
-                print(self.rt, explain_rules(alloc, whole.as_slice(), fault));
-            }
-            return;
-        }
-        print(self.rt, explain_rules(alloc, text, fault));
-    }
-
     /// Explains why there are no rules.
     fn explain_rules(&self, why: &NoRules) {
         match why {
             NoRules::Unopened(fault) => {
                 self.explain_fault(rules_name(&self.request.command), fault);
             }
-            NoRules::Line(fault, text) => self.explain_line(*fault, text.as_slice()),
+            NoRules::Line(fault, text) => {
+                let alloc = self.rt.alloc();
+                print(self.rt, explain_rules(alloc, text.as_slice(), *fault));
+            }
             _ => {}
         }
     }
 }
 
-/// Explains why a golden file is rejected, which is read again.
+/// Explains why a golden file is rejected, which is read again, unless it is a pipe.
 fn explain_file(rt: &HostRuntime, name: &str, refused: Refused) {
+    match fs::metadata(rt, name) {
+        Ok(found) if found.is_file() => {}
+        _ => return,
+    }
     let Ok(mut file) = FileAt::to_read(rt.alloc(), rt, name) else {
         return;
     };

@@ -1,14 +1,10 @@
 //! What is reported of files that fail, in further lines.
 use dap_device::{FileAt, write_and_flush};
 use dap_explain::explain_unreadable;
-use dap_host::is_standard;
 use dap_system::{OpenedInput, errors};
 use std::alloc::AllocError;
 use std::fs::File;
 use std::io::Error;
-
-/// How standard input is named in a report.
-const STANDARD_INPUT: &str = "standard input";
 
 /// What is reported of a temporary file that could not be removed.
 const LEFT: &str = "a temporary file is left in its folder";
@@ -25,11 +21,6 @@ pub fn print(rt: &HostRuntime, text: Result<String, AllocError>) {
 
 /// Reports words about the file of this name.
 fn report_words(rt: &HostRuntime, name: &str, words: &str) {
-    let name = if is_standard(name) {
-        STANDARD_INPUT
-    } else {
-        name
-    };
     print(rt, explain_unreadable(rt.alloc(), name, words));
 }
 
