@@ -201,10 +201,7 @@ fn add_fault(lines: &mut Lines, rules: &[u8], fault: RulesFault)
 {
     match fault.cause {
         RulesCause::Memory => {}
-        RulesCause::TooLong => lines.write(format_args!(
-            "the file has {} bytes; a file of rules has at most 65536",
-            rules.len(),
-        )),
+        RulesCause::TooLong => lines.add("a file of rules has at most 65536 bytes"),
         _ => {
             add_line(lines, fault.line, line_of(rules, fault.line));
             add_cause(lines, rules, fault);
