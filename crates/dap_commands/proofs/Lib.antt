@@ -1,5 +1,4 @@
 pub mod DefinitionLemmas
-pub mod FirstArguments
-pub mod FirstWords
-pub mod ToldWords
+pub mod Exits
+pub mod LeadingArguments
 pub mod WorkedLines

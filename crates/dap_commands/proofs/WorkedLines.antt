@@ -1,30 +1,39 @@
--- Example command lines, with the commands that the definition finds in them.
-use Rattle.std.proofs.Common.{◌≡◌, refl, true, false, [], ◌∷◌, Some, None, codes}
-use Rattle.clap.specs.Words.{subcommand_of}
+-- Example command lines, with the commands, words and errors that the definition finds in them.
+use Rattle.std.proofs.Common.{◌≡◌, ◌==◌, refl, true, false, List, [], ◌∷◌, Some, None, codes}
+use Rattle.std.specs.List.{slice_split}
+use Rattle.clap.specs.Kinds.{Kinds}
+use Rattle.clap.specs.Words.{Text, subcommand_of}
+use Rattle.clap.specs.declared.error.kind.ErrorKind.TheVariants as kind
 use Rattle.clap.proofs.OnLiterals.{clap_on_literals}
 use Rattle.dap_commands.specs.Commands.{command_named, program, words_named}
+use Rattle.dap_commands.specs.LeadingArguments.{decided_kinds}
+use Rattle.dap_commands.specs.declared.commands.Command.{Command}
 use Rattle.dap_commands.specs.declared.commands.Command.TheVariants.{Check, Golden, Pair, Stream}
 use Rattle.dap_commands.specs.declared.commands.Printed.TheVariants.{Verdict, AllDifferences}
 use Rattle.dap_commands.specs.declared.commands.Task.TheVariants.{Mask, Order, Show}
 use Rattle.dap_rename.specs.declared.mode.Mode.TheVariants.{PerStop, Whole}
 
--- `-` is a file.
-dash_is_input : command_named (subcommand_of program
-    (codes "dapnorm" ∷ codes "check" ∷ codes "-" ∷ []))
-    ≡ Some (Check false Whole (Some (codes "-")))
-unfolding clap_on_literals
-dash_is_input = refl
+-- The arguments of a line, between spaces; 32 is a space.
+abbrev split : Text → List Text
+split = slice_split (λ byte. byte == 32)
 
--- Options may follow files.
-mask_with_files : command_named (subcommand_of program (codes "dapnorm" ∷ codes "mask"
-    ∷ codes "rules" ∷ codes "in" ∷ codes "-o" ∷ codes "out" ∷ []))
-    ≡ Some (Stream (Mask (codes "rules")) (Some (codes "in")) (Some (codes "out")))
-unfolding clap_on_literals
-mask_with_files = refl
+-- The line selects this command.
+abbrev Selects : Text → Command → Type 0
+Selects line command = command_named (subcommand_of program (split line)) ≡ Some command
 
-golden_with_options : command_named (subcommand_of program (codes "dapnorm" ∷ codes "golden"
-    ∷ codes "--update" ∷ codes "--rules" ∷ codes "rules" ∷ codes "file" ∷ []))
-    ≡ Some (Golden (record {
+-- The line has these values of `--word`.
+abbrev HasWords : Text → List Text → Type 0
+HasWords line words = words_named (subcommand_of program (split line)) ≡ words
+
+-- The arguments of the line decide these kinds of errors.
+abbrev Decides : Text → Kinds → Type 0
+Decides line kinds = decided_kinds program (split line) ≡ kinds
+
+-- `-` is a file, and options may follow files.
+commands : Selects (codes "dapnorm check -") (Check false Whole (Some (codes "-")))
+    × Selects (codes "dapnorm mask rules in -o out")
+    (Stream (Mask (codes "rules")) (Some (codes "in")) (Some (codes "out")))
+    × Selects (codes "dapnorm golden --update --rules rules file") (Golden (record {
       golden = codes "file";
       input = None;
       rules = Some (codes "rules");
@@ -32,46 +41,31 @@ golden_with_options : command_named (subcommand_of program (codes "dapnorm" ∷ 
       «open» = false;
       update = true;
     }))
-unfolding clap_on_literals
-golden_with_options = refl
-
-show_with_options : command_named (subcommand_of program (codes "dapnorm" ∷ codes "show"
-    ∷ codes "--faulty" ∷ codes "--record=3" ∷ codes "in" ∷ codes "--explain" ∷ []))
-    ≡ Some (Stream (Show (record {
+    × Selects (codes "dapnorm show --faulty --record=3 in --explain") (Stream (Show (record {
       full = false;
       faulty = true;
       «record» = Some (codes "3");
     })) (Some (codes "in")) None)
+    × Selects (codes "dapnorm diff a --all b")
+    (Pair AllDifferences (codes "a") (codes "b") None Whole)
+    × Selects (codes "dapnorm compare --rules rules a b --per-stop")
+    (Pair Verdict (codes "a") (codes "b") (Some (codes "rules")) PerStop)
+    × Selects (codes "dapnorm order -o out rules")
+    (Stream (Order (codes "rules")) None (Some (codes "out")))
 unfolding clap_on_literals
-show_with_options = refl
-
-diff_with_options : command_named (subcommand_of program (codes "dapnorm" ∷ codes "diff"
-    ∷ codes "a" ∷ codes "--all" ∷ codes "b" ∷ []))
-    ≡ Some (Pair AllDifferences (codes "a") (codes "b") None Whole)
-unfolding clap_on_literals
-diff_with_options = refl
-
-compare_by_rules : command_named (subcommand_of program (codes "dapnorm" ∷ codes "compare"
-    ∷ codes "--rules" ∷ codes "rules" ∷ codes "a" ∷ codes "b" ∷ codes "--per-stop" ∷ []))
-    ≡ Some (Pair Verdict (codes "a") (codes "b") (Some (codes "rules")) PerStop)
-unfolding clap_on_literals
-compare_by_rules = refl
-
-order_with_output : command_named (subcommand_of program (codes "dapnorm" ∷ codes "order"
-    ∷ codes "-o" ∷ codes "out" ∷ codes "rules" ∷ []))
-    ≡ Some (Stream (Order (codes "rules")) None (Some (codes "out")))
-unfolding clap_on_literals
-order_with_output = refl
+commands = (refl, refl, refl, refl, refl, refl, refl)
 
 -- Each use of the option has a value, in order.
-words_in_order : words_named (subcommand_of program (codes "dapnorm" ∷ codes "mask"
-    ∷ codes "--word" ∷ codes "b=<b>" ∷ codes "rules" ∷ codes "--word=a==" ∷ codes "in" ∷ []))
-    ≡ codes "b=<b>" ∷ codes "a==" ∷ []
+words : HasWords (codes "dapnorm mask --word b=<b> rules --word=a== in")
+    (codes "b=<b>" ∷ codes "a==" ∷ []) × HasWords (codes "dapnorm golden file") []
 unfolding clap_on_literals
-words_in_order = refl
+words = (refl, refl)
 
-no_words : words_named (subcommand_of program (codes "dapnorm" ∷ codes "golden" ∷ codes "file"
-    ∷ []))
-    ≡ []
+-- Help for a subcommand, even if its files are missing; an error before the request for help; and
+-- a missing file, which no argument decides.
+errors : Decides (codes "dapnorm compare --help") (kind.DisplayHelp ∷ [])
+    × Decides (codes "dapnorm check --all --help") (kind.UnknownArgument ∷ [])
+    × Decides (codes "dapnorm --version none") (kind.DisplayVersion ∷ [])
+    × Decides (codes "dapnorm compare a") []
 unfolding clap_on_literals
-no_words = refl
+errors = (refl, refl, refl, refl)

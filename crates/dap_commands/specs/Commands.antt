@@ -3,7 +3,7 @@ use Rattle.std.specs.Prelude.{◌||◌, Bool, false, is_some, List, [], ◌∷�
 use Rattle.std.specs.Prelude.{if◌then◌else◌, option_and_then}
 use Rattle.std.specs.Option.{option_map_or}
 use Rattle.std.specs.Str.{bytes_eq}
-use Rattle.clap.specs.Words.{App, Row, Rule, Shape, Text, all_of, first_of}
+use Rattle.clap.specs.Words.{App, Row, Rule, Text, all_of, first_of}
 use Rattle.dap_commands.specs.Arguments.{file, flag, option, optional, program_with, repeated}
 use Rattle.dap_commands.specs.Arguments.{subcommand}
 use Rattle.dap_commands.specs.Jobs.{mode_for}
@@ -21,89 +21,50 @@ use Rattle.dap_rename.specs.declared.mode.Mode.{Mode}
 
 -- ---- the part of the program's definition that the parser reads
 
+-- Options that several subcommands have.
+abbrev pub rules_option : Rule
+rules_option = option (codes "rules")
+
+abbrev pub word_option : Rule
+word_option = repeated (codes "word")
+
+abbrev pub per_stop_flag : Rule
+per_stop_flag = flag (codes "per-stop")
+
+abbrev pub explain_flag : Rule
+explain_flag = flag (codes "explain")
+
 -- The file of the input, `[FILE]`.
 abbrev pub input_file : Rule
 input_file = optional (codes "FILE")
 
--- The file of the output, `-o FILE` or `--output FILE`; 111 is `o`.
-abbrev pub output_file : Rule
-output_file = record (option (codes "output")) { short = Some 111 }
+-- The files of the input and of the output, `-o FILE` or `--output FILE`; 111 is `o`.
+abbrev pub two_streams : List Rule
+two_streams = input_file ∷ record (option (codes "output")) { short = Some 111 } ∷ []
 
--- The option `--word`.
-abbrev pub word_option : Rule
-word_option = repeated (codes "word")
-
--- The flag `--explain`.
-abbrev pub explain_flag : Rule
-explain_flag = flag (codes "explain")
-
--- `record` and `compact`.
-abbrev pub stream : Text → Shape
-stream name = subcommand name (explain_flag ∷ input_file ∷ output_file ∷ [])
-
--- `show`.
-abbrev pub viewer : Shape
-viewer =
-    subcommand (codes "show") (flag (codes "full") ∷ flag (codes "faulty")
-    ∷ option (codes "record") ∷ explain_flag ∷ input_file ∷ output_file ∷ [])
-
--- `normalise`.
-abbrev pub normaliser : Shape
-normaliser =
-    subcommand (codes "normalise") (flag (codes "per-stop") ∷ explain_flag ∷ input_file
-    ∷ output_file ∷ [])
-
--- `mask`.
-abbrev pub masker : Shape
-masker =
-    subcommand (codes "mask") (file (codes "RULES") ∷ word_option ∷ explain_flag ∷ input_file
-    ∷ output_file ∷ [])
-
--- `order`.
-abbrev pub orderer : Shape
-orderer = subcommand (codes "order") (file (codes "RULES") ∷ input_file ∷ output_file ∷ [])
-
--- `check`.
-abbrev pub checker : Shape
-checker =
-    subcommand (codes "check") (flag (codes "complete") ∷ flag (codes "per-stop") ∷ explain_flag
-    ∷ input_file ∷ [])
-
--- A subcommand with two files, with the arguments that all such subcommands have, followed by
--- these.
-abbrev pub of_two_files : Text → List Rule → Shape
-of_two_files name rules =
-    subcommand name (file (codes "A") ∷ file (codes "B") ∷ option (codes "rules") ∷ word_option
-    ∷ flag (codes "per-stop") ∷ explain_flag ∷ rules)
-
--- `compare` and `diff`.
-abbrev pub comparer : Shape
-comparer = of_two_files (codes "compare") []
-
-abbrev pub differ : Shape
-differ = of_two_files (codes "diff") (flag (codes "all") ∷ [])
-
--- `suggest`.
-abbrev pub suggester : Shape
-suggester =
-    subcommand (codes "suggest") (file (codes "A") ∷ file (codes "B") ∷ option (codes "rules")
-    ∷ word_option ∷ explain_flag ∷ [])
-
--- `rows`.
-abbrev pub row_printer : Shape
-row_printer = subcommand (codes "rows") (optional (codes "N") ∷ [])
-
--- `golden`.
-abbrev pub golden_keeper : Shape
-golden_keeper =
-    subcommand (codes "golden") (option (codes "rules") ∷ word_option ∷ flag (codes "per-stop")
-    ∷ flag (codes "open") ∷ flag (codes "update") ∷ file (codes "GOLDEN")
-    ∷ optional (codes "INPUT") ∷ [])
+-- Two files, the rules and words for both, and these arguments.
+abbrev pub two_files : List Rule → List Rule
+two_files rules = file (codes "A") ∷ file (codes "B") ∷ rules_option ∷ word_option ∷ rules
 
 -- The program, which has a version and requires a subcommand.
 abbrev pub program : App
-program = program_with (golden_keeper ∷ stream (codes "record") ∷ checker ∷ normaliser ∷ comparer
-    ∷ differ ∷ suggester ∷ viewer ∷ masker ∷ orderer ∷ stream (codes "compact") ∷ row_printer
+program = program_with (subcommand (codes "golden") (rules_option ∷ word_option ∷ per_stop_flag
+    ∷ flag (codes "open") ∷ flag (codes "update") ∷ file (codes "GOLDEN")
+    ∷ optional (codes "INPUT") ∷ [])
+    ∷ subcommand (codes "record") (explain_flag ∷ two_streams)
+    ∷ subcommand (codes "check") (flag (codes "complete") ∷ per_stop_flag ∷ explain_flag
+    ∷ input_file ∷ [])
+    ∷ subcommand (codes "normalise") (per_stop_flag ∷ explain_flag ∷ two_streams)
+    ∷ subcommand (codes "compare") (two_files (per_stop_flag ∷ explain_flag ∷ []))
+    ∷ subcommand (codes "diff") (two_files (per_stop_flag ∷ explain_flag
+    ∷ flag (codes "all") ∷ []))
+    ∷ subcommand (codes "suggest") (two_files (explain_flag ∷ []))
+    ∷ subcommand (codes "show") (flag (codes "full") ∷ flag (codes "faulty")
+    ∷ option (codes "record") ∷ explain_flag ∷ two_streams)
+    ∷ subcommand (codes "mask") (file (codes "RULES") ∷ word_option ∷ explain_flag ∷ two_streams)
+    ∷ subcommand (codes "order") (file (codes "RULES") ∷ two_streams)
+    ∷ subcommand (codes "compact") (explain_flag ∷ two_streams)
+    ∷ subcommand (codes "rows") (optional (codes "N") ∷ [])
     ∷ [])
 
 -- ---- the command that the arguments select
@@ -117,27 +78,11 @@ abbrev pub stream_of : Task → List Row → Command
 stream_of one given =
     command.Stream one (first_of (codes "FILE") given) (first_of (codes "output") given)
 
--- The command of `check`.
-abbrev pub check_of : List Row → Command
-check_of given =
-    command.Check (has_flag (codes "complete") given) (mode_given given)
-    (first_of (codes "FILE") given)
-
 -- The command of `compare` or `diff` with this output.
 abbrev pub pair_of : Printed → List Row → Command
 pair_of printed given =
     command.Pair printed (required (codes "A") given) (required (codes "B") given)
     (first_of (codes "rules") given) (mode_given given)
-
--- The output of `diff`.
-abbrev pub differences_of : List Row → Printed
-differences_of given = if has_flag (codes "all") given then AllDifferences else FirstDifference
-
--- The command of `suggest`.
-abbrev pub suggest_of : List Row → Command
-suggest_of given =
-    command.Suggest (required (codes "A") given) (required (codes "B") given)
-    (first_of (codes "rules") given)
 
 -- The options of `show`.
 abbrev pub show_of : List Row → Show
@@ -163,12 +108,17 @@ abbrev pub command_of : Text → List Row → Option Command
 command_of name given =
     if bytes_eq name (codes "golden") then Some (command.Golden (golden_of given))
     else if bytes_eq name (codes "record") then Some (stream_of task.Record given)
-    else if bytes_eq name (codes "check") then Some (check_of given)
+    else if bytes_eq name (codes "check") then Some
+    (command.Check (has_flag (codes "complete") given) (mode_given given)
+    (first_of (codes "FILE") given))
     else if bytes_eq name (codes "normalise") then Some
     (stream_of (task.Normalise (mode_given given)) given)
     else if bytes_eq name (codes "compare") then Some (pair_of Verdict given)
-    else if bytes_eq name (codes "diff") then Some (pair_of (differences_of given) given)
-    else if bytes_eq name (codes "suggest") then Some (suggest_of given)
+    else if bytes_eq name (codes "diff") then Some
+    (pair_of (if has_flag (codes "all") given then AllDifferences else FirstDifference) given)
+    else if bytes_eq name (codes "suggest") then Some
+    (command.Suggest (required (codes "A") given) (required (codes "B") given)
+    (first_of (codes "rules") given))
     else if bytes_eq name (codes "show") then Some (stream_of (task.Show (show_of given)) given)
     else if bytes_eq name (codes "mask") then Some
     (stream_of (task.Mask (required (codes "RULES") given)) given)

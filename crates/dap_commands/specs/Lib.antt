@@ -1,6 +1,6 @@
 pub mod Arguments
 pub mod Commands
 pub mod CommandLine
-pub mod FirstWords
+pub mod LeadingArguments
 pub mod Jobs
 pub mod Reading

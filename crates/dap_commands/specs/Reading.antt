@@ -1,8 +1,8 @@
 -- What the arguments of a command line give, and why they are rejected. Source: own.
-use Rattle.std.specs.Prelude.{◌≡◌, ◌⊎◌, Bool, true, false, List, [], Option, Some, None, codes}
+use Rattle.std.specs.Prelude.{◌≡◌, ◌⊎◌, Bool, true, false, List, [], Option, codes}
 use Rattle.std.specs.Prelude.{option_map}
 use Rattle.std.specs.Borrow.{Bor}
-use Rattle.std.specs.Option.{unwrap_or}
+use Rattle.std.specs.Option.{option_map_or, unwrap_or}
 use Rattle.std.specs.Str.{bytes_eq}
 use Rattle.clap.specs.Words.{IsAmong, Kinds, Row, Text, first_of, found_of, rows_of}
 use Rattle.clap.specs.declared.ArgMatches.{ArgMatches}
@@ -25,14 +25,10 @@ text_in = option_map (λ text. text.now)
 abbrev pub required : Text → List Row → Text
 required name given = unwrap_or (first_of name given) []
 
--- The flag is set.
-abbrev pub is_set : Option Text → Bool
-is_set None = false
-is_set (Some text) = bytes_eq text (codes "true")
-
 -- A flag was given.
 abbrev pub has_flag : Text → List Row → Bool
-has_flag name given = is_set (first_of name given)
+has_flag name given =
+    option_map_or (λ text. bytes_eq text (codes "true")) (first_of name given) false
 
 -- ---- errors
 
@@ -41,13 +37,6 @@ abbrev pub is_help_or_version : ErrorKind → Bool
 is_help_or_version kind.DisplayHelp = true
 is_help_or_version kind.DisplayVersion = true
 is_help_or_version found = false
-
--- The `UsageFault` returned for an error of this kind: the requested text, a usage error, or a
--- failed allocation.
-abbrev pub IsUsageErrorOf : ErrorKind → UsageFault → Type 0
-IsUsageErrorOf found (usage.Help text) = is_help_or_version found ≡ true
-IsUsageErrorOf found (usage.Usage text) = is_help_or_version found ≡ false
-IsUsageErrorOf found usage.Memory = Unit {0}
 
 -- The `UsageFault` returned for arguments in which the parser finds these kinds of errors: the
 -- requested text if one kind is such a request, a usage error if one kind is an error or there is

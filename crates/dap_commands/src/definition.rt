@@ -1,17 +1,12 @@
-//! Defines the command line for `clap`.
-ghost use Rattle.std.specs.Prelude.{◌≡◌, IfOk};
-ghost use Rattle.clap.specs.Words.{app_of};
-ghost use Rattle.dap_commands.specs.Commands.{program};
-
-use crate::arguments::{Argument, Subcommand, program_of};
-use clap::Command;
-use std::alloc::{AllocError, Global};
+//! Defines the program's command line.
+use crate::arguments::{Argument, Subcommand};
 
 /// The version of the program, and the profile that it checks recordings against.
 pub(crate) const VERSION: &str = "0.1.0 (profile of 188 rows)";
 
 /// The description of the program.
-const ABOUT: &str = "Records, checks, normalises and compares Debug Adapter Protocol sessions";
+pub(crate) const ABOUT: &str =
+    "Records, checks, normalises and compares Debug Adapter Protocol sessions";
 
 /// The help of an argument that is a file of rules.
 const RULES: &str = "The rules file: what may differ between runs";
@@ -53,22 +48,28 @@ const EXPLAIN: Argument = Argument::Flag(
 );
 
 /// The option `--rules RULES`.
-const RULES_OPTION: Argument = Argument::Value("rules", "RULES", RULES);
+const BY_RULES: Argument = Argument::Value("rules", "RULES", RULES);
 
 /// The first file of a comparison.
-const FIRST_FILE: Argument = Argument::File("A", "The first recording");
+const FILE_A: Argument = Argument::File("A", "The first recording");
 
 /// The second file of a comparison.
-const SECOND_FILE: Argument = Argument::File("B", "The second recording");
+const FILE_B: Argument = Argument::File("B", "The second recording");
+
+/// The flag `--all`.
+const ALL: Argument = Argument::Flag(
+    "all",
+    "Pairs the records of both files, and prints all differences",
+);
 
 /// The subcommands.
-const SUBCOMMANDS: [Subcommand; 12] = [
+pub(crate) const SUBCOMMANDS: [Subcommand; 12] = [
     Subcommand {
         name: "golden",
         about: "Compares a session with its golden file, or makes it with --update",
         example: "Example: dapnorm golden session.golden session.trace",
         arguments: &[
-            RULES_OPTION,
+            BY_RULES,
             WORD,
             PER_STOP,
             Argument::Flag(
@@ -113,31 +114,13 @@ const SUBCOMMANDS: [Subcommand; 12] = [
         name: "compare",
         about: "Compares two recordings, ignoring ids",
         example: "Example: dapnorm compare session.golden session.rec",
-        arguments: &[
-            FIRST_FILE,
-            SECOND_FILE,
-            RULES_OPTION,
-            WORD,
-            PER_STOP,
-            EXPLAIN,
-        ],
+        arguments: &[FILE_A, FILE_B, BY_RULES, WORD, PER_STOP, EXPLAIN],
     },
     Subcommand {
         name: "diff",
         about: "Prints what differs in the first record that differs",
         example: "Example: dapnorm diff session.golden session.rec",
-        arguments: &[
-            FIRST_FILE,
-            SECOND_FILE,
-            RULES_OPTION,
-            WORD,
-            PER_STOP,
-            EXPLAIN,
-            Argument::Flag(
-                "all",
-                "Pairs the records of both files, and prints all differences",
-            ),
-        ],
+        arguments: &[FILE_A, FILE_B, BY_RULES, WORD, PER_STOP, EXPLAIN, ALL],
     },
     Subcommand {
         name: "suggest",
@@ -197,10 +180,3 @@ const SUBCOMMANDS: [Subcommand; 12] = [
         arguments: &[Argument::Optional("N", "The number of a row")],
     },
 ];
-
-/// Returns the definition of the command line.
-pub(crate) fn program<'a>(alloc: Global) -> Result<Command<'a>, AllocError>
-    ensures { IfOk result (λ c. app_of c ≡ program) }
-{
-    program_of(alloc, VERSION, ABOUT, &SUBCOMMANDS)
-}

@@ -1,19 +1,17 @@
 //! Reads the arguments of a command line without files with `clap`.
 ghost use Rattle.std.specs.Prelude.{[], ◌≡◌, IfOk, IfErr, Some, true, option_map};
 ghost use Rattle.clap.specs.Walk.{texts};
-ghost use Rattle.clap.specs.Words.{app_of, fault_of as faults_of, subcommand_of};
-ghost use Rattle.clap.specs.Words.{subcommand_rows_of, takes};
+ghost use Rattle.clap.specs.Words.{fault_of as faults_of, subcommand_of, takes};
 ghost use Rattle.dap_commands.specs.CommandLine.{job_named, job_of, job_spec, names_job, program};
-ghost use Rattle.dap_commands.specs.FirstWords.{FirstDecides};
+ghost use Rattle.dap_commands.specs.LeadingArguments.{FirstDecides};
 ghost use Rattle.dap_commands.specs.Reading.{IsUsageErrorFor, given};
 ghost use Rattle.dap_commands.specs.declared.commands.UsageFault.TheVariants.{Memory};
 
-use crate::arguments::{Argument, Subcommand, program_of};
+use crate::arguments::{Argument, Subcommand};
 use crate::commands::{Job, UsageFault};
-use crate::definition::VERSION;
 use crate::reading::{has_flag, no_subcommand, parse, required};
-use clap::{ArgMatches, Command};
-use std::alloc::{AllocError, Global};
+use clap::ArgMatches;
+use std::alloc::Global;
 
 /// The description of the program.
 const ABOUT: &str = "Records and normalises sessions of the Debug Adapter Protocol";
@@ -74,13 +72,6 @@ const SUBCOMMANDS: [Subcommand; 6] = [
     },
 ];
 
-/// Returns the definition of the command line.
-fn program<'a>(alloc: Global) -> Result<Command<'a>, AllocError>
-    ensures { IfOk result (λ c. app_of c ≡ program) }
-{
-    program_of(alloc, VERSION, ABOUT, &SUBCOMMANDS)
-}
-
 /// Returns the job of a subcommand with its arguments.
 fn job_by<'a>(name: &str, rows: &ArgMatches<'a>) -> Option<Job<'a>>
     ensures { option_map job_spec result ≡ job_of name.now (given rows.now) }
@@ -97,22 +88,12 @@ fn job_by<'a>(name: &str, rows: &ArgMatches<'a>) -> Option<Job<'a>>
         },
         "show" => Job::Show,
         "compare" => Job::Compare {
-            a: required(rows, "A"),
-            b: required(rows, "B"),
+            a: required(rows, "A").as_str(),
+            b: required(rows, "B").as_str(),
             per_stop: has_flag(rows, "per-stop"),
         },
         _ => return None,
     })
-}
-
-/// Returns the job that the matches of the program select.
-fn named_by<'a>(matches: &ArgMatches<'a>) -> Option<Job<'a>>
-    ensures { option_map job_spec result ≡ job_named (subcommand_rows_of matches.now) }
-{
-    match matches.subcommand() {
-        Some((name, rows)) => job_by(name, rows),
-        None => None,
-    }
 }
 
 /// Reads the arguments of a command line. The first one is the program's name.
@@ -145,14 +126,9 @@ pub fn job<'a>(alloc: Global, words: &'a [&'a str]) -> Result<Job<'a>, UsageFaul
     ensures first { IfErr result (λ fault. FirstDecides program (texts words.entry.now)
         (λ kinds. IsUsageErrorFor kinds fault)) }
 {
-    let Ok(program) = program(alloc) else {
-        return Err(UsageFault::Memory);
-    };
-    match parse(alloc, program, words) {
-        Ok(matches) => match named_by(&matches) {
-            Some(job) => Ok(job),
-            None => Err(no_subcommand(alloc)),
-        },
-        Err(fault) => Err(fault),
+    let (name, rows) = parse(alloc, ABOUT, &SUBCOMMANDS, words)?;
+    match job_by(name, &rows) {
+        Some(job) => Ok(job),
+        None => Err(no_subcommand(alloc)),
     }
 }

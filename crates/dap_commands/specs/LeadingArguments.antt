@@ -8,24 +8,24 @@ use Rattle.clap.specs.Walk.{Text, answers_to, nothing_held, walk, walk_from}
 use Rattle.clap.specs.Kinds.{Kinds, or_else}
 
 -- The kinds of errors that the arguments after the name of a subcommand decide.
-abbrev pub subcommand_shows : App → Option (Text × List Text) → Kinds
-subcommand_shows a stop =
+abbrev pub subcommand_kinds : App → Option (Text × List Text) → Kinds
+subcommand_kinds a stop =
     option_map_or (λ p. option_map_or (λ s. walk_fault s [] (walk_from nothing_held) p.1)
     (find (λ s. answers_to p.0 (label_of s)) a.subs) []) stop []
 
 -- The same for a built command and the arguments after its name.
-abbrev pub built_shows : App → List Text → Kinds
-built_shows a words =
+abbrev pub built_kinds : App → List Text → Kinds
+built_kinds a words =
     or_else (walk_fault a.top (names_of a) (walk_from nothing_held) words)
-    (subcommand_shows a (walk a.top.rules (names_of a) nothing_held words).stopped)
+    (subcommand_kinds a (walk a.top.rules (names_of a) nothing_held words).stopped)
 
 -- The kinds of errors that the arguments decide: those of the first argument that requests help or
 -- the version, or is an error. Empty if no argument does. A missing argument is not decided by any
 -- argument.
-abbrev pub words_show : App → List Text → Kinds
-words_show a words = built_shows (built a) (argument_words a words)
+abbrev pub decided_kinds : App → List Text → Kinds
+decided_kinds a words = built_kinds (built a) (argument_words a words)
 
 -- If some leading arguments decide kinds of errors, those are reported, whatever arguments follow.
 abbrev pub FirstDecides : App → List Text → (Kinds → Type 0) → Type 0
 FirstDecides a words Reports = (front rest : List Text) → words ≡ front ++ rest
-    → words_show a front ≢ [] → Reports (words_show a front)
+    → decided_kinds a front ≢ [] → Reports (decided_kinds a front)

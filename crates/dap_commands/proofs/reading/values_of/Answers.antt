@@ -1,8 +1,0 @@
-use Rattle.std.proofs.Common.{◌∙◌}
-use Rattle.clap.proofs.WalkLemmas.{raw_values-rows}
-use Rattle.clap.specs.Words.{found_of}
-use Rattle.dap_commands.proofs.reading.values_of.Goals as goal
-
-pub returns : goal.returns
-returns c =
-    c.get_strs.ensures ∙ raw_values-rows (found_of c.args.rows.now) c.args.id.now
