@@ -3,19 +3,17 @@ use Rattle.std.proofs.Common.{◌≡◌, ℕ, ℤ, true, List, Option, sym, ap, 
 use Rattle.std.specs.Option.{option_cmp}
 use Rattle.std.specs.Cmp.Lexicographic.{slice_cmp}
 use Rattle.std.specs.declared.cmp.Ordering.{Ordering}
-use Rattle.std.specs.Ordering.{is_eq, ordering_then, nat_cmp, int_cmp}
+use Rattle.std.specs.Ordering.{is_eq, on, ordering_then, nat_cmp, int_cmp}
 use Rattle.std.proofs.lemmas.Bool.{and_parts, and_from}
 use Rattle.dap_order.specs.Keys.{Key, key_of}
+use Rattle.dap_order.specs.Partners.{key_cmp as model_cmp}
 use Rattle.dap_order.specs.declared.keys.Key.{Key as ReadKey}
 use Rattle.dap_order.proofs.FreeInWords.{one_nat, one_option, one_list, option_itself, nat_itself}
 use Rattle.dap_order.proofs.FreeInWords.{list_itself}
 use Rattle.dap_order.proofs.RenamedOrder.{equal_then}
 
 abbrev pub key_cmp : ReadKey → ReadKey → Ordering
-key_cmp k l =
-    ordering_then (nat_cmp k.code l.code)
-    (ordering_then (option_cmp int_cmp k.number l.number)
-    (slice_cmp nat_cmp k.name.now l.name.now))
+key_cmp = on key_of model_cmp
 
 abbrev with_parts : ℕ → Option ℤ → List ℕ → Key
 with_parts c n t = record { code = c; number = n; name = t }

@@ -7,6 +7,7 @@ pub mod MessageOrder
 pub mod RenamedOrder
 pub mod Unnamed
 pub mod RuleLists
+pub mod PartnerKeys
 pub mod FreeInWords
 pub mod SameButOrder
 pub mod SameMessages

@@ -8,6 +8,7 @@ pub mod Table
 pub mod MessageLaws
 pub mod Keys
 pub mod Waits
+pub mod Partners
 pub mod Looks
 pub mod PlacesByKey
 pub mod SortKeys

@@ -1,15 +1,22 @@
 -- The groups of messages by their looks, for private clauses.
-use Rattle.std.specs.Prelude.{◌≡◌, ℕ, ◌<◌, Bool, not, List, length, map, slice_get}
+use Rattle.std.specs.Prelude.{◌≡◌, ℕ, ◌<◌, Bool, not, List, length, map, Some, slice_get}
 use Rattle.std.specs.List.{slice_index_or}
+use Rattle.std.specs.BTreeSet.{BTreeSet}
 use Rattle.dap_message.specs.Message.{Sent}
 use Rattle.dap_message.specs.SwapRules.{SwapRule}
 use Rattle.dap_order.specs.ByPlace.{passes_both}
 use Rattle.dap_order.specs.Free.{may_swap}
 use Rattle.dap_order.specs.Keys.{Key}
+use Rattle.dap_order.specs.Partners.{ArePartners}
+use Rattle.dap_order.specs.declared.keys.Key.{Key as ReadKey}
 
 -- The messages at the two places may not be swapped, because of their looks.
 abbrev pub blocks_at : List SwapRule → List Sent → ℕ → ℕ → Bool
 blocks_at rules ms i j = not (passes_both (may_swap rules) (slice_get ms i) (slice_get ms j))
+
+-- If there is a message at the place, the set has its partners.
+abbrev pub ArePartnersAt : List SwapRule → List Sent → ℕ → BTreeSet ReadKey → Type 0
+ArePartnersAt rules ms i set = (x : Sent) → slice_get ms i ≡ Some x → ArePartners rules x set
 
 -- For each two of these places, whether they block each other.
 abbrev pub block_table : List SwapRule → List Sent → List ℕ → List (List Bool)

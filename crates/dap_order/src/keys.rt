@@ -1,11 +1,12 @@
 //! Computes keys of messages. Messages with equal keys have the same class, conversation or look.
-ghost use Rattle.std.specs.Prelude.{◌≡◌, ◌+◌, ◌*◌, ◌<◌, ◌≤◌};
+ghost use Rattle.std.specs.Prelude.{◌≡◌, ◌+◌, ◌*◌, ◌<◌, ◌≤◌, Some, None};
 ghost use Rattle.std.specs.List.{list_any};
 ghost use Rattle.dap_message.specs.SwapRules.{swap_of, swaps_of, half_of};
 ghost use Rattle.dap_session.specs.EnvelopeView.{message_of};
 ghost use Rattle.dap_session.specs.Messages as tests;
 ghost use Rattle.dap_order.specs.Free as words;
 ghost use Rattle.dap_order.specs.Keys as keys;
+ghost use Rattle.dap_order.specs.Partners.{half_key};
 
 use crate::dependence::{begins, is_client_request, other};
 use crate::message_classes::{class_name, class_number, class_rank};
@@ -170,6 +171,28 @@ fn look_key<'m>(rules: &[SwapRule], message: &Envelope<'m>) -> Key<'m>
         code,
         number,
         name: "",
+    }
+}
+
+/// Returns the key of the messages of this kind.
+pub fn any_name_key<'m>(kind: Kind) -> Key<'m>
+    ensures { keys.key_of result ≡ half_key kind None }
+{
+    Key {
+        code: with_bit(kind_code(kind), false),
+        number: None,
+        name: "",
+    }
+}
+
+/// Returns the key of the messages of this kind with this name.
+pub fn name_key(kind: Kind, name: &str) -> Key<'_>
+    ensures { keys.key_of result ≡ half_key kind (Some name.now) }
+{
+    Key {
+        code: with_bit(kind_code(kind), true),
+        number: None,
+        name,
     }
 }
 

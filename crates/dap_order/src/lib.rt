@@ -25,6 +25,7 @@ mod message_classes;
 pub mod message_laws;
 mod message_ordering;
 mod message_plan;
+mod partners;
 mod plan;
 mod previous;
 mod progress;

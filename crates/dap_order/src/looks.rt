@@ -1,16 +1,18 @@
 //! Groups messages by their looks, and computes which groups block each other.
-ghost use Rattle.std.specs.Prelude.{◌≡◌, IfOk, map, length};
-ghost use Rattle.dap_message.specs.SwapRules.{swaps_of};
+ghost use Rattle.std.specs.Prelude.{◌≡◌, List, IfOk, map, length};
+ghost use Rattle.dap_message.specs.SwapRules.{SwapRule as Swap, swaps_of};
 ghost use Rattle.dap_order.specs.Entries.{sent_by};
 ghost use Rattle.dap_order.specs.Keys.{look_key};
 ghost use Rattle.dap_order.specs.Looks as words;
 
 use crate::entries::Entry;
-use crate::keys::By;
+use crate::keys::{By, Key};
+use crate::partners::partners_of;
 use crate::previous::previous_of;
 use crate::rules::may_swap;
 use dap_message::SwapRule;
 use std::alloc::{AllocError, Global};
+use std::collections::BTreeSet;
 
 /// The groups of the places of a list, and the first place of each group.
 #[derive(Drop)]
@@ -45,9 +47,32 @@ pub fn groups_of(
     Ok(Groups { groups, firsts })
 }
 
-/// Returns whether the looks of the messages at the two places block each other.
-fn is_blocked(rules: &[SwapRule], entries: &[Entry<'_>], place: usize, other: usize) -> bool
-    ensures { result ≡ words.blocks_at (swaps_of rules.now) (map sent_by entries.now) place other }
+/// Returns the keys of the halves that rules name together with the message at the place.
+fn partners_at<'m>(
+    alloc: Global,
+    rules: &'m [SwapRule],
+    entries: &[Entry<'m>],
+    place: usize,
+) -> Result<BTreeSet<Key<'m>>, AllocError>
+    ensures { IfOk result
+        (words.ArePartnersAt (swaps_of rules.now) (map sent_by entries.now) place) }
+{
+    match entries.get(place) {
+        Some(entry) => partners_of(alloc, rules, &entry.message),
+        None => Ok(BTreeSet::new(alloc)),
+    }
+}
+
+/// Returns whether the looks of the messages at the two places block each other. `partners` are
+/// those of the message at `place`.
+fn is_blocked<'m>(
+    partners: &BTreeSet<Key<'m>>,
+    entries: &[Entry<'m>],
+    place: usize,
+    other: usize,
+) -> bool
+    ensures { (rules : List Swap) → words.ArePartnersAt rules (map sent_by entries.now) place
+        partners.now → result ≡ words.blocks_at rules (map sent_by entries.now) place other }
 {
     let Some(x) = entries.get(place) else {
         return true;
@@ -55,32 +80,33 @@ fn is_blocked(rules: &[SwapRule], entries: &[Entry<'_>], place: usize, other: us
     let Some(y) = entries.get(other) else {
         return true;
     };
-    !may_swap(rules, &x.message, &y.message)
+    !may_swap(partners, &x.message, &y.message)
 }
 
 /// Returns for each of the places `firsts` whether its group blocks that of `place`.
-fn row_of(
+fn row_of<'m>(
     alloc: Global,
-    rules: &[SwapRule],
-    entries: &[Entry<'_>],
+    rules: &'m [SwapRule],
+    entries: &[Entry<'m>],
     firsts: &[usize],
     place: usize,
 ) -> Result<Vec<bool>, AllocError>
     ensures { IfOk result (λ row. row.items ≡ map
         (words.blocks_at (swaps_of rules.now) (map sent_by entries.now) place) firsts.now) }
 {
+    let partners = partners_at(alloc, rules, entries, place)?;
     let mut row = Vec::new(alloc);
     for other in firsts {
-        row.push(is_blocked(rules, entries, place, *other))?;
+        row.push(is_blocked(&partners, entries, place, *other))?;
     }
     Ok(row)
 }
 
 /// Returns which groups block each other. `firsts` has one place of each group.
-pub fn blocks_of(
+pub fn blocks_of<'m>(
     alloc: Global,
-    rules: &[SwapRule],
-    entries: &[Entry<'_>],
+    rules: &'m [SwapRule],
+    entries: &[Entry<'m>],
     firsts: &[usize],
 ) -> Result<Vec<Vec<bool>>, AllocError>
     ensures { IfOk result (λ blocks. map (λ row. row.items) blocks.items

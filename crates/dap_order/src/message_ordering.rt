@@ -19,9 +19,9 @@ use std::alloc::{AllocError, Global};
 /// Two recordings have the same order if and only if the rules allow swaps of neighbours that turn
 /// one into the other. The order of a recording that obeys the session rules obeys them too.
 ///
-/// The time is O(n log n + n (l + r) + l² r) for n messages, r rules and l looks. Messages have the
-/// same look if the session rules treat them alike, they have the same kind, and they have the same
-/// name or names that no rule mentions.
+/// The time is O(n log n + n (l + r) + l (l + r) log r) for n messages, r rules and l looks.
+/// Messages have the same look if the session rules treat them alike, they have the same kind, and
+/// they have the same name or names that no rule mentions.
 ///
 /// # Errors
 ///

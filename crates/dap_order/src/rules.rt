@@ -1,18 +1,22 @@
 //! Decides which messages are free with each other, by the rules that a user declares.
-ghost use Rattle.std.specs.Prelude.{◌≡◌, ◌↔◌, IsTrue};
+ghost use Rattle.std.specs.Prelude.{◌≡◌, ◌↔◌, List, IsTrue};
 ghost use Rattle.std.specs.List.{list_any};
-ghost use Rattle.dap_message.specs.SwapRules.{half_of, swap_of, swaps_of};
+ghost use Rattle.dap_message.specs.SwapRules.{SwapRule as Swap, half_of, swap_of, swaps_of};
 ghost use Rattle.dap_message.specs.Message.{sent};
 ghost use Rattle.dap_session.specs.EnvelopeView.{message_of};
 ghost use Rattle.dap_order.specs.Free as words;
+ghost use Rattle.dap_order.specs.Partners.{ArePartners};
 ghost use Rattle.dap_order.specs.Words.{IsFree};
 
 use crate::dependence::{depends, is_fixed};
+use crate::keys::Key;
+use crate::partners::has_partner;
 use dap_message::{Half, Message, SwapRule};
 use dap_session::envelope::{Envelope, envelope_of};
 use dap_session::message::{kind_of, name_of};
+use std::collections::BTreeSet;
 
-fn fits(half: &Half, message: &Envelope<'_>) -> bool
+pub(crate) fn fits(half: &Half, message: &Envelope<'_>) -> bool
     ensures { result ≡ words.fits_half (half_of half.now) (message_of message.now) }
 {
     half.kind == kind_of(message)
@@ -66,10 +70,10 @@ pub(crate) fn frees(rules: &[SwapRule], x: &Envelope<'_>, y: &Envelope<'_>) -> b
 }
 
 /// Returns whether a rule names both messages and no session rule fixes their order, whatever their
-/// ids are.
-pub(crate) fn may_swap(rules: &[SwapRule], x: &Envelope<'_>, y: &Envelope<'_>) -> bool
-    ensures { result
-        ≡ words.may_swap (swaps_of rules.now) (message_of x.now) (message_of y.now) }
+/// ids are. `partners` are those of `x`.
+pub(crate) fn may_swap<'m>(partners: &BTreeSet<Key<'m>>, x: &Envelope<'m>, y: &Envelope<'m>) -> bool
+    ensures { (rules : List Swap) → ArePartners rules (message_of x.now) partners.now
+        → result ≡ words.may_swap rules (message_of x.now) (message_of y.now) }
 {
-    some_names_both(rules, x, y) && (!is_fixed(x, y) && !is_fixed(y, x))
+    has_partner(partners, y) && (!is_fixed(x, y) && !is_fixed(y, x))
 }

@@ -3,7 +3,7 @@ use Rattle.std.proofs.Common.{refl, arith}
 use Rattle.std.specs.Prelude.{slice_get, not}
 use Rattle.std.proofs.lemmas.Option.{slice_get_past}
 use Rattle.dap_message.specs.Message.{Sent}
-use Rattle.dap_message.specs.SwapRules.{SwapRule, swaps_of}
+use Rattle.dap_message.specs.SwapRules.{SwapRule}
 use Rattle.dap_order.specs.Entries.{sent_by}
 use Rattle.dap_order.specs.Free.{may_swap}
 use Rattle.dap_order.specs.Looks.{blocks_at}
@@ -27,29 +27,31 @@ pub returns-in_default : goal.returns-in_default
 returns-in_default c =
     let entries = c.args.entries.now in
     let past : length entries ≤ c.args.place = c.in_default.ensures.lookup.3 in
-    blocks_past (swaps_of c.args.rules.now) (map sent_by entries) c.args.place c.args.other
-    (slice_get_past (map sent_by entries) c.args.place (omega (arith, len_map sent_by entries)))
+    λ rules are. blocks_past rules (map sent_by entries) c.args.place c.args.other
+    (slice_get_past (map sent_by entries) c.args.place
+    (omega (arith, len_map sent_by entries)))
 
 pub returns-in_default-get : goal.returns-in_default-get
 returns-in_default-get c =
     let entries = c.args.entries.now in
     let x = c.in-Some.x.now in
     let past : length entries ≤ c.args.other = c.in_default-get.ensures.lookup.3 in
-    blocks_before_past (swaps_of c.args.rules.now) (map sent_by entries) c.args.place c.args.other
+    λ rules are. blocks_before_past rules (map sent_by entries) c.args.place c.args.other
     (sent_by x)
     (get_map sent_by entries c.args.place x (got entries c.args.place x
     c.in-Some.ensures.lookup.3.0 c.in-Some.ensures.lookup.1))
-    (slice_get_past (map sent_by entries) c.args.other (omega (arith, len_map sent_by entries)))
+    (slice_get_past (map sent_by entries) c.args.other
+    (omega (arith, len_map sent_by entries)))
 
 pub returns : goal.returns
 returns c =
     let entries = c.args.entries.now in
     let x = c.in-Some.x.now in
     let y = c.in-Some-get.y.now in
-    ap not c.may_swap.ensures
-    ∙ blocks_there (swaps_of c.args.rules.now) (map sent_by entries) c.args.place c.args.other
-    (sent_by x) (sent_by y)
-    (get_map sent_by entries c.args.place x (got entries c.args.place x
-    c.in-Some.ensures.lookup.3.0 c.in-Some.ensures.lookup.1))
+    let first = get_map sent_by entries c.args.place x (got entries c.args.place x
+    c.in-Some.ensures.lookup.3.0 c.in-Some.ensures.lookup.1) in
+    λ rules are. ap not (c.may_swap.ensures rules (are (sent_by x) first))
+    ∙ blocks_there rules (map sent_by entries) c.args.place c.args.other
+    (sent_by x) (sent_by y) first
     (get_map sent_by entries c.args.other y (got entries c.args.other y
     c.in-Some-get.ensures.lookup.3.0 c.in-Some-get.ensures.lookup.1))

@@ -18,7 +18,7 @@ loop-other-preserved c =
     one_more (blocks_at (swaps_of c.args.rules.now) (map sent_by c.args.entries.now) c.args.place)
     c.args.firsts.now c.loop-other.other-index c.loop-other.row.items c.push.new.self.items
     c.is_blocked.result c.loop-other-test.true c.in_ok-push.ensures.items c.loop-other.invariant
-    c.is_blocked.ensures
+    (c.is_blocked.ensures (swaps_of c.args.rules.now) c.in_ok-partners.ensures)
 
 pub returns : goal.returns
 returns c =
