@@ -19,6 +19,7 @@ use dap_session::message::{kind_of, name_of};
 use std::alloc::{AllocError, Global};
 use std::collections::BTreeSet;
 
+/// Returns the key of the messages that a half names.
 fn key_of_half(half: &Half) -> Key<'_>
     ensures { keys.key_of result ≡ half_key (half_of half.now).kind (half_of half.now).name }
 {
