@@ -9,3 +9,4 @@ pub mod SameTexts
 pub mod NodeLengths
 pub mod DigitCounts
 pub mod SomeContents
+pub mod Marked

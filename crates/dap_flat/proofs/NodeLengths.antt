@@ -26,12 +26,12 @@ use Rattle.dap_flat.proofs.Spelling.{spell, pieces_spell}
 abbrev comma_if : Bool → List ℕ
 comma_if b = cond b (44 ∷ []) []
 
-with_comma : (comes : Bool) (t : Token) → begins t ≡ true
+pub with_comma : (comes : Bool) (t : Token) → begins t ≡ true
     → length (separator comes t) ≡ comma_length comes
 with_comma true t is = ap (λ b. length (comma_if b)) is
 with_comma false t is = refl
 
-without_comma : (comes : Bool) (t : Token) → begins t ≡ false → length (separator comes t) ≡ 0
+pub without_comma : (comes : Bool) (t : Token) → begins t ≡ false → length (separator comes t) ≡ 0
 without_comma true t is = ap (λ b. length (comma_if b)) is
 without_comma false t is = refl
 
@@ -56,13 +56,13 @@ closed : (comes : Bool) (t : Token) (ts : List Token) (rest : ℕ) → begins t 
 closed comes t ts rest is long more =
     omega (arith, without_comma comes t is, long, more, token_added comes t ts)
 
-quoted_length : (s : List ℕ) → length (quoted s) ≡ length (escape s) + 2
+pub quoted_length : (s : List ℕ) → length (quoted s) ≡ length (escape s) + 2
 quoted_length s = omega (arith, length-append (escape s) (34 ∷ []))
 
-key_length : (s : List ℕ) → length (token_text (token.key s)) ≡ length (escape s) + 3
+pub key_length : (s : List ℕ) → length (token_text (token.key s)) ≡ length (escape s) + 3
 key_length s = omega (arith, quoted_length s, length-append (quoted s) (58 ∷ []))
 
-number_is : (z : ℤ) → number_text (of_integer z) ≡ signed_decimal z
+pub number_is : (z : ℤ) → number_text (of_integer z) ≡ signed_decimal z
 number_is (pos n) = refl
 number_is (negsuc n) = refl
 

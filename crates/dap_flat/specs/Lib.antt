@@ -7,3 +7,4 @@ pub mod Canonical
 pub mod Ids
 pub mod Finding
 pub mod Lengths
+pub mod Marks

@@ -43,7 +43,12 @@ fn spend_nodes(limit: usize, nodes: &[Node<'_>], numbers: &[i64]) -> Option<usiz
 
 /// Subtracts the length of a node and of the comma before it.
 #[inline(always)]
-fn spend_node(left: usize, node: &Node<'_>, comes: bool, numbers: &[i64]) -> Option<usize>
+pub(crate) fn spend_node(
+    left: usize,
+    node: &Node<'_>,
+    comes: bool,
+    numbers: &[i64],
+) -> Option<usize>
     ensures { Spends left (node_length comes numbers.now node.now) result }
 {
     let comma = comma_length(comes);
@@ -70,7 +75,7 @@ fn comma_length(comes: bool) -> usize
 
 /// Returns whether a value ends with this node.
 #[inline(always)]
-fn ends_value(node: &Node<'_>) -> bool
+pub(crate) fn ends_value(node: &Node<'_>) -> bool
     ensures { result ≡ ends_value node.now }
 {
     !matches!(*node, Node::List(_) | Node::Object(_) | Node::Name(_))
@@ -92,7 +97,7 @@ fn after_node<'n>(node: &Node<'_>, numbers: &'n [i64]) -> &'n [i64]
 
 /// Returns the number of the next id: `n` if there is none for it.
 #[inline(always)]
-fn first_number(numbers: &[i64], n: i64) -> i64
+pub(crate) fn first_number(numbers: &[i64], n: i64) -> i64
     ensures { result ≡ slice_index_or numbers.now 0 n }
 {
     match numbers {

@@ -1,0 +1,15 @@
+-- The messages that a stored session represents (own).
+use Rattle.std.specs.Prelude.{List, map}
+use Rattle.dap_message.specs.Message.{Sent}
+use Rattle.dap_stored.specs.Contents.{message_in}
+use Rattle.dap_stored.specs.Heads.{message_at}
+use Rattle.dap_stored.specs.declared.message.StoredMessage.{StoredMessage}
+use Rattle.dap_stored.specs.declared.session.StoredSession.{StoredSession}
+
+-- The messages, in order.
+abbrev pub messages_of : StoredSession → List Sent
+messages_of s = map (message_at s.parts) s.heads.items
+
+-- The message that a view represents.
+abbrev pub stored_sent : StoredMessage → Sent
+stored_sent m = message_in m.side m.content.now
