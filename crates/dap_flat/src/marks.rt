@@ -60,6 +60,7 @@ fn append_marked(
     write_flat(alloc, nodes, out)
 }
 
+/// Appends a mark for each id. After an error, some may have been appended.
 #[tactic(auto, using(crate::proofs::Marked::extends_more))]
 fn mark_nodes(nodes: &[Node<'_>], marks: &mut Vec<Mark>) -> Result<(), AllocError>
     ensures ok { OnOk result

@@ -34,6 +34,7 @@ pub fn splice(
     copied
 }
 
+/// Appends the text with other numbers. After an error, some bytes may have been appended.
 #[tactic(auto, using(crate::proofs::Marked::extends_more))]
 fn copy_spliced(
     text: &[u8],
@@ -57,6 +58,7 @@ fn copy_spliced(
     out.extend_from_slice(left)
 }
 
+/// Returns the numbers after the first one.
 #[inline(always)]
 fn after_first(numbers: &[i64]) -> &[i64]
     ensures { result.now ≡ drop 1 numbers.now }
@@ -107,6 +109,7 @@ fn end_of(mark: &Mark) -> Result<usize, AllocError>
         .ok_or(AllocError)
 }
 
+/// Returns the first bytes of a text, or all of it if it is shorter.
 #[inline(always)]
 fn first_bytes(text: &[u8], count: usize) -> &[u8]
     ensures { result.now ≡ take count text.now }
@@ -118,6 +121,7 @@ fn first_bytes(text: &[u8], count: usize) -> &[u8]
     }
 }
 
+/// Returns the bytes after the first ones, or none if the text is shorter.
 #[inline(always)]
 fn bytes_after(text: &[u8], count: usize) -> &[u8]
     ensures { result.now ≡ drop count text.now }

@@ -44,6 +44,7 @@ impl<'s> StoredMessage<'s> {
     ghost use Rattle.dap_stored.specs.Heads.{AreOfMessage};
     ghost use Rattle.dap_stored.specs.Sessions.{stored_sent};
 
+    /// Returns the message of a head, with its parts.
     pub(crate) fn new(
         head: Head,
         name: &'s str,
@@ -131,6 +132,7 @@ impl AnyMessage for StoredMessage<'_> {
     }
 }
 
+/// Appends the ids of marks. After an error, some may have been appended.
 #[tactic(auto, using(dap_flat::proofs::Marked::extends_more))]
 fn list_marks(marks: &[Mark], found: &mut Vec<(Sort, i64)>) -> Result<(), AllocError>
     ensures ok { OnOk result (found.new.items ≡ found.old.items ++ map id_at marks.now) }
