@@ -1,61 +1,33 @@
--- The value whose line the rules reject, and why.
-use Rattle.std.proofs.Common.{◌≡◌, ◌≢◌, ◌∙◌, ◌+◌, ◌-◌, ◌==◌, ◌++◌, ℕ, Bool, true, false}
-use Rattle.std.proofs.Common.{List, [], ◌∷◌, ap, arith, cond, get_or, length, refl}
-use Rattle.std.proofs.Common.{codes, sym}
+-- The value whose line the rules reject, and its word.
+use Rattle.std.proofs.Common.{◌≡◌, ◌∙◌, ◌+◌, ◌-◌, ◌++◌, ℕ, suc, List, [], ◌∷◌, ap, arith}
+use Rattle.std.proofs.Common.{get_or, length, refl, subst, sym}
 use Rattle.std.proofs.Math.Seq.{get_or-append_seam}
-use Rattle.std.proofs.lemmas.Bool.{ne_eqb}
 use Rattle.std.proofs.lemmas.List.{length-append}
-use Rattle.dap_mask.specs.declared.fault.RulesCause.{RulesCause}
-use Rattle.dap_mask.specs.declared.fault.RulesCause.TheVariants as cause
 use Rattle.dap_words.specs.Words.{Pair}
-use Rattle.dapnorm.specs.WordOption.{HasNoEquals, IsValueOf, bad_word, reason_of}
+use Rattle.dapnorm.specs.WordOption.{HasNoEquals, IsValueOf}
 
--- ---- the reason
+-- ---- the word of a value
 
--- The reason is that of a line that is not a rule.
-pub other_reason : (p : Pair) (c : RulesCause) → c ≢ cause.Repeated → c ≢ cause.TooMany
-    → c ≢ cause.TooLong → reason_of p c ≡ bad_word p
-other_reason p cause.Repeated repeated many long = absurd (repeated refl)
-other_reason p cause.TooMany repeated many long = absurd (many refl)
-other_reason p cause.TooLong repeated many long = absurd (long refl)
-other_reason p other repeated many long = refl
+parts_equal : (s t v w : List ℕ) → s ++ 61 ∷ v ≡ t ++ 61 ∷ w → HasNoEquals s → HasNoEquals t
+    → (s ≡ t) × (v ≡ w)
+parts_equal [] [] v w same no_s no_t = let words : v ≡ w = cc in (refl, words)
+parts_equal [] (c ∷ t) v w same no_s no_t = absurd (no_t 0 (omega arith) (sym (ap (λ r. get_or r 0 0) same)))
+parts_equal (b ∷ s) [] v w same no_s no_t = absurd (no_s 0 (omega arith) (ap (λ r. get_or r 0 0) same))
+parts_equal (b ∷ s) (c ∷ t) v w same no_s no_t =
+    let tails : s ++ 61 ∷ v ≡ t ++ 61 ∷ w = cc in
+    let rest = parts_equal s t v w tails (λ i within. no_s (suc i) (omega arith))
+    (λ i within. no_t (suc i) (omega arith)) in
+    let first : b ≡ c = cc in
+    let texts : b ∷ s ≡ c ∷ t = cc in
+    (texts, rest.1)
 
-no_text : (text word value : List ℕ) → value ≡ text ++ 61 ∷ word → HasNoEquals text
-    → get_or value 0 0 ≡ 61 → (length text == 0) ≡ true
-no_text [] word value parts first at = refl
-no_text (b ∷ text) word value parts first at =
-    absurd (first 0 (omega arith) (sym (ap (λ s. get_or s 0 0) parts) ∙ at))
-
-some_text : (text word value : List ℕ) → value ≡ text ++ 61 ∷ word
-    → get_or value 0 0 ≢ 61 → (length text == 0) ≡ false
-some_text [] word value parts at = absurd (at (ap (λ s. get_or s 0 0) parts))
-some_text (b ∷ text) word value parts at = ne_eqb (length (b ∷ text)) 0 (λ none. omega arith)
-
--- TEXT is empty.
-pub text_is_empty : (p : Pair) (value : List ℕ) → IsValueOf p value → get_or value 0 0 ≡ 61
-    → codes "TEXT is empty" ≡ bad_word p
-text_is_empty p value is at =
-    sym (ap (λ empty. cond empty (codes "TEXT is empty") (cond (length p.word == 0)
-    (codes "WORD is empty") (codes "a WORD and a TEXT overlap: take another WORD, such as <home>")))
-    (no_text p.text p.word value is.parts is.first at))
-
--- TEXT is not empty.
-text_is_not_empty : (p : Pair) (value : List ℕ) → IsValueOf p value → get_or value 0 0 ≢ 61
-    → bad_word p ≡ cond (length p.word == 0) (codes "WORD is empty")
-    (codes "a WORD and a TEXT overlap: take another WORD, such as <home>")
-text_is_not_empty p value is at =
-    ap (λ empty. cond empty (codes "TEXT is empty") (cond (length p.word == 0)
-    (codes "WORD is empty") (codes "a WORD and a TEXT overlap: take another WORD, such as <home>")))
-    (some_text p.text p.word value is.parts at)
-
--- WORD is empty, or it overlaps.
-pub word_reason : (p : Pair) (value : List ℕ) (empty : Bool) → IsValueOf p value
-    → get_or value 0 0 ≢ 61 → (length p.word == 0) ≡ empty
-    → cond empty (codes "WORD is empty")
-    (codes "a WORD and a TEXT overlap: take another WORD, such as <home>") ≡ bad_word p
-word_reason p value empty is at word_is =
-    sym (text_is_not_empty p value is at ∙ ap (λ e. cond e (codes "WORD is empty")
-    (codes "a WORD and a TEXT overlap: take another WORD, such as <home>")) word_is)
+-- A value has one text and one word.
+pub one_word : (p q : Pair) (value : List ℕ) → IsValueOf p value → IsValueOf q value → p ≡ q
+one_word p q value is_p is_q =
+    let parts = parts_equal p.text q.text p.word q.word (sym is_p.parts ∙ is_q.parts) is_p.first
+    is_q.first in
+    ap (λ text. record { text = text; word = p.word }) parts.0
+    ∙ ap (λ word. record { text = q.text; word = word }) parts.1
 
 -- ---- the value
 

@@ -35,9 +35,6 @@ accepted_texts checked =
     codes "accepted records=" ∷ decimal checked.records ∷ codes " open="
     ∷ decimal checked.client_open ∷ codes "," ∷ decimal checked.adapter_open ∷ codes "\n" ∷ []
 
-abbrev pub accepted_line : Checked → List ℕ
-accepted_line checked = joined (accepted_texts checked)
-
 -- the lines for two recordings that are the same, and for two that differ at this record
 abbrev pub same_texts : List (List ℕ)
 same_texts = codes "same\n" ∷ []
@@ -112,6 +109,9 @@ answer_mode found = Whole
 abbrev pub answer_text : Answer → List ℕ
 answer_text found =
     joined (answer_texts found) ++ flat_map (pair_line (answer_mode found)) (answer_pairs found)
+
+abbrev pub accepted_line : Checked → List ℕ
+accepted_line checked = answer_text (answer.Accepted checked)
 
 abbrev pub verdict_text : Mode → Verdict → List ℕ
 verdict_text mode found = answer_text (answer.Verdict mode found)

@@ -14,7 +14,6 @@ use Rattle.dap_diff.specs.Matching.{DiffersAll}
 use Rattle.dap_host.specs.Files.{is_standard}
 use Rattle.dap_host.specs.declared.host.Purpose.TheVariants as purpose
 use Rattle.dap_host.specs.declared.limits.TheConstants.{LIMITS}
-use Rattle.dap_input.specs.declared.limits.Limits.{Limits}
 use Rattle.dap_mask.specs.KeptRules.{mask_of}
 use Rattle.dap_mask.specs.Mask.{Mask}
 use Rattle.dap_mask.specs.declared.mask_rules.MaskRules.{MaskRules}
@@ -26,10 +25,11 @@ use Rattle.dap_rules.specs.Modes.{mode_by}
 use Rattle.dap_rules.specs.declared.fault.ApplyRefused.{ApplyRefused}
 use Rattle.dap_rules.specs.declared.fault.ApplyRefused.TheVariants as because
 use Rattle.dapnorm.specs.Desks.{IsLeft, IsUnused, Place, empty}
-use Rattle.dapnorm.specs.Rules.{AreRules}
+use Rattle.dapnorm.specs.Rules.{AreGivenRules}
 use Rattle.dapnorm.specs.declared.answer.Answer.{Answer}
 use Rattle.dapnorm.specs.declared.answer.Answer.TheVariants as answer
 use Rattle.dapnorm.specs.declared.desk.Desk.{Desk}
+use Rattle.dapnorm.specs.declared.reading.Unread.TheVariants.{Unopened}
 use Rattle.dapnorm.specs.declared.rules.NoRules.{NoRules}
 use Rattle.dapnorm.specs.declared.why.Mistake.TheVariants.{TwoStandard}
 use Rattle.dapnorm.specs.declared.why.Why.{Why}
@@ -37,23 +37,23 @@ use Rattle.dapnorm.specs.declared.why.Why.TheVariants as why
 
 -- ---- two readers
 
-module _ {R S : Type 0} (source_a : Source R) (source_b : Source S) (limits : Limits) (mode : Mode)
-    (old_a new_a : R) (old_b new_b : S) where
+module _ {R S : Type 0} (source_a : Source R) (source_b : Source S) (mode : Mode) (old_a new_a : R)
+    (old_b new_b : S) where
   -- The command finds this about the readers.
   abbrev pub Finds : Printed → Result Answer CompareRefused → Type 0
   Finds printed.Verdict (Ok (answer.Verdict used found)) = (used ≡ mode)
-      × Compares source_a source_b limits mode old_a new_a old_b new_b (Ok found)
+      × Compares source_a source_b LIMITS mode old_a new_a old_b new_b (Ok found)
   Finds printed.Verdict (Err refused) =
-      Compares source_a source_b limits mode old_a new_a old_b new_b (Err refused)
+      Compares source_a source_b LIMITS mode old_a new_a old_b new_b (Err refused)
   Finds printed.FirstDifference (Ok (answer.Difference found)) =
-      DescribesDifference source_a source_b limits mode old_a new_a old_b new_b (Ok found)
+      DescribesDifference source_a source_b LIMITS mode old_a new_a old_b new_b (Ok found)
   Finds printed.FirstDifference (Err refused) =
-      DescribesDifference source_a source_b limits mode old_a new_a old_b new_b (Err refused)
+      DescribesDifference source_a source_b LIMITS mode old_a new_a old_b new_b (Err refused)
   Finds printed.AllDifferences (Ok (answer.Differences found)) =
-      DiffersAll source_a source_b limits mode old_a new_a old_b new_b (Ok found)
+      DiffersAll source_a source_b LIMITS mode old_a new_a old_b new_b (Ok found)
   Finds printed.AllDifferences (Err refused) =
-      DiffersAll source_a source_b limits mode old_a new_a old_b new_b (Err refused)
-  Finds one outcome = ⊥
+      DiffersAll source_a source_b LIMITS mode old_a new_a old_b new_b (Err refused)
+  Finds other outcome = ⊥
 
 -- ---- the text that rules make of an input
 
@@ -90,13 +90,40 @@ module _ {R : Type 0} (source : Source R) (mode : Mode) (mask : Mask) (old new :
   HasText (Ok text) = HasAccepted text
   HasText (Err why) = ReadsByRules source LIMITS mode mask old new (Err why) ⊎ HasRefused why
 
+module _ {R : Type 0} (source : Source R) (one : Printed) (mode : Mode) (rules : MaskRules)
+    (old_a new_a old_b new_b : R) where
+  -- The rules make this text of an input, or cannot be applied to it.
+  abbrev pub Makes : R → R → Result (Vec ℕ Global) ApplyRefused → Type 0
+  Makes old new = HasText source (mode_by (mask_of rules) mode) (mask_of rules) old new
+
+  -- The rules make texts of both inputs, and this is found about them.
+  pub record FindsTexts (outcome : Result Answer CompareRefused) : Type 0 where
+    pub text_a : Vec ℕ Global
+    pub text_b : Vec ℕ Global
+    pub makes_a : Makes old_a new_a (Ok text_a)
+    pub makes_b : Makes old_b new_b (Ok text_b)
+    pub rest_a : GivenBytes
+    pub rest_b : GivenBytes
+    pub finds : Finds memory memory (mode_by (mask_of rules) mode) (bytes_of text_a.items) rest_a
+        (bytes_of text_b.items) rest_b one outcome
+
+  -- A is read before B.
+  abbrev pub FindsByRules : Result (Option Answer) Why → Type 0
+  FindsByRules (Err (why.Unapplied A refused used)) =
+      (used ≡ rules) × Makes old_a new_a (Err refused) × IsUnused old_b new_b
+  FindsByRules (Err (why.Unapplied B refused used)) = (used ≡ rules)
+      × ((text : Vec ℕ Global) × Makes old_a new_a (Ok text)) × Makes old_b new_b (Err refused)
+  FindsByRules (Err (why.Pair refused)) = FindsTexts (Err refused)
+  FindsByRules (Ok (Some found)) = FindsTexts (Ok found)
+  FindsByRules outcome = ⊥
+
 -- ---- two inputs, by their names
 
 abbrev pub are_both_standard : List ℕ → List ℕ → Bool
 are_both_standard a b = is_standard a && is_standard b
 
 module _ {I O T : Type 0} (place : Place I O T) (one : Printed) (mode : Mode) (a b : List ℕ)
-    (desk : Desk I O T) where
+    (desk : Desk I O T) (name : Option (List ℕ)) (values : List (List ℕ)) where
   -- The inputs of A and of B are those of their names. B is opened after A.
   abbrev pub InputA : (I → I → Type 0) → Type 0
   InputA = IsLeft (place.files.opens purpose.Input a) desk.a
@@ -104,69 +131,41 @@ module _ {I O T : Type 0} (place : Place I O T) (one : Printed) (mode : Mode) (a
   abbrev pub InputB : (I → I → Type 0) → Type 0
   InputB = IsLeft (place.files.opens purpose.Input b) desk.b
 
-  -- What the command finds about both inputs.
-  abbrev pub FindsInputs : Result Answer CompareRefused → Type 0
-  FindsInputs outcome = (are_both_standard a b ≡ false)
-      × InputA (λ old_a new_a. InputB (λ old_b new_b.
-      Finds place.source place.source LIMITS mode old_a new_a old_b new_b one outcome))
+  abbrev pub RulesAre : Result (Option MaskRules) NoRules → Type 0
+  RulesAre = AreGivenRules place.files place.source name values
 
-  abbrev pub AreCompared : Result (Option Answer) Why → Type 0
-  AreCompared (Err (why.Mistake TwoStandard)) = (are_both_standard a b ≡ true) × (desk ≡ empty)
-  AreCompared (Err (why.Unopened (Some A) fault)) =
-      (desk ≡ empty) × place.files.closed purpose.Input a fault
-  AreCompared (Err (why.Unopened (Some B) fault)) =
-      InputA IsUnused × (desk.b ≡ None) × place.files.closed purpose.Input b fault
-  AreCompared (Err (why.Pair refused)) = FindsInputs (Err refused)
-  AreCompared (Ok (Some found)) = FindsInputs (Ok found)
-  AreCompared outcome = ⊥
+  -- There are rules, or the command needs none.
+  abbrev pub HasRules : Type 0
+  HasRules = (rules : Option MaskRules) × RulesAre (Ok rules)
 
-  -- ---- the same by rules
+  -- What the command finds about two readers, without rules and by rules.
+  abbrev pub FindsBy : Option MaskRules → Result (Option Answer) Why → I → I → I → I → Type 0
+  FindsBy None (Ok (Some found)) old_a new_a old_b new_b =
+      Finds place.source place.source mode old_a new_a old_b new_b one (Ok found)
+  FindsBy None (Err (why.Pair refused)) old_a new_a old_b new_b =
+      Finds place.source place.source mode old_a new_a old_b new_b one (Err refused)
+  FindsBy None outcome old_a new_a old_b new_b = ⊥
+  FindsBy (Some rules) outcome old_a new_a old_b new_b =
+      FindsByRules place.source one mode rules old_a new_a old_b new_b outcome
 
-  module _ (name : Option (List ℕ)) (values : List (List ℕ)) where
-    abbrev pub RulesAre : Result MaskRules NoRules → Type 0
-    RulesAre = AreRules place.files place.source name values
+  -- Both inputs are opened, and this is found about them.
+  pub record FindsInputs (outcome : Result (Option Answer) Why) : Type 0 where
+    pub rules : Option MaskRules
+    pub are_rules : RulesAre (Ok rules)
+    pub apart : are_both_standard a b ≡ false
+    pub finds : InputA (λ old_a new_a. InputB (λ old_b new_b.
+        FindsBy rules outcome old_a new_a old_b new_b))
 
-    -- The rules make this text of an input, or cannot be applied to it.
-    abbrev pub Makes : MaskRules → I → I → Result (Vec ℕ Global) ApplyRefused → Type 0
-    Makes rules old new =
-        HasText place.source (mode_by (mask_of rules) mode) (mask_of rules) old new
+  -- The rules are read first. Then A is opened, and then B.
+  abbrev pub IsUnopened : Result (Option Answer) Why → Type 0
+  IsUnopened (Err (why.Rules one)) = RulesAre (Err one) × (desk ≡ empty)
+  IsUnopened (Err (why.Mistake TwoStandard)) =
+      HasRules × (are_both_standard a b ≡ true) × (desk ≡ empty)
+  IsUnopened (Err (why.Unread (Some A) (Unopened fault))) =
+      HasRules × (desk ≡ empty) × place.files.closed purpose.Input a fault
+  IsUnopened (Err (why.Unread (Some B) (Unopened fault))) = HasRules × InputA IsUnused
+      × (desk.b ≡ None) × place.files.closed purpose.Input b fault
+  IsUnopened outcome = ⊥
 
-    -- The rules make texts of both inputs, and this is found about them.
-    pub record FindsTexts (outcome : Result Answer CompareRefused) : Type 0 where
-      pub rules : MaskRules
-      pub are_rules : RulesAre (Ok rules)
-      pub apart : are_both_standard a b ≡ false
-      pub text_a : Vec ℕ Global
-      pub text_b : Vec ℕ Global
-      pub makes_a : InputA (λ old new. Makes rules old new (Ok text_a))
-      pub makes_b : InputB (λ old new. Makes rules old new (Ok text_b))
-      pub new_a : GivenBytes
-      pub new_b : GivenBytes
-      pub finds : Finds memory memory LIMITS (mode_by (mask_of rules) mode) (bytes_of text_a.items)
-          new_a (bytes_of text_b.items) new_b one outcome
-
-    -- There are rules.
-    abbrev pub HasRules : Type 0
-    HasRules = (rules : MaskRules) × RulesAre (Ok rules)
-
-    -- The rules are read first. Then A and B are opened, and then A is read before B.
-    abbrev pub AreComparedBy : Result (Option Answer) Why → Type 0
-    AreComparedBy (Err (why.Rules one)) = RulesAre (Err one) × (desk ≡ empty)
-    AreComparedBy (Err (why.Mistake TwoStandard)) =
-        HasRules × (are_both_standard a b ≡ true) × (desk ≡ empty)
-    AreComparedBy (Err (why.Unopened (Some A) fault)) =
-        HasRules × (desk ≡ empty) × place.files.closed purpose.Input a fault
-    AreComparedBy (Err (why.Unopened (Some B) fault)) = HasRules × InputA IsUnused
-        × (desk.b ≡ None) × place.files.closed purpose.Input b fault
-    AreComparedBy (Err (why.Unapplied A refused rules)) = RulesAre (Ok rules)
-        × InputA (λ old new. Makes rules old new (Err refused)) × InputB IsUnused
-    AreComparedBy (Err (why.Unapplied B refused rules)) = RulesAre (Ok rules)
-        × ((text : Vec ℕ Global) × InputA (λ old new. Makes rules old new (Ok text)))
-        × InputB (λ old new. Makes rules old new (Err refused))
-    AreComparedBy (Err (why.Pair refused)) = FindsTexts (Err refused)
-    AreComparedBy (Ok (Some found)) = FindsTexts (Ok found)
-    AreComparedBy outcome = ⊥
-
-    -- Without rules and words, the inputs themselves are compared.
-    abbrev pub PairIsRun : Result (Option Answer) Why → Type 0
-    PairIsRun outcome = ((name ≡ None) × (values ≡ []) × AreCompared outcome) ⊎ AreComparedBy outcome
+  abbrev pub PairIsRun : Result (Option Answer) Why → Type 0
+  PairIsRun outcome = IsUnopened outcome ⊎ FindsInputs outcome

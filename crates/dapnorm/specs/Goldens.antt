@@ -5,7 +5,6 @@ use Rattle.std.specs.declared.alloc.Global.{Global}
 use Rattle.dap_commands.specs.declared.commands.Golden.{Golden}
 use Rattle.dap_device.specs.Crash.{LeavesOnly}
 use Rattle.dap_device.specs.Memory.{GivenBytes}
-use Rattle.dap_device.specs.declared.device.Source.{Ghosts as Source}
 use Rattle.dap_golden.specs.GoldenUpdates.{Answers, MayBeLeft, request_by}
 use Rattle.dap_golden.specs.declared.updates.GoldenDone.{GoldenDone}
 use Rattle.dap_golden.specs.declared.updates.GoldenRequest.{GoldenRequest}
@@ -14,18 +13,16 @@ use Rattle.dap_host.specs.Files.{Files}
 use Rattle.dap_host.specs.declared.host.OpenFault.{OpenFault}
 use Rattle.dap_host.specs.declared.host.Purpose.TheVariants as purpose
 use Rattle.dap_host.specs.declared.limits.TheConstants.{LIMITS}
-use Rattle.dap_input.specs.declared.refused.Refused.TheVariants.{Memory}
 use Rattle.dap_mask.specs.KeptRules.{mask_of}
 use Rattle.dap_mask.specs.declared.mask_rules.MaskRules.{MaskRules}
 use Rattle.dapnorm.specs.Comparisons.{bytes_of, memory}
-use Rattle.dapnorm.specs.Desks.{IsLeft, Place, empty}
-use Rattle.dapnorm.specs.Readings.{IsReadWhole}
-use Rattle.dapnorm.specs.Rules.{AreRules}
+use Rattle.dapnorm.specs.Desks.{IsLeft, Place, empty, inputs}
+use Rattle.dapnorm.specs.Readings.{IsFileRead}
+use Rattle.dapnorm.specs.Rules.{AreGivenRules}
 use Rattle.dapnorm.specs.declared.answer.Answer.{Answer}
 use Rattle.dapnorm.specs.declared.answer.Answer.TheVariants as answer
 use Rattle.dapnorm.specs.declared.desk.Desk.{Desk}
 use Rattle.dapnorm.specs.declared.reading.Unread.{Unread}
-use Rattle.dapnorm.specs.declared.reading.Unread.TheVariants as unread
 use Rattle.dapnorm.specs.declared.rules.NoRules.{NoRules}
 use Rattle.dapnorm.specs.declared.why.Overlap.{Overlap}
 use Rattle.dapnorm.specs.declared.why.Overlap.TheVariants.{GoldenAndInput, GoldenAndRules}
@@ -39,13 +36,6 @@ request_of golden = record {
   allow_open = golden.«open»;
   mode = golden.mode;
 }
-
--- The rules of a file and of words. Without a file and words, there are none.
-abbrev pub AreNamedRules : {I O T : Type 0} → Files I O T → Source I → Option (List ℕ)
-    → List (List ℕ) → Result (Option MaskRules) NoRules → Type 0
-AreNamedRules files source name values (Ok None) = (name ≡ None) × (values ≡ [])
-AreNamedRules files source name values (Ok (Some rules)) = AreRules files source name values (Ok rules)
-AreNamedRules files source name values (Err why) = AreRules files source name values (Err why)
 
 -- The rules file that a name leads to is another file than the golden file.
 abbrev pub AreApart : {I O T : Type 0} → Files I O T → List ℕ → Option (List ℕ) → Type 0
@@ -66,15 +56,14 @@ module _ {I O T : Type 0} (place : Place I O T) (golden : Golden) (values : List
     (name : List ℕ) (desk : Desk I O T) where
   -- The rules that the options name.
   abbrev pub RulesAre : Result (Option MaskRules) NoRules → Type 0
-  RulesAre = AreNamedRules place.files place.source golden.rules values
+  RulesAre = AreGivenRules place.files place.source golden.rules values
 
   abbrev pub HasRules : Type 0
   HasRules = (rules : Option MaskRules) × RulesAre (Ok rules)
 
-  -- The input is that of the name, and this became of reading it whole.
+  -- The input is that of the name, and is read whole, with this result.
   abbrev pub IsInput : Result (Vec ℕ Global) Unread → Type 0
-  IsInput outcome = IsLeft (place.files.opens purpose.Input name) desk.a
-      (λ old new. IsReadWhole place.source LIMITS.input old new outcome)
+  IsInput = IsFileRead place.files place.source purpose.Input name LIMITS.input desk.a
 
   -- The golden file is that of its name.
   abbrev pub Target : (T → T → Type 0) → Type 0
@@ -118,10 +107,8 @@ module _ {I O T : Type 0} (place : Place I O T) (golden : Golden) (values : List
   GoldenIsRun (Err (why.SameFile files named)) =
       (named ≡ golden.golden) × IsReplaced (Some files) × (desk ≡ empty)
   GoldenIsRun (Err (why.Rules one)) = RulesAre (Err one) × (desk ≡ empty)
-  GoldenIsRun (Err (why.Session fault)) =
-      HasRules × (desk ≡ empty) × place.files.closed purpose.Input name fault
-  GoldenIsRun (Err why.UnreadSession) = HasRules × IsInput (Err unread.Failed)
-  GoldenIsRun (Err (why.Input Memory)) = HasRules × IsInput (Err unread.Memory)
+  GoldenIsRun (Err (why.Session unread)) =
+      HasRules × IsInput (Err unread) × (desk ≡ inputs desk.a None)
   GoldenIsRun (Err (why.GoldenFile named update fault)) = HasRules
       × ((session : Vec ℕ Global) × IsInput (Ok session)) × IsNotFound named update fault
   GoldenIsRun (Err (why.Golden named stop session rules)) = IsKept named rules session (Err stop)

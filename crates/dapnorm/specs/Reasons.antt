@@ -7,8 +7,6 @@ use Rattle.dap_compare.specs.Which.{compare_refused_text, which_text}
 use Rattle.dap_compare.specs.declared.verdict.CompareRefused.{CompareRefused}
 use Rattle.dap_compare.specs.declared.verdict.CompareRefused.TheVariants as comparing
 use Rattle.dap_compare.specs.declared.verdict.Which.{Which}
-use Rattle.dap_host.specs.declared.host.OpenFault.{OpenFault}
-use Rattle.dap_host.specs.declared.host.OpenFault.TheVariants as fault
 use Rattle.dap_input.specs.RefusedText.{refused_text}
 use Rattle.dap_input.specs.declared.refused.Refused.{Refused}
 use Rattle.dap_input.specs.declared.refused.Refused.TheVariants.{Memory, ReadFault}
@@ -18,8 +16,10 @@ use Rattle.dap_rules.specs.declared.fault.ApplyRefused.{ApplyRefused}
 use Rattle.dap_rules.specs.declared.fault.ApplyRefused.TheVariants as applying
 use Rattle.dapnorm.specs.GoldenLines.{golden_line, stop_line, stop_status}
 use Rattle.dapnorm.specs.Lines.{fault_line}
+use Rattle.dapnorm.specs.Readings.{unless_memory, unread_status}
 use Rattle.dapnorm.specs.Reporting.{refusal_status, refused_status}
 use Rattle.dapnorm.specs.Saving.{unsaved_words}
+use Rattle.dapnorm.specs.declared.reading.Unread.TheVariants.{Unopened}
 use Rattle.dapnorm.specs.declared.rules.NoRules.{NoRules}
 use Rattle.dapnorm.specs.declared.rules.NoRules.TheVariants as rules
 use Rattle.dapnorm.specs.declared.stream.Unstreamed.{Unstreamed}
@@ -50,24 +50,12 @@ overlap_words overlap.GoldenAndInput =
 overlap_words overlap.GoldenAndRules =
     codes "golden: the golden file and the rules file are the same file: "
 
--- ---- files that do not open
-
--- the line about such a file, unless an allocation failed
-abbrev pub unless_memory : OpenFault → List ℕ → List ℕ
-unless_memory fault.Memory line = fault_line (refused_text Memory ∷ [])
-unless_memory (fault.Unread error) line = line
-
-abbrev pub open_status : OpenFault → ℕ
-open_status fault.Memory = 5
-open_status (fault.Unread error) = 4
+-- ---- files that are not read
 
 -- an input, or one of two, could not be read
 abbrev pub unread_line : Option Which → List ℕ
 unread_line None = fault_line (refused_text ReadFault ∷ [])
 unread_line (Some which) = fault_line (compare_refused_text (comparing.Input which ReadFault) ∷ [])
-
-abbrev pub unopened_line : Option Which → OpenFault → List ℕ
-unopened_line which why = unless_memory why (unread_line which)
 
 -- the input of `golden`
 abbrev pub unread_session_line : List ℕ
@@ -87,9 +75,8 @@ words_line usage.Memory = fault_line (refused_text Memory ∷ [])
 
 abbrev pub no_rules_line : NoRules → List ℕ
 no_rules_line (rules.Words why) = words_line why
-no_rules_line (rules.Unopened why) =
+no_rules_line (rules.File why) =
     unless_memory why (fault_line (codes "rules: read fault" ∷ []))
-no_rules_line rules.Unread = fault_line (codes "rules: read fault" ∷ [])
 no_rules_line (rules.Line why text) = fault_line
     (codes "rules: line " ∷ decimal why.line ∷ codes ": " ∷ rules_cause_name why.cause ∷ [])
 no_rules_line rules.Memory = fault_line (refused_text Memory ∷ [])
@@ -97,8 +84,7 @@ no_rules_line rules.Memory = fault_line (refused_text Memory ∷ [])
 abbrev pub no_rules_status : NoRules → ℕ
 no_rules_status (rules.Words usage.Memory) = 5
 no_rules_status (rules.Words why) = 3
-no_rules_status (rules.Unopened why) = open_status why
-no_rules_status rules.Unread = 4
+no_rules_status (rules.File why) = unread_status why
 no_rules_status (rules.Line why text) = 2
 no_rules_status rules.Memory = 5
 
@@ -137,18 +123,17 @@ abbrev pub why_line : Why → List ℕ
 why_line (why.Mistake one) = mistake_line one
 why_line (why.SameFile files name) = fault_line (overlap_words files ∷ name ∷ [])
 why_line (why.Rules one) = no_rules_line one
-why_line (why.Unopened which one) = unopened_line which one
+why_line (why.Unread which one) = unless_memory one (unread_line which)
 why_line (why.Input refused) = fault_line (refused_text refused ∷ [])
 why_line (why.Stream one mask) = unstreamed_line one
 why_line (why.Pair refused) = fault_line (compare_refused_text refused ∷ [])
 why_line (why.Unapplied which refused mask) = unapplied_line which refused
 why_line (why.Output name one) =
-    unless_memory one (fault_line (name ∷ codes ": write fault" ∷ []))
+    unless_memory (Unopened one) (fault_line (name ∷ codes ": write fault" ∷ []))
 why_line (why.Unsaved name one) = fault_line (name ∷ unsaved_words one.step ∷ [])
 why_line (why.Session one) = unless_memory one unread_session_line
-why_line why.UnreadSession = unread_session_line
 why_line (why.GoldenFile name update one) =
-    unless_memory one (golden_line (name ∷ lost_words update ∷ []))
+    unless_memory (Unopened one) (golden_line (name ∷ lost_words update ∷ []))
 why_line (why.Golden name stop session mask) = stop_line (is_some mask) name stop
 why_line (why.NoSuggestion line) = string_bytes line
 
@@ -156,15 +141,14 @@ abbrev pub why_status : Why → ℕ
 why_status (why.Mistake one) = 3
 why_status (why.SameFile files name) = 3
 why_status (why.Rules one) = no_rules_status one
-why_status (why.Unopened which one) = open_status one
+why_status (why.Unread which one) = unread_status one
 why_status (why.Input refused) = refused_status refused
 why_status (why.Stream one mask) = unstreamed_status one
 why_status (why.Pair refused) = refusal_status refused
 why_status (why.Unapplied which refused mask) = unapplied_status refused
-why_status (why.Output name one) = open_status one
+why_status (why.Output name one) = unread_status (Unopened one)
 why_status (why.Unsaved name one) = 4
-why_status (why.Session one) = open_status one
-why_status why.UnreadSession = 4
-why_status (why.GoldenFile name update one) = open_status one
+why_status (why.Session one) = unread_status one
+why_status (why.GoldenFile name update one) = unread_status (Unopened one)
 why_status (why.Golden name stop session mask) = stop_status stop
 why_status (why.NoSuggestion line) = 1

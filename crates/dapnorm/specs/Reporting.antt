@@ -47,10 +47,10 @@ module _ {S : Type 0} (sink : Sink S) where
 
 -- The command leaves the devices like this with its result. The result is reported like this, and
 -- the status is that of the result.
-pub record Answered (Leaves Tells : Result (Unit {0}) Refused → Type 0) (status : ℕ) : Type 0 where
+pub record Answered (Leaves Reports : Result (Unit {0}) Refused → Type 0) (status : ℕ) : Type 0 where
   pub outcome : Result (Unit {0}) Refused
   pub leaves : Leaves outcome
-  pub tells : Tells outcome
+  pub reports : Reports outcome
   pub status_is : status ≡ status_of outcome
 
 module _ {W E : Type 0} (sink : Sink W) (errors : Sink E) where
@@ -62,19 +62,20 @@ module _ {W E : Type 0} (sink : Sink W) (errors : Sink E) where
       ⊎ (PrefixWritten sink before after text
       × HasSent errors old new (fault_line (refused_text WriteFault ∷ [])) × (status ≡ 4))
 
-  module _ {V : Type 0} (text : V → List ℕ) (status_for : V → ℕ) where
-    -- The text of a result is printed, with the status of the result. If an input is rejected, that
-    -- is reported, and nothing is written.
-    abbrev pub ComparisonIsReported : Result V CompareRefused → W → W → E → E → ℕ → Type 0
-    ComparisonIsReported (Ok outcome) before after old new status =
+  module _ {V F : Type 0} (text : V → List ℕ) (status_for : V → ℕ) (line : F → List ℕ)
+      (fault_status : F → ℕ) where
+    -- The text of a result is printed, with the status of the result. An error is reported, with its
+    -- status, and nothing is written.
+    abbrev pub OutcomeIsReported : Result V F → W → W → E → E → ℕ → Type 0
+    OutcomeIsReported (Ok outcome) before after old new status =
         IsPrinted (text outcome) (status_for outcome) before after old new status
-    ComparisonIsReported (Err because) before after old new status = (after ≡ before)
-        × HasSent errors old new (fault_line (compare_refused_text because ∷ []))
-        × (status ≡ refusal_status because)
+    OutcomeIsReported (Err because) before after old new status = (after ≡ before)
+        × HasSent errors old new (fault_line (line because ∷ []))
+        × (status ≡ fault_status because)
 
     -- A result for which `Finds` holds is printed or reported.
-    pub record ResultIsReported (Finds : Result V CompareRefused → Type 0) (before after : W)
-        (silent spoken : E) (status : ℕ) : Type 0 where
-      pub outcome : Result V CompareRefused
+    pub record ResultIsReported (Finds : Result V F → Type 0) (before after : W) (old new : E)
+        (status : ℕ) : Type 0 where
+      pub outcome : Result V F
       pub finds : Finds outcome
-      pub tells : ComparisonIsReported outcome before after silent spoken status
+      pub reports : OutcomeIsReported outcome before after old new status

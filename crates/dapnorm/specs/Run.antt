@@ -8,22 +8,22 @@ use Rattle.dap_commands.specs.declared.commands.UsageFault.TheVariants as usage
 use Rattle.dap_compact.specs.Compacting.{Compacts, compacting}
 use Rattle.dap_device.specs.declared.device.Source.{Ghosts as Source}
 use Rattle.dap_device.specs.declared.device.Sink.{Ghosts as Sink}
-use Rattle.dap_normalise.specs.declared.checked.Checked.{Checked}
 use Rattle.dap_rename.specs.declared.mode.Mode.{Mode}
 use Rattle.dap_record.specs.TracingRun.{RecordsTrace}
 use Rattle.dap_input.specs.RefusedText.{refused_text}
 use Rattle.dapnorm.specs.Answers.{accepted_line}
+use Rattle.dapnorm.specs.Desks.{Read, Written}
 use Rattle.dapnorm.specs.Lines.{fault_line}
-use Rattle.dapnorm.specs.Reporting.{Answered, HasSent, IsReported, IsSent, status_of}
+use Rattle.dapnorm.specs.Reporting.{Answered, HasSent, IsReported, IsSent, ResultIsReported}
+use Rattle.dapnorm.specs.Reporting.{refused_status}
 use Rattle.dap_input.specs.Engine.{Answers, ReadsNoneOrAll}
 use Rattle.dap_input.specs.Refusals.{IsRefused}
 use Rattle.dap_input.specs.declared.limits.Limits.{Limits}
 use Rattle.dap_input.specs.declared.refused.Refused.{Refused}
-use Rattle.dap_input.specs.declared.refused.Refused.TheVariants.{WriteFault, Memory}
+use Rattle.dap_input.specs.declared.refused.Refused.TheVariants.{Memory}
 use Rattle.dap_normalise.specs.Checking.{Checks}
 use Rattle.dap_normalise.specs.Streaming.{Streams}
 use Rattle.dap_show.specs.Showing.{IsShownBy, showing}
-use Rattle.dap_device.specs.Written.{AllSent, PrefixWritten}
 
 -- ---- the results of the command functions, and what was read if an allocation failed
 
@@ -52,45 +52,25 @@ module _ {R W : Type 0} (source : Source R) (sink : Sink W) (limits : Limits) wh
 
 -- ---- what is printed and reported
 
-module _ {W : Type 0} (sink : Sink W) where
-  -- If `check` accepts, its line is written and flushed, or a prefix of the line is written and the
-  -- writer fails. If it rejects, nothing is written.
-  abbrev pub CheckIsPrinted : Result Checked Refused → W → W → Result (Unit {0}) Refused → Type 0
-  CheckIsPrinted (Ok checked) before after (Ok done) =
-      AllSent sink before after (accepted_line checked)
-  CheckIsPrinted (Ok checked) before after (Err WriteFault) =
-      PrefixWritten sink before after (accepted_line checked)
-  CheckIsPrinted (Ok checked) before after (Err refused) = ⊥
-  CheckIsPrinted (Err refused) before after ended = (after ≡ before) × (ended ≡ Err refused)
+module _ {R W E : Type 0} (limits : Limits) (input : Read R) (output : Written W)
+    (errors : Written E) (status : ℕ) where
+  -- An engine ends with this result, and an error is reported.
+  abbrev pub Ends : (R → R → W → W → Result (Unit {0}) Refused → Type 0) → Type 0
+  Ends Leaves = Answered (Leaves input.old input.new output.old output.new)
+      (IsReported errors.sink errors.old errors.new) status
 
--- The result of `check` for this reader is printed. If the input is rejected, or the line cannot be
--- printed, that is reported.
-pub record CheckIsReported {R W E : Type 0} (source : Source R) (sink : Sink W) (errors : Sink E)
-    (limits : Limits) (mode : Mode) (complete : Bool) (old new : R) (before after : W) (silent
-    spoken : E)
-    (status : ℕ) : Type 0 where
-  pub outcome : Result Checked Refused
-  pub checks : Checks source limits mode complete old new outcome
-  pub ended : Result (Unit {0}) Refused
-  pub printed : CheckIsPrinted sink outcome before after ended
-  pub tells : IsReported errors silent spoken ended
-  pub status_is : status ≡ status_of ended
-
-module _ {R W E : Type 0} (source : Source R) (sink : Sink W) (errors : Sink E) (limits : Limits)
-    (old new : R) (before after : W) (silent spoken : E) (status : ℕ) where
   -- The job is done over the reader: what it prints, what it reports, and its status. A job over
   -- two inputs is not done.
   abbrev pub JobIsDone : Job → Type 0
-  JobIsDone job.Compact = Answered (HasCompacted source sink limits old new before after)
-      (IsReported errors silent spoken) status
-  JobIsDone job.Record = Answered (RecordsTrace source sink limits old new before after)
-      (IsReported errors silent spoken) status
-  JobIsDone (job.Normalise per_stop) = Answered (HasNormalised source sink limits
-      (mode_for per_stop) old new before after) (IsReported errors silent spoken) status
-  JobIsDone (job.Check complete per_stop) = CheckIsReported source sink errors limits
-      (mode_for per_stop) complete old new before after silent spoken status
-  JobIsDone job.Show = Answered (HasShown source sink limits old new before after)
-      (IsReported errors silent spoken) status
+  JobIsDone job.Compact = Ends (HasCompacted input.source output.sink limits)
+  JobIsDone job.Record = Ends (RecordsTrace input.source output.sink limits)
+  JobIsDone (job.Normalise per_stop) =
+      Ends (HasNormalised input.source output.sink limits (mode_for per_stop))
+  JobIsDone (job.Check complete per_stop) = ResultIsReported output.sink errors.sink accepted_line
+      (λ _. 0) refused_text refused_status
+      (Checks input.source limits (mode_for per_stop) complete input.old input.new) output.old
+      output.new errors.old errors.new status
+  JobIsDone job.Show = Ends (HasShown input.source output.sink limits)
   JobIsDone (job.Compare a b per_stop) = ⊥
 
 module _ {W E : Type 0} (sink : Sink W) (errors : Sink E) where

@@ -21,10 +21,11 @@ use Rattle.dapnorm.specs.Reasons.{why_line, why_status}
 use Rattle.dapnorm.specs.Reporting.{HasSent, IsPrinted}
 use Rattle.dapnorm.specs.Streams.{StreamIsRun, input_name}
 use Rattle.dapnorm.specs.Suggestions.{SuggestionIsRun}
-use Rattle.dapnorm.specs.WordOption.{HasNoLines}
+use Rattle.dapnorm.specs.WordOption.{AreAccepted, HasNoLines}
 use Rattle.dapnorm.specs.declared.answer.Answer.{Answer}
 use Rattle.dapnorm.specs.declared.answer.Answer.TheVariants as answer
 use Rattle.dapnorm.specs.declared.desk.Desk.{Desk}
+use Rattle.dapnorm.specs.declared.reading.Unread.TheVariants.{Unopened}
 use Rattle.dapnorm.specs.declared.rules.NoRules.TheVariants.{Words}
 use Rattle.dapnorm.specs.declared.running.Ended.{Ended}
 use Rattle.dapnorm.specs.declared.why.Mistake.TheVariants.{NoRow}
@@ -48,7 +49,7 @@ module _ {I O T : Type 0} (place : Place I O T) (desk : Desk I O T) where
         (λ old new. Checks place.source LIMITS mode complete old new outcome)
 
     abbrev pub CheckIsRun : Result (Option Answer) Why → Type 0
-    CheckIsRun (Err (why.Unopened None fault)) =
+    CheckIsRun (Err (why.Unread None (Unopened fault))) =
         (desk ≡ empty) × place.files.closed purpose.Input name fault
     CheckIsRun (Err (why.Input refused)) = ChecksInput (Err refused)
     CheckIsRun (Ok (Some (answer.Accepted checked))) = ChecksInput (Ok checked)
@@ -77,8 +78,10 @@ module _ {I O T : Type 0} (place : Place I O T) (desk : Desk I O T) where
       pub outcome_is : outcome ≡ Err (why.Rules (Words fault))
       pub unopened : desk ≡ empty
 
+  -- Or they are accepted alone, and the command is done.
   abbrev pub IsAnswered : List (List ℕ) → Command → Result (Option Answer) Why → Type 0
-  IsAnswered values one outcome = RejectsWords values outcome ⊎ IsDone values one outcome
+  IsAnswered values one outcome =
+      RejectsWords values outcome ⊎ (AreAccepted values × IsDone values one outcome)
 
 -- An answer is printed on standard output, or why there is none is reported on standard error. The
 -- status is that of the answer, of a failed writer, or of the reason.

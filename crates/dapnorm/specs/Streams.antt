@@ -6,7 +6,6 @@ use Rattle.std.specs.declared.num.ParseIntError.{ParseIntError}
 use Rattle.dap_commands.specs.declared.commands.Show.{Show}
 use Rattle.dap_commands.specs.declared.commands.Task.{Task}
 use Rattle.dap_commands.specs.declared.commands.Task.TheVariants as task
-use Rattle.dap_compare.specs.declared.verdict.Which.{Which}
 use Rattle.dap_device.specs.declared.device.Sink.{Ghosts as Sink}
 use Rattle.dap_device.specs.declared.device.Source.{Ghosts as Source}
 use Rattle.dap_device.specs.declared.replacing.ReplaceFault.{ReplaceFault}
@@ -35,14 +34,16 @@ use Rattle.dap_show.specs.declared.detail.Detail.{Detail}
 use Rattle.dap_show.specs.declared.detail.Detail.TheVariants.{Leaves, Lists}
 use Rattle.dap_show.specs.declared.detail.ShowRequest.{ShowRequest}
 use Rattle.dap_show.specs.declared.detail.ShowRequest.TheVariants as request
+use Rattle.dap_show.specs.declared.one_record.RecordShown.{RecordShown}
 use Rattle.dap_show.specs.declared.one_record.RecordShown.TheVariants.{Shown, Missing}
 use Rattle.std.specs.Option.{unwrap_or}
-use Rattle.dapnorm.specs.Desks.{IsLeft, IsUnused, Place, empty}
+use Rattle.dapnorm.specs.Desks.{IsLeft, IsUnused, Place, Read, Written, empty, reads, writes}
 use Rattle.dapnorm.specs.Rules.{AreRules}
 use Rattle.dapnorm.specs.Run.{HasCompacted, HasNormalised, HasShown}
 use Rattle.dapnorm.specs.Saving.{Saves, no_text, text_sink}
 use Rattle.dapnorm.specs.declared.answer.Answer.{Answer}
 use Rattle.dapnorm.specs.declared.desk.Desk.{Desk}
+use Rattle.dapnorm.specs.declared.reading.Unread.TheVariants.{Unopened}
 use Rattle.dapnorm.specs.declared.rules.NoRules.{NoRules}
 use Rattle.dapnorm.specs.declared.stream.Unstreamed.{Unstreamed}
 use Rattle.dapnorm.specs.declared.stream.Unstreamed.TheVariants as stop
@@ -69,23 +70,19 @@ abbrev pub RequestsLines : Show → Bool → Bool → Type 0
 RequestsLines show full faulty =
     (show.record ≡ None) × (show.full ≡ full) × (show.faulty ≡ faulty)
 
--- Without an option, the lists of each record are printed.
-abbrev pub Requests : Show → Result (Option ShowRequest) Mistake → Type 0
-Requests show (Ok None) = RequestsLines show false false
-Requests show (Ok (Some (request.Lines detail))) =
-    RequestsLines show true false × (detail ≡ Leaves)
-Requests show (Ok (Some (request.Faulty detail))) =
-    RequestsLines show show.full true × (detail ≡ detail_of show.full)
-Requests show (Ok (Some (request.Record number))) = RequestsRecord show number
-Requests show (Err RecordAlone) =
-    (is_some show.record ≡ true) × ((show.full || show.faulty) ≡ true)
-Requests show (Err RecordNumber) =
-    (is_some show.record ≡ true) × ((show.full || show.faulty) ≡ false)
-Requests show (Err mistake) = ⊥
-
--- Another task has no options.
+-- Without an option, the lists of each record are printed. Another task has no options.
 abbrev pub TaskRequests : Task → Result (Option ShowRequest) Mistake → Type 0
-TaskRequests (task.Show show) outcome = Requests show outcome
+TaskRequests (task.Show show) (Ok None) = RequestsLines show false false
+TaskRequests (task.Show show) (Ok (Some (request.Lines detail))) =
+    RequestsLines show true false × (detail ≡ Leaves)
+TaskRequests (task.Show show) (Ok (Some (request.Faulty detail))) =
+    RequestsLines show show.full true × (detail ≡ detail_of show.full)
+TaskRequests (task.Show show) (Ok (Some (request.Record number))) = RequestsRecord show number
+TaskRequests (task.Show show) (Err RecordAlone) =
+    (is_some show.record ≡ true) × ((show.full || show.faulty) ≡ true)
+TaskRequests (task.Show show) (Err RecordNumber) =
+    (is_some show.record ≡ true) × ((show.full || show.faulty) ≡ false)
+TaskRequests (task.Show show) (Err mistake) = ⊥
 TaskRequests one outcome = outcome ≡ Ok None
 
 -- the name of the rules file of a task
@@ -115,41 +112,48 @@ pub record Ends (Leaves : Result (Unit {0}) Refused → Type 0) (outcome : Resul
   pub leaves : Leaves ended
   pub outcome_is : outcome ≡ unstreamed_of ended
 
-module _ {R W : Type 0} (source : Source R) (sink : Sink W) (old new : R) (before after : W) where
+module _ {R W : Type 0} (input : Read R) (output : Written W) where
+  -- An engine leaves the reader and the writer like this.
+  abbrev pub Over : (R → R → W → W → Result (Unit {0}) Refused → Type 0)
+      → Result (Unit {0}) Unstreamed → Type 0
+  Over Ran = Ends (Ran input.old input.new output.old output.new)
+
+  abbrev pub Views : Detail → Result (Option Refused) Refused → Type 0
+  Views detail = ViewsInput true detail LIMITS input.source output.sink input.old input.new
+      output.old output.new
+
+  abbrev pub ShowsOne : ℕ → Result RecordShown Refused → Type 0
+  ShowsOne number = ShowsRecord LIMITS input.source output.sink number input.old input.new
+      output.old output.new
+
   -- The records are shown as requested. With the marks of rejected records, the first of these is
   -- the result.
   abbrev pub IsShown : Option ShowRequest → Result (Unit {0}) Unstreamed → Type 0
-  IsShown None outcome = Ends (HasShown source sink LIMITS old new before after) outcome
+  IsShown None outcome = Over (HasShown input.source output.sink LIMITS) outcome
   IsShown (Some (request.Lines detail)) outcome =
-      Ends (ShowsInput detail LIMITS source sink old new before after) outcome
-  IsShown (Some (request.Faulty detail)) (Ok done) =
-      ViewsInput true detail LIMITS source sink old new before after (Ok None)
+      Over (ShowsInput detail LIMITS input.source output.sink) outcome
+  IsShown (Some (request.Faulty detail)) (Ok done) = Views detail (Ok None)
   IsShown (Some (request.Faulty detail)) (Err (stop.Input refused)) =
-      ViewsInput true detail LIMITS source sink old new before after (Ok (Some refused))
-      ⊎ ViewsInput true detail LIMITS source sink old new before after (Err refused)
-  IsShown (Some (request.Record number)) (Ok done) =
-      ShowsRecord LIMITS source sink number old new before after (Ok Shown)
-  IsShown (Some (request.Record number)) (Err (stop.Input refused)) =
-      ShowsRecord LIMITS source sink number old new before after (Err refused)
+      Views detail (Ok (Some refused)) ⊎ Views detail (Err refused)
+  IsShown (Some (request.Record number)) (Ok done) = ShowsOne number (Ok Shown)
+  IsShown (Some (request.Record number)) (Err (stop.Input refused)) = ShowsOne number (Err refused)
   IsShown (Some (request.Record number)) (Err (stop.NoRecord absent count)) =
-      (absent ≡ number) × ShowsRecord LIMITS source sink number old new before after
-      (Ok (Missing count))
+      (absent ≡ number) × ShowsOne number (Ok (Missing count))
   IsShown shown outcome = ⊥
 
   -- The task is done over a reader and a writer, by these rules if it takes some.
   abbrev pub IsStreamed : Task → Option ShowRequest → Mask → Result (Unit {0}) Unstreamed → Type 0
   IsStreamed task.Compact shown mask outcome =
-      Ends (HasCompacted source sink LIMITS old new before after) outcome
+      Over (HasCompacted input.source output.sink LIMITS) outcome
   IsStreamed task.Record shown mask outcome =
-      Ends (RecordsTrace source sink LIMITS old new before after) outcome
+      Over (RecordsTrace input.source output.sink LIMITS) outcome
   IsStreamed (task.Normalise mode) shown mask outcome =
-      Ends (HasNormalised source sink LIMITS mode old new before after) outcome
+      Over (HasNormalised input.source output.sink LIMITS mode) outcome
   IsStreamed (task.Show show) shown mask outcome = IsShown shown outcome
-  IsStreamed (task.Mask rules) shown mask outcome =
-      Ends (Streams (masking LIMITS mask) (Masks LIMITS mask) (IsMaskedTo LIMITS mask) source sink
-      old new before after) outcome
+  IsStreamed (task.Mask rules) shown mask outcome = Over (Streams (masking LIMITS mask)
+      (Masks LIMITS mask) (IsMaskedTo LIMITS mask) input.source output.sink) outcome
   IsStreamed (task.Order rules) shown mask outcome =
-      Ends (HasOrdered source sink mask.swaps old new before after) outcome
+      Over (HasOrdered input.source output.sink mask.swaps) outcome
 
 -- ---- the output
 
@@ -194,8 +198,8 @@ module _ {I O T : Type 0} (place : Place I O T) where
     -- The task was done over the input and a writer.
     abbrev pub Does : {W : Type 0} → Sink W → MaskRules → W → W → Result (Unit {0}) Unstreamed
         → Type 0
-    Does sink rules before after outcome = Input (λ old new. IsStreamed place.source sink old new
-        before after task shown (mask_of rules) outcome)
+    Does sink rules before after outcome = Input (λ old new. IsStreamed
+        (reads place.source old new) (writes sink before after) task shown (mask_of rules) outcome)
 
     -- The input is opened first, then the output, and then the rules file. The task writes to the
     -- output.
@@ -204,7 +208,7 @@ module _ {I O T : Type 0} (place : Place I O T) where
       Output = IsLeft (IsOutput place.files output) desk.output
 
       abbrev pub IsWritten : Result (Option Answer) Why → Type 0
-      IsWritten (Err (why.Unopened None fault)) =
+      IsWritten (Err (why.Unread None (Unopened fault))) =
           (desk ≡ empty) × place.files.closed purpose.Input name fault
       IsWritten (Err (why.Output named fault)) = (named ≡ unwrap_or output []) × Input IsUnused
           × (desk.output ≡ None) × IsNoOutput place.files output fault
@@ -242,7 +246,7 @@ module _ {I O T : Type 0} (place : Place I O T) where
         pub saves : Target (λ before after. Saves place.file text.out before after outcome)
 
       abbrev pub IsSavedIn : Result (Option Answer) Why → Type 0
-      IsSavedIn (Err (why.Unopened None fault)) =
+      IsSavedIn (Err (why.Unread None (Unopened fault))) =
           (desk ≡ empty) × place.files.closed purpose.Input name fault
       IsSavedIn (Err (why.Output named fault)) = (named ≡ output) × Input IsUnused
           × (desk.target ≡ None) × place.files.no_target true output fault

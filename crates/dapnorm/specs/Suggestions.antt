@@ -2,12 +2,11 @@
 use Rattle.std.specs.Prelude.{◌≡◌, ◌⊎◌, ℕ, ◌≤◌, ◌++◌, true, false, List, [], Option, Some, None, Result, Ok, Err, Vec}
 use Rattle.std.specs.Prelude.{length}
 use Rattle.std.specs.declared.alloc.Global.{Global}
-use Rattle.dap_compare.specs.declared.verdict.CompareRefused.TheVariants as comparing
 use Rattle.dap_compare.specs.declared.verdict.Which.{Which}
 use Rattle.dap_compare.specs.declared.verdict.Which.TheVariants.{A, B}
 use Rattle.dap_host.specs.declared.host.Purpose.TheVariants as purpose
 use Rattle.dap_host.specs.declared.limits.TheConstants.{LIMITS}
-use Rattle.dap_input.specs.declared.refused.Refused.TheVariants.{Memory, ReadFault}
+use Rattle.dap_input.specs.declared.refused.Refused.TheVariants.{Memory}
 use Rattle.dap_mask.specs.KeptRules.{mask_of}
 use Rattle.dap_mask.specs.RulesFile.{rules_said}
 use Rattle.dap_mask.specs.declared.mask_rules.MaskRules.{MaskRules}
@@ -17,14 +16,13 @@ use Rattle.dap_rules.specs.declared.fault.ApplyRefused.TheVariants as step
 use Rattle.dap_suggest.specs.NotSuggested.{AreAccepted, IsInputRejected}
 use Rattle.dap_suggest.specs.Suggested.{AreSameBy}
 use Rattle.dapnorm.specs.Comparisons.{are_both_standard}
-use Rattle.dapnorm.specs.Desks.{IsLeft, Place, empty}
-use Rattle.dapnorm.specs.Readings.{IsReadWhole}
+use Rattle.dapnorm.specs.Desks.{Place, empty, inputs}
+use Rattle.dapnorm.specs.Readings.{IsFileRead}
 use Rattle.dapnorm.specs.Rules.{IsRulesText}
 use Rattle.dapnorm.specs.declared.answer.Answer.{Answer}
 use Rattle.dapnorm.specs.declared.answer.Answer.TheVariants as answer
 use Rattle.dapnorm.specs.declared.desk.Desk.{Desk}
 use Rattle.dapnorm.specs.declared.reading.Unread.{Unread}
-use Rattle.dapnorm.specs.declared.reading.Unread.TheVariants as unread
 use Rattle.dapnorm.specs.declared.rules.NoRules.{NoRules}
 use Rattle.dapnorm.specs.declared.rules.NoRules.TheVariants as no_rules
 use Rattle.dapnorm.specs.declared.why.Mistake.TheVariants.{TwoStandard}
@@ -67,14 +65,12 @@ module _ {I O T : Type 0} (place : Place I O T) (a b : List ℕ) (rules : Option
   abbrev pub HasGiven : Type 0
   HasGiven = (given : Vec ℕ Global) × GivenIs (Ok given)
 
-  -- The inputs are those of their names, and this became of reading them whole.
+  -- The inputs are those of their names, and are read whole, with this result.
   abbrev pub InputA : Result (Vec ℕ Global) Unread → Type 0
-  InputA outcome = IsLeft (place.files.opens purpose.Input a) desk.a
-      (λ old new. IsReadWhole place.source LIMITS.input old new outcome)
+  InputA = IsFileRead place.files place.source purpose.Input a LIMITS.input desk.a
 
   abbrev pub InputB : Result (Vec ℕ Global) Unread → Type 0
-  InputB outcome = IsLeft (place.files.opens purpose.Input b) desk.b
-      (λ old new. IsReadWhole place.source LIMITS.input old new outcome)
+  InputB = IsFileRead place.files place.source purpose.Input b LIMITS.input desk.b
 
   abbrev pub HasA : Type 0
   HasA = (read : Vec ℕ Global) × InputA (Ok read)
@@ -94,15 +90,9 @@ module _ {I O T : Type 0} (place : Place I O T) (a b : List ℕ) (rules : Option
   abbrev pub IsStopped : Result (Option Answer) Why → Type 0
   IsStopped (Err (why.Mistake TwoStandard)) = (are_both_standard a b ≡ true) × (desk ≡ empty)
   IsStopped (Err (why.Rules one)) = GivenIs (Err one) × (desk ≡ empty)
-  IsStopped (Err (why.Unopened (Some A) fault)) =
-      HasGiven × (desk ≡ empty) × place.files.closed purpose.Input a fault
-  IsStopped (Err (why.Unopened (Some B) fault)) =
-      HasGiven × HasA × (desk.b ≡ None) × place.files.closed purpose.Input b fault
-  IsStopped (Err (why.Pair (comparing.Input A ReadFault))) = HasGiven × InputA (Err unread.Failed)
-  IsStopped (Err (why.Pair (comparing.Input B ReadFault))) =
-      HasGiven × HasA × InputB (Err unread.Failed)
-  IsStopped (Err (why.Pair comparing.Memory)) =
-      HasGiven × (InputA (Err unread.Memory) ⊎ (HasA × InputB (Err unread.Memory)))
+  IsStopped (Err (why.Unread (Some A) unread)) =
+      HasGiven × InputA (Err unread) × (desk ≡ inputs desk.a None)
+  IsStopped (Err (why.Unread (Some B) unread)) = HasGiven × HasA × InputB (Err unread)
   IsStopped outcome = ⊥
 
   abbrev pub SuggestionIsRun : Result (Option Answer) Why → Type 0

@@ -97,6 +97,12 @@ pub record HasLinesOf (values : List (List ℕ)) (text rules : List ℕ) : Type 
   pub rules_are : rules ≡ with_word_lines text pairs
   pub accepted : IsAccepted text → IsAccepted rules
 
+-- The lines of the values alone are accepted.
+pub record AreAccepted (values : List (List ℕ)) : Type 0 where
+  pub rules : List ℕ
+  pub lines : HasLinesOf values [] rules
+  pub accepted : IsAccepted rules
+
 -- ---- why the values have not been added to the text
 
 -- Why the rules reject a line as no rule: TEXT or WORD is empty, or they overlap.

@@ -73,7 +73,7 @@ fn differ<'a>(number: u64, lines: &'a [u8]) -> Parts<'a>
 }
 
 /// Returns the parts of the line of an accepted recording.
-pub(crate) fn accepted<'a>(checked: &Checked) -> Parts<'a>
+fn accepted<'a>(checked: &Checked) -> Parts<'a>
     ensures { parts_text result ≡ joined (accepted_texts checked.now) }
 {
     [

@@ -4,20 +4,19 @@ ghost use Rattle.dap_golden.specs.Golden.{mask_given};
 ghost use Rattle.dap_host.specs.declared.limits.TheConstants.{LIMITS};
 ghost use Rattle.dap_mask.specs.KeptRules.{mask_of};
 ghost use Rattle.dapnorm.specs.Desks.{TakesAtMost, empty, here};
-ghost use Rattle.dapnorm.specs.Goldens.{AreNamedRules, GoldenIsRun, Replaces, request_of};
+ghost use Rattle.dapnorm.specs.Goldens.{GoldenIsRun, Replaces, request_of};
 ghost use Rattle.dapnorm.specs.Streams.{input_name};
 
 use crate::answer::Answer;
 use crate::desk::Desk;
-use crate::reading::{Unread, read_whole};
-use crate::rules::{NoRules, rules_of};
+use crate::reading::read_file;
+use crate::rules::given_rules;
 use crate::stream::{input_name, text_of};
 use crate::why::{Overlap, Why};
 use dap_commands::{Golden, Name};
 use dap_device::MemorySource;
 use dap_golden::{GoldenRequest, golden_file};
 use dap_host::{Host, LIMITS, Purpose};
-use dap_input::Refused;
 use dap_mask::MaskRules;
 use std::alloc::Global;
 
@@ -29,24 +28,6 @@ fn request_of(golden: &Golden<'_>) -> GoldenRequest
         update: golden.update,
         allow_open: golden.open,
         mode: golden.mode,
-    }
-}
-
-/// Reads the rules that the options name. Without a rules file and words, there are none.
-fn golden_rules<H: Host>(
-    alloc: Global,
-    host: &H,
-    golden: &Golden<'_>,
-    values: &[Name<'_>],
-) -> Result<Option<MaskRules>, NoRules>
-    ensures { AreNamedRules (H.files host.now) H.Input.Source golden.now.rules values.now result }
-{
-    if golden.rules.is_none() && values.is_empty() {
-        return Ok(None);
-    }
-    match rules_of(alloc, host, text_of(&golden.rules), values) {
-        Ok(rules) => Ok(Some(rules)),
-        Err(why) => Err(why),
     }
 }
 
@@ -71,14 +52,10 @@ fn replaced<H: Host>(host: &H, golden: &Golden<'_>, name: &str) -> Option<Overla
         return Some(Overlap::GoldenAndInput);
     }
     match &golden.rules {
-        None => None,
-        Some(rules) => {
-            if host.are_same(golden.golden.as_str(), rules.as_str()) {
-                Some(Overlap::GoldenAndRules)
-            } else {
-                None
-            }
+        Some(rules) if host.are_same(golden.golden.as_str(), rules.as_str()) => {
+            Some(Overlap::GoldenAndRules)
         }
+        _ => None,
     }
 }
 
@@ -102,19 +79,13 @@ pub(crate) fn run_golden<'a, H: Host>(
     if let Some(files) = replaced(host, golden, name) {
         return Err(Why::SameFile(files, Name::new(path)));
     }
-    let rules = match golden_rules(alloc, host, golden, values) {
+    let rules = match given_rules(alloc, host, text_of(&golden.rules), values) {
         Ok(rules) => rules,
         Err(why) => return Err(Why::Rules(why)),
     };
-    let input = match host.open(Purpose::Input, name) {
-        Ok(input) => input,
-        Err(fault) => return Err(Why::Session(fault)),
-    };
-    let reader = desk.a.insert(input);
-    let session = match read_whole(alloc, reader, LIMITS.input) {
+    let session = match read_file(alloc, host, Purpose::Input, name, LIMITS.input, &mut desk.a) {
         Ok(session) => session,
-        Err(Unread::Failed) => return Err(Why::UnreadSession),
-        Err(Unread::Memory) => return Err(Why::Input(Refused::Memory)),
+        Err(why) => return Err(Why::Session(why)),
     };
     let file = match host.target(path, golden.update) {
         Ok(file) => file,

@@ -73,7 +73,7 @@ pub(crate) fn write_parts<W: Sink>(writer: &mut W, parts: &[Part<'_>]) -> Result
 }
 
 /// Writes all parts, one after another, and flushes.
-pub(crate) fn send_parts<W: Sink>(writer: &mut W, parts: &[Part<'_>]) -> Result<(), DeviceFault>
+fn send_parts<W: Sink>(writer: &mut W, parts: &[Part<'_>]) -> Result<(), DeviceFault>
     requires { W.failures writer.old < 2 ^ 62 }
     ensures { HasSentAll W.Sink writer.old writer.new result (parts_text parts.now) }
 {

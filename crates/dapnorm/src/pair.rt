@@ -4,16 +4,17 @@ ghost use Rattle.dap_commands.specs.Reading.{text_in};
 ghost use Rattle.dap_host.specs.declared.limits.TheConstants.{LIMITS};
 ghost use Rattle.dap_input.specs.Limits.{AreSound};
 ghost use Rattle.dap_normalise.specs.NameTables.{AreReady};
-ghost use Rattle.dapnorm.specs.Comparisons.{AreCompared, AreComparedBy, Finds};
-ghost use Rattle.dapnorm.specs.Comparisons.{PairIsRun, are_both_standard};
-ghost use Rattle.dapnorm.specs.Desks.{TakesAtMost, empty, here};
+ghost use Rattle.dapnorm.specs.Comparisons.{Finds, FindsByRules, PairIsRun, are_both_standard};
+ghost use Rattle.dapnorm.specs.Desks.{writes};
+ghost use Rattle.dapnorm.specs.Desks.{CanRead, CanWrite, TakesAtMost, empty, here, reads};
 ghost use Rattle.dapnorm.specs.Pairs.{CompareIsReported};
 
 use crate::answer::Answer;
 use crate::desk::Desk;
 use crate::line::{Part, fault, report_line};
+use crate::reading::Unread;
 use crate::reporting::refusal_status;
-use crate::rules::rules_of;
+use crate::rules::given_rules;
 use crate::texts::text_by_rules;
 use crate::why::{Mistake, Why};
 use dap_commands::{Name, Printed};
@@ -22,6 +23,7 @@ use dap_device::{MemorySource, Sink, Source};
 use dap_diff::{diff_all_with, diff_with};
 use dap_host::{Host, LIMITS, Purpose, is_standard};
 use dap_input::Limits;
+use dap_mask::MaskRules;
 use dap_rename::{Mode, NameTable, Tables, index_tables};
 use dap_rules::mode_by;
 use std::alloc::Global;
@@ -47,18 +49,14 @@ pub fn run_compare<A: Source, B: Source, W: Sink, E: Sink>(
     mode: Mode,
 ) -> u8
     requires limits { AreSound limits }
-    requires given_a { A.given reader_a.old < 2 ^ 62 }
-    requires given_b { B.given reader_b.old < 2 ^ 62 }
-    requires failures_a { A.failures reader_a.old < 2 ^ 62 }
-    requires failures_b { B.failures reader_b.old < 2 ^ 62 }
-    requires write_failures { W.failures writer.old < 2 ^ 62 }
-    requires error_failures { E.failures errors.old < 2 ^ 62 }
+    requires readers { CanRead A.Source reader_a.old × CanRead B.Source reader_b.old }
+    requires writers { CanWrite W.Sink writer.old × CanWrite E.Sink errors.old }
 
     // The output is the lines of the verdict, flushed. A rejected input or a failed writer is
     // reported, and the status is that of the verdict or of the error.
-    ensures reported { CompareIsReported A.Source B.Source W.Sink E.Sink limits mode
-        reader_a.old reader_a.new reader_b.old reader_b.new writer.old writer.new
-        errors.old errors.new result }
+    ensures reported { CompareIsReported limits mode (reads A.Source reader_a.old reader_a.new)
+        (reads B.Source reader_b.old reader_b.new) (writes W.Sink writer.old writer.new)
+        (writes E.Sink errors.old errors.new) result }
 
     // It reads at most one byte past the limit of each.
     ensures taken_a { A.given reader_a.new ≤ A.given reader_a.old + limits.input + 1 }
@@ -87,17 +85,13 @@ pub fn run_compare_with<A: Source, B: Source, W: Sink, E: Sink, T: NameTable + D
     requires limits { AreSound limits }
     requires tables_a { AreReady T.numbers T.limit limits tables_a }
     requires tables_b { AreReady T.numbers T.limit limits tables_b }
-    requires given_a { A.given reader_a.old < 2 ^ 62 }
-    requires given_b { B.given reader_b.old < 2 ^ 62 }
-    requires failures_a { A.failures reader_a.old < 2 ^ 62 }
-    requires failures_b { B.failures reader_b.old < 2 ^ 62 }
-    requires write_failures { W.failures writer.old < 2 ^ 62 }
-    requires error_failures { E.failures errors.old < 2 ^ 62 }
+    requires readers { CanRead A.Source reader_a.old × CanRead B.Source reader_b.old }
+    requires writers { CanWrite W.Sink writer.old × CanWrite E.Sink errors.old }
 
     // The guarantees of `run_compare`, for any tables.
-    ensures reported { CompareIsReported A.Source B.Source W.Sink E.Sink limits mode
-        reader_a.old reader_a.new reader_b.old reader_b.new writer.old writer.new
-        errors.old errors.new result }
+    ensures reported { CompareIsReported limits mode (reads A.Source reader_a.old reader_a.new)
+        (reads B.Source reader_b.old reader_b.new) (writes W.Sink writer.old writer.new)
+        (writes E.Sink errors.old errors.new) result }
     ensures taken_a { A.given reader_a.new ≤ A.given reader_a.old + limits.input + 1 }
     ensures taken_b { B.given reader_b.new ≤ B.given reader_b.old + limits.input + 1 }
 {
@@ -111,48 +105,85 @@ pub fn run_compare_with<A: Source, B: Source, W: Sink, E: Sink, T: NameTable + D
 }
 
 /// Compares two recordings, and returns what the command finds. The tables must be empty, each with
-/// the limit `limits.ids`.
+/// the limit of ids of the program.
 fn found<'a, A: Source, B: Source, T: NameTable + Drop>(
     alloc: Global,
     printed: Printed,
+    mode: Mode,
     reader_a: &mut A,
     reader_b: &mut B,
-    limits: Limits,
     tables_a: Tables<T>,
     tables_b: Tables<T>,
-    mode: Mode,
 ) -> Result<Answer<'a>, CompareRefused>
-    requires limits { AreSound limits }
-    requires tables_a { AreReady T.numbers T.limit limits tables_a }
-    requires tables_b { AreReady T.numbers T.limit limits tables_b }
-    requires given_a { A.given reader_a.old < 2 ^ 62 }
-    requires given_b { B.given reader_b.old < 2 ^ 62 }
-    requires failures_a { A.failures reader_a.old < 2 ^ 62 }
-    requires failures_b { B.failures reader_b.old < 2 ^ 62 }
-    ensures finds { Finds A.Source B.Source limits mode reader_a.old reader_a.new reader_b.old
-        reader_b.new printed result }
-    ensures taken_a { A.given reader_a.new ≤ A.given reader_a.old + limits.input + 1 }
-    ensures taken_b { B.given reader_b.new ≤ B.given reader_b.old + limits.input + 1 }
+    requires tables_a { AreReady T.numbers T.limit LIMITS tables_a }
+    requires tables_b { AreReady T.numbers T.limit LIMITS tables_b }
+    requires readers { CanRead A.Source reader_a.old × CanRead B.Source reader_b.old }
+    ensures finds { Finds A.Source B.Source mode reader_a.old reader_a.new reader_b.old reader_b.new
+        printed result }
+    ensures taken_a { A.given reader_a.new ≤ A.given reader_a.old + LIMITS.input + 1 }
+    ensures taken_b { B.given reader_b.new ≤ B.given reader_b.old + LIMITS.input + 1 }
 {
     match printed {
         Printed::Verdict => {
-            match compare_with(alloc, reader_a, reader_b, limits, tables_a, tables_b, mode) {
+            match compare_with(alloc, reader_a, reader_b, LIMITS, tables_a, tables_b, mode) {
                 Ok(verdict) => Ok(Answer::Verdict(mode, verdict)),
                 Err(refused) => Err(refused),
             }
         }
         Printed::FirstDifference => {
-            match diff_with(alloc, reader_a, reader_b, limits, tables_a, tables_b, mode) {
+            match diff_with(alloc, reader_a, reader_b, LIMITS, tables_a, tables_b, mode) {
                 Ok(diff) => Ok(Answer::Difference(diff)),
                 Err(refused) => Err(refused),
             }
         }
         Printed::AllDifferences => {
-            match diff_all_with(alloc, reader_a, reader_b, limits, tables_a, tables_b, mode) {
+            match diff_all_with(alloc, reader_a, reader_b, LIMITS, tables_a, tables_b, mode) {
                 Ok(all) => Ok(Answer::Differences(all)),
                 Err(refused) => Err(refused),
             }
         }
+    }
+}
+
+/// Compares what rules make of two recordings. A is read before B.
+fn found_by_rules<'a, H: Host>(
+    alloc: Global,
+    host: &H,
+    printed: Printed,
+    mode: Mode,
+    rules: MaskRules,
+    reader_a: &mut H::Input,
+    reader_b: &mut H::Input,
+) -> Result<Option<Answer<'a>>, Why<'a>>
+    requires readers { CanRead H.Input.Source reader_a.old × CanRead H.Input.Source reader_b.old }
+    ensures finds { FindsByRules H.Input.Source printed mode rules reader_a.old reader_a.new
+        reader_b.old reader_b.new result }
+    ensures taken_a { H.Input.given reader_a.new ≤ H.Input.given reader_a.old + LIMITS.input + 1 }
+    ensures taken_b { H.Input.given reader_b.new ≤ H.Input.given reader_b.old + LIMITS.input + 1 }
+{
+    let used = mode_by(&rules, mode);
+    let text_a = match text_by_rules(alloc, &rules, reader_a, host.tables(alloc), used) {
+        Ok(text) => text,
+        Err(refused) => return Err(Why::Unapplied(Which::A, refused, rules)),
+    };
+    let text_b = match text_by_rules(alloc, &rules, reader_b, host.tables(alloc), used) {
+        Ok(text) => text,
+        Err(refused) => return Err(Why::Unapplied(Which::B, refused, rules)),
+    };
+    let mut bytes_a = MemorySource::new(text_a.as_slice());
+    let mut bytes_b = MemorySource::new(text_b.as_slice());
+    let (tables_a, tables_b) = (host.tables(alloc), host.tables(alloc));
+    match found(
+        alloc,
+        printed,
+        used,
+        &mut bytes_a,
+        &mut bytes_b,
+        tables_a,
+        tables_b,
+    ) {
+        Ok(answer) => Ok(Some(answer)),
+        Err(refused) => Err(Why::Pair(refused)),
     }
 }
 
@@ -163,106 +194,8 @@ pub(crate) fn are_both_standard(a: &str, b: &str) -> bool
     is_standard(a) && is_standard(b)
 }
 
-/// Compares the recordings that two names lead to. A is opened before B.
-fn compare_inputs<'a, H: Host>(
-    alloc: Global,
-    host: &H,
-    printed: Printed,
-    mode: Mode,
-    a: &str,
-    b: &str,
-    desk: &mut Desk<H::Input, H::Output, H::Target>,
-) -> Result<Option<Answer<'a>>, Why<'a>>
-    requires { desk.old ≡ empty }
-    ensures compared { AreCompared (here (H.files host.now) H.Input.Source H.Output.Sink
-        H.Target.Replaceable) printed mode a.now b.now desk.new result }
-    ensures taken_a { TakesAtMost H.Input.given (LIMITS.input + 1) desk.new.a }
-    ensures taken_b { TakesAtMost H.Input.given (LIMITS.input + 1) desk.new.b }
-{
-    if are_both_standard(a, b) {
-        return Err(Why::Mistake(Mistake::TwoStandard));
-    }
-    let input_a = match host.open(Purpose::Input, a) {
-        Ok(input) => input,
-        Err(fault) => return Err(Why::Unopened(Some(Which::A), fault)),
-    };
-    let reader_a = desk.a.insert(input_a);
-    let input_b = match host.open(Purpose::Input, b) {
-        Ok(input) => input,
-        Err(fault) => return Err(Why::Unopened(Some(Which::B), fault)),
-    };
-    let reader_b = desk.b.insert(input_b);
-    let (tables_a, tables_b) = (host.tables(alloc), host.tables(alloc));
-    match found(
-        alloc, printed, reader_a, reader_b, LIMITS, tables_a, tables_b, mode,
-    ) {
-        Ok(answer) => Ok(Some(answer)),
-        Err(refused) => Err(Why::Pair(refused)),
-    }
-}
-
-/// Compares what rules make of the recordings that two names lead to. The rules are read first.
-/// Then A and B are opened, and A is read before B.
-fn compare_by_rules<'a, H: Host>(
-    alloc: Global,
-    host: &H,
-    printed: Printed,
-    mode: Mode,
-    a: &str,
-    b: &str,
-    rules: Option<&str>,
-    values: &[Name<'_>],
-    desk: &mut Desk<H::Input, H::Output, H::Target>,
-) -> Result<Option<Answer<'a>>, Why<'a>>
-    requires { desk.old ≡ empty }
-    ensures compared { AreComparedBy (here (H.files host.now) H.Input.Source H.Output.Sink
-        H.Target.Replaceable) printed mode a.now b.now desk.new (text_in rules.entry) values.now
-        result }
-    ensures taken_a { TakesAtMost H.Input.given (LIMITS.input + 1) desk.new.a }
-    ensures taken_b { TakesAtMost H.Input.given (LIMITS.input + 1) desk.new.b }
-{
-    let rules = match rules_of(alloc, host, rules, values) {
-        Ok(rules) => rules,
-        Err(why) => return Err(Why::Rules(why)),
-    };
-    if are_both_standard(a, b) {
-        return Err(Why::Mistake(Mistake::TwoStandard));
-    }
-    let input_a = match host.open(Purpose::Input, a) {
-        Ok(input) => input,
-        Err(fault) => return Err(Why::Unopened(Some(Which::A), fault)),
-    };
-    let reader_a = desk.a.insert(input_a);
-    let input_b = match host.open(Purpose::Input, b) {
-        Ok(input) => input,
-        Err(fault) => return Err(Why::Unopened(Some(Which::B), fault)),
-    };
-    let reader_b = desk.b.insert(input_b);
-    let used = mode_by(&rules, mode);
-    let text_a = match text_by_rules(alloc, &rules, reader_a, host.tables(alloc), used) {
-        Ok(text) => text,
-        Err(refused) => return Err(Why::Unapplied(Which::A, refused, rules)),
-    };
-    let text_b = match text_by_rules(alloc, &rules, reader_b, host.tables(alloc), used) {
-        Ok(text) => text,
-        Err(refused) => return Err(Why::Unapplied(Which::B, refused, rules)),
-    };
-    match found(
-        alloc,
-        printed,
-        &mut MemorySource::new(text_a.as_slice()),
-        &mut MemorySource::new(text_b.as_slice()),
-        LIMITS,
-        host.tables(alloc),
-        host.tables(alloc),
-        used,
-    ) {
-        Ok(answer) => Ok(Some(answer)),
-        Err(refused) => Err(Why::Pair(refused)),
-    }
-}
-
-/// Compares the recordings that two names lead to, or what rules make of them.
+/// Compares the recordings that two names lead to, or what rules make of them. The rules are read
+/// first. Then A is opened, and then B.
 pub(crate) fn run_pair<'a, H: Host>(
     alloc: Global,
     host: &H,
@@ -281,8 +214,29 @@ pub(crate) fn run_pair<'a, H: Host>(
     ensures taken_a { TakesAtMost H.Input.given (LIMITS.input + 1) desk.new.a }
     ensures taken_b { TakesAtMost H.Input.given (LIMITS.input + 1) desk.new.b }
 {
-    if rules.is_none() && values.is_empty() {
-        return compare_inputs(alloc, host, printed, mode, a, b, desk);
+    let rules = match given_rules(alloc, host, rules, values) {
+        Ok(rules) => rules,
+        Err(why) => return Err(Why::Rules(why)),
+    };
+    if are_both_standard(a, b) {
+        return Err(Why::Mistake(Mistake::TwoStandard));
     }
-    compare_by_rules(alloc, host, printed, mode, a, b, rules, values, desk)
+    let input_a = match host.open(Purpose::Input, a) {
+        Ok(input) => input,
+        Err(fault) => return Err(Why::Unread(Some(Which::A), Unread::Unopened(fault))),
+    };
+    let reader_a = desk.a.insert(input_a);
+    let input_b = match host.open(Purpose::Input, b) {
+        Ok(input) => input,
+        Err(fault) => return Err(Why::Unread(Some(Which::B), Unread::Unopened(fault))),
+    };
+    let reader_b = desk.b.insert(input_b);
+    if let Some(rules) = rules {
+        return found_by_rules(alloc, host, printed, mode, rules, reader_a, reader_b);
+    }
+    let (tables_a, tables_b) = (host.tables(alloc), host.tables(alloc));
+    match found(alloc, printed, mode, reader_a, reader_b, tables_a, tables_b) {
+        Ok(answer) => Ok(Some(answer)),
+        Err(refused) => Err(Why::Pair(refused)),
+    }
 }

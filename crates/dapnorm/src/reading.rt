@@ -1,25 +1,53 @@
 //! Reads a file whole.
-ghost use Rattle.std.specs.Prelude.{◌+◌, ◌<◌, ◌≤◌, ◌^◌};
-ghost use Rattle.dapnorm.specs.Readings.{IsReadWhole};
+ghost use Rattle.std.specs.Prelude.{◌≡◌, ◌+◌, ◌<◌, ◌≤◌, ◌^◌, None};
+ghost use Rattle.dapnorm.specs.Desks.{TakesAtMost};
+ghost use Rattle.dapnorm.specs.Lines.{line_text};
+ghost use Rattle.dapnorm.specs.Readings.{IsFileRead, IsReadWhole, unless_memory, unread_status};
 
+use crate::line::{Line, Part, fault};
+use crate::reporting::{FAULT, MEMORY};
 use dap_device::{Source, Stop, read_all};
+use dap_host::{Host, OpenFault, Purpose};
+use dap_input::Refused;
 use std::alloc::Global;
 
-/// Why a file was not read whole.
-#[derive(Clone, Copy, Debug, PartialEq, Eq)]
-pub(crate) enum Unread {
+/// Why a file was not read.
+#[derive(Clone, Copy, Debug)]
+pub enum Unread {
+    /// It did not open.
+    Unopened(OpenFault),
     /// A read failed.
     Failed,
     /// An allocation failed.
     Memory,
 }
 
+impl Unread {
+    /// Returns the status of the program.
+    pub(crate) fn status(self) -> u8
+        ensures { result ≡ unread_status self }
+    {
+        match self {
+            Unread::Memory | Unread::Unopened(OpenFault::Memory) => MEMORY,
+            Unread::Failed | Unread::Unopened(OpenFault::Unread(_)) => FAULT,
+        }
+    }
+
+    /// Returns this line for the file, unless an allocation failed.
+    pub(crate) fn line<'a>(self, line: Line<'a>) -> Line<'a>
+        ensures { line_text result ≡ unless_memory self (line_text line.entry) }
+    {
+        match self {
+            Unread::Memory | Unread::Unopened(OpenFault::Memory) => {
+                fault(Part::Refused(Refused::Memory))
+            }
+            Unread::Failed | Unread::Unopened(OpenFault::Unread(_)) => line,
+        }
+    }
+}
+
 /// Reads a file whole, with at most one byte past the limit.
-pub(crate) fn read_whole<R: Source>(
-    alloc: Global,
-    reader: &mut R,
-    limit: u64,
-) -> Result<Vec<u8>, Unread>
+fn read_whole<R: Source>(alloc: Global, reader: &mut R, limit: u64) -> Result<Vec<u8>, Unread>
     requires small { limit ≤ 2 ^ 62 }
     requires given { R.given reader.old < 2 ^ 62 }
     requires failures { R.failures reader.old < 2 ^ 62 }
@@ -34,4 +62,26 @@ pub(crate) fn read_whole<R: Source>(
         Stop::Failed => Err(Unread::Failed),
         _ => Ok(read.bytes),
     }
+}
+
+/// Opens the file that a name leads to, and reads it whole, with at most one byte past the limit.
+pub(crate) fn read_file<H: Host>(
+    alloc: Global,
+    host: &H,
+    purpose: Purpose,
+    name: &str,
+    limit: u64,
+    file: &mut Option<H::Input>,
+) -> Result<Vec<u8>, Unread>
+    requires small { limit ≤ 2 ^ 62 }
+    requires unopened { file.old ≡ None }
+    ensures reads { IsFileRead (H.files host.now) H.Input.Source purpose name.now limit file.new
+        result }
+    ensures taken { TakesAtMost H.Input.given (limit + 1) file.new }
+{
+    let opened = match host.open(purpose, name) {
+        Ok(opened) => opened,
+        Err(fault) => return Err(Unread::Unopened(fault)),
+    };
+    read_whole(alloc, file.insert(opened), limit)
 }

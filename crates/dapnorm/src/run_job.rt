@@ -2,31 +2,21 @@
 ghost use Rattle.std.specs.Prelude.{◌≡◌, ◌+◌, ◌<◌, ◌≤◌, ◌^◌};
 ghost use Rattle.dap_input.specs.Limits.{AreSound};
 ghost use Rattle.dap_normalise.specs.NameTables.{AreReady};
-ghost use Rattle.dapnorm.specs.Run.{CheckIsPrinted, JobIsDone, ReportsUsage};
+ghost use Rattle.dapnorm.specs.Desks.{CanRead, CanWrite, reads, writes};
+ghost use Rattle.dapnorm.specs.Run.{JobIsDone, ReportsUsage};
 
-use crate::answer::accepted;
-use crate::line::{Line, Part, fault, report_line, send_parts};
+use crate::answer::Answer;
+use crate::line::{Line, Part, report_line};
 use crate::reporting::{DONE, FAULT, MEMORY, USAGE, report_outcome};
 use dap_commands::{Job, UsageFault};
 use dap_compact::compact;
 use dap_device::{Sink, Source, write_and_flush};
 use dap_input::{Limits, Refused};
-use dap_normalise::{Checked, check_with, normalise_with};
+use dap_normalise::{check_with, normalise_with};
 use dap_record::record;
 use dap_rename::{NameTable, Tables, index_tables};
 use dap_show::show;
 use std::alloc::Global;
-
-/// Prints the line of an accepted recording.
-fn print<W: Sink>(writer: &mut W, outcome: Result<Checked, Refused>) -> Result<(), Refused>
-    requires { W.failures writer.old < 2 ^ 62 }
-    ensures { CheckIsPrinted W.Sink outcome writer.old writer.new result }
-{
-    match send_parts(writer, &accepted(&outcome?)) {
-        Ok(()) => Ok(()),
-        Err(_) => Err(Refused::WriteFault),
-    }
-}
 
 /// Does a job over one reader and one writer, and returns the program's status. An error is
 /// reported on `errors`, in one line.
@@ -46,14 +36,12 @@ pub fn run_stream<R: Source, W: Sink, E: Sink>(
 ) -> u8
     requires stream { (a b per_stop : _) → job.now ≡ Job.Compare a b per_stop → ⊥ }
     requires limits { AreSound limits }
-    requires given { R.given reader.old < 2 ^ 62 }
-    requires read_failures { R.failures reader.old < 2 ^ 62 }
-    requires write_failures { W.failures writer.old < 2 ^ 62 }
-    requires error_failures { E.failures errors.old < 2 ^ 62 }
+    requires reader { CanRead R.Source reader.old }
+    requires writers { CanWrite W.Sink writer.old × CanWrite E.Sink errors.old }
 
     // The job is done. Its output goes to `writer`, and what is wrong to `errors`.
-    ensures done { JobIsDone R.Source W.Sink E.Sink limits reader.old reader.new writer.old
-        writer.new errors.old errors.new result job.now }
+    ensures done { JobIsDone limits (reads R.Source reader.old reader.new)
+        (writes W.Sink writer.old writer.new) (writes E.Sink errors.old errors.new) result job.now }
 
     // It takes at most one byte past the limit.
     ensures taken { R.given reader.new ≤ R.given reader.old + limits.input + 1 }
@@ -83,14 +71,12 @@ pub fn run_stream_with<R: Source, W: Sink, E: Sink, T: NameTable + Drop>(
     requires stream { (a b per_stop : _) → job.now ≡ Job.Compare a b per_stop → ⊥ }
     requires limits { AreSound limits }
     requires tables { AreReady T.numbers T.limit limits tables }
-    requires given { R.given reader.old < 2 ^ 62 }
-    requires read_failures { R.failures reader.old < 2 ^ 62 }
-    requires write_failures { W.failures writer.old < 2 ^ 62 }
-    requires error_failures { E.failures errors.old < 2 ^ 62 }
+    requires reader { CanRead R.Source reader.old }
+    requires writers { CanWrite W.Sink writer.old × CanWrite E.Sink errors.old }
 
     // What `run_stream` promises, whatever the tables are.
-    ensures done { JobIsDone R.Source W.Sink E.Sink limits reader.old reader.new writer.old
-        writer.new errors.old errors.new result job.now }
+    ensures done { JobIsDone limits (reads R.Source reader.old reader.new)
+        (writes W.Sink writer.old writer.new) (writes E.Sink errors.old errors.new) result job.now }
     ensures taken { R.given reader.new ≤ R.given reader.old + limits.input + 1 }
 {
     match *job {
@@ -101,8 +87,10 @@ pub fn run_stream_with<R: Source, W: Sink, E: Sink, T: NameTable + Drop>(
             normalise_with(alloc, reader, writer, limits, tables, job.mode()),
         ),
         Job::Check { complete, .. } => {
-            let outcome = check_with(alloc, reader, limits, complete, tables, job.mode());
-            report_outcome(errors, print(writer, outcome))
+            match check_with(alloc, reader, limits, complete, tables, job.mode()) {
+                Ok(checked) => Answer::Accepted(checked).print(writer, errors),
+                Err(refused) => report_outcome(errors, Err(refused)),
+            }
         }
         Job::Show => report_outcome(errors, show(alloc, reader, writer, limits)),
         Job::Compare { .. } => unreachable!(),

@@ -11,11 +11,13 @@ use crate::answer::Answer;
 use crate::desk::Desk;
 use crate::golden::run_golden;
 use crate::pair::run_pair;
+use crate::reading::Unread;
 use crate::reporting::DONE;
-use crate::rules::{NoRules, check_words};
+use crate::rules::NoRules;
 use crate::stream::{input_name, run_stream_task, text_of};
 use crate::suggest::run_suggest;
 use crate::why::{Mistake, Why};
+use crate::words::with_values;
 use dap_commands::{Command, Name, Request};
 use dap_host::{Host, LIMITS, Purpose, Stream};
 use dap_input::Refused;
@@ -54,7 +56,7 @@ fn run_check<'a, H: Host>(
 {
     let input = match host.open(Purpose::Input, name) {
         Ok(input) => input,
-        Err(fault) => return Err(Why::Unopened(None, fault)),
+        Err(fault) => return Err(Why::Unread(None, Unread::Unopened(fault))),
     };
     let reader = desk.a.insert(input);
     let tables = host.tables(alloc);
@@ -145,10 +147,10 @@ fn answered<'a, H: Host>(
     ensures taken_a { TakesAtMost H.Input.given (LIMITS.input + 1) desk.new.a }
     ensures taken_b { TakesAtMost H.Input.given (LIMITS.input + 1) desk.new.b }
 {
-    if let Err(fault) = check_words(alloc, words) {
-        return Err(Why::Rules(NoRules::Words(fault)));
+    match with_values(alloc, Vec::new(alloc), words) {
+        Ok(_) => done(alloc, host, command, words, desk),
+        Err(fault) => Err(Why::Rules(NoRules::Words(fault))),
     }
-    done(alloc, host, command, words, desk)
 }
 
 /// Prints what a command found, or reports why it did not finish, and returns the status of the

@@ -4,23 +4,24 @@ ghost use Rattle.dap_commands.specs.Reading.{text_in};
 ghost use Rattle.dap_host.specs.declared.limits.TheConstants.{LIMITS};
 ghost use Rattle.dap_mask.specs.KeptRules.{mask_of};
 ghost use Rattle.dap_normalise.specs.NameTables.{AreReady};
-ghost use Rattle.dapnorm.specs.Desks.{TakesAtMost, empty, here};
+ghost use Rattle.dapnorm.specs.Desks.{writes};
+ghost use Rattle.dapnorm.specs.Desks.{CanRead, CanWrite, TakesAtMost, empty, here, reads};
 ghost use Rattle.dapnorm.specs.Lines.{line_text};
 ghost use Rattle.dapnorm.specs.Reasons.{unstreamed_line, unstreamed_status};
-ghost use Rattle.std.specs.Option.{unwrap_or};
 ghost use Rattle.dapnorm.specs.Streams.{LosesRules};
 ghost use Rattle.dapnorm.specs.Streams.{GoesTo, IsNoOutput, IsOutput, IsSavedIn, IsShown};
-ghost use Rattle.dapnorm.specs.Streams.{IsStreamed, IsWritten, Requests, StreamIsRun};
+ghost use Rattle.dapnorm.specs.Streams.{IsStreamed, IsWritten, StreamIsRun};
 ghost use Rattle.dapnorm.specs.Streams.{TaskRequests, input_name, output_name, task_rules};
 ghost use Rattle.dapnorm.specs.Streams.{unstreamed_of};
 
 use crate::answer::Answer;
 use crate::desk::Desk;
 use crate::line::{Line, Part, fault};
+use crate::reading::Unread;
 use crate::reporting::{REFUSED, refused_status};
 use crate::rules::rules_of;
 use crate::why::{Mistake, Overlap, Why};
-use dap_commands::{Name, Show, Task};
+use dap_commands::{Name, Task};
 use dap_compact::compact;
 use dap_device::{Sink, Source, replace};
 use dap_host::{Host, LIMITS, OpenFault, Purpose, Stream, is_standard};
@@ -69,10 +70,13 @@ impl Unstreamed {
     }
 }
 
-/// Returns what the options of `show` request. `None`: they request nothing.
-fn show_request(show: &Show<'_>) -> Result<Option<ShowRequest>, Mistake>
-    ensures { Requests show.now result }
+/// Returns what the options of a task request. `None`: they request nothing, or it is not `show`.
+fn request_of(task: &Task<'_>) -> Result<Option<ShowRequest>, Mistake>
+    ensures { TaskRequests task.now result }
 {
+    let Task::Show(show) = task else {
+        return Ok(None);
+    };
     let detail = if show.full {
         Detail::Leaves
     } else {
@@ -87,16 +91,6 @@ fn show_request(show: &Show<'_>) -> Result<Option<ShowRequest>, Mistake>
         None if show.faulty => Ok(Some(ShowRequest::Faulty(detail))),
         None if show.full => Ok(Some(ShowRequest::Lines(detail))),
         None => Ok(None),
-    }
-}
-
-/// Returns what the options of a task request, if it is `show`.
-fn request_of(task: &Task<'_>) -> Result<Option<ShowRequest>, Mistake>
-    ensures { TaskRequests task.now result }
-{
-    match task {
-        Task::Show(show) => show_request(show),
-        _ => Ok(None),
     }
 }
 
@@ -147,11 +141,9 @@ fn shown<R: Source, W: Sink>(
     reader: &mut R,
     writer: &mut W,
 ) -> Result<(), Unstreamed>
-    requires given { R.given reader.old < 2 ^ 62 }
-    requires read_failures { R.failures reader.old < 2 ^ 62 }
-    requires write_failures { W.failures writer.old < 2 ^ 62 }
-    ensures shown { IsShown R.Source W.Sink reader.old reader.new writer.old writer.new request
-        result }
+    requires devices { CanRead R.Source reader.old × CanWrite W.Sink writer.old }
+    ensures shown { IsShown (reads R.Source reader.old reader.new)
+        (writes W.Sink writer.old writer.new) request result }
     ensures taken { R.given reader.new ≤ R.given reader.old + LIMITS.input + 1 }
 {
     match request {
@@ -197,11 +189,9 @@ fn streamed<R: Source, W: Sink, T: NameTable + Drop>(
     tables: Tables<T>,
 ) -> Result<(), Unstreamed>
     requires tables { AreReady T.numbers T.limit LIMITS tables }
-    requires given { R.given reader.old < 2 ^ 62 }
-    requires read_failures { R.failures reader.old < 2 ^ 62 }
-    requires write_failures { W.failures writer.old < 2 ^ 62 }
-    ensures done { IsStreamed R.Source W.Sink reader.old reader.new writer.old writer.new task.now
-        request (mask_of rules.now) result }
+    requires devices { CanRead R.Source reader.old × CanWrite W.Sink writer.old }
+    ensures done { IsStreamed (reads R.Source reader.old reader.new)
+        (writes W.Sink writer.old writer.new) task.now request (mask_of rules.now) result }
     ensures taken { R.given reader.new ≤ R.given reader.old + LIMITS.input + 1 }
 {
     match task {
@@ -231,16 +221,6 @@ fn open_output<H: Host>(host: &H, name: Option<&str>) -> Result<H::Output, OpenF
     }
 }
 
-/// Returns a name. Without one it is empty.
-fn name_or_none<'a>(name: Option<&'a str>) -> Name<'a>
-    ensures { result ≡ unwrap_or (text_in name.entry) [] }
-{
-    match name {
-        Some(name) => Name::new(name),
-        None => Name::new(""),
-    }
-}
-
 /// Does a task over the input that a name leads to, and writes its output directly.
 fn write_stream<'a, H: Host>(
     alloc: Global,
@@ -261,12 +241,12 @@ fn write_stream<'a, H: Host>(
 {
     let input = match host.open(Purpose::Input, name) {
         Ok(input) => input,
-        Err(fault) => return Err(Why::Unopened(None, fault)),
+        Err(fault) => return Err(Why::Unread(None, Unread::Unopened(fault))),
     };
     let reader = desk.a.insert(input);
     let device = match open_output(host, output) {
         Ok(device) => device,
-        Err(fault) => return Err(Why::Output(name_or_none(output), fault)),
+        Err(fault) => return Err(Why::Output(Name::new(output.unwrap_or("")), fault)),
     };
     let writer = desk.output.insert(device);
     let rules = match rules_of(alloc, host, task_rules(task), values) {
@@ -300,7 +280,7 @@ fn save_stream<'a, H: Host>(
 {
     let input = match host.open(Purpose::Input, name) {
         Ok(input) => input,
-        Err(fault) => return Err(Why::Unopened(None, fault)),
+        Err(fault) => return Err(Why::Unread(None, Unread::Unopened(fault))),
     };
     let reader = desk.a.insert(input);
     let file = match host.target(output, true) {
@@ -333,14 +313,8 @@ fn lost_rules<'a, H: Host>(host: &H, task: &Task<'a>, output: &str) -> Option<&'
     ensures { LosesRules (H.files host.now) (task_rules task.now) output.now (text_in result) }
 {
     match task_rules(task) {
-        None => None,
-        Some(rules) => {
-            if host.are_same(output, rules) {
-                Some(rules)
-            } else {
-                None
-            }
-        }
+        Some(rules) if host.are_same(output, rules) => Some(rules),
+        _ => None,
     }
 }
 

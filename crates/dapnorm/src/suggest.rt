@@ -8,11 +8,11 @@ ghost use Rattle.dapnorm.specs.Suggestions.{SuggestionIsRun, Suggests, reported_
 use crate::answer::Answer;
 use crate::desk::Desk;
 use crate::pair::are_both_standard;
-use crate::reading::{Unread, read_whole};
+use crate::reading::read_file;
 use crate::rules::{NoRules, rules_text};
 use crate::why::{Mistake, Why};
 use dap_commands::Name;
-use dap_compare::{CompareRefused, Which};
+use dap_compare::Which;
 use dap_host::{Host, LIMITS, Purpose};
 use dap_input::Refused;
 use dap_mask::MaskRules;
@@ -127,29 +127,13 @@ pub(crate) fn run_suggest<'a, H: Host>(
         Ok(given) => given,
         Err(why) => return Err(Why::Rules(why)),
     };
-    let input_a = match host.open(Purpose::Input, a) {
-        Ok(input) => input,
-        Err(fault) => return Err(Why::Unopened(Some(Which::A), fault)),
-    };
-    let reader_a = desk.a.insert(input_a);
-    let read_a = match read_whole(alloc, reader_a, LIMITS.input) {
+    let read_a = match read_file(alloc, host, Purpose::Input, a, LIMITS.input, &mut desk.a) {
         Ok(read) => read,
-        Err(Unread::Failed) => {
-            return Err(Why::Pair(CompareRefused::Input(Which::A, Refused::ReadFault)));
-        }
-        Err(Unread::Memory) => return Err(Why::Pair(CompareRefused::Memory)),
+        Err(why) => return Err(Why::Unread(Some(Which::A), why)),
     };
-    let input_b = match host.open(Purpose::Input, b) {
-        Ok(input) => input,
-        Err(fault) => return Err(Why::Unopened(Some(Which::B), fault)),
-    };
-    let reader_b = desk.b.insert(input_b);
-    let read_b = match read_whole(alloc, reader_b, LIMITS.input) {
+    let read_b = match read_file(alloc, host, Purpose::Input, b, LIMITS.input, &mut desk.b) {
         Ok(read) => read,
-        Err(Unread::Failed) => {
-            return Err(Why::Pair(CompareRefused::Input(Which::B, Refused::ReadFault)));
-        }
-        Err(Unread::Memory) => return Err(Why::Pair(CompareRefused::Memory)),
+        Err(why) => return Err(Why::Unread(Some(Which::B), why)),
     };
     suggestion(alloc, given, read_a.as_slice(), read_b.as_slice())
 }

@@ -1,13 +1,14 @@
 //! Why a command did not finish. Each reason has one line and one status.
 ghost use Rattle.std.specs.Prelude.{◌≡◌, ◌<◌, ◌^◌};
 ghost use Rattle.dapnorm.specs.Lines.{line_text};
-ghost use Rattle.dapnorm.specs.Reasons.{lost_words, mistake_line, open_status, overlap_words};
-ghost use Rattle.dapnorm.specs.Reasons.{unless_memory, unopened_line, why_line, why_status};
+ghost use Rattle.dapnorm.specs.Reasons.{lost_words, mistake_line, overlap_words, unread_line};
+ghost use Rattle.dapnorm.specs.Reasons.{why_line, why_status};
 ghost use Rattle.dapnorm.specs.Reporting.{HasSent};
 
 use crate::golden_lines::{golden_line, stop_line, stop_status, unsaved_words};
 use crate::line::{Line, Part, fault, fault_of, report_line};
-use crate::reporting::{DIFFERENT, FAULT, MEMORY, USAGE, refusal_status, refused_status};
+use crate::reading::Unread;
+use crate::reporting::{DIFFERENT, FAULT, USAGE, refusal_status, refused_status};
 use crate::rules::NoRules;
 use crate::stream::Unstreamed;
 use crate::texts::{unapplied_line, unapplied_status};
@@ -82,8 +83,8 @@ pub enum Why<'a> {
     SameFile(Overlap, Name<'a>),
     /// There are no rules.
     Rules(NoRules),
-    /// The input, or one of two, did not open.
-    Unopened(Option<Which>, OpenFault),
+    /// The input, or one of two, was not read.
+    Unread(Option<Which>, Unread),
     /// The input is rejected, or a device or an allocation failed.
     Input(Refused),
     /// The input was not written as the task requests. Has the rules of the task.
@@ -96,10 +97,8 @@ pub enum Why<'a> {
     Output(Name<'a>, OpenFault),
     /// The file of the output was not replaced.
     Unsaved(Name<'a>, ReplaceFault),
-    /// The session did not open that a golden file is made of or compared with.
-    Session(OpenFault),
-    /// The session could not be read.
-    UnreadSession,
+    /// The session was not read that a golden file is made of or compared with.
+    Session(Unread),
     /// The golden file was not found, to be replaced or only to be read.
     GoldenFile(Name<'a>, bool, OpenFault),
     /// The golden file was not compared or written. Has the bytes of the session and the rules.
@@ -108,37 +107,14 @@ pub enum Why<'a> {
     NoSuggestion(String),
 }
 
-/// Returns the status of the program if a file did not open.
-pub(crate) fn open_status(fault: OpenFault) -> u8
-    ensures { result ≡ open_status fault }
+/// Returns the line for an input, or one of two, that could not be read.
+fn unread_line<'a>(which: Option<Which>) -> Line<'a>
+    ensures { line_text result ≡ unread_line which }
 {
-    match fault {
-        OpenFault::Memory => MEMORY,
-        OpenFault::Unread(_) => FAULT,
-    }
-}
-
-/// Returns this line for a file that did not open, unless an allocation failed.
-pub(crate) fn unless_memory<'a>(why: OpenFault, line: Line<'a>) -> Line<'a>
-    ensures { line_text result ≡ unless_memory why (line_text line.entry) }
-{
-    match why {
-        OpenFault::Memory => fault(Part::Refused(Refused::Memory)),
-        OpenFault::Unread(_) => line,
-    }
-}
-
-/// Returns the line for an input, or one of two, that did not open: it could not be read.
-fn unopened_line<'a>(which: Option<Which>, why: OpenFault) -> Line<'a>
-    ensures { line_text result ≡ unopened_line which why }
-{
-    unless_memory(
-        why,
-        match which {
-            None => fault(Part::Refused(Refused::ReadFault)),
-            Some(which) => fault(Part::Pair(CompareRefused::Input(which, Refused::ReadFault))),
-        },
-    )
+    fault(match which {
+        None => Part::Refused(Refused::ReadFault),
+        Some(which) => Part::Pair(CompareRefused::Input(which, Refused::ReadFault)),
+    })
 }
 
 /// Returns what is reported of a golden file that was not found.
@@ -164,9 +140,9 @@ impl Why<'_> {
             Why::Stream(why, _) => why.status(),
             Why::Pair(refused) => refusal_status(*refused),
             Why::Unapplied(_, refused, _) => unapplied_status(*refused),
-            Why::Unopened(_, why) | Why::Output(_, why) => open_status(*why),
-            Why::Session(why) | Why::GoldenFile(_, _, why) => open_status(*why),
-            Why::Unsaved(..) | Why::UnreadSession => FAULT,
+            Why::Unread(_, why) | Why::Session(why) => why.status(),
+            Why::Output(_, why) | Why::GoldenFile(_, _, why) => Unread::Unopened(*why).status(),
+            Why::Unsaved(..) => FAULT,
             Why::Golden(_, stop, _, _) => stop_status(*stop),
             Why::NoSuggestion(_) => DIFFERENT,
         }
@@ -176,32 +152,30 @@ impl Why<'_> {
     fn line(&self) -> Line<'_>
         ensures { line_text result ≡ why_line self.now }
     {
-        let unread = golden_line(Part::Text("read fault"), Part::Text(""));
         match self {
             Why::Mistake(mistake) => Line::Whole(mistake.line()),
             Why::SameFile(files, name) => {
                 fault_of(Part::Text(files.words()), Part::Text(name.as_str()))
             }
             Why::Rules(why) => why.line(),
-            Why::Unopened(which, why) => unopened_line(*which, *why),
+            Why::Unread(which, why) => why.line(unread_line(*which)),
             Why::Input(refused) => fault(Part::Refused(*refused)),
             Why::Stream(why, _) => why.line(),
             Why::Pair(refused) => fault(Part::Pair(*refused)),
             Why::Unapplied(which, refused, _) => unapplied_line(*which, *refused),
-            Why::Output(name, why) => unless_memory(
-                *why,
-                fault_of(Part::Text(name.as_str()), Part::Text(": write fault")),
-            ),
+            Why::Output(name, why) => Unread::Unopened(*why).line(fault_of(
+                Part::Text(name.as_str()),
+                Part::Text(": write fault"),
+            )),
             Why::Unsaved(name, why) => fault_of(
                 Part::Text(name.as_str()),
                 Part::Text(unsaved_words(why.step)),
             ),
-            Why::Session(why) => unless_memory(*why, unread),
-            Why::UnreadSession => unread,
-            Why::GoldenFile(name, update, why) => unless_memory(
-                *why,
-                golden_line(Part::Text(name.as_str()), Part::Text(lost_words(*update))),
-            ),
+            Why::Session(why) => why.line(golden_line(Part::Text("read fault"), Part::Text(""))),
+            Why::GoldenFile(name, update, why) => Unread::Unopened(*why).line(golden_line(
+                Part::Text(name.as_str()),
+                Part::Text(lost_words(*update)),
+            )),
             Why::Golden(name, stop, _, rules) => {
                 stop_line(rules.is_some(), name.as_str(), *stop)
             }

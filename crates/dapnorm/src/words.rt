@@ -5,7 +5,7 @@ ghost use Rattle.dap_mask.specs.Mask.{no_rules};
 ghost use Rattle.dap_mask.specs.RulesFile.{is_line_feed, rules_said};
 ghost use Rattle.dap_mask.specs.WordLines.{word_line};
 ghost use Rattle.dapnorm.specs.WordOption.{AreNamedBy, HasLinesOf, HasNoLines};
-ghost use Rattle.dapnorm.specs.WordOption.{HaveNoPairs, IsNamedBy, IsReportOf, IsValueOf};
+ghost use Rattle.dapnorm.specs.WordOption.{HaveNoPairs, IsNamedBy, IsReportOf};
 ghost use Rattle.dapnorm.specs.WordOption.{ReportsLine, line_end, reason_of};
 ghost use Rattle.dapnorm.specs.WordOption.{with_word_lines};
 ghost use Rattle.dap_words.specs.Words.{pair_of, pairs_of};
@@ -14,27 +14,6 @@ use dap_commands::{Name, UsageFault};
 use dap_mask::{MaskRules, RulesCause, RulesFault, write_word};
 use dap_words::Word;
 use std::alloc::{AllocError, Global};
-
-/// What is reported of a value without `=`.
-const NO_EQUALS: &str = "write TEXT=WORD";
-
-/// What is reported of an empty TEXT.
-const EMPTY: &str = "TEXT is empty";
-
-/// What is reported of an empty WORD.
-const EMPTY_WORD: &str = "WORD is empty";
-
-/// What is reported of a TEXT that an earlier word replaces.
-const REPEATED: &str = "TEXT has a WORD already";
-
-/// What is reported of a WORD that overlaps a TEXT.
-const OVERLAP: &str = "a WORD and a TEXT overlap: take another WORD, such as <home>";
-
-/// What is reported of a word after a thousand rules.
-const TOO_MANY: &str = "there are more than 1,000 rules";
-
-/// What is reported of a word past the limit of the bytes.
-const TOO_LONG: &str = "the rules are longer than 65,536 bytes";
 
 /// Returns the text and the word of a value TEXT=WORD. TEXT ends at the first `=`. `None`: the
 /// value does not contain `=`.
@@ -119,26 +98,24 @@ fn words_of(alloc: Global, values: &[Name<'_>]) -> Result<Vec<Word>, UsageFault>
                     return Err(UsageFault::Memory);
                 }
             }
-            Ok(None) => return Err(bad_value(alloc, text, NO_EQUALS)),
+            Ok(None) => return Err(bad_value(alloc, text, "write TEXT=WORD")),
             Err(_) => return Err(UsageFault::Memory),
         }
     }
     Ok(words)
 }
 
-/// Returns why the rules do not accept a value of the option.
-fn reason_of(value: &str, cause: RulesCause) -> &'static str
-    ensures { (p : _) → IsValueOf p value.now → result.now ≡ reason_of p cause }
+/// Returns why the rules do not accept the line of a word.
+fn reason_of(word: &Word, cause: RulesCause) -> &'static str
+    ensures { result.now ≡ reason_of (pair_of word.now) cause }
 {
     match cause {
-        RulesCause::Repeated => REPEATED,
-        RulesCause::TooMany => TOO_MANY,
-        RulesCause::TooLong => TOO_LONG,
-        _ if value.starts_with('=') => EMPTY,
-        _ => match value.split_once('=') {
-            Some((_, word)) if word.is_empty() => EMPTY_WORD,
-            _ => OVERLAP,
-        },
+        RulesCause::Repeated => "TEXT has a WORD already",
+        RulesCause::TooMany => "there are more than 1,000 rules",
+        RulesCause::TooLong => "the rules are longer than 65,536 bytes",
+        _ if word.text.is_empty() => "TEXT is empty",
+        _ if word.word.is_empty() => "WORD is empty",
+        _ => "a WORD and a TEXT overlap: take another WORD, such as <home>",
     }
 }
 
@@ -153,10 +130,7 @@ fn line_count(text: &[u8]) -> usize
 fn value_at<'a>(values: &[Name<'a>], index: usize) -> &'a str
     ensures { result.now ≡ get_or values.now index [] }
 {
-    match values.get(index) {
-        Some(value) => value.as_str(),
-        None => "",
-    }
+    values.get(index).map_or("", |value| value.as_str())
 }
 
 /// Returns what is reported of the value whose line is rejected. The last lines of the rules are
@@ -172,7 +146,10 @@ fn refused_value(alloc: Global, rules: &[u8], values: &[Name<'_>], fault: RulesF
     let after = line_count(rules).saturating_sub(fault.line);
     let index = values.len().saturating_sub(1).saturating_sub(after);
     let value = value_at(values, index);
-    bad_value(alloc, value, reason_of(value, fault.cause))
+    match word_of(alloc, value) {
+        Ok(Some(word)) => bad_value(alloc, value, reason_of(&word, fault.cause)),
+        _ => UsageFault::Memory,
+    }
 }
 
 /// Returns whether a rules file of this text is accepted.

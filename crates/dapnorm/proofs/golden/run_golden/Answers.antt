@@ -1,26 +1,46 @@
-use Rattle.std.proofs.Common.{ℕ, List, None, Ok, Err, ◌∙◌, ap, refl, rules, subst}
-use Rattle.dap_host.specs.declared.host.Purpose.TheVariants.{Input}
+use Rattle.std.proofs.Common.{ℕ, List, Option, None, Ok, Err, ◌∙◌, ap, refl, rules, subst}
 use Rattle.dap_golden.specs.Golden.{mask_given}
+use Rattle.dap_host.specs.declared.host.Purpose.TheVariants.{Input}
+use Rattle.dap_host.specs.declared.limits.TheConstants.{LIMITS}
 use Rattle.dapnorm.proofs.Kept.{keeps}
 use Rattle.dapnorm.specs.Comparisons.{bytes_of}
 use Rattle.dapnorm.specs.Desks.{here}
 use Rattle.dapnorm.specs.Goldens.{Replaces}
+use Rattle.dapnorm.specs.Readings.{IsFileRead}
+use Rattle.dapnorm.specs.Rules.{AreGivenRules}
 use Rattle.dapnorm.specs.Streams.{input_name}
 use Rattle.dapnorm.proofs.golden.run_golden.Goals as goal
 
+pub returns-in-Err-clause-run : goal.returns-in-Err-clause-run
+returns-in-Err-clause-run g c = (
+  subst (λ (name : Option (List ℕ)). AreGivenRules (g.H.Host.files c.args.host.now) g.H.Input.Source
+      name c.args.values.now (Err c.in-Err.why)) c.text_of.ensures c.in-Err.ensures,
+  search rules,
+)
+
+pub returns-in-Err-read_file-clause-run : goal.returns-in-Err-read_file-clause-run
+returns-in-Err-read_file-clause-run g c = (
+  (
+    c.in-Ok.rules,
+    subst (λ (name : Option (List ℕ)). AreGivenRules (g.H.Host.files c.args.host.now) g.H.Input.Source
+        name c.args.values.now (Ok c.in-Ok.rules)) c.text_of.ensures c.in-Ok.ensures,
+  ),
+  subst (λ (name : List ℕ). IsFileRead (g.H.Host.files c.args.host.now) g.H.Input.Source Input name
+      LIMITS.input c.read_file.new.file (Err c.in-Err-read_file.why)) c.input_name-name.ensures
+      c.in-Err-read_file.ensures.reads,
+  search rules,
+)
+
 pub returns-in-Err-target-clause-run : goal.returns-in-Err-target-clause-run
 returns-in-Err-target-clause-run g c = (
-  (c.in-Ok.rules, c.in-Ok.ensures),
   (
-    c.in-Ok-read_whole.session,
-    record {
-      old = c.insert-reader.result.now;
-      new = c.read_whole.new.reader;
-      opens = subst (λ (name : List ℕ). (g.H.Host.files c.args.host.now).opens Input name
-          c.insert-reader.result.now) c.input_name-name.ensures (search rules);
-      is = refl;
-      does = c.in-Ok-read_whole.ensures.reads;
-    },
+    c.in-Ok.rules,
+    subst (λ (name : Option (List ℕ)). AreGivenRules (g.H.Host.files c.args.host.now) g.H.Input.Source
+        name c.args.values.now (Ok c.in-Ok.rules)) c.text_of.ensures c.in-Ok.ensures,
+  ),
+  (
+    c.in-Ok-read_file.session,
+    rw (c.input_name-name.ensures) at c.in-Ok-read_file.ensures.reads,
   ),
   record {
     named_is = c.new-in-Err-target.ensures ∙ c.as_str-path.ensures;
@@ -32,20 +52,14 @@ returns-in-Err-target-clause-run g c = (
 pub returns-in-Ok-golden_file-clause-run : goal.returns-in-Ok-golden_file-clause-run
 returns-in-Ok-golden_file-clause-run g c = (
   c.in-Ok.rules,
-  c.in-Ok-read_whole.session,
+  c.in-Ok-read_file.session,
   record {
     named_is = c.new-in-Ok-golden_file.ensures ∙ c.as_str-path.ensures;
     apart = subst (λ (name : List ℕ). Replaces (g.H.Host.files c.args.host.now) c.args.golden.now
         name None) c.input_name-name.ensures (search rules);
-    are_rules = c.in-Ok.ensures;
-    is_input = record {
-      old = c.insert-reader.result.now;
-      new = c.read_whole.new.reader;
-      opens = subst (λ (name : List ℕ). (g.H.Host.files c.args.host.now).opens Input name
-          c.insert-reader.result.now) c.input_name-name.ensures (search rules);
-      is = refl;
-      does = c.in-Ok-read_whole.ensures.reads;
-    };
+    are_rules = subst (λ (name : Option (List ℕ)). AreGivenRules (g.H.Host.files c.args.host.now) g.H.Input.Source
+        name c.args.values.now (Ok c.in-Ok.rules)) c.text_of.ensures c.in-Ok.ensures;
+    is_input = rw (c.input_name-name.ensures) at c.in-Ok-read_file.ensures.reads;
     keeps = record {
       old = c.insert-target.result.now;
       new = c.golden_file.new.file;
@@ -55,7 +69,7 @@ returns-in-Ok-golden_file-clause-run g c = (
       is = refl;
       does = keeps (here (g.H.Host.files c.args.host.now) g.H.Input.Source g.H.Output.Sink
           g.H.Target.Replaceable) c.args.golden.now c.args.values.now
-          (input_name c.args.golden.now.input) _ c.in-Ok.rules c.in-Ok-read_whole.session.items
+          (input_name c.args.golden.now.input) _ c.in-Ok.rules c.in-Ok-read_file.session.items
           (mask_given c.given.result) c.request_of-request.result c.new-bytes.result
           c.golden_file.new.input c.insert-target.result.now c.golden_file.new.file
           (Ok c.in-Ok-golden_file.done) c.given.ensures c.request_of-request.ensures
@@ -70,15 +84,9 @@ returns-clause-run g c = record {
   named_is = c.new-in-Err-golden_file.ensures ∙ c.as_str-path.ensures;
   apart = subst (λ (name : List ℕ). Replaces (g.H.Host.files c.args.host.now) c.args.golden.now
       name None) c.input_name-name.ensures (search rules);
-  are_rules = c.in-Ok.ensures;
-  is_input = record {
-    old = c.insert-reader.result.now;
-    new = c.read_whole.new.reader;
-    opens = subst (λ (name : List ℕ). (g.H.Host.files c.args.host.now).opens Input name
-        c.insert-reader.result.now) c.input_name-name.ensures (search rules);
-    is = refl;
-    does = c.in-Ok-read_whole.ensures.reads;
-  };
+  are_rules = subst (λ (name : Option (List ℕ)). AreGivenRules (g.H.Host.files c.args.host.now) g.H.Input.Source
+      name c.args.values.now (Ok c.in-Ok.rules)) c.text_of.ensures c.in-Ok.ensures;
+  is_input = rw (c.input_name-name.ensures) at c.in-Ok-read_file.ensures.reads;
   keeps = record {
     old = c.insert-target.result.now;
     new = c.golden_file.new.file;
@@ -88,7 +96,7 @@ returns-clause-run g c = record {
     is = refl;
     does = keeps (here (g.H.Host.files c.args.host.now) g.H.Input.Source g.H.Output.Sink
         g.H.Target.Replaceable) c.args.golden.now c.args.values.now
-        (input_name c.args.golden.now.input) _ c.in-Ok.rules c.in-Ok-read_whole.session.items
+        (input_name c.args.golden.now.input) _ c.in-Ok.rules c.in-Ok-read_file.session.items
         (mask_given c.given.result) c.request_of-request.result c.new-bytes.result
         c.golden_file.new.input c.insert-target.result.now c.golden_file.new.file
         (Err c.in-Err-golden_file.stop) c.given.ensures c.request_of-request.ensures

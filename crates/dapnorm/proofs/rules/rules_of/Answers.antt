@@ -1,5 +1,4 @@
-use Rattle.std.proofs.Common.{ℕ, List, Ok, inr, subst}
-use Rattle.std.proofs.Common.{◌≡◌}
+use Rattle.std.proofs.Common.{◌≡◌, ℕ, List, Ok, subst}
 use Rattle.dap_mask.specs.KeptRules.{mask_of}
 use Rattle.dap_mask.specs.RulesFile.{rules_said}
 use Rattle.dapnorm.proofs.rules.rules_of.Goals as goal
@@ -13,4 +12,4 @@ returns-in-Ok-read g c = record {
 }
 
 pub returns-in-Memory : goal.returns-in-Memory
-returns-in-Memory g c = inr (c.in-Ok.text, c.in-Ok.ensures)
+returns-in-Memory g c = (c.in-Ok.text, c.in-Ok.ensures)
