@@ -1,7 +1,6 @@
 -- Why a command did not finish: the line that reports it, and the status. Source: own.
 use Rattle.std.specs.Prelude.{ℕ, Bool, true, false, List, [], ◌∷◌, Option, Some, None, codes}
 use Rattle.std.specs.Prelude.{decimal, is_some, string_bytes}
-use Rattle.dap_commands.specs.declared.commands.UsageFault.{UsageFault}
 use Rattle.dap_commands.specs.declared.commands.UsageFault.TheVariants as usage
 use Rattle.dap_compare.specs.Which.{compare_refused_text, which_text}
 use Rattle.dap_compare.specs.declared.verdict.CompareRefused.{CompareRefused}
@@ -68,13 +67,10 @@ lost_words false = codes ": read fault"
 
 -- ---- rules
 
-abbrev pub words_line : UsageFault → List ℕ
-words_line (usage.Usage text) = string_bytes text
-words_line (usage.Help text) = string_bytes text
-words_line usage.Memory = fault_line (refused_text Memory ∷ [])
-
 abbrev pub no_rules_line : NoRules → List ℕ
-no_rules_line (rules.Words why) = words_line why
+no_rules_line (rules.Words (usage.Usage text)) = string_bytes text
+no_rules_line (rules.Words (usage.Help text)) = string_bytes text
+no_rules_line (rules.Words usage.Memory) = fault_line (refused_text Memory ∷ [])
 no_rules_line (rules.File why) =
     unless_memory why (fault_line (codes "rules: read fault" ∷ []))
 no_rules_line (rules.Line why text) = fault_line

@@ -19,19 +19,6 @@ pub(crate) fn unsaved_words(step: Step) -> &'static str
     }
 }
 
-/// Returns the status of the program for a stop.
-pub(crate) fn stop_status(stop: GoldenStop) -> u8
-    ensures { result ≡ stop_status stop }
-{
-    match stop {
-        GoldenStop::Input(GoldenRefused::Memory) | GoldenStop::Memory => MEMORY,
-        GoldenStop::Input(_) | GoldenStop::GoldenTooLong | GoldenStop::Golden(_) => REFUSED,
-        GoldenStop::NotRecording => REFUSED,
-        GoldenStop::Unread | GoldenStop::Missing => FAULT,
-        GoldenStop::GoldenUnread | GoldenStop::Unwritten(_) => FAULT,
-    }
-}
-
 /// Returns a line of `golden` with two parts.
 pub(crate) fn golden_line<'a>(first: Part<'a>, second: Part<'a>) -> Line<'a>
     ensures { line_text result
@@ -40,40 +27,44 @@ pub(crate) fn golden_line<'a>(first: Part<'a>, second: Part<'a>) -> Line<'a>
     Line::Fault(Part::Text("golden: "), first, second, Part::Text(""))
 }
 
-/// Returns the line for a stop. After rules, records are counted in what the rules leave, and the
-/// line says so.
-pub(crate) fn stop_line<'a>(has_rules: bool, name: &'a str, stop: GoldenStop) -> Line<'a>
-    ensures { line_text result ≡ stop_line has_rules name.entry.now stop }
+/// Returns the line for a stop, and the status of the program. After rules, records are counted in
+/// what the rules leave, and the line says so.
+pub(crate) fn stop_line<'a>(has_rules: bool, name: &'a str, stop: GoldenStop) -> (Line<'a>, u8)
+    ensures line { line_text result.0 ≡ stop_line has_rules name.entry.now stop }
+    ensures status { result.1 ≡ stop_status stop }
 {
-    let name = Part::Text(name);
-    let (first, second) = match stop {
-        GoldenStop::Unread => (Part::Text("read fault"), Part::Text("")),
+    let (name, none) = (Part::Text(name), Part::Text(""));
+    let (first, second, status) = match stop {
+        GoldenStop::Unread => (Part::Text("read fault"), none, FAULT),
         GoldenStop::Input(GoldenRefused::Session(why)) if has_rules => {
-            (Part::Text("after the rules: "), Part::Refused(why))
+            (Part::Text("after the rules: "), Part::Refused(why), REFUSED)
         }
         GoldenStop::Input(
             GoldenRefused::Trace(why) | GoldenRefused::Mask(why) | GoldenRefused::Session(why),
-        ) => (Part::Refused(why), Part::Text("")),
-        GoldenStop::Input(GoldenRefused::NoRecords) => (Part::Text("no records"), Part::Text("")),
+        ) => (Part::Refused(why), none, REFUSED),
+        GoldenStop::Input(GoldenRefused::NoRecords) => (Part::Text("no records"), none, REFUSED),
         GoldenStop::Input(GoldenRefused::Memory) | GoldenStop::Memory => {
-            (Part::Text("out of memory"), Part::Text(""))
+            (Part::Text("out of memory"), none, MEMORY)
         }
-        GoldenStop::Missing => (name, Part::Text(" does not exist: --update makes it")),
-        GoldenStop::GoldenUnread => (name, Part::Text(": read fault")),
-        GoldenStop::GoldenTooLong => (name, Part::Text(": InputTooLong")),
+        GoldenStop::Missing => (
+            name,
+            Part::Text(" does not exist: --update makes it"),
+            FAULT,
+        ),
+        GoldenStop::GoldenUnread => (name, Part::Text(": read fault"), FAULT),
+        GoldenStop::GoldenTooLong => (name, Part::Text(": InputTooLong"), REFUSED),
         GoldenStop::Golden(why) => {
-            return Line::Fault(
-                Part::Text("golden: "),
-                name,
-                Part::Text(": "),
-                Part::Refused(why),
+            let (golden, colon) = (Part::Text("golden: "), Part::Text(": "));
+            return (
+                Line::Fault(golden, name, colon, Part::Refused(why)),
+                REFUSED,
             );
         }
-        GoldenStop::NotRecording => (
-            name,
-            Part::Text(": not replaced, since it is not a recording: remove it first"),
-        ),
-        GoldenStop::Unwritten(fault) => (name, Part::Text(unsaved_words(fault.step))),
+        GoldenStop::NotRecording => {
+            let words = ": not replaced, since it is not a recording: remove it first";
+            (name, Part::Text(words), REFUSED)
+        }
+        GoldenStop::Unwritten(fault) => (name, Part::Text(unsaved_words(fault.step)), FAULT),
     };
-    golden_line(first, second)
+    (golden_line(first, second), status)
 }

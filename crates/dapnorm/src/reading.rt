@@ -23,25 +23,16 @@ pub enum Unread {
 }
 
 impl Unread {
-    /// Returns the status of the program.
-    pub(crate) fn status(self) -> u8
-        ensures { result ≡ unread_status self }
-    {
-        match self {
-            Unread::Memory | Unread::Unopened(OpenFault::Memory) => MEMORY,
-            Unread::Failed | Unread::Unopened(OpenFault::Unread(_)) => FAULT,
-        }
-    }
-
-    /// Returns this line for the file, unless an allocation failed.
-    pub(crate) fn line<'a>(self, line: Line<'a>) -> Line<'a>
-        ensures { line_text result ≡ unless_memory self (line_text line.entry) }
+    /// Returns this line for the file, unless an allocation failed, and the status of the program.
+    pub(crate) fn line_and_status<'a>(self, line: Line<'a>) -> (Line<'a>, u8)
+        ensures line { line_text result.0 ≡ unless_memory self (line_text line.entry) }
+        ensures status { result.1 ≡ unread_status self }
     {
         match self {
             Unread::Memory | Unread::Unopened(OpenFault::Memory) => {
-                fault(Part::Refused(Refused::Memory))
+                (fault(Part::Refused(Refused::Memory)), MEMORY)
             }
-            Unread::Failed | Unread::Unopened(OpenFault::Unread(_)) => line,
+            Unread::Failed | Unread::Unopened(OpenFault::Unread(_)) => (line, FAULT),
         }
     }
 }

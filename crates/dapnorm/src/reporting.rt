@@ -1,5 +1,8 @@
 //! Statuses, and what the program reports of the result of an engine.
-ghost use Rattle.std.specs.Prelude.{◌≡◌, ◌<◌, ◌^◌};
+ghost use Rattle.std.specs.Prelude.{◌≡◌, ◌∷◌, ◌<◌, ◌^◌, []};
+ghost use Rattle.dap_compare.specs.Which.{compare_refused_text};
+ghost use Rattle.dap_input.specs.RefusedText.{refused_text};
+ghost use Rattle.dapnorm.specs.Lines.{fault_line, line_text};
 ghost use Rattle.dapnorm.specs.Reporting.{HasSent, IsReported, refusal_status, refused_status};
 ghost use Rattle.dapnorm.specs.Reporting.{status_of};
 
@@ -45,6 +48,22 @@ pub(crate) fn refusal_status(refused: CompareRefused) -> u8
         CompareRefused::Input(_, refused) => refused_status(refused),
         CompareRefused::Memory => MEMORY,
     }
+}
+
+/// Returns the line that reports an error, and the status of the program.
+pub(crate) fn refused_line<'a>(refused: Refused) -> (Line<'a>, u8)
+    ensures line { line_text result.0 ≡ fault_line (refused_text refused ∷ []) }
+    ensures status { result.1 ≡ refused_status refused }
+{
+    (fault(Part::Refused(refused)), refused_status(refused))
+}
+
+/// Returns the line that reports why two inputs were not compared, and the status of the program.
+pub(crate) fn pair_line<'a>(refused: CompareRefused) -> (Line<'a>, u8)
+    ensures line { line_text result.0 ≡ fault_line (compare_refused_text refused ∷ []) }
+    ensures status { result.1 ≡ refusal_status refused }
+{
+    (fault(Part::Pair(refused)), refusal_status(refused))
 }
 
 /// Reports an error in one line, and returns the status of the program.

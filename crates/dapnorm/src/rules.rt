@@ -2,7 +2,7 @@
 ghost use Rattle.std.specs.Prelude.{◌≡◌};
 ghost use Rattle.dap_commands.specs.Reading.{text_in};
 ghost use Rattle.dapnorm.specs.Lines.{line_text};
-ghost use Rattle.dapnorm.specs.Reasons.{no_rules_line, no_rules_status, words_line};
+ghost use Rattle.dapnorm.specs.Reasons.{no_rules_line, no_rules_status};
 ghost use Rattle.dapnorm.specs.Rules.{AreGivenRules, AreRules, IsRulesText, IsTextOf};
 
 use crate::line::{Line, Part, fault};
@@ -31,44 +31,25 @@ pub enum NoRules {
     Memory,
 }
 
-/// Returns the line that reports a value of the option `--word` that adds no rule.
-fn words_line(why: &UsageFault) -> Line<'_>
-    ensures { line_text result ≡ words_line why.now }
-{
-    match why {
-        UsageFault::Usage(text) | UsageFault::Help(text) => Line::Whole(text),
-        UsageFault::Memory => fault(Part::Refused(Refused::Memory)),
-    }
-}
-
 impl NoRules {
-    /// Returns the status of the program.
-    pub(crate) fn status(&self) -> u8
-        ensures { result ≡ no_rules_status self.now }
+    /// Returns the line that reports it, and the status of the program.
+    pub(crate) fn line_and_status(&self) -> (Line<'_>, u8)
+        ensures line { line_text result.0 ≡ no_rules_line self.now }
+        ensures status { result.1 ≡ no_rules_status self.now }
     {
         match self {
-            NoRules::Words(UsageFault::Memory) => MEMORY,
-            NoRules::Words(_) => USAGE,
-            NoRules::File(why) => why.status(),
-            NoRules::Line(..) => REFUSED,
-            NoRules::Memory => MEMORY,
-        }
-    }
-
-    /// Returns the line that reports it.
-    pub(crate) fn line(&self) -> Line<'_>
-        ensures { line_text result ≡ no_rules_line self.now }
-    {
-        match self {
-            NoRules::Words(why) => words_line(why),
-            NoRules::File(why) => why.line(fault(Part::Text("rules: read fault"))),
-            NoRules::Line(why, _) => Line::Fault(
-                Part::Text("rules: line "),
-                Part::Count(why.line),
-                Part::Text(": "),
-                Part::Text(why.cause.name()),
-            ),
-            NoRules::Memory => fault(Part::Refused(Refused::Memory)),
+            NoRules::Words(UsageFault::Usage(text) | UsageFault::Help(text)) => {
+                (Line::Whole(text), USAGE)
+            }
+            NoRules::File(why) => { why.line_and_status(fault(Part::Text("rules: read fault"))) }
+            NoRules::Line(why, _) => {
+                let (words, name) = (Part::Text("rules: line "), Part::Text(why.cause.name()));
+                let line = Line::Fault(words, Part::Count(why.line), Part::Text(": "), name);
+                (line, REFUSED)
+            }
+            NoRules::Words(UsageFault::Memory) | NoRules::Memory => {
+                (fault(Part::Refused(Refused::Memory)), MEMORY)
+            }
         }
     }
 }

@@ -16,9 +16,9 @@ ghost use Rattle.dapnorm.specs.Streams.{unstreamed_of};
 
 use crate::answer::Answer;
 use crate::desk::Desk;
-use crate::line::{Line, Part, fault};
+use crate::line::{Line, Part};
 use crate::reading::Unread;
-use crate::reporting::{REFUSED, refused_status};
+use crate::reporting::{REFUSED, refused_line};
 use crate::rules::rules_of;
 use crate::why::{Mistake, Overlap, Why};
 use dap_commands::{Name, Task};
@@ -44,28 +44,18 @@ pub enum Unstreamed {
 }
 
 impl Unstreamed {
-    /// Returns the status of the program.
-    pub(crate) fn status(self) -> u8
-        ensures { result ≡ unstreamed_status self }
+    /// Returns the line that reports it, and the status of the program.
+    pub(crate) fn line_and_status<'a>(self) -> (Line<'a>, u8)
+        ensures line { line_text result.0 ≡ unstreamed_line self }
+        ensures status { result.1 ≡ unstreamed_status self }
     {
         match self {
-            Unstreamed::Input(refused) => refused_status(refused),
-            Unstreamed::NoRecord(..) => REFUSED,
-        }
-    }
-
-    /// Returns the line that reports it.
-    pub(crate) fn line<'a>(self) -> Line<'a>
-        ensures { line_text result ≡ unstreamed_line self }
-    {
-        match self {
-            Unstreamed::Input(refused) => fault(Part::Refused(refused)),
-            Unstreamed::NoRecord(number, count) => Line::Fault(
-                Part::Text("no record "),
-                Part::Number(number),
-                Part::Text(": the recording has "),
-                Part::Number(count),
-            ),
+            Unstreamed::Input(refused) => refused_line(refused),
+            Unstreamed::NoRecord(number, count) => {
+                let (number, count) = (Part::Number(number), Part::Number(count));
+                let (words, has) = (Part::Text("no record "), Part::Text(": the recording has "));
+                (Line::Fault(words, number, has, count), REFUSED)
+            }
         }
     }
 }
@@ -108,20 +98,14 @@ fn task_rules<'a>(task: &Task<'a>) -> Option<&'a str>
 pub(crate) fn text_of<'a>(name: &Option<Name<'a>>) -> Option<&'a str>
     ensures { text_in result ≡ name.now }
 {
-    match name {
-        Some(name) => Some(name.as_str()),
-        None => None,
-    }
+    name.as_ref().map(|name| name.as_str())
 }
 
 /// Returns the name of an input. Without one it is standard input.
 pub(crate) fn input_name<'a>(name: &Option<Name<'a>>) -> &'a str
     ensures { result.now ≡ input_name name.now }
 {
-    match name {
-        Some(name) => name.as_str(),
-        None => "-",
-    }
+    name.as_ref().map_or("-", |name| name.as_str())
 }
 
 /// Returns the name of an output that is not standard output.

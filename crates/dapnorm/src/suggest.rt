@@ -67,11 +67,8 @@ fn obstacle_line(alloc: Global, obstacle: &Obstacle) -> Result<String, AllocErro
 fn reported_refusal(given: &[u8], refused: ApplyRefused) -> ApplyRefused
     ensures { result ≡ reported_refusal given.now refused }
 {
-    match given {
-        [] => match refused {
-            ApplyRefused::Order(refused) => ApplyRefused::Mask(refused),
-            refused => refused,
-        },
+    match (given, refused) {
+        ([], ApplyRefused::Order(refused)) => ApplyRefused::Mask(refused),
         _ => refused,
     }
 }

@@ -7,8 +7,8 @@ ghost use Rattle.dapnorm.specs.Comparisons.{ChecksText, HasText};
 ghost use Rattle.dapnorm.specs.Lines.{line_text};
 ghost use Rattle.dapnorm.specs.Reasons.{unapplied_line, unapplied_status};
 
-use crate::line::{Line, Part, fault};
-use crate::reporting::{FAULT, MEMORY, refused_status};
+use crate::line::{Line, Part};
+use crate::reporting::{pair_line, refused_line, refused_status};
 use dap_compare::{CompareRefused, Which};
 use dap_device::{MemorySource, Source};
 use dap_host::LIMITS;
@@ -19,33 +19,24 @@ use dap_rename::{Mode, NameTable, Tables};
 use dap_rules::{ApplyRefused, read_by_rules};
 use std::alloc::Global;
 
-/// Returns the line that reports why rules cannot be applied to one of two inputs.
-pub(crate) fn unapplied_line<'a>(which: Which, refused: ApplyRefused) -> Line<'a>
-    ensures { line_text result ≡ unapplied_line which refused }
+/// Returns the line that reports why rules cannot be applied to one of two inputs, and the status
+/// of the program.
+pub(crate) fn unapplied_line<'a>(which: Which, refused: ApplyRefused) -> (Line<'a>, u8)
+    ensures line { line_text result.0 ≡ unapplied_line which refused }
+    ensures status { result.1 ≡ unapplied_status refused }
 {
     match refused {
-        ApplyRefused::Mask(refused) => fault(Part::Pair(CompareRefused::Input(which, refused))),
-        ApplyRefused::Order(refused) => Line::Fault(
-            Part::Text(which.letter()),
-            Part::Text(": after the rules: "),
-            Part::Refused(refused),
-            Part::Text(""),
-        ),
-        ApplyRefused::ReadFault => {
-            fault(Part::Pair(CompareRefused::Input(which, Refused::ReadFault)))
+        ApplyRefused::Mask(refused) => pair_line(CompareRefused::Input(which, refused)),
+        ApplyRefused::Order(refused) => {
+            let (letter, words) = (
+                Part::Text(which.letter()),
+                Part::Text(": after the rules: "),
+            );
+            let line = Line::Fault(letter, words, Part::Refused(refused), Part::Text(""));
+            (line, refused_status(refused))
         }
-        ApplyRefused::Memory => fault(Part::Refused(Refused::Memory)),
-    }
-}
-
-/// Returns the status of the program if rules cannot be applied to an input.
-pub(crate) fn unapplied_status(refused: ApplyRefused) -> u8
-    ensures { result ≡ unapplied_status refused }
-{
-    match refused {
-        ApplyRefused::Mask(refused) | ApplyRefused::Order(refused) => refused_status(refused),
-        ApplyRefused::ReadFault => FAULT,
-        ApplyRefused::Memory => MEMORY,
+        ApplyRefused::ReadFault => pair_line(CompareRefused::Input(which, Refused::ReadFault)),
+        ApplyRefused::Memory => refused_line(Refused::Memory),
     }
 }
 

@@ -5,13 +5,13 @@ ghost use Rattle.dapnorm.specs.Reasons.{lost_words, mistake_line, overlap_words,
 ghost use Rattle.dapnorm.specs.Reasons.{why_line, why_status};
 ghost use Rattle.dapnorm.specs.Reporting.{HasSent};
 
-use crate::golden_lines::{golden_line, stop_line, stop_status, unsaved_words};
+use crate::golden_lines::{golden_line, stop_line, unsaved_words};
 use crate::line::{Line, Part, fault, fault_of, report_line};
 use crate::reading::Unread;
-use crate::reporting::{DIFFERENT, FAULT, USAGE, refusal_status, refused_status};
+use crate::reporting::{DIFFERENT, FAULT, USAGE, pair_line, refused_line};
 use crate::rules::NoRules;
 use crate::stream::Unstreamed;
-use crate::texts::{unapplied_line, unapplied_status};
+use crate::texts::unapplied_line;
 use dap_commands::Name;
 use dap_compare::{CompareRefused, Which};
 use dap_device::{ReplaceFault, Sink};
@@ -129,57 +129,42 @@ fn lost_words(update: bool) -> &'static str
 }
 
 impl Why<'_> {
-    /// Returns the status of the program.
-    fn status(&self) -> u8
-        ensures { result ≡ why_status self.now }
+    /// Returns the line that reports the reason, and the status of the program.
+    fn line_and_status(&self) -> (Line<'_>, u8)
+        ensures line { line_text result.0 ≡ why_line self.now }
+        ensures status { result.1 ≡ why_status self.now }
     {
         match self {
-            Why::Mistake(_) | Why::SameFile(..) => USAGE,
-            Why::Rules(why) => why.status(),
-            Why::Input(refused) => refused_status(*refused),
-            Why::Stream(why, _) => why.status(),
-            Why::Pair(refused) => refusal_status(*refused),
-            Why::Unapplied(_, refused, _) => unapplied_status(*refused),
-            Why::Unread(_, why) | Why::Session(why) => why.status(),
-            Why::Output(_, why) | Why::GoldenFile(_, _, why) => Unread::Unopened(*why).status(),
-            Why::Unsaved(..) => FAULT,
-            Why::Golden(_, stop, _, _) => stop_status(*stop),
-            Why::NoSuggestion(_) => DIFFERENT,
-        }
-    }
-
-    /// Returns the line that reports the reason.
-    fn line(&self) -> Line<'_>
-        ensures { line_text result ≡ why_line self.now }
-    {
-        match self {
-            Why::Mistake(mistake) => Line::Whole(mistake.line()),
+            Why::Mistake(mistake) => (Line::Whole(mistake.line()), USAGE),
             Why::SameFile(files, name) => {
-                fault_of(Part::Text(files.words()), Part::Text(name.as_str()))
+                let (words, name) = (Part::Text(files.words()), Part::Text(name.as_str()));
+                (fault_of(words, name), USAGE)
             }
-            Why::Rules(why) => why.line(),
-            Why::Unread(which, why) => why.line(unread_line(*which)),
-            Why::Input(refused) => fault(Part::Refused(*refused)),
-            Why::Stream(why, _) => why.line(),
-            Why::Pair(refused) => fault(Part::Pair(*refused)),
+            Why::Rules(why) => why.line_and_status(),
+            Why::Unread(which, why) => why.line_and_status(unread_line(*which)),
+            Why::Input(refused) => refused_line(*refused),
+            Why::Stream(why, _) => why.line_and_status(),
+            Why::Pair(refused) => pair_line(*refused),
             Why::Unapplied(which, refused, _) => unapplied_line(*which, *refused),
-            Why::Output(name, why) => Unread::Unopened(*why).line(fault_of(
-                Part::Text(name.as_str()),
-                Part::Text(": write fault"),
-            )),
-            Why::Unsaved(name, why) => fault_of(
-                Part::Text(name.as_str()),
-                Part::Text(unsaved_words(why.step)),
-            ),
-            Why::Session(why) => why.line(golden_line(Part::Text("read fault"), Part::Text(""))),
-            Why::GoldenFile(name, update, why) => Unread::Unopened(*why).line(golden_line(
-                Part::Text(name.as_str()),
-                Part::Text(lost_words(*update)),
-            )),
+            Why::Output(name, why) => {
+                let (name, words) = (Part::Text(name.as_str()), Part::Text(": write fault"));
+                Unread::Unopened(*why).line_and_status(fault_of(name, words))
+            }
+            Why::Unsaved(name, why) => {
+                let (name, words) = (Part::Text(name.as_str()), unsaved_words(why.step));
+                (fault_of(name, Part::Text(words)), FAULT)
+            }
+            Why::Session(why) => {
+                why.line_and_status(golden_line(Part::Text("read fault"), Part::Text("")))
+            }
+            Why::GoldenFile(name, update, why) => {
+                let (name, words) = (Part::Text(name.as_str()), Part::Text(lost_words(*update)));
+                Unread::Unopened(*why).line_and_status(golden_line(name, words))
+            }
             Why::Golden(name, stop, _, rules) => {
                 stop_line(rules.is_some(), name.as_str(), *stop)
             }
-            Why::NoSuggestion(line) => Line::Whole(line),
+            Why::NoSuggestion(line) => (Line::Whole(line), DIFFERENT),
         }
     }
 
@@ -190,7 +175,8 @@ impl Why<'_> {
         ensures line { HasSent E.Sink errors.old errors.new (why_line self.now) }
         ensures status { result ≡ why_status self.now }
     {
-        report_line(errors, self.line());
-        self.status()
+        let (line, status) = self.line_and_status();
+        report_line(errors, line);
+        status
     }
 }
