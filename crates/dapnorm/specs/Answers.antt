@@ -13,16 +13,13 @@ use Rattle.dap_golden.specs.declared.comparing.GoldenVerdict.{GoldenVerdict}
 use Rattle.dap_golden.specs.declared.comparing.GoldenVerdict.TheVariants as golden
 use Rattle.dap_golden.specs.declared.updates.GoldenDone.{GoldenDone}
 use Rattle.dap_golden.specs.declared.updates.GoldenDone.TheVariants as done
-use Rattle.dap_host.specs.declared.host.Stream.{Stream}
-use Rattle.dap_host.specs.declared.host.Stream.TheVariants.{Lines, Names}
+use Rattle.dap_host.specs.declared.host.Stream.{Stream, TheVariants.{Lines, Names}}
 use Rattle.dap_normalise.specs.declared.checked.Checked.{Checked}
 use Rattle.dap_rename.specs.Renaming.{pairs_of}
-use Rattle.dap_rename.specs.declared.mode.Mode.{Mode}
-use Rattle.dap_rename.specs.declared.mode.Mode.TheVariants.{PerStop, Whole}
+use Rattle.dap_rename.specs.declared.mode.Mode.{Mode, TheVariants.{PerStop, Whole}}
 use Rattle.dap_rename.specs.declared.pair.Pair.{Pair}
 use Rattle.dap_tree.specs.Sorts.{sort_word}
-use Rattle.dap_tree.specs.declared.sort.Sort.{Sort}
-use Rattle.dap_tree.specs.declared.sort.Sort.TheVariants.{Frame, Reference}
+use Rattle.dap_tree.specs.declared.sort.Sort.{Sort, TheVariants.{Frame, Reference}}
 use Rattle.dapnorm.specs.Lines.{joined}
 use Rattle.dapnorm.specs.declared.answer.Answer.{Answer}
 use Rattle.dapnorm.specs.declared.answer.Answer.TheVariants as answer

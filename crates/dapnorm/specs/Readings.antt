@@ -13,8 +13,7 @@ use Rattle.dap_input.specs.RefusedText.{refused_text}
 use Rattle.dap_input.specs.declared.refused.Refused.TheVariants as refused
 use Rattle.dapnorm.specs.Desks.{IsLeft}
 use Rattle.dapnorm.specs.Lines.{fault_line}
-use Rattle.dapnorm.specs.declared.reading.Unread.{Unread}
-use Rattle.dapnorm.specs.declared.reading.Unread.TheVariants.{Failed, Memory, Unopened}
+use Rattle.dapnorm.specs.declared.reading.Unread.{Unread, TheVariants.{Failed, Memory, Unopened}}
 
 -- These are the bytes of the file, or its first bytes up to one past the limit; or a read failed; or
 -- an allocation failed, and no read did.

@@ -7,8 +7,7 @@ use Rattle.dap_compare.specs.declared.verdict.CompareRefused.{CompareRefused}
 use Rattle.dap_compare.specs.declared.verdict.CompareRefused.TheVariants as comparing
 use Rattle.dap_compare.specs.declared.verdict.Which.{Which}
 use Rattle.dap_input.specs.RefusedText.{refused_text}
-use Rattle.dap_input.specs.declared.refused.Refused.{Refused}
-use Rattle.dap_input.specs.declared.refused.Refused.TheVariants.{Memory, ReadFault}
+use Rattle.dap_input.specs.declared.refused.Refused.{Refused, TheVariants.{Memory, ReadFault}}
 use Rattle.dap_mask.specs.RulesCauseName.{rules_cause_name}
 use Rattle.dap_mask.specs.declared.fault.RulesFault.{RulesFault}
 use Rattle.dap_rules.specs.declared.fault.ApplyRefused.{ApplyRefused}

@@ -19,8 +19,7 @@ use Rattle.dapnorm.specs.Reporting.{refused_status}
 use Rattle.dap_input.specs.Engine.{Answers, ReadsNoneOrAll}
 use Rattle.dap_input.specs.Refusals.{IsRefused}
 use Rattle.dap_input.specs.declared.limits.Limits.{Limits}
-use Rattle.dap_input.specs.declared.refused.Refused.{Refused}
-use Rattle.dap_input.specs.declared.refused.Refused.TheVariants.{Memory}
+use Rattle.dap_input.specs.declared.refused.Refused.{Refused, TheVariants.{Memory}}
 use Rattle.dap_normalise.specs.Checking.{Checks}
 use Rattle.dap_normalise.specs.Streaming.{Streams}
 use Rattle.dap_show.specs.Showing.{IsShownBy, showing}

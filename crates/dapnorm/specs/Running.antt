@@ -7,8 +7,7 @@ use Rattle.dap_commands.specs.declared.commands.UsageFault.{UsageFault}
 use Rattle.dap_host.specs.declared.host.Purpose.TheVariants as purpose
 use Rattle.dap_host.specs.declared.host.Stream.TheVariants.{Errors}
 use Rattle.dap_host.specs.declared.limits.TheConstants.{LIMITS}
-use Rattle.dap_input.specs.declared.refused.Refused.{Refused}
-use Rattle.dap_input.specs.declared.refused.Refused.TheVariants.{Memory}
+use Rattle.dap_input.specs.declared.refused.Refused.{Refused, TheVariants.{Memory}}
 use Rattle.dap_normalise.specs.Checking.{Checks}
 use Rattle.dap_normalise.specs.declared.checked.Checked.{Checked}
 use Rattle.dap_profile.specs.RowLines.{lines_of}

@@ -5,8 +5,7 @@ use Rattle.dap_device.specs.Crash.{LeavesOnly}
 use Rattle.dap_device.specs.Replacing.{HasFailedAt, HasReplaced, IsOldOrNew}
 use Rattle.dap_device.specs.declared.device.Sink.{Ghosts as Sink}
 use Rattle.dap_device.specs.declared.file.Replaceable.{Ghosts as Replaceable}
-use Rattle.dap_device.specs.declared.file.Step.{Step}
-use Rattle.dap_device.specs.declared.file.Step.TheVariants.{SyncFolder}
+use Rattle.dap_device.specs.declared.file.Step.{Step, TheVariants.{SyncFolder}}
 use Rattle.dap_device.specs.declared.replacing.ReplaceFault.{ReplaceFault}
 use Rattle.dap_rules.specs.Memory.{WrittenBytes}
 

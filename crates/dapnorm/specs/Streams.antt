@@ -16,8 +16,7 @@ use Rattle.dap_host.specs.declared.host.Stream.TheVariants.{Bytes}
 use Rattle.dap_host.specs.declared.limits.TheConstants.{LIMITS}
 use Rattle.dap_input.specs.Engine.{Answers}
 use Rattle.dap_input.specs.Streaming.{Streams}
-use Rattle.dap_input.specs.declared.refused.Refused.{Refused}
-use Rattle.dap_input.specs.declared.refused.Refused.TheVariants.{Memory}
+use Rattle.dap_input.specs.declared.refused.Refused.{Refused, TheVariants.{Memory}}
 use Rattle.dap_mask.specs.KeptRules.{mask_of}
 use Rattle.dap_mask.specs.Mask.{Mask}
 use Rattle.dap_mask.specs.declared.mask_rules.MaskRules.{MaskRules}
@@ -30,8 +29,7 @@ use Rattle.dap_rules.specs.Memory.{WrittenBytes}
 use Rattle.dap_rules.specs.Ordering.{IsNotOrdered, Orders, ReadsSomeOrAll}
 use Rattle.dap_show.specs.OneRecord.{ShowsRecord}
 use Rattle.dap_show.specs.Viewing.{ShowsInput, ViewsInput}
-use Rattle.dap_show.specs.declared.detail.Detail.{Detail}
-use Rattle.dap_show.specs.declared.detail.Detail.TheVariants.{Leaves, Lists}
+use Rattle.dap_show.specs.declared.detail.Detail.{Detail, TheVariants.{Leaves, Lists}}
 use Rattle.dap_show.specs.declared.detail.ShowRequest.{ShowRequest}
 use Rattle.dap_show.specs.declared.detail.ShowRequest.TheVariants as request
 use Rattle.dap_show.specs.declared.one_record.RecordShown.{RecordShown}
@@ -47,8 +45,7 @@ use Rattle.dapnorm.specs.declared.reading.Unread.TheVariants.{Unopened}
 use Rattle.dapnorm.specs.declared.rules.NoRules.{NoRules}
 use Rattle.dapnorm.specs.declared.stream.Unstreamed.{Unstreamed}
 use Rattle.dapnorm.specs.declared.stream.Unstreamed.TheVariants as stop
-use Rattle.dapnorm.specs.declared.why.Mistake.{Mistake}
-use Rattle.dapnorm.specs.declared.why.Mistake.TheVariants.{RecordAlone, RecordNumber}
+use Rattle.dapnorm.specs.declared.why.Mistake.{Mistake, TheVariants.{RecordAlone, RecordNumber}}
 use Rattle.dapnorm.specs.declared.why.Overlap.TheVariants.{OutputAndRules}
 use Rattle.dapnorm.specs.declared.why.Why.{Why}
 use Rattle.dapnorm.specs.declared.why.Why.TheVariants as why

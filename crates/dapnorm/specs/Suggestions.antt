@@ -2,8 +2,7 @@
 use Rattle.std.specs.Prelude.{◌≡◌, ◌⊎◌, ℕ, ◌≤◌, ◌++◌, true, false, List, [], Option, Some, None, Result, Ok, Err, Vec}
 use Rattle.std.specs.Prelude.{length}
 use Rattle.std.specs.declared.alloc.Global.{Global}
-use Rattle.dap_compare.specs.declared.verdict.Which.{Which}
-use Rattle.dap_compare.specs.declared.verdict.Which.TheVariants.{A, B}
+use Rattle.dap_compare.specs.declared.verdict.Which.{Which, TheVariants.{A, B}}
 use Rattle.dap_host.specs.declared.host.Purpose.TheVariants as purpose
 use Rattle.dap_host.specs.declared.limits.TheConstants.{LIMITS}
 use Rattle.dap_input.specs.declared.refused.Refused.TheVariants.{Memory}
