@@ -185,6 +185,8 @@ pub fn explain_run(rt: &HostRuntime, request: &Request<'_>, run: &SystemRun<'_>)
         return;
     };
     let command = &request.command;
+    // An input is rejected, not the rules or a golden file. The session of a golden file may be a
+    // trace.
     let is_rejected = run.status == REFUSED && !matches!(why, Why::Rules(_) | Why::Golden(..));
     let may_be_trace = is_rejected && !matches!(format_of(command), Format::Trace);
     for which in [Which::A, Which::B] {

@@ -21,10 +21,10 @@ pub(crate) fn recording<'a>(bytes: &'a [u8], rules: Option<&'a MaskRules>) -> In
     }
 }
 
-/// Explains why rules cannot be applied to an input, which has them. Masks it again if the masked
-/// recording is rejected. Returns an empty string if a read or an allocation failed, and for `Grew`
-/// and `TooManyIds` if some of the rules are for the order: their record may be numbered in the text
-/// in order, not in the masked recording.
+/// Explains why an input is rejected, or why its rules cannot be applied to it. Masks it again if
+/// the masked recording is rejected. Returns an empty string if a read or an allocation failed, and
+/// for `Grew` and `TooManyIds` if some of the rules are for the order: their record may be numbered
+/// in the text in order, not in the masked recording.
 pub(crate) fn explain_applying(
     alloc: Global,
     input: Input<'_>,
