@@ -46,8 +46,8 @@ fn fault_of(error: Error) -> OpenFault
 }
 
 impl<'a> System<'a> {
-    /// Opens a file, or standard input. Prints that this is read, if it is a terminal. A folder is no
-    /// rules file.
+    /// Opens a file, or standard input. Prints that standard input is read, if it is a terminal. A
+    /// folder is no rules file.
     fn input(&self, purpose: Purpose, name: &str) -> io::Result<OpenedInput> {
         let is_input = purpose == Purpose::Input;
         let stored = (is_input && self.keeps_inputs).then(|| Vec::new(self.rt.alloc()));
