@@ -2,7 +2,7 @@
 use arrayvec::ArrayVec;
 use dap_device::StdSource;
 use dap_golden::is_trace;
-use std::alloc::Global;
+use std::fs::File;
 use std::io::{self, Error, Read, Stdin};
 
 /// The number of first bytes of an input that are stored. The first line of a trace is shorter.
@@ -10,56 +10,39 @@ const HEAD: usize = 32;
 
 /// The source of an input.
 #[derive(Drop)]
-enum Origin<F> {
-    File(F),
+pub(crate) enum Origin {
+    File(File),
     Standard(Stdin),
 }
 
 /// An input that was opened. It has the reason of the last read, if that failed, and stores the
 /// bytes that were read, if they are required to explain a rejection.
 #[derive(Drop)]
-pub struct OpenedInput<F> {
-    origin: Origin<F>,
+pub struct OpenedInput {
+    origin: Origin,
     bytes: Option<Vec<u8>>,
     head: ArrayVec<u8, HEAD>,
     failure: Option<Error>,
 }
 
 /// An input that was opened. It counts what it gave and how often it failed.
-pub type SystemInput<F> = StdSource<OpenedInput<F>>;
+pub type SystemInput = StdSource<OpenedInput>;
 
-impl<F> OpenedInput<F> {
-    /// Returns an input of which nothing was read.
-    fn new(origin: Origin<F>) -> OpenedInput<F> {
+impl OpenedInput {
+    /// Returns an input of which nothing was read. If there is a vector, it stores the bytes that
+    /// are read.
+    pub(crate) fn new(origin: Origin, bytes: Option<Vec<u8>>) -> OpenedInput {
         OpenedInput {
             origin,
-            bytes: None,
+            bytes,
             head: ArrayVec::new(),
             failure: None,
         }
     }
 
-    /// Returns a file as an input.
-    pub(crate) fn file(file: F) -> OpenedInput<F> {
-        OpenedInput::new(Origin::File(file))
-    }
-
-    /// Returns standard input as an input.
-    pub(crate) fn standard(stdin: Stdin) -> OpenedInput<F> {
-        OpenedInput::new(Origin::Standard(stdin))
-    }
-
-    /// Stores the bytes that are read from now on.
-    pub(crate) fn keep(&mut self, alloc: Global) {
-        self.bytes = Some(Vec::new(alloc));
-    }
-
     /// Returns the bytes that were read, or `None` if they are not stored or an allocation failed.
     pub fn bytes(&self) -> Option<&[u8]> {
-        match &self.bytes {
-            Some(bytes) => Some(bytes.as_slice()),
-            None => None,
-        }
+        self.bytes.as_deref()
     }
 
     /// Returns the reason of the last read, if that failed. The next read that succeeds clears it,
@@ -76,11 +59,8 @@ impl<F> OpenedInput<F> {
     /// Stores these bytes, as far as they are required. If an allocation fails, discards all stored
     /// bytes.
     fn store(&mut self, more: &[u8]) {
-        for byte in more.iter().take(HEAD) {
-            if self.head.try_push(*byte).is_err() {
-                break;
-            }
-        }
+        let count = more.len().min(self.head.remaining_capacity());
+        let _ = self.head.try_extend_from_slice(&more[..count]);
         if let Some(bytes) = &mut self.bytes
             && bytes.extend_from_slice(more).is_err()
         {
@@ -89,28 +69,14 @@ impl<F> OpenedInput<F> {
     }
 }
 
-impl<F: Read> Read for Origin<F> {
+impl Read for OpenedInput {
     fn read(&mut self, buffer: &mut [u8]) -> io::Result<usize> {
-        match self {
+        let read = match &mut self.origin {
             Origin::File(file) => file.read(buffer),
             Origin::Standard(stdin) => stdin.read(buffer),
-        }
-    }
-}
-
-impl<F: Read> Read for OpenedInput<F> {
-    fn read(&mut self, buffer: &mut [u8]) -> io::Result<usize> {
-        match self.origin.read(buffer) {
-            Ok(count) => {
-                self.failure = None;
-                self.store(&buffer[..count]);
-                Ok(count)
-            }
-            Err(error) => {
-                let kind = error.kind();
-                self.failure = Some(error);
-                Err(Error::from(kind))
-            }
-        }
+        };
+        self.failure = read.err();
+        self.store(&buffer[..read?]);
+        read
     }
 }

@@ -8,5 +8,5 @@ mod outputs;
 mod system;
 
 pub use inputs::{OpenedInput, SystemInput};
-pub use outputs::{Errors, OpenOutput, errors};
+pub use outputs::{OpenOutput, SystemOutput, stream};
 pub use system::System;

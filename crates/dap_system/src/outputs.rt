@@ -1,8 +1,10 @@
-//! The streams that the program writes.
+//! The streams and devices that the program writes.
 ghost use Rattle.std.specs.Prelude.{◌≡◌};
 
 use dap_device::StdSink;
+use dap_host::Stream;
 use std::alloc::Global;
+use std::fs::File;
 use std::io::{self, BufWriter, Stderr, Stdout, Write};
 use std::str;
 
@@ -14,36 +16,66 @@ fn is_escaped(character: char) -> bool {
     character.is_control() && character != '\n' && character != '\t'
 }
 
-/// A writer of lines for people. It writes each control character except LF and tab as a JSON
-/// escape, so that no file name can control a terminal.
+/// A stream that is written.
 #[derive(Drop)]
-pub struct Escaped<W> {
-    writer: W,
+pub(crate) enum Target {
+    Output(Stdout),
+    Errors(Stderr),
+    File(File),
 }
 
-impl<W: Write> Escaped<W> {
-    /// Writes a text with its escapes.
-    fn write_text(&mut self, text: &str) -> io::Result<()> {
-        for character in text.chars() {
-            if is_escaped(character) {
-                write!(self.writer, "\\u{:04x}", u32::from(character))?;
-            } else {
-                write!(self.writer, "{character}")?;
-            }
+impl Write for Target {
+    fn write(&mut self, bytes: &[u8]) -> io::Result<usize> {
+        match self {
+            Target::Output(stream) => stream.write(bytes),
+            Target::Errors(stream) => stream.write(bytes),
+            Target::File(file) => file.write(bytes),
         }
+    }
+
+    fn flush(&mut self) -> io::Result<()> {
         Ok(())
     }
 }
 
-impl<W: Write> Write for Escaped<W> {
-    fn write(&mut self, bytes: &[u8]) -> io::Result<usize> {
-        match str::from_utf8(bytes) {
-            Ok(text) if text.chars().any(is_escaped) => {
-                self.write_text(text)?;
-                Ok(bytes.len())
-            }
-            _ => self.writer.write(bytes),
+/// A standard stream, a device or a pipe that is written. A line is one write, if it is buffered.
+#[derive(Drop)]
+pub struct OpenOutput {
+    writer: BufWriter<Target>,
+    /// Whether each control character except LF and tab is written as a JSON escape, so that no
+    /// file name can control a terminal.
+    is_escaped: bool,
+}
+
+/// An output that was opened. It counts how often it failed.
+pub type SystemOutput = StdSink<OpenOutput>;
+
+impl OpenOutput {
+    /// Returns an output without a buffer, for the bytes of an engine.
+    pub(crate) fn direct(alloc: Global, target: Target) -> OpenOutput {
+        OpenOutput {
+            writer: BufWriter::with_capacity(alloc, 0, target).unwrap(),
+            is_escaped: false,
         }
+    }
+}
+
+impl Write for OpenOutput {
+    fn write(&mut self, bytes: &[u8]) -> io::Result<usize> {
+        if self.is_escaped
+            && let Ok(text) = str::from_utf8(bytes)
+            && text.chars().any(is_escaped)
+        {
+            for character in text.chars() {
+                if is_escaped(character) {
+                    write!(self.writer, "\\u{:04x}", u32::from(character))?;
+                } else {
+                    write!(self.writer, "{character}")?;
+                }
+            }
+            return Ok(bytes.len());
+        }
+        self.writer.write(bytes)
     }
 
     fn flush(&mut self) -> io::Result<()> {
@@ -51,77 +83,24 @@ impl<W: Write> Write for Escaped<W> {
     }
 }
 
-/// Returns a writer that buffers up to 8,192 bytes, or no bytes if the allocation fails.
-fn buffered<W: Write + Drop + Copy>(alloc: Global, writer: W) -> BufWriter<W> {
-    match BufWriter::with_capacity(alloc, BUFFERED, writer) {
-        Ok(buffered) => buffered,
-        Err(_) => BufWriter::with_capacity(alloc, 0, writer).unwrap(),
+/// Returns standard output or standard error.
+fn standard(rt: &HostRuntime, stream: Stream) -> Target {
+    match stream {
+        Stream::Bytes | Stream::Lines | Stream::Names => Target::Output(rt.stdout()),
+        Stream::Errors => Target::Errors(rt.stderr()),
     }
 }
 
-/// A standard stream, a device or a pipe that is written.
-#[derive(Drop)]
-pub enum OpenOutput<F> {
-    /// Standard output for the bytes of an engine.
-    Bytes(Stdout),
-    /// Standard output for lines. A line is one write.
-    Lines(BufWriter<Stdout>),
-    /// Standard output for lines that contain file names. A line is one write.
-    Names(Escaped<BufWriter<Stdout>>),
-    /// Standard error for lines. A line is one write.
-    Errors(Escaped<BufWriter<Stderr>>),
-    /// Standard error for the bytes of an engine.
-    ErrorBytes(Stderr),
-    File(F),
-}
-
-impl<F: Write> Write for OpenOutput<F> {
-    fn write(&mut self, bytes: &[u8]) -> io::Result<usize> {
-        match self {
-            OpenOutput::Bytes(stream) => stream.write(bytes),
-            OpenOutput::Lines(stream) => stream.write(bytes),
-            OpenOutput::Names(stream) => stream.write(bytes),
-            OpenOutput::Errors(stream) => stream.write(bytes),
-            OpenOutput::ErrorBytes(stream) => stream.write(bytes),
-            OpenOutput::File(file) => file.write(bytes),
-        }
-    }
-
-    fn flush(&mut self) -> io::Result<()> {
-        match self {
-            OpenOutput::Lines(stream) => stream.flush(),
-            OpenOutput::Names(stream) => stream.flush(),
-            OpenOutput::Errors(stream) => stream.flush(),
-            _ => Ok(()),
-        }
-    }
-}
-
-/// Returns standard output for lines.
-pub(crate) fn lines<F>(alloc: Global, stdout: Stdout) -> OpenOutput<F> {
-    OpenOutput::Lines(buffered(alloc, stdout))
-}
-
-/// Returns standard output for lines that contain file names.
-pub(crate) fn names<F>(alloc: Global, stdout: Stdout) -> OpenOutput<F> {
-    OpenOutput::Names(Escaped {
-        writer: buffered(alloc, stdout),
-    })
-}
-
-/// Standard error for lines. A line is one write.
-pub type Errors = StdSink<Escaped<BufWriter<Stderr>>>;
-
-/// Returns a writer of lines to standard error.
-pub(crate) fn error_lines(alloc: Global, stderr: Stderr) -> Escaped<BufWriter<Stderr>> {
-    Escaped {
-        writer: buffered(alloc, stderr),
-    }
-}
-
-/// Returns standard error for lines.
-pub fn errors(rt: &HostRuntime) -> Errors
+/// Returns a standard stream. One for lines is buffered, unless the allocation of its buffer fails.
+pub fn stream(rt: &HostRuntime, stream: Stream) -> SystemOutput
     ensures { result.failures ≡ 0 }
 {
-    StdSink::new(error_lines(rt.alloc(), rt.stderr()))
+    let mut output = OpenOutput::direct(rt.alloc(), standard(rt, stream));
+    if stream != Stream::Bytes
+        && let Ok(writer) = BufWriter::with_capacity(rt.alloc(), BUFFERED, standard(rt, stream))
+    {
+        output.writer = writer;
+    }
+    output.is_escaped = matches!(stream, Stream::Names | Stream::Errors);
+    StdSink::new(output)
 }

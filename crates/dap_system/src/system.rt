@@ -1,18 +1,17 @@
 //! The operating system as the host of a run.
-ghost use Rattle.std.specs.Prelude.{◌≡◌, ◌↔◌, IfOk, IsTrue, None};
+ghost use Rattle.std.specs.Prelude.{◌≡◌, ◌↔◌, None};
 ghost use Rattle.std.specs.IoError.{error_kind, raw_os_error};
 
-use crate::inputs::{OpenedInput, SystemInput};
-use crate::outputs::{OpenOutput, error_lines, lines, names};
+use crate::inputs::{OpenedInput, Origin, SystemInput};
+use crate::outputs::{self, OpenOutput, SystemOutput, Target};
 use dap_device::{FileAt, StdSink, StdSource, stream_number};
 use dap_host::{Host, LIMITS, OpenFault, Purpose, Stream, is_standard};
 use dap_rename::{IndexNames, Tables};
 use std::alloc::Global;
-use std::fs::{self, OpenFile, OpenOptions};
+use std::fs::{self, OpenOptions};
 use std::hash::{BuildHasher, Hasher, RandomState};
-use std::io::{self, Error, ErrorKind, IsTerminal, Stderr, Stdin, Stdout, Write};
+use std::io::{self, Error, ErrorKind, IsTerminal, Write};
 use std::os::unix::fs::MetadataExt;
-use std::rt::Files;
 
 /// The path of standard input, as Linux names it.
 const STANDARD_INPUT: &str = "/proc/self/fd/0";
@@ -23,12 +22,8 @@ const READS_TERMINAL: &str =
 
 /// The operating system.
 #[derive(Clone, Copy)]
-pub struct System<'a, R: Files> {
-    pub alloc: Global,
-    pub files: &'a R,
-    pub stdin: Stdin,
-    pub stdout: Stdout,
-    pub stderr: Stderr,
+pub struct System<'a> {
+    pub rt: &'a HostRuntime,
     /// Random words for tables and for the names of temporary files.
     pub hasher: RandomState,
     /// Whether inputs store the bytes that are read, to explain a rejection.
@@ -37,95 +32,62 @@ pub struct System<'a, R: Files> {
     pub announces_terminal: bool,
 }
 
-/// Returns whether an allocation failed in the library. Such an error has no number of the
-/// operating system.
-fn is_out_of_memory(error: &Error) -> bool
-    ensures { IsTrue result
-        ↔ (error_kind error.now ≡ ErrorKind.OutOfMemory × raw_os_error error.now ≡ None) }
+/// Returns why a file was not opened or found. An allocation that failed in the library has no
+/// number of the operating system.
+fn fault_of(error: Error) -> OpenFault
+    ensures { result ≡ OpenFault.Memory
+        ↔ (error_kind error ≡ ErrorKind.OutOfMemory × raw_os_error error ≡ None) }
 {
-    error.kind() == ErrorKind::OutOfMemory && error.raw_os_error().is_none()
-}
-
-/// Returns why a file was not opened or found.
-fn fault_of(error: Error) -> OpenFault {
-    if is_out_of_memory(&error) {
+    if error.kind() == ErrorKind::OutOfMemory && error.raw_os_error().is_none() {
         OpenFault::Memory
     } else {
         OpenFault::Unread(error)
     }
 }
 
-impl<'a, R: Files> System<'a, R> {
-    /// Prints that standard input is read, if that is a terminal.
-    fn announce_terminal(&self) {
-        if self.announces_terminal && self.stdin.is_terminal() {
-            let mut errors = self.stderr;
-            let _ = errors.write_all(READS_TERMINAL.as_bytes());
-        }
-    }
-
-    /// Opens a file, or standard input. A folder is no rules file.
-    fn input(&self, purpose: Purpose, name: &str) -> io::Result<OpenedInput<R::File>> {
-        match purpose {
-            Purpose::Input => {
-                let mut input = if is_standard(name) {
-                    self.announce_terminal();
-                    OpenedInput::standard(self.stdin)
-                } else {
-                    OpenedInput::file(fs::open(self.files, name)?)
-                };
-                if self.keeps_inputs {
-                    input.keep(self.alloc);
-                }
-                Ok(input)
+impl<'a> System<'a> {
+    /// Opens a file, or standard input. Prints that standard input is read, if it is a terminal. A
+    /// folder is no rules file.
+    fn input(&self, purpose: Purpose, name: &str) -> io::Result<OpenedInput> {
+        let is_input = purpose == Purpose::Input;
+        let stored = (is_input && self.keeps_inputs).then(|| Vec::new(self.rt.alloc()));
+        if is_input && is_standard(name) {
+            if self.announces_terminal && self.rt.stdin().is_terminal() {
+                let _ = self.rt.stderr().write_all(READS_TERMINAL.as_bytes());
             }
-            Purpose::Rules => {
-                let file = fs::open(self.files, name)?;
-                if file.metadata()?.is_dir() {
-                    return Err(ErrorKind::IsADirectory.into());
-                }
-                Ok(OpenedInput::file(file))
-            }
+            return Ok(OpenedInput::new(Origin::Standard(self.rt.stdin()), stored));
         }
+        let file = fs::open(self.rt, name)?;
+        if !is_input && file.metadata()?.is_dir() {
+            return Err(ErrorKind::IsADirectory.into());
+        }
+        Ok(OpenedInput::new(Origin::File(file), stored))
     }
 
     /// Opens an output that is written directly. A stream other than standard output and standard
     /// error is opened only if it is a device or a pipe: a file would be written from its start.
-    fn output(&self, name: &str) -> io::Result<OpenOutput<R::File>> {
-        match stream_number(self.alloc, self.files, name)? {
-            Some(1) => return Ok(OpenOutput::Bytes(self.stdout)),
-            Some(2) => return Ok(OpenOutput::ErrorBytes(self.stderr)),
-            Some(_) if fs::metadata(self.files, name)?.is_file() => {
-                return Err(Error::new(
-                    ErrorKind::InvalidInput,
-                    "is an open file: redirect standard output to it, such as >&3",
-                ));
+    fn output(&self, name: &str) -> io::Result<Target> {
+        match stream_number(self.rt.alloc(), self.rt, name)? {
+            Some(1) => Ok(Target::Output(self.rt.stdout())),
+            Some(2) => Ok(Target::Errors(self.rt.stderr())),
+            Some(_) if fs::metadata(self.rt, name)?.is_file() => Err(Error::new(
+                ErrorKind::InvalidInput,
+                "is an open file: redirect standard output to it, such as >&3",
+            )),
+            _ => {
+                let file = OpenOptions::new().write(true).open(self.rt, name)?;
+                Ok(Target::File(file))
             }
-            _ => {}
-        }
-        let file = OpenOptions::new().write(true).open(self.files, name)?;
-        Ok(OpenOutput::File(file))
-    }
-
-    /// Finds a file that is replaced, or only read. One that is only read may be a pipe.
-    fn file(&self, name: &str, is_replaced: bool) -> io::Result<FileAt<'a, R>>
-        ensures { IfOk result (λ file. file.failures ≡ 0) }
-    {
-        if is_replaced {
-            let tag = self.hasher.build_hasher().finish();
-            FileAt::new(self.alloc, self.files, name, tag)
-        } else {
-            FileAt::to_read(self.alloc, self.files, name)
         }
     }
 }
 
-impl<'a, R: Files> Host for System<'a, R> {
-    type Input = SystemInput<R::File>;
+impl<'a> Host for System<'a> {
+    type Input = SystemInput;
 
-    type Output = StdSink<OpenOutput<R::File>>;
+    type Output = SystemOutput;
 
-    type Target = FileAt<'a, R>;
+    type Target = FileAt<'a, HostRuntime>;
 
     type Table = IndexNames<RandomState>;
 
@@ -141,43 +103,35 @@ impl<'a, R: Files> Host for System<'a, R> {
       are_same = λ output input are. Unit {0};
     } };
 
-    fn open(&self, purpose: Purpose, name: &str) -> Result<SystemInput<R::File>, OpenFault> {
-        match self.input(purpose, name) {
-            Ok(input) => Ok(StdSource::new(input)),
-            Err(error) => Err(fault_of(error)),
-        }
+    fn open(&self, purpose: Purpose, name: &str) -> Result<SystemInput, OpenFault> {
+        let input = self.input(purpose, name).map_err(fault_of)?;
+        Ok(StdSource::new(input))
     }
 
-    fn stream(&self, stream: Stream) -> StdSink<OpenOutput<R::File>> {
-        StdSink::new(match stream {
-            Stream::Bytes => OpenOutput::Bytes(self.stdout),
-            Stream::Lines => lines(self.alloc, self.stdout),
-            Stream::Names => names(self.alloc, self.stdout),
-            Stream::Errors => OpenOutput::Errors(error_lines(self.alloc, self.stderr)),
-        })
+    fn stream(&self, stream: Stream) -> SystemOutput {
+        outputs::stream(self.rt, stream)
     }
 
-    fn device(&self, name: &str) -> Result<StdSink<OpenOutput<R::File>>, OpenFault> {
-        match self.output(name) {
-            Ok(output) => Ok(StdSink::new(output)),
-            Err(error) => Err(fault_of(error)),
-        }
+    fn device(&self, name: &str) -> Result<SystemOutput, OpenFault> {
+        let target = self.output(name).map_err(fault_of)?;
+        Ok(StdSink::new(OpenOutput::direct(self.rt.alloc(), target)))
     }
 
-    fn target(&self, name: &str, is_replaced: bool) -> Result<FileAt<'a, R>, OpenFault> {
-        match self.file(name, is_replaced) {
-            Ok(file) => Ok(file),
-            Err(error) => Err(fault_of(error)),
+    fn target(&self, name: &str, is_replaced: bool) -> Result<FileAt<'a, HostRuntime>, OpenFault> {
+        let alloc = self.rt.alloc();
+        if is_replaced {
+            let tag = self.hasher.build_hasher().finish();
+            FileAt::new(alloc, self.rt, name, tag).map_err(fault_of)
+        } else {
+            FileAt::to_read(alloc, self.rt, name).map_err(fault_of)
         }
     }
 
     fn is_device(&self, name: &str) -> bool {
-        if !matches!(stream_number(self.alloc, self.files, name), Ok(None)) {
-            return true;
-        }
-        match fs::metadata(self.files, name) {
-            Ok(found) => !found.is_file() && !found.is_dir(),
-            Err(_) => false,
+        match stream_number(self.rt.alloc(), self.rt, name) {
+            Ok(None) => fs::metadata(self.rt, name).is_ok_and(|found| !found.is_file()
+                && !found.is_dir()),
+            _ => true,
         }
     }
 
@@ -187,13 +141,8 @@ impl<'a, R: Files> Host for System<'a, R> {
         } else {
             input
         };
-        match (
-            fs::metadata(self.files, output),
-            fs::metadata(self.files, input),
-        ) {
-            (Ok(a), Ok(b)) => a.dev() == b.dev() && a.ino() == b.ino(),
-            _ => false,
-        }
+        let found = (fs::metadata(self.rt, output), fs::metadata(self.rt, input));
+        matches!(found, (Ok(a), Ok(b)) if (a.dev(), a.ino()) == (b.dev(), b.ino()))
     }
 
     fn tables(&self, alloc: Global) -> Tables<IndexNames<RandomState>> {

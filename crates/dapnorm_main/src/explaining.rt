@@ -1,15 +1,15 @@
 //! Explains why a command did not finish, in lines on standard error after the line of the reason.
-use crate::rejections::{explain_applying, explain_golden};
-use crate::reports::{print, report_failure, report_file, report_input, report_reason};
-use dap_device::{FileAt, StdSink};
-use dap_explain::{Format, Input, explain, explain_rules};
+use crate::rejections::{explain_applying, explain_golden, recording};
+use dap_device::{FileAt, write_and_flush};
+use dap_explain::{Format, Input, explain, explain_rules, explain_unreadable};
 use dap_host::is_standard;
-use dap_system::{OpenOutput, OpenedInput, SystemInput};
+use dap_system::{OpenedInput, SystemInput, SystemOutput, stream};
 use dapnorm::{
-    ApplyRefused, Command, CompareRefused, Desk, Ended, GoldenStop, LIMITS, MaskRules, Name,
-    NoRules, OpenFault, Refused, Replaceable, Request, Task, Unstreamed, Which, Why,
+    ApplyRefused, Command, CompareRefused, Ended, GoldenStop, LIMITS, Name, NoRules, OpenFault,
+    Refused, Replaceable, Request, Stream, Task, Unstreamed, Which, Why,
 };
-use std::fs::{self, File};
+use std::alloc::Global;
+use std::fs;
 use std::io::Error;
 
 /// The status if an input is rejected.
@@ -18,278 +18,193 @@ const REFUSED: u8 = 2;
 /// How standard input is named in a report.
 const STANDARD_INPUT: &str = "standard input";
 
-/// The devices of a run over the operating system.
-pub type SystemDesk<'a> = Desk<
-    SystemInput<File>,
-    StdSink<OpenOutput<File>>,
-    FileAt<'a, HostRuntime>,
->;
+/// What is reported of a temporary file that could not be removed.
+const LEFT: &str = "a temporary file is left in its folder";
+
+/// What is reported of a trace.
+const IS_TRACE: &str = "this looks like a trace: dapnorm record makes a recording of it";
 
 /// A run over the operating system.
-pub type SystemRun<'a> = Ended<
-    'a,
-    SystemInput<File>,
-    StdSink<OpenOutput<File>>,
-    FileAt<'a, HostRuntime>,
->;
+pub type SystemRun<'a> = Ended<'a, SystemInput, SystemOutput, FileAt<'a, HostRuntime>>;
 
-/// A command that did not finish, and the devices that it opened.
-#[derive(Clone, Copy)]
-struct Stopped<'a> {
-    rt: &'a HostRuntime,
-    request: &'a Request<'a>,
-    desk: &'a SystemDesk<'a>,
-    /// Whether the status says that an input is rejected.
-    is_rejected: bool,
-}
-
-/// Returns the text of a name. Without one it is that of standard input.
-fn text_of<'a>(name: &'a Option<Name<'_>>) -> &'a str {
-    match name {
-        Some(name) => name.as_str(),
-        None => "-",
+/// Returns the task of a command over one input.
+fn task_of<'c, 'a>(command: &'c Command<'a>) -> Option<&'c Task<'a>> {
+    match command {
+        Command::Stream { task, .. } => Some(task),
+        _ => None,
     }
 }
 
-/// Returns the name of the rules file of a command.
-fn rules_name<'a>(command: &'a Command<'_>) -> &'a str {
-    match command {
-        Command::Stream {
-            task: Task::Mask(rules) | Task::Order(rules),
-            ..
-        } => rules.as_str(),
-        Command::Pair { rules, .. } | Command::Suggest { rules, .. } => text_of(rules),
-        Command::Golden(golden) => text_of(&golden.rules),
-        _ => "-",
+/// Returns the name of an input of a command, if it has one.
+pub fn input_name<'c, 'a>(command: &'c Command<'a>, which: Which) -> Option<&'c Name<'a>> {
+    match (command, which) {
+        (Command::Pair { a, .. } | Command::Suggest { a, .. }, Which::A) => Some(a),
+        (Command::Pair { b, .. } | Command::Suggest { b, .. }, Which::B) => Some(b),
+        (Command::Stream { input, .. } | Command::Check { input, .. }, _) => input.as_ref(),
+        (Command::Golden(golden), _) => golden.input.as_ref(),
+        (Command::Rows { .. }, _) => None,
     }
 }
 
 /// Returns the name of an input of a command in a report.
-fn input_name<'a>(command: &'a Command<'_>, which: Which) -> &'a str {
-    let name = match (command, which) {
-        (Command::Pair { a, .. } | Command::Suggest { a, .. }, Which::A) => a.as_str(),
-        (Command::Pair { b, .. } | Command::Suggest { b, .. }, Which::B) => b.as_str(),
-        (Command::Stream { input, .. } | Command::Check { input, .. }, _) => text_of(input),
-        (Command::Golden(golden), _) => text_of(&golden.input),
-        (Command::Rows { .. }, _) => "-",
-    };
-    if is_standard(name) {
-        STANDARD_INPUT
-    } else {
-        name
+fn reported_name<'a>(command: &Command<'a>, which: Which) -> &'a str {
+    match input_name(command, which) {
+        Some(name) if !is_standard(name.as_str()) => name.as_str(),
+        _ => STANDARD_INPUT,
+    }
+}
+
+/// Returns the name of the rules file of a command, if it has one.
+fn rules_name<'c, 'a>(command: &'c Command<'a>) -> Option<&'c Name<'a>> {
+    match command {
+        Command::Pair { rules, .. } | Command::Suggest { rules, .. } => rules.as_ref(),
+        Command::Golden(golden) => golden.rules.as_ref(),
+        _ => match task_of(command) {
+            Some(Task::Mask(rules) | Task::Order(rules)) => Some(rules),
+            _ => None,
+        },
     }
 }
 
 /// Returns the format of the input of a command.
 fn format_of(command: &Command<'_>) -> Format {
-    match command {
-        Command::Stream {
-            task: Task::Compact,
-            ..
-        } => Format::Frames,
-        Command::Stream {
-            task: Task::Record,
-            ..
-        } => Format::Trace,
+    match task_of(command) {
+        Some(Task::Compact) => Format::Frames,
+        Some(Task::Record) => Format::Trace,
         _ => Format::Recording,
     }
 }
 
-impl Stopped<'_> {
-    /// Returns the input of one of two recordings, or the only one, if it was opened.
-    fn input(&self, which: Which) -> Option<&OpenedInput<File>> {
-        let input = match which {
-            Which::A => &self.desk.a,
-            Which::B => &self.desk.b,
-        };
-        match input {
-            Some(input) => Some(input.reader()),
-            None => None,
-        }
-    }
-
-    /// Reports why an input could not be read, or that a rejected one is a trace.
-    fn report(&self, which: Which) {
-        let name = input_name(&self.request.command, which);
-        match (self.input(which), format_of(&self.request.command)) {
-            (Some(input), Format::Trace) => report_failure(self.rt, name, input),
-            (Some(input), _) => report_input(self.rt, name, input, self.is_rejected),
-            (None, _) => {}
-        }
-    }
-
-    /// Explains why an input is rejected, if its bytes are stored.
-    fn explain(&self, which: Which, refused: Refused, rules: Option<&MaskRules>) {
-        let Some(input) = self.input(which) else {
-            return;
-        };
-        if let Some(bytes) = input.bytes() {
-            let input = Input {
-                bytes,
-                format: format_of(&self.request.command),
-                rules,
-            };
-            let alloc = self.rt.alloc();
-            print(self.rt, explain(alloc, input, refused, LIMITS));
-        }
-    }
-
-    /// Explains why a task was not done over an input. A recording that grew too long in order is
-    /// not explained, since its records may be numbered in the text in order.
-    fn explain_stream(&self, refused: Refused, rules: &MaskRules) {
-        self.report(Which::A);
-        match (&self.request.command, refused) {
-            (
-                Command::Stream {
-                    task: Task::Order(_),
-                    ..
-                },
-                Refused::Grew(_),
-            ) => {}
-            (
-                Command::Stream {
-                    task: Task::Mask(_),
-                    ..
-                },
-                _,
-            ) => self.explain(Which::A, refused, Some(rules)),
-            _ => self.explain(Which::A, refused, None),
-        }
-    }
-
-    /// Explains why two inputs were not compared. What rules made of them is not explained.
-    fn explain_pair(&self, refused: CompareRefused) {
-        self.report(Which::A);
-        self.report(Which::B);
-        let is_plain = match &self.request.command {
-            Command::Pair { rules, .. } => rules.is_none() && self.request.words.is_empty(),
-            _ => false,
-        };
-        match refused {
-            CompareRefused::Input(which, refused) if is_plain => {
-                self.explain(which, refused, None);
-            }
-            _ => {}
-        }
-    }
-
-    /// Explains why rules cannot be applied to an input.
-    fn explain_unapplied(&self, which: Which, refused: ApplyRefused, rules: &MaskRules) {
-        self.report(which);
-        let Some(input) = self.input(which) else {
-            return;
-        };
-        if let Some(bytes) = input.bytes() {
-            let alloc = self.rt.alloc();
-            print(
-                self.rt,
-                explain_applying(alloc, bytes, rules, refused, LIMITS),
-            );
-        }
-    }
-
-    /// Explains why a golden file was not compared or written. One that is rejected is read again.
-    fn explain_golden(
-        &self,
-        name: &str,
-        stop: GoldenStop,
-        session: &[u8],
-        rules: Option<&MaskRules>,
-    ) {
-        let alloc = self.rt.alloc();
-        match stop {
-            GoldenStop::Input(refused) => {
-                print(
-                    self.rt,
-                    explain_golden(alloc, session, rules, refused, LIMITS),
-                );
-            }
-            GoldenStop::Golden(refused) => explain_file(self.rt, name, refused),
-            GoldenStop::GoldenUnread | GoldenStop::Unwritten(_) => {
-                report_file(self.rt, name, &self.desk.target);
-            }
-            _ => {}
-        }
-    }
-
-    /// Explains why a file did not open.
-    fn explain_fault(&self, name: &str, fault: &OpenFault) {
-        if let OpenFault::Unread(error) = fault {
-            report_reason(self.rt, name, error);
-        }
-    }
-
-    /// Explains why there are no rules.
-    fn explain_rules(&self, why: &NoRules) {
-        match why {
-            NoRules::Unopened(fault) => {
-                self.explain_fault(rules_name(&self.request.command), fault);
-            }
-            NoRules::Line(fault, text) => {
-                let alloc = self.rt.alloc();
-                print(self.rt, explain_rules(alloc, text.as_slice(), *fault));
-            }
-            _ => {}
-        }
+/// Prints a text on standard error. One that could not be made, or cannot be printed, is left out.
+fn print(rt: &HostRuntime, text: Option<String>) {
+    if let Some(text) = text {
+        let _ = write_and_flush(&mut stream(rt, Stream::Errors), text.as_bytes());
     }
 }
 
-/// Explains why a golden file is rejected, which is read again, unless it is a pipe.
-fn explain_file(rt: &HostRuntime, name: &str, refused: Refused) {
-    match fs::metadata(rt, name) {
-        Ok(found) if found.is_file() => {}
-        _ => return,
+/// Reports the reason of the last failure of the file of this name, if it failed, and words about
+/// it, if there are some.
+fn report_file(rt: &HostRuntime, name: &str, failure: Option<&Error>, words: Option<&str>) {
+    let alloc = rt.alloc();
+    if let Some(error) = failure
+        && let Ok(reason) = format!(in alloc; "{error}")
+    {
+        print(rt, explain_unreadable(alloc, name, reason.as_str()).ok());
     }
-    let Ok(mut file) = FileAt::to_read(rt.alloc(), rt, name) else {
-        return;
+    if let Some(words) = words {
+        print(rt, explain_unreadable(alloc, name, words).ok());
+    }
+}
+
+/// Returns an input that a run opened.
+fn opened<'a>(run: &'a SystemRun<'_>, which: Which) -> Option<&'a OpenedInput> {
+    let input = match which {
+        Which::A => &run.desk.a,
+        Which::B => &run.desk.b,
     };
-    if let Ok(Some(golden)) = file.read(rt.alloc(), LIMITS.input) {
-        let input = Input {
-            bytes: golden.as_slice(),
-            format: Format::Recording,
-            rules: None,
-        };
-        print(rt, explain(rt.alloc(), input, refused, LIMITS));
+    input.as_ref().map(|input| input.reader())
+}
+
+/// Returns the name of a file that did not open, and the reason.
+fn unopened<'a>(command: &Command<'a>, why: &'a Why<'_>) -> Option<(&'a str, &'a OpenFault)> {
+    match why {
+        Why::Rules(NoRules::Unopened(fault)) => Some((rules_name(command)?.as_str(), fault)),
+        Why::Unopened(Some(which), fault) => Some((reported_name(command, *which), fault)),
+        Why::Unopened(None, fault) | Why::Session(fault) => {
+            Some((reported_name(command, Which::A), fault))
+        }
+        Why::Output(name, fault) | Why::GoldenFile(name, _, fault) => Some((name.as_str(), fault)),
+        _ => None,
+    }
+}
+
+/// Explains why an input is rejected, if its bytes are stored. A recording that grew too long in
+/// order is not explained, since its records may be numbered in the text in order. What rules made
+/// of two inputs is not explained.
+fn explain_input(alloc: Global, request: &Request<'_>, run: &SystemRun<'_>) -> Option<String> {
+    let command = &request.command;
+    let (which, refused, rules) = match run.outcome.as_ref().err()? {
+        Why::Unapplied(which, refused, rules) => (*which, *refused, Some(rules)),
+        Why::Input(refused) => (Which::A, ApplyRefused::Mask(*refused), None),
+        Why::Stream(Unstreamed::Input(refused), rules) => {
+            let rules = match (task_of(command), refused) {
+                (Some(Task::Order(_)), Refused::Grew(_)) => return None,
+                (Some(Task::Mask(_)), _) => Some(rules),
+                _ => None,
+            };
+            (Which::A, ApplyRefused::Mask(*refused), rules)
+        }
+        Why::Pair(CompareRefused::Input(which, refused))
+            if rules_name(command).is_none() && request.words.is_empty() => {
+            (*which, ApplyRefused::Mask(*refused), None)
+        }
+        _ => return None,
+    };
+    let input = Input {
+        bytes: opened(run, which)?.bytes()?,
+        format: format_of(command),
+        rules,
+    };
+    explain_applying(alloc, input, refused, LIMITS).ok()
+}
+
+/// Explains why a golden file is rejected, which is read again, unless it is a pipe.
+fn explain_golden_file(rt: &HostRuntime, name: &str, refused: Refused) -> Option<String> {
+    let alloc = rt.alloc();
+    if !fs::metadata(rt, name).ok()?.is_file() {
+        return None;
+    }
+    let Ok(mut file) = FileAt::to_read(alloc, rt, name) else {
+        return None;
+    };
+    let golden = file.read(alloc, LIMITS.input).ok()??;
+    explain(alloc, recording(golden.as_slice(), None), refused, LIMITS).ok()
+}
+
+/// Explains why a text is rejected: of rules, of a golden file, or of an input.
+fn explain_text(rt: &HostRuntime, request: &Request<'_>, run: &SystemRun<'_>) -> Option<String> {
+    let alloc = rt.alloc();
+    match run.outcome.as_ref().err()? {
+        Why::Rules(NoRules::Line(fault, text)) => {
+            explain_rules(alloc, text.as_slice(), *fault).ok()
+        }
+        Why::Golden(_, GoldenStop::Input(refused), session, rules) => {
+            explain_golden(alloc, session.as_slice(), rules.as_ref(), *refused, LIMITS).ok()
+        }
+        Why::Golden(name, GoldenStop::Golden(refused), ..) => {
+            explain_golden_file(rt, name.as_str(), *refused)
+        }
+        _ => explain_input(alloc, request, run),
     }
 }
 
 /// Explains why a command did not finish, if it did not, and reports the reasons of files that
-/// failed.
-pub fn explain_run<'a>(rt: &'a HostRuntime, request: &'a Request<'a>, run: &'a SystemRun<'a>) {
+/// failed. If the bytes of a rejected trace are stored, an explanation says that it is one.
+pub fn explain_run(rt: &HostRuntime, request: &Request<'_>, run: &SystemRun<'_>) {
     let Err(why) = &run.outcome else {
         return;
     };
-    let stopped = Stopped {
-        rt,
-        request,
-        desk: &run.desk,
-        is_rejected: run.status == REFUSED,
-    };
     let command = &request.command;
-    match why {
-        Why::Rules(why) => stopped.explain_rules(why),
-        Why::Unopened(which, fault) => {
-            let name = input_name(command, which.unwrap_or(Which::A));
-            stopped.explain_fault(name, fault);
+    // An input is rejected, not the rules or a golden file. The session of a golden file may be a
+    // trace.
+    let is_rejected = run.status == REFUSED && !matches!(why, Why::Rules(_) | Why::Golden(..));
+    let may_be_trace = is_rejected && !matches!(format_of(command), Format::Trace);
+    for which in [Which::A, Which::B] {
+        if let Some(input) = opened(run, which) {
+            let is_trace = may_be_trace && input.is_trace() && input.bytes().is_none();
+            let words = is_trace.then_some(IS_TRACE);
+            report_file(rt, reported_name(command, which), input.failure(), words);
         }
-        Why::Session(fault) => stopped.explain_fault(input_name(command, Which::A), fault),
-        Why::UnreadSession => stopped.report(Which::A),
-        Why::Output(name, fault) | Why::GoldenFile(name, _, fault) => {
-            stopped.explain_fault(name.as_str(), fault);
-        }
-        Why::Unsaved(name, _) => report_file(rt, name.as_str(), &run.desk.target),
-        Why::Stream(Unstreamed::Input(refused), rules) => stopped.explain_stream(*refused, rules),
-        Why::Input(refused) => {
-            stopped.report(Which::A);
-            stopped.explain(Which::A, *refused, None);
-        }
-        Why::Pair(refused) => stopped.explain_pair(*refused),
-        Why::Unapplied(which, refused, rules) => {
-            stopped.explain_unapplied(*which, *refused, rules);
-        }
-        Why::Golden(name, stop, session, rules) => {
-            stopped.explain_golden(name.as_str(), *stop, session.as_slice(), rules.as_ref());
-        }
-        _ => {}
     }
+    if let Some((name, OpenFault::Unread(error))) = unopened(command, why) {
+        report_file(rt, name, Some(error), None);
+    }
+    if let Why::Unsaved(name, _)
+    | Why::Golden(name, GoldenStop::GoldenUnread | GoldenStop::Unwritten(_), ..) = why
+        && let Some(file) = &run.desk.target
+    {
+        let words = file.is_left().then_some(LEFT);
+        report_file(rt, name.as_str(), file.reason(), words);
+    }
+    print(rt, explain_text(rt, request, run));
 }

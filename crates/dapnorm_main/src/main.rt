@@ -6,16 +6,14 @@ ghost use Rattle.dapnorm_main.specs.Usage.{IsUsageStatus};
 
 mod explaining;
 mod rejections;
-mod reports;
 
-use crate::explaining::explain_run;
+use crate::explaining::{explain_run, input_name};
 use dap_device::hold_closed_streams;
-use dap_system::{System, errors};
-use dapnorm::{Command, Request, StdSink, UsageFault, command, run, run_usage};
-use std::alloc::Global;
+use dap_system::{System, stream};
+use dapnorm::{Request, Stream, UsageFault, Which, command, run, run_usage};
 use std::env;
 use std::hash::RandomState;
-use std::io::{Error, ErrorKind};
+use std::io::{self, Error, ErrorKind};
 use std::process::ExitCode;
 
 /// The status if the arguments or random words cannot be had, or a file does not open.
@@ -27,18 +25,15 @@ const NOT_UTF_8: &str = "error: an argument is not valid UTF-8\n";
 /// Returns whether the environment requests explanations: `DAPNORM_EXPLAIN` has a value that is
 /// not `0`.
 fn requests_explanations(rt: &HostRuntime) -> bool {
-    match env::var(rt, "DAPNORM_EXPLAIN") {
-        Ok(value) => !value.is_empty() && value.as_str() != "0",
-        Err(_) => false,
-    }
+    env::var(rt, "DAPNORM_EXPLAIN").is_ok_and(|value| !matches!(value.as_str(), "" | "0"))
 }
 
 /// Reports why the arguments request nothing that can be done.
 fn report_usage(rt: &HostRuntime, fault: &UsageFault) -> u8
     ensures { IsUsageStatus fault.now result }
 {
-    let mut writer = StdSink::new(rt.stdout());
-    run_usage(fault, &mut writer, &mut errors(rt))
+    let mut writer = stream(rt, Stream::Bytes);
+    run_usage(fault, &mut writer, &mut stream(rt, Stream::Errors))
 }
 
 /// Reports that what the program begins with cannot be had.
@@ -49,58 +44,52 @@ fn report_unread(rt: &HostRuntime) -> u8 {
 
 /// Reports why the arguments could not be read. One that is not UTF-8 is a mistake of the user.
 fn report_no_words(rt: &HostRuntime, error: &Error) -> u8 {
-    match error.kind() {
-        ErrorKind::OutOfMemory => report_usage(rt, &UsageFault::Memory),
-        ErrorKind::InvalidData => match String::from_str(rt.alloc(), NOT_UTF_8) {
-            Ok(text) => report_usage(rt, &UsageFault::Usage(text)),
-            Err(_) => report_usage(rt, &UsageFault::Memory),
-        },
-        _ => report_unread(rt),
-    }
+    let fault = match error.kind() {
+        ErrorKind::OutOfMemory => UsageFault::Memory,
+        ErrorKind::InvalidData => String::from_str(rt.alloc(), NOT_UTF_8).map_or(
+            UsageFault::Memory,
+            UsageFault::Usage,
+        ),
+        _ => return report_unread(rt),
+    };
+    report_usage(rt, &fault)
 }
 
-/// Returns whether a command reads standard input without a name for it.
-fn has_no_name(command: &Command<'_>) -> bool {
-    match command {
-        Command::Stream { input, .. } | Command::Check { input, .. } => input.is_none(),
-        Command::Golden(golden) => golden.input.is_none(),
-        _ => false,
-    }
-}
-
-/// Does what a request says.
-fn run_request(rt: &HostRuntime, alloc: Global, request: &Request<'_>) -> u8 {
+/// Does what a request says. If standard input is read without a name for it, a terminal is
+/// announced.
+fn run_request(rt: &HostRuntime, request: &Request<'_>) -> u8 {
     let Ok(hasher) = RandomState::new(rt) else {
         return report_unread(rt);
     };
     let system = System {
-        alloc,
-        files: rt,
-        stdin: rt.stdin(),
-        stdout: rt.stdout(),
-        stderr: rt.stderr(),
+        rt,
         hasher,
         keeps_inputs: request.explain || requests_explanations(rt),
-        announces_terminal: has_no_name(&request.command),
+        announces_terminal: input_name(&request.command, Which::A).is_none(),
     };
-    let run = run(alloc, &system, request);
+    let run = run(rt.alloc(), &system, request);
     explain_run(rt, request, &run);
     run.status
 }
 
 /// Reads the arguments and does what they request.
-fn run_words(rt: &HostRuntime, alloc: Global, words: &[String]) -> u8 {
-    let Ok(words) = words
+///
+/// # Errors
+///
+/// - `OutOfMemory`: an allocation failed.
+/// - `InvalidData`: an argument is not UTF-8.
+/// - Any other: reported by the operating system.
+fn run_words(rt: &HostRuntime) -> io::Result<u8> {
+    let alloc = rt.alloc();
+    let args = env::args(rt)?.collect::<Vec<String>>(alloc)?;
+    let words = args
         .iter()
         .map(|word| word.as_str())
-        .collect::<Vec<&str>>(alloc)
-    else {
-        return report_usage(rt, &UsageFault::Memory);
-    };
-    match command(alloc, words.as_slice()) {
-        Ok(request) => run_request(rt, alloc, &request),
+        .collect::<Vec<&str>>(alloc)?;
+    Ok(match command(alloc, words.as_slice()) {
+        Ok(request) => run_request(rt, &request),
         Err(fault) => report_usage(rt, &fault),
-    }
+    })
 }
 
 /// Runs the program, with a device in place of each standard stream that is closed.
@@ -108,14 +97,9 @@ fn run_program(rt: &HostRuntime) -> u8 {
     let Ok(_held) = hold_closed_streams(rt) else {
         return report_unread(rt);
     };
-    let alloc = rt.alloc();
-    let args = match env::args(rt) {
-        Ok(args) => args,
-        Err(error) => return report_no_words(rt, &error),
-    };
-    match args.collect::<Vec<String>>(alloc) {
-        Ok(words) => run_words(rt, alloc, words.as_slice()),
-        Err(_) => report_usage(rt, &UsageFault::Memory),
+    match run_words(rt) {
+        Ok(status) => status,
+        Err(error) => report_no_words(rt, &error),
     }
 }
 

@@ -13,7 +13,7 @@ use dap_rules::{ApplyRefused, mask_bytes};
 use std::alloc::{AllocError, Global};
 
 /// Returns a recording to which these rules are applied.
-fn recording<'a>(bytes: &'a [u8], rules: Option<&'a MaskRules>) -> Input<'a> {
+pub(crate) fn recording<'a>(bytes: &'a [u8], rules: Option<&'a MaskRules>) -> Input<'a> {
     Input {
         bytes,
         format: Format::Recording,
@@ -21,14 +21,13 @@ fn recording<'a>(bytes: &'a [u8], rules: Option<&'a MaskRules>) -> Input<'a> {
     }
 }
 
-/// Explains why rules cannot be applied to a recording. Masks it again if the masked recording is
-/// rejected. Returns an empty string if a read or an allocation failed, and for `Grew` and
-/// `TooManyIds` if some of the rules are for the order: their record may be numbered in the text in
-/// order, not in the masked recording.
+/// Explains why an input is rejected, or why its rules cannot be applied to it. Masks it again if
+/// the masked recording is rejected. Returns an empty string if a read or an allocation failed, and
+/// for `Grew` and `TooManyIds` if some of the rules are for the order: their record may be numbered
+/// in the text in order, not in the masked recording.
 pub(crate) fn explain_applying(
     alloc: Global,
-    bytes: &[u8],
-    rules: &MaskRules,
+    input: Input<'_>,
     refused: ApplyRefused,
     limits: Limits,
 ) -> Result<String, AllocError>
@@ -38,15 +37,19 @@ pub(crate) fn explain_applying(
     // If a reader, a writer or an allocation failed, there is nothing to explain.
     ensures nothing { IsApplyFailure refused → IsEmpty result }
 {
-    match refused {
-        ApplyRefused::Mask(why) => explain(alloc, recording(bytes, Some(rules)), why, limits),
-        ApplyRefused::Order(Refused::Grew(_) | Refused::TooManyIds(_))
+    match (refused, input.rules) {
+        (ApplyRefused::Mask(why), _) | (ApplyRefused::Order(why), None) => {
+            explain(alloc, input, why, limits)
+        }
+        (ApplyRefused::Order(Refused::Grew(_) | Refused::TooManyIds(_)), Some(rules))
             if !rules.swaps().is_empty() => { Ok(String::new(alloc)) }
-        ApplyRefused::Order(why) => match mask_bytes(alloc, rules, bytes, limits) {
-            Ok(masked) => explain(alloc, recording(masked.as_slice(), None), why, limits),
-            Err(_) => Ok(String::new(alloc)),
-        },
-        ApplyRefused::ReadFault | ApplyRefused::Memory => Ok(String::new(alloc)),
+        (ApplyRefused::Order(why), Some(rules)) => {
+            match mask_bytes(alloc, rules, input.bytes, limits) {
+                Ok(masked) => explain(alloc, recording(masked.as_slice(), None), why, limits),
+                Err(_) => Ok(String::new(alloc)),
+            }
+        }
+        (ApplyRefused::ReadFault | ApplyRefused::Memory, _) => Ok(String::new(alloc)),
     }
 }
 
@@ -68,25 +71,18 @@ pub(crate) fn explain_golden(
 {
     let why = match refused {
         GoldenRefused::Trace(why) => {
-            let input = Input {
-                bytes: input,
+            let trace = Input {
                 format: Format::Trace,
-                rules: None,
+                ..recording(input, None)
             };
-            return explain(alloc, input, why, limits);
+            return explain(alloc, trace, why, limits);
         }
         GoldenRefused::Mask(why) => ApplyRefused::Mask(why),
         GoldenRefused::Session(why) => ApplyRefused::Order(why),
         GoldenRefused::NoRecords | GoldenRefused::Memory => return Ok(String::new(alloc)),
     };
-    let Ok(session) = recording_of(alloc, input, limits) else {
-        return Ok(String::new(alloc));
-    };
-    match (rules, why) {
-        (Some(rules), _) => explain_applying(alloc, session.as_slice(), rules, why, limits),
-        (None, ApplyRefused::Order(why)) => {
-            explain(alloc, recording(session.as_slice(), None), why, limits)
-        }
-        _ => Ok(String::new(alloc)),
+    match recording_of(alloc, input, limits) {
+        Ok(session) => explain_applying(alloc, recording(session.as_slice(), rules), why, limits),
+        Err(_) => Ok(String::new(alloc)),
     }
 }
