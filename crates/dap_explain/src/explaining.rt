@@ -18,6 +18,7 @@ use crate::unanswered::explain_incomplete;
 use dap_frame::Framer;
 use dap_input::{Limits, Refused};
 use dap_mask::MaskRules;
+use dap_recording::RecorderFault;
 use std::alloc::{AllocError, Global};
 
 /// An input that was rejected.
@@ -30,21 +31,14 @@ pub struct Input<'a> {
 }
 
 /// Adds the lines about the rejection of the content of a record.
-fn add_content(
-    lines: &mut Lines,
-    records: Records<'_>,
-    number: u64,
-    rules: Option<&MaskRules>,
-    refused: Refused,
-    limits: Limits,
-) {
+fn add_content(lines: &mut Lines, records: Records<'_>, number: u64, refused: Refused) {
     let Some(record) = records.from_number(number).and_then(|mut rest| rest.next()) else {
         return;
     };
     if let Refused::Json(_) = refused {
         return explain_json(lines, record);
     }
-    let Some(message) = read_message(lines, record.content, rules) else {
+    let Some(message) = read_message(lines, record.content, records.input.rules) else {
         return;
     };
     if let Refused::Message(_, fault) = refused {
@@ -54,14 +48,14 @@ fn add_content(
     add_head(lines, number, &head);
     match refused {
         Refused::Fraction(_) => explain_fraction(lines, record.content, &message, head),
-        Refused::Rule(_, rule) => explain_rule(lines, records, number, &head, rule),
+        Refused::Rule(_, rule) => explain_rule(lines, records.before(number), &head, rule),
         Refused::TooManyIds(_) => lines.write(format_args!(
             "the limit is {} different ids of a kind: record shorter sessions",
-            limits.ids,
+            records.limits.ids,
         )),
         Refused::Grew(_) => lines.write(format_args!(
             "dapnorm writes at most {} bytes for a record and {} bytes in all: record shorter sessions",
-            limits.frame.content, limits.input,
+            records.limits.frame.content, records.limits.input,
         )),
         _ => {}
     }
@@ -72,19 +66,21 @@ fn add_refusal(lines: &mut Lines, input: Input<'_>, refused: Refused, limits: Li
     requires { IsSound limits.frame }
     ensures { IsFailure refused → lines.new ≡ lines.old }
 {
-    let framer = Framer::new(lines.alloc(), limits.frame);
-    let records = Records::new(&framer, input.format, input.bytes);
+    let framer = Framer::new(lines.alloc, limits.frame);
+    let records = Records::new(&framer, limits, input);
     match refused {
         Refused::InputTooLong(_) | Refused::TraceTooLong(_) => lines.write(format_args!(
             "the limit of an input is {} bytes: record shorter sessions",
             limits.input,
         )),
         Refused::Record(number, cause) => {
-            explain_record(lines, records, number, cause, limits.frame)
+            if let Some(records) = records.from_number(number) {
+                explain_record(lines, records, cause);
+            }
         }
         Refused::Trace(number, cause) => explain_piece(lines, input.bytes, number, cause),
-        Refused::Recorder(number, fault) => {
-            explain_recorder(lines, &framer, input.bytes, number, fault, limits.frame)
+        Refused::Recorder(number, RecorderFault::Frame(side, fault)) => {
+            explain_recorder(lines, records, number, side, fault)
         }
         Refused::Incomplete(client, adapter) => {
             explain_incomplete(lines, records, client.saturating_add(adapter))
@@ -94,9 +90,8 @@ fn add_refusal(lines: &mut Lines, input: Input<'_>, refused: Refused, limits: Li
         | Refused::Message(number, _)
         | Refused::Rule(number, _)
         | Refused::TooManyIds(number)
-        | Refused::Grew(number) => {
-            add_content(lines, records, number, input.rules, refused, limits)
-        }
+        | Refused::Grew(number) => add_content(lines, records, number, refused),
+        Refused::Recorder(_, RecorderFault::Memory) => {}
         Refused::ReadFault | Refused::WriteFault | Refused::Memory => {}
     }
 }

@@ -21,33 +21,22 @@ struct Fractions<'m> {
 }
 
 impl<'m> Fractions<'m> {
-    /// Adds the numbers in a value at a step from a path.
-    #[cycle(search)]
-    fn search_step(
-        &mut self,
-        step: Step<'m>,
-        value: &'m Tree,
-        path: &mut Vec<Step<'m>>,
-    ) -> Result<(), AllocError> {
-        path.push(step)?;
-        self.search(value, path)?;
-        path.pop();
-        Ok(())
-    }
-
     /// Adds the numbers in a value at a path.
-    #[cycle(search)]
     fn search(&mut self, value: &'m Tree, path: &mut Vec<Step<'m>>) -> Result<(), AllocError> {
         match value {
             Tree::Whole(number) if *number > i128::from(u64::MAX) => self.add(path.as_slice())?,
             Tree::List(items) => {
                 for (index, item) in items.iter().enumerate() {
-                    self.search_step(Step::Element(index), item, path)?;
+                    path.push(Step::Element(index))?;
+                    self.search(item, path)?;
+                    path.pop();
                 }
             }
             Tree::Object(members) => {
                 for (name, member) in members.iter() {
-                    self.search_step(Step::Member(name.as_str()), member, path)?;
+                    path.push(Step::Member(name.as_str()))?;
+                    self.search(member, path)?;
+                    path.pop();
                 }
             }
             _ => {}
@@ -60,14 +49,13 @@ impl<'m> Fractions<'m> {
         if self.count == 0 {
             self.first.extend_from_slice(path)?;
             self.shared = path.len();
-        } else {
-            let mut steps = self.first.iter().zip(path);
-            let apart = steps.position(|pair| match pair {
-                (Step::Element(_), Step::Element(_)) => false,
-                (step, other) => step != other,
-            });
-            self.shared = apart.unwrap_or(path.len()).min(self.shared);
         }
+        let mut steps = self.first.iter().zip(path);
+        let apart = steps.position(|pair| match pair {
+            (Step::Element(_), Step::Element(_)) => false,
+            (step, other) => step != other,
+        });
+        self.shared = apart.unwrap_or(path.len()).min(self.shared);
         self.count = self.count.saturating_add(1);
         Ok(())
     }
@@ -108,9 +96,11 @@ fn take<'t>(path: &mut Vec<Step<'t>>, token: Token<'t>) -> Result<(), AllocError
 /// in an object, the last one counts.
 fn number_text<'t>(
     alloc: Global,
-    reader: &mut Reader<'t>,
+    content: &'t str,
+    scratch: &'t mut Scratch<Global>,
     path: &[Step<'_>],
 ) -> Result<Option<&'t str>, AllocError> {
+    let mut reader = Reader::new(content, scratch)?;
     let mut here = Vec::new(alloc);
     let mut found = None;
     while let Some(token) = reader.next() {
@@ -125,13 +115,12 @@ fn number_text<'t>(
 
 /// Adds the line that states which number is at a path, and what is wrong with it.
 fn add_number(lines: &mut Lines, content: &str, steps: &[Step<'_>]) {
-    let mut scratch = Scratch::new(lines.alloc());
-    let Some(mut reader) = lines.value_of(Reader::new(content, &mut scratch)) else {
-        return;
-    };
-    let text = number_text(lines.alloc(), &mut reader, steps);
+    let mut scratch = Scratch::new(lines.alloc);
+    let text = number_text(lines.alloc, content, &mut scratch, steps);
     if let Some(Some(text)) = lines.value_of(text) {
-        let (path, number, fault) = (Path::of(steps), Cut(text), fault_of(text));
+        let is_of_rule = false;
+        let path = Path { steps, is_of_rule };
+        let (number, fault) = (Cut(text), fault_of(text));
         lines.write(format_args!(
             "{path} is {number}, which {fault}; dapnorm takes only integers of 64 bits",
         ));
@@ -144,14 +133,12 @@ const LONGEST_RULE: usize = 500;
 /// Adds the line with the rule that blanks `what`, if it is a valid mask rule. Returns whether it
 /// is.
 fn add_rule(lines: &mut Lines, head: Head<'_>, what: &str, steps: &[Step<'_>]) -> bool {
-    let (Some(kind), Some(name)) = (head.kind, head.name) else {
+    let (Some(kind), Some(name)) = (head.kind, head.name()) else {
         return false;
     };
-    let (kind, name, place) = (kind.word(), Name(name), Path::of_rule(steps));
-    let rule = format!(in lines.alloc(); "blank {kind} {name} {place}");
-    let Some(rule) = lines.value_of(rule) else {
-        return false;
-    };
+    let (kind, name, is_of_rule) = (kind.word(), Name(name), true);
+    let place = Path { steps, is_of_rule };
+    let rule = lines.display(format_args!("blank {kind} {name} {place}"));
     let is_rule = rule.len() <= LONGEST_RULE && fault_in(lines, rule.as_bytes()).is_none();
     if is_rule {
         lines.write(format_args!("to blank {what}, write into a rules file: {rule}"));
@@ -163,10 +150,8 @@ fn add_rule(lines: &mut Lines, head: Head<'_>, what: &str, steps: &[Step<'_>]) -
 fn add_rules(lines: &mut Lines, head: Head<'_>, found: &Fractions<'_>) {
     let path = found.first.as_slice();
     let has_first = add_rule(lines, head, "this number", path);
-    let has_shared = match path.split_at_checked(found.shared) {
-        Some((shared, [_, ..])) => add_rule(lines, head, "all of them", shared),
-        _ => false,
-    };
+    let has_shared = found.shared < path.len()
+        && add_rule(lines, head, "all of them", &path[..found.shared]);
     lines.add(if has_first || has_shared {
         "apply the rules file with dapnorm mask RULES or dapnorm golden --rules RULES"
     } else {
@@ -178,11 +163,11 @@ fn add_rules(lines: &mut Lines, head: Head<'_>, found: &Fractions<'_>) {
 /// message, and `message` its tree after the rules are applied.
 pub(crate) fn explain_fraction(lines: &mut Lines, content: &[u8], message: &Tree, head: Head<'_>) {
     let mut found = Fractions {
-        first: Vec::new(lines.alloc()),
+        first: Vec::new(lines.alloc),
         shared: 0,
         count: 0,
     };
-    let mut path = Vec::new(lines.alloc());
+    let mut path = Vec::new(lines.alloc);
     let searched = found.search(message, &mut path);
     if lines.value_of(searched).is_none() || found.count == 0 {
         return;

@@ -4,41 +4,50 @@ use crate::words::Quoted;
 use dap_mask::{MaskRules, mask, read_loosely, read_with_words};
 use dap_profile::Kind;
 use dap_tree::{Scratch, Side, Tree, TreeFault};
+use std::alloc::Global;
 use std::fmt;
 
-/// The members that every message of a kind has. A member that is absent or has another type is
+/// The members of a message that say what it is. A member that is absent or has another type is
 /// `None`.
 #[derive(Clone, Copy, Default)]
 pub(crate) struct Head<'m> {
     /// The sender. `None` in frames of one direction.
     pub(crate) side: Option<Side>,
     pub(crate) kind: Option<Kind>,
-    /// The command of a request or a response, or the name of an event.
-    pub(crate) name: Option<&'m str>,
+    pub(crate) command: Option<&'m str>,
+    pub(crate) event: Option<&'m str>,
     pub(crate) seq: Option<i64>,
-    /// The `seq` of the request that a response answers.
     pub(crate) request_seq: Option<i64>,
-    /// Whether the message is a successful response.
+    /// Whether the member `success` is true.
     pub(crate) is_success: bool,
 }
 
 impl<'m> Head<'m> {
     /// Reads the head of a message.
     pub(crate) fn of(side: Option<Side>, message: &'m Tree) -> Head<'m> {
-        let kind = text_at(message, "type").and_then(Kind::named);
-        let is_response = kind == Some(Kind::Response);
-        let name = match kind {
-            Some(Kind::Event) => "event",
-            _ => "command",
-        };
         Head {
             side,
-            kind,
-            name: text_at(message, name),
+            kind: text_at(message, "type").and_then(Kind::named),
+            command: text_at(message, "command"),
+            event: text_at(message, "event"),
             seq: number_at(message, "seq"),
-            request_seq: number_at(message, "request_seq").filter(|_| is_response),
-            is_success: is_response && matches!(message.child("success"), Some(Tree::Bool(true))),
+            request_seq: number_at(message, "request_seq"),
+            is_success: matches!(message.child("success"), Some(Tree::Bool(true))),
         }
+    }
+
+    /// Returns the command of a request or a response, or the name of an event.
+    pub(crate) fn name(&self) -> Option<&'m str> {
+        match self.kind {
+            Some(Kind::Event) => self.event,
+            _ => self.command,
+        }
+    }
+
+    /// Returns the `seq` of the request that a response answers.
+    pub(crate) fn answered(&self) -> Option<i64> {
+        self.request_seq
+            .filter(|_| self.kind == Some(Kind::Response))
     }
 }
 
@@ -65,12 +74,9 @@ impl fmt::Display for Head<'_> {
             Some(Side::Adapter) => "< ",
             None => "",
         })?;
-        f.write_str(match self.kind {
-            Some(kind) => kind.word(),
-            None => "message of unknown type",
-        })?;
-        Named(self.name).fmt(f)?;
-        match self.request_seq {
+        f.write_str(self.kind.map_or("message of unknown type", Kind::word))?;
+        Named(self.name()).fmt(f)?;
+        match self.answered() {
             Some(seq) => write!(f, ", to request {seq}"),
             None => Ok(()),
         }
@@ -84,10 +90,7 @@ pub(crate) struct Named<'a>(pub(crate) Option<&'a str>);
 impl fmt::Display for Named<'_> {
     fn fmt<W: fmt::Write>(&self, f: &mut fmt::Formatter<W>) -> fmt::Result {
         match self.0 {
-            Some(name) => {
-                f.write_str(" ")?;
-                Quoted(name).fmt(f)
-            }
+            Some(name) => write!(f, " {}", Quoted(name)),
             None => Ok(()),
         }
     }
@@ -108,32 +111,26 @@ pub(crate) fn add_sender(lines: &mut Lines, side: Option<Side>) {
 }
 
 /// Reads a content. If it has a number that is not an integer of 64 bits, applies the rules to it;
-/// such numbers that remain are 2^64. Returns `None` if the content is not JSON, or after a failed
-/// allocation.
+/// such numbers that remain are 2^64.
+fn read(alloc: Global, content: &[u8], rules: Option<&MaskRules>) -> Result<Tree, TreeFault> {
+    let mut scratch = Scratch::new(alloc);
+    let mut tree = read_loosely(alloc, content, &mut scratch)?;
+    if let Some(rules) = rules
+        && !tree.sound()
+    {
+        tree = read_with_words(alloc, content, rules, &mut scratch)?;
+        mask(&mut tree, rules);
+    }
+    Ok(tree)
+}
+
+/// Reads a content as `read` does. Returns `None` if it is not JSON, or after a failed allocation.
 pub(crate) fn read_message(
     lines: &mut Lines,
     content: &[u8],
     rules: Option<&MaskRules>,
 ) -> Option<Tree> {
-    let alloc = lines.alloc();
-    let mut scratch = Scratch::new(alloc);
-    let mut read = read_loosely(alloc, content, &mut scratch);
-    match (&read, rules) {
-        (Ok(tree), Some(rules)) if !tree.sound() => {
-            read = read_with_words(alloc, content, rules, &mut scratch);
-            if let Ok(tree) = &mut read {
-                mask(tree, rules);
-            }
-        }
-        _ => {}
-    }
-    if matches!(read, Err(TreeFault::Memory)) {
-        lines.fail();
-    }
-    read.ok()
-}
-
-/// Returns whether a text is JSON.
-pub(crate) fn is_json(lines: &mut Lines, text: &[u8]) -> bool {
-    read_message(lines, text, None).is_some()
+    let message = read(lines.alloc, content, rules);
+    lines.fail_if(matches!(message, Err(TreeFault::Memory)));
+    message.ok()
 }

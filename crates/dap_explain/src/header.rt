@@ -2,6 +2,10 @@
 use dap_frame::{is_name_byte, is_value_byte};
 use std::str;
 
+/// The cause of an input that ends early.
+pub(crate) const STOPPED_EARLY: &str =
+    "the program that wrote the input may have been stopped early";
+
 /// How to keep line ends unchanged.
 pub(crate) const KEEP_LINE_ENDS: &str =
     "git keeps line ends if .gitattributes has -text for recordings and traces";
@@ -22,38 +26,37 @@ pub(crate) fn header_of(bytes: &[u8]) -> &[u8] {
     split_header(bytes).map_or(bytes, |(header, _)| header)
 }
 
-/// Returns the first line of a header part that is not a field line, without its LF.
+/// Returns the first line of a header part that is not a field line, without its LF. `None`: it is
+/// the empty line at the end.
 pub(crate) fn bad_line(header: &[u8]) -> Option<&[u8]> {
-    for line in header.split(is_lf) {
-        match line.strip_suffix(b"\r") {
-            Some([]) => return None,
-            Some(field) if is_field(field) => {}
-            _ => return Some(line),
+    let line = header.split(is_lf).find(|line| !is_field_line(line))?;
+    Some(line).filter(|line| *line != b"\r".as_slice())
+}
+
+/// Returns whether a line without its LF consists of a name, a colon, a value and CR.
+fn is_field_line(line: &[u8]) -> bool {
+    match line
+        .strip_suffix(b"\r")
+        .and_then(|field| split_at_byte(field, b':'))
+    {
+        Some((name @ [_, ..], value)) => {
+            name.iter().all(|byte| is_name_byte(*byte))
+                && value.iter().all(|byte| is_value_byte(*byte))
         }
+        _ => false,
     }
-    None
 }
 
-/// Returns whether a line without its line end consists of a name, a colon and a value.
-fn is_field(line: &[u8]) -> bool {
-    name_and_value(line).is_some_and(|(name, value)| {
-        !name.is_empty()
-            && name.iter().all(|byte| is_name_byte(*byte))
-            && value.iter().all(|byte| is_value_byte(*byte))
-    })
-}
-
-/// Returns the parts of a line before and after its first colon.
-fn name_and_value(line: &[u8]) -> Option<(&[u8], &[u8])> {
-    let colon = line.iter().position(|byte| *byte == b':')?;
-    Some((line.get(..colon)?, line.get(colon.checked_add(1)?..)?))
+/// Returns the bytes before and after the first one that is this byte.
+fn split_at_byte(bytes: &[u8], byte: u8) -> Option<(&[u8], &[u8])> {
+    let (before, rest) = bytes.split_at_checked(bytes.iter().position(|other| *other == byte)?)?;
+    Some((before, rest.get(1..)?))
 }
 
 /// Returns the value of the first field named `Content-Length`, without the surrounding blanks.
 pub(crate) fn length_value(header: &[u8]) -> Option<&[u8]> {
-    let mut fields = header.split(is_lf).filter_map(name_and_value);
-    let (_, value) = fields.find(|(name, _)| name.eq_ignore_ascii_case(LENGTH_NAME))?;
-    Some(value.trim_ascii())
+    let field = header.split(is_lf).find(|line| is_like_frames(line))?;
+    Some(split_at_byte(field, b':')?.1.trim_ascii())
 }
 
 /// Returns the length of the content that a header part declares, if it is 1 to 10 digits.
@@ -63,9 +66,7 @@ pub(crate) fn content_len(header: &[u8]) -> Option<u64> {
 
 /// Returns whether the bytes start like a frame: with the field that every frame has.
 pub(crate) fn is_like_frames(bytes: &[u8]) -> bool {
-    bytes
-        .get(..15)
-        .is_some_and(|name| name.eq_ignore_ascii_case(b"Content-Length:"))
+    split_at_byte(bytes, b':').is_some_and(|(name, _)| name.eq_ignore_ascii_case(LENGTH_NAME))
 }
 
 /// Returns whether a header part contains the name `Content-Length` but does not start with this
@@ -85,14 +86,12 @@ pub(crate) fn has_converted_line_end(header: &[u8]) -> bool {
         && (!line.ends_with(b"\r") || line.ends_with(b"\r\r"))
 }
 
-/// Returns the count at the start of the bytes, if it is 1 to 10 digits followed by LF. CR may
-/// precede the LF, because line ends may have been converted.
-pub(crate) fn count_of(bytes: &[u8]) -> Option<u64> {
-    let line = first_line(bytes);
-    if line.len() == bytes.len() {
-        return None;
-    }
-    number_of(line.strip_suffix(b"\r").unwrap_or(line))
+/// Returns the count at the start of the bytes and the bytes after it, if it is 1 to 10 digits
+/// followed by LF. CR may precede the LF, because line ends may have been converted.
+pub(crate) fn split_count(bytes: &[u8]) -> Option<(u64, &[u8])> {
+    let (line, rest) = split_at_byte(bytes, b'\n')?;
+    let count = number_of(line.strip_suffix(b"\r").unwrap_or(line))?;
+    Some((count, rest))
 }
 
 /// Returns the number that 1 to 10 decimal digits represent.

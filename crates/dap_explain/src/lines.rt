@@ -3,10 +3,11 @@ ghost use Rattle.std.specs.Prelude.{◌≡◌, ◌≢◌, ◌<◌, ◌≤◌, tr
 ghost use Rattle.std.specs.Prelude.{string_bytes};
 ghost use Rattle.dap_explain.specs.Lines.{AreLines, IsPrinted};
 
-use crate::words::first_characters;
+use crate::words::{Bytes, first_characters};
 use dap_tree::{Tree, write_tree};
 use std::alloc::{AllocError, Global};
 use std::fmt::Display;
+use std::str;
 
 /// The maximum number of characters that are written of a line.
 const LONGEST: usize = 1_000;
@@ -16,7 +17,7 @@ const LONGEST: usize = 1_000;
 /// After a failed allocation, `into_text` returns an error, whatever is added.
 #[derive(Drop)]
 pub(crate) struct Lines {
-    alloc: Global,
+    pub(crate) alloc: Global,
     text: String,
     /// Whether an allocation failed.
     has_failed: bool,
@@ -38,24 +39,22 @@ impl Lines {
         }
     }
 
-    pub(crate) fn alloc(&self) -> Global {
-        self.alloc
-    }
-
-    /// Stores that an allocation failed.
-    pub(crate) fn fail(&mut self) {
-        self.has_failed = true;
+    /// Stores that an allocation failed, if it did.
+    pub(crate) fn fail_if(&mut self, is_failed: bool) {
+        self.has_failed |= is_failed;
     }
 
     /// Returns the value of a result. After a failed allocation, stores this and returns `None`.
     pub(crate) fn value_of<T>(&mut self, outcome: Result<T, AllocError>) -> Option<T> {
-        match outcome {
-            Ok(value) => Some(value),
-            Err(_) => {
-                self.has_failed = true;
-                None
-            }
-        }
+        self.fail_if(outcome.is_err());
+        outcome.ok()
+    }
+
+    /// Returns the text that a value displays. After a failed allocation, stores this and returns
+    /// an empty string.
+    pub(crate) fn display<D: Display + Drop>(&mut self, words: D) -> String {
+        let words = words.to_string(self.alloc);
+        self.value_of(words).unwrap_or(String::new(self.alloc))
     }
 
     /// Returns a value as JSON, or `missing` if there is none. After a failed allocation, stores
@@ -77,9 +76,20 @@ impl Lines {
 
     /// Appends a line that is displayed so.
     pub(crate) fn write<D: Display + Drop>(&mut self, words: D) {
-        let words = words.to_string(self.alloc);
-        if let Some(words) = self.value_of(words) {
-            self.add(words.as_str());
+        let words = self.display(words);
+        self.add(words.as_str());
+    }
+
+    /// Returns bytes as a string. If they are not UTF-8, appends a line that says so of this name.
+    pub(crate) fn utf8<'b>(&mut self, name: &str, bytes: &'b [u8]) -> Option<&'b str> {
+        match str::from_utf8(bytes) {
+            Ok(text) => Some(text),
+            Err(error) => {
+                let valid = error.valid_up_to();
+                let rest = Bytes(bytes.get(valid..).unwrap_or(&[]));
+                self.write(format_args!("{name} is not UTF-8 after {valid} bytes: {rest}"));
+                None
+            }
         }
     }
 

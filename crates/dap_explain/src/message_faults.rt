@@ -6,7 +6,6 @@ use crate::words::Cut;
 use dap_message::{MessageFault, first_break};
 use dap_profile::{Place, Row, Want, profile_rows};
 use dap_tree::Tree;
-use std::alloc::{AllocError, Global};
 
 /// Returns the type that a row expects, in words.
 fn want_words(want: Want) -> &'static str {
@@ -42,8 +41,8 @@ fn add_unknown_type(lines: &mut Lines, record: Record<'_>, message: &Tree) {
     let number = record.number;
     let kind = message.child("type");
     if kind.is_some() {
-        let text = lines.json(kind);
-        lines.write(format_args!("the type of record {number} is {}", Cut(text.as_str())));
+        let kind = lines.json(kind);
+        lines.write(format_args!("the type of record {number} is {}", Cut(kind.as_str())));
     } else {
         lines.write(format_args!("the message of record {number} has no member \"type\""));
     }
@@ -60,13 +59,15 @@ fn add_unknown_type(lines: &mut Lines, record: Record<'_>, message: &Tree) {
 
 /// Returns the path of a row of the profile, with the index of the array element, in the notation
 /// of `diff`.
-fn path_of(alloc: Global, place: Place, element: usize) -> Result<String, AllocError> {
+fn path_of(lines: &mut Lines, place: Place, element: usize) -> String {
     match place {
-        Place::Member(name) => String::from_str(alloc, name),
-        Place::Inner(outer, name) => format!(in alloc; "{outer}.{name}"),
-        Place::Deep(outer, inner, name) => format!(in alloc; "{outer}.{inner}.{name}"),
-        Place::Element(outer, list) => format!(in alloc; "{outer}.{list}[{element}]"),
-        Place::Part(outer, list, name) => format!(in alloc; "{outer}.{list}[{element}].{name}"),
+        Place::Member(name) => lines.display(name),
+        Place::Inner(outer, name) => lines.display(format_args!("{outer}.{name}")),
+        Place::Deep(outer, inner, name) => lines.display(format_args!("{outer}.{inner}.{name}")),
+        Place::Element(outer, list) => lines.display(format_args!("{outer}.{list}[{element}]")),
+        Place::Part(outer, list, name) => {
+            lines.display(format_args!("{outer}.{list}[{element}].{name}"))
+        }
     }
 }
 
@@ -74,21 +75,19 @@ fn path_of(alloc: Global, place: Place, element: usize) -> Result<String, AllocE
 fn add_row(lines: &mut Lines, record: Record<'_>, message: &Tree, number: u16) {
     add_head(lines, record.number, &Head::of(record.side, message));
     let rows: &[Row] = profile_rows();
-    let Some(row) = rows.get(usize::from(number).saturating_sub(1)) else {
-        return;
-    };
-    let Some(fault) = first_break(row, message) else {
-        return;
-    };
-    let path = path_of(lines.alloc(), row.place, fault.element);
-    if let Some(path) = lines.value_of(path) {
-        let found = lines.json(fault.value);
+    if let Some(row) = rows.get(usize::from(number).saturating_sub(1))
+        && let Some(fault) = first_break(row, message)
+    {
+        let (path, found) = (
+            path_of(lines, row.place, fault.element),
+            lines.json(fault.value),
+        );
         let (found, wanted) = (Cut(found.as_str()), want_words(row.want));
         lines.write(format_args!(
             "{path} is {found}; the profile requires {wanted} there (dapnorm rows {number})",
         ));
+        add_sender(lines, record.side);
     }
-    add_sender(lines, record.side);
 }
 
 /// Explains that the content of a record, which is this value, is not a message.

@@ -1,10 +1,12 @@
 //! Splits an input into its records, and recognises inputs of another format.
 ghost use Rattle.std.specs.Prelude.{length};
 
-use crate::header::{count_of, is_like_frames, split_header};
+use crate::explaining::Input;
+use crate::header::{is_like_frames, split_count, split_header};
 use crate::lines::Lines;
 use crate::words::Bytes;
 use dap_frame::Framer;
+use dap_input::Limits;
 use dap_tree::Side;
 
 /// The format of an input.
@@ -26,27 +28,26 @@ pub(crate) struct Record<'a> {
     /// The sender. `None` in frames of one direction.
     pub(crate) side: Option<Side>,
     pub(crate) content: &'a [u8],
-    /// The bytes after the record.
-    pub(crate) rest: &'a [u8],
 }
 
 /// An iterator over the records of an input, up to the first bytes that are not a record.
 #[derive(Clone, Copy)]
 pub(crate) struct Records<'a> {
-    framer: &'a Framer,
-    pub(crate) format: Format,
-    /// The bytes of those that are left.
-    pub(crate) rest: &'a [u8],
-    number: u64,
+    pub(crate) framer: &'a Framer,
+    pub(crate) limits: Limits,
+    /// The input, with the bytes of the records that are left.
+    pub(crate) input: Input<'a>,
+    /// The number of the first of them.
+    pub(crate) number: u64,
 }
 
 impl<'a> Records<'a> {
-    /// Returns the records of an input, whose frames have the limits of the framer.
-    pub(crate) fn new(framer: &'a Framer, format: Format, input: &'a [u8]) -> Records<'a> {
+    /// Returns the records of an input. The framer has the limits of their frames.
+    pub(crate) fn new(framer: &'a Framer, limits: Limits, input: Input<'a>) -> Records<'a> {
         Records {
             framer,
-            format,
-            rest: input,
+            limits,
+            input,
             number: 1,
         }
     }
@@ -60,10 +61,19 @@ impl<'a> Records<'a> {
         Some(records)
     }
 
+    /// Returns the records before the one with this number, if that exists.
+    pub(crate) fn before(self, number: u64) -> Records<'a> {
+        let from = self.from_number(number);
+        let bytes = from.and_then(|from| self.input.bytes.strip_suffix(from.input.bytes));
+        let mut input = self.input;
+        input.bytes = bytes.unwrap_or(&[]);
+        Records { input, ..self }
+    }
+
     /// Returns the sender of the record at the start of the bytes, and the bytes after its marker.
     pub(crate) fn split_marker(&self) -> Option<(Option<Side>, &'a [u8])> {
-        match (self.format, self.rest) {
-            (Format::Frames, _) => Some((None, self.rest)),
+        match (self.input.format, self.input.bytes) {
+            (Format::Frames, bytes) => Some((None, bytes)),
             (_, [b'>', rest @ ..]) => Some((Some(Side::Client), rest)),
             (_, [b'<', rest @ ..]) => Some((Some(Side::Adapter), rest)),
             _ => None,
@@ -82,55 +92,54 @@ impl<'a> Iterator for Records<'a> {
 
     type Item = Record<'a>;
 
-    ghost remaining = { λ s. at_most (length s.rest.now) };
+    ghost remaining = { λ s. at_most (length s.input.bytes.now) };
 
     fn next(&mut self) -> Option<Record<'a>> {
         let (side, bytes) = self.split_marker()?;
         let (content, after) = self.split_frame(bytes)?;
-        let rest = match self.format {
+        let rest = match self.input.format {
             Format::Frames => after,
             _ => after.strip_prefix(b"\n")?,
         };
         // Each record has bytes.
-        if rest.len() >= self.rest.len() {
+        if rest.len() >= self.input.bytes.len() {
             return None;
         }
         let number = self.number;
-        self.rest = rest;
+        self.input.bytes = rest;
         self.number = number.saturating_add(1);
         Some(Record {
             number,
             side,
             content,
-            rest,
         })
     }
 }
 
 /// Adds the lines about an input that seems to have another format than the expected one: how it
 /// begins, and what to do. Returns whether it seems so.
-pub(crate) fn add_likeness(lines: &mut Lines, input: &[u8], expected: Format) -> bool {
-    let after_marker = match input {
+pub(crate) fn add_likeness(lines: &mut Lines, bytes: &[u8], expected: Format) -> bool {
+    let after_marker = match bytes {
         [b'>' | b'<', rest @ ..] => rest,
         _ => &[],
     };
     // The byte order mark that some editors write before UTF-8.
-    let likeness = if input.starts_with(b"\xef\xbb\xbf") {
+    let likeness = if bytes.starts_with(b"\xef\xbb\xbf") {
         "the input begins with a UTF-8 byte order mark: save it without one"
-    } else if count_of(after_marker).is_some() && expected != Format::Trace {
+    } else if split_count(after_marker).is_some() && expected != Format::Trace {
         "this looks like a trace: dapnorm record makes a recording of it"
     } else if is_like_frames(after_marker) && expected == Format::Trace {
         "this looks like a recording: leave out dapnorm record"
     } else if is_like_frames(after_marker) && expected == Format::Frames {
         "this looks like a recording: dapnorm compact reads frames without > and <"
-    } else if is_like_frames(input) && expected != Format::Frames {
+    } else if is_like_frames(bytes) && expected != Format::Frames {
         "this looks like frames without > and <: only dapnorm compact reads these"
-    } else if matches!(input, [b'{' | b'[', ..]) {
+    } else if matches!(bytes, [b'{' | b'[', ..]) {
         "this looks like JSON without frames: each message needs a header part"
     } else {
         return false;
     };
-    lines.write(format_args!("the input begins {}", Bytes(input)));
+    lines.write(format_args!("the input begins {}", Bytes(bytes)));
     lines.add(likeness);
     true
 }

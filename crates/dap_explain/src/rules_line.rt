@@ -1,20 +1,15 @@
 //! Finds what is wrong with a line of a file of rules that is not a rule.
 use crate::lines::Lines;
 use crate::words::Bytes;
+use RulePart::{Category, Event, Kind, Name, Place, SecondKind, Text};
 use dap_mask::{ByteClass, any_name, is_end, name_at, place_at, split_run};
-use dap_profile::Kind;
+use dap_profile::Kind as MessageKind;
 use std::str;
-
-const NO_VERB: &str =
-    " is not a verb: write blank, digits, hex, long, uuid, drop, swap, word or per-stop";
-
-/// The rule is followed by further text.
-const MORE: &str = " is after the rule: only a comment may be there";
 
 /// Adds the line about a word that is wrong.
 fn add_wrong(lines: &mut Lines, word: &[u8], what: &str) {
     let word = Bytes(word);
-    lines.write(format_args!("{word}{what}"));
+    lines.write(format_args!("{word} {what}"));
 }
 
 /// Returns the bytes after the leading blanks.
@@ -25,11 +20,6 @@ fn after_blanks(bytes: &[u8]) -> &[u8] {
 /// Splits a line after its first word, which is its verb.
 pub(crate) fn split_verb(line: &[u8]) -> (&[u8], &[u8]) {
     split_run(after_blanks(line), ByteClass::Word)
-}
-
-/// Returns whether a name needs no quotes.
-pub(crate) fn is_plain_name(name: &str) -> bool {
-    matches!(split_run(name.as_bytes(), ByteClass::Plain), ([_, ..], []))
 }
 
 /// A part of a rule after its verb.
@@ -51,75 +41,59 @@ enum RulePart {
 
 /// Returns the parts of a rule with a verb. A place is the last one.
 fn parts_of(verb: &[u8]) -> Option<&'static [RulePart]> {
-    use RulePart::{Category, Event, Kind, Name, Place, SecondKind, Text};
-    match str::from_utf8(verb).ok()? {
-        "blank" | "digits" | "hex" | "long" | "uuid" => Some(&[Kind, Name, Place]),
-        "drop" => Some(&[Event, Name, Category]),
-        "swap" => Some(&[Kind, Name, SecondKind, Name]),
-        "word" => Some(&[Text, Text]),
-        "per-stop" => Some(&[]),
+    match verb {
+        b"blank" | b"digits" | b"hex" | b"long" | b"uuid" => Some(&[Kind, Name, Place]),
+        b"drop" => Some(&[Event, Name, Category]),
+        b"swap" => Some(&[Kind, Name, SecondKind, Name]),
+        b"word" => Some(&[Text, Text]),
+        b"per-stop" => Some(&[]),
         _ => None,
     }
 }
 
 /// Returns the kind of message that a word names.
-fn kind_of(word: &[u8]) -> Option<Kind> {
-    Kind::named(str::from_utf8(word).ok()?)
+fn kind_of(word: &[u8]) -> Option<MessageKind> {
+    MessageKind::named(str::from_utf8(word).ok()?)
 }
 
 impl RulePart {
     /// Returns that the part is missing.
     fn missing(self) -> &'static str {
         match self {
-            RulePart::Kind | RulePart::Event => {
-                "after the verb comes a kind: request, response or event"
-            }
-            RulePart::SecondKind => "a swap names two messages: write swap KIND NAME KIND NAME",
-            RulePart::Name => "after the kind comes a command or an event, or * for any",
-            RulePart::Text => "a text and its word are needed: write word TEXT WORD",
-            RulePart::Place | RulePart::Category => {
-                "after the name comes a place, such as body.reason"
-            }
+            Kind | Event => "after the verb comes a kind: request, response or event",
+            SecondKind => "a swap names two messages: write swap KIND NAME KIND NAME",
+            Name => "after the kind comes a command or an event, or * for any",
+            Text => "a text and its word are needed: write word TEXT WORD",
+            Place | Category => "after the name comes a place, such as body.reason",
         }
     }
 
     /// Returns that a word is not the part, and what is allowed there.
     fn wrong(self, word: &[u8]) -> &'static str {
         match self {
-            RulePart::Event if kind_of(word).is_some() => {
-                " cannot be dropped: write drop event NAME"
-            }
-            RulePart::Kind | RulePart::Event | RulePart::SecondKind => {
-                " is not a kind: write request, response or event"
-            }
-            RulePart::Name => {
-                " is not a name: quote one with other characters than letters, digits, _, - and $"
-            }
-            RulePart::Text => {
-                " is not a text: quote one with other characters than letters, digits, _, - and $"
-            }
-            RulePart::Place => {
-                " is not a place: write names with dots between them, [] for elements, and quotes as for names"
-            }
-            RulePart::Category => {
-                " is not a category: write category= and a word or a JSON string"
-            }
+            Event if kind_of(word).is_some() => "cannot be dropped: write drop event NAME",
+            Kind | Event | SecondKind => "is not a kind: write request, response or event",
+            Name =>
+                "is not a name: quote one with other characters than letters, digits, _, - and $",
+            Text =>
+                "is not a text: quote one with other characters than letters, digits, _, - and $",
+            Place =>
+                "is not a place: write names with dots between them, [] for elements, and quotes as for names",
+            Category => "is not a category: write category= and a word or a JSON string",
         }
     }
 
     /// Returns the bytes after the part at the start of these, or `None` if it is not there.
     fn after<'l>(self, lines: &mut Lines, bytes: &'l [u8]) -> Option<&'l [u8]> {
-        let alloc = lines.alloc();
+        let alloc = lines.alloc;
         let (word, rest) = split_run(bytes, ByteClass::Word);
         match self {
-            RulePart::Kind | RulePart::SecondKind => kind_of(word).map(|_| rest),
-            RulePart::Event => kind_of(word)
-                .filter(|kind| *kind == Kind::Event)
-                .map(|_| rest),
-            RulePart::Name => Some(lines.value_of(any_name(alloc, bytes))??.1),
-            RulePart::Text => Some(lines.value_of(name_at(alloc, bytes))??.1),
-            RulePart::Place => Some(lines.value_of(place_at(alloc, bytes))??.1),
-            RulePart::Category => {
+            Kind | SecondKind => kind_of(word).map(|_| rest),
+            Event => (kind_of(word)? == MessageKind::Event).then_some(rest),
+            Name => Some(lines.value_of(any_name(alloc, bytes))??.1),
+            Text => Some(lines.value_of(name_at(alloc, bytes))??.1),
+            Place => Some(lines.value_of(place_at(alloc, bytes))??.1),
+            Category => {
                 let text = bytes.strip_prefix(b"category=")?;
                 Some(lines.value_of(name_at(alloc, text))??.1)
             }
@@ -136,7 +110,7 @@ impl RulePart {
         let bytes = after_blanks(text);
         match self.after(lines, bytes) {
             Some(rest) if matches!(rest, [] | [b'#' | b' ' | b'\t' | b'\r', ..]) => {
-                Some((bytes.strip_suffix(rest).unwrap_or(bytes), rest))
+                Some((bytes.strip_suffix(rest)?, rest))
             }
             _ => {
                 let word = split_run(bytes, ByteClass::Word).0;
@@ -150,20 +124,27 @@ impl RulePart {
 /// Returns the last part of a rule, which is the place of a rule that has one. For a line that is
 /// not a rule, adds the line about what is wrong with it, if that is recognised.
 pub(crate) fn place_of<'l>(lines: &mut Lines, line: &'l [u8]) -> Option<&'l [u8]> {
-    let (verb, mut rest) = split_verb(line);
-    let Some(parts) = parts_of(verb) else {
-        add_wrong(lines, verb, NO_VERB);
+    let (mut last, mut rest) = split_verb(line);
+    let Some(parts) = parts_of(last) else {
+        add_wrong(
+            lines,
+            last,
+            "is not a verb: write blank, digits, hex, long, uuid, drop, swap, word or per-stop",
+        );
         return None;
     };
-    let mut last = verb;
     for part in parts {
-        if *part == RulePart::Category && is_end(rest) {
+        if *part == Category && is_end(rest) {
             break;
         }
         (last, rest) = part.read(lines, rest)?;
     }
     if !is_end(rest) {
-        add_wrong(lines, after_blanks(rest), MORE);
+        add_wrong(
+            lines,
+            after_blanks(rest),
+            "is after the rule: only a comment may be there",
+        );
         return None;
     }
     Some(last)

@@ -4,7 +4,7 @@ use crate::lines::Lines;
 use crate::records::Records;
 use dap_profile::Kind;
 use dap_session::Rule;
-use dap_tree::{Side, Tree};
+use dap_tree::Side;
 
 /// A message to search for among the messages before the rejected one.
 #[derive(Clone, Copy)]
@@ -24,10 +24,10 @@ impl Sought {
     fn is_met_by(self, head: &Head<'_>) -> bool {
         let (side, kind, is_met) = match self {
             Sought::Request(side, seq) => (side, Kind::Request, head.seq == Some(seq)),
-            Sought::Response(side, seq) => (side, Kind::Response, head.request_seq == Some(seq)),
-            Sought::Command(name) => (Side::Client, Kind::Request, head.name == Some(name)),
+            Sought::Response(side, seq) => (side, Kind::Response, head.answered() == Some(seq)),
+            Sought::Command(name) => (Side::Client, Kind::Request, head.name() == Some(name)),
             Sought::Farewell => {
-                let is_met = head.is_success && head.name == Some("disconnect");
+                let is_met = head.is_success && head.name() == Some("disconnect");
                 (Side::Adapter, Kind::Response, is_met)
             }
         };
@@ -35,43 +35,29 @@ impl Sought {
     }
 }
 
-/// The records of an input before one of them, to be searched.
-#[derive(Clone, Copy)]
-struct Earlier<'a> {
-    records: Records<'a>,
-    /// The number of that record.
-    before: u64,
-}
-
-/// Returns the first matching message, and the number of its record.
-fn find(lines: &mut Lines, earlier: Earlier<'_>, sought: Sought) -> Option<(u64, Tree)> {
-    for record in earlier.records {
-        if record.number >= earlier.before {
+/// Adds a line about the first of the earlier messages that matches: what it is, and the number of
+/// its record.
+fn add_found(lines: &mut Lines, earlier: Records<'_>, sought: Sought) {
+    for record in earlier {
+        let Some(message) = read_message(lines, record.content, None) else {
             break;
-        }
-        let message = read_message(lines, record.content, None)?;
-        if sought.is_met_by(&Head::of(record.side, &message)) {
-            return Some((record.number, message));
+        };
+        let head = Head::of(record.side, &message);
+        if sought.is_met_by(&head) {
+            return add_match(lines, record.number, Named(head.name()), sought);
         }
     }
-    None
+    if let Sought::Request(side, seq) = sought {
+        lines.write(format_args!("the {side} sent no request with seq {seq} before it"));
+    }
 }
 
-/// Adds a line about the first matching message: what it is, and the number of its record.
-fn add_found(lines: &mut Lines, earlier: Earlier<'_>, sought: Sought) {
-    let Some((record, message)) = find(lines, earlier, sought) else {
-        if let Sought::Request(side, seq) = sought {
-            lines.write(format_args!("the {side} sent no request with seq {seq} before it"));
-        }
-        return;
-    };
+/// Adds the line about a message that matches: the record with this number, and the name.
+fn add_match(lines: &mut Lines, record: u64, name: Named<'_>, sought: Sought) {
     match sought {
-        Sought::Request(side, seq) => {
-            let name = Named(Head::of(None, &message).name);
-            lines.write(format_args!(
-                "the {side}'s request with seq {seq} is{name}, in record {record}",
-            ));
-        }
+        Sought::Request(side, seq) => lines.write(format_args!(
+            "the {side}'s request with seq {seq} is{name}, in record {record}",
+        )),
         Sought::Response(..) => lines.write(format_args!("record {record} is its first response")),
         Sought::Command(name) => {
             lines.write(format_args!("the client's {name} request is record {record}"))
@@ -80,44 +66,32 @@ fn add_found(lines: &mut Lines, earlier: Earlier<'_>, sought: Sought) {
     }
 }
 
-/// Adds the lines about the earlier messages that are relevant for a rule.
-fn add_earlier(lines: &mut Lines, earlier: Earlier<'_>, head: &Head<'_>, rule: Rule) {
-    match (rule, head.side, head.seq, head.request_seq) {
-        (Rule::StillInitializing | Rule::InitializeTwice, ..) => {
-            add_found(lines, earlier, Sought::Command("initialize"))
-        }
-        (Rule::ConfiguredTwice, ..) => {
-            add_found(lines, earlier, Sought::Command("configurationDone"))
-        }
-        (Rule::AfterDisconnect, ..) => add_found(lines, earlier, Sought::Farewell),
-        (Rule::SeqUsed, Some(side), Some(seq), _) => {
-            add_found(lines, earlier, Sought::Request(side, seq))
-        }
-        (Rule::NoRequest | Rule::OtherCommand | Rule::AnsweredTwice, Some(side), _, Some(seq)) => {
-            let other = match side {
+/// Returns the earlier message that is relevant for a rule that a message violates.
+fn relevant(rule: Rule, head: &Head<'_>) -> Option<Sought> {
+    match rule {
+        Rule::StillInitializing | Rule::InitializeTwice => Some(Sought::Command("initialize")),
+        Rule::ConfiguredTwice => Some(Sought::Command("configurationDone")),
+        Rule::AfterDisconnect => Some(Sought::Farewell),
+        Rule::SeqUsed => Some(Sought::Request(head.side?, head.seq?)),
+        Rule::NoRequest | Rule::OtherCommand | Rule::AnsweredTwice => {
+            let other = match head.side? {
                 Side::Client => Side::Adapter,
                 Side::Adapter => Side::Client,
             };
-            add_found(lines, earlier, Sought::Request(other, seq));
-            if rule == Rule::AnsweredTwice {
-                add_found(lines, earlier, Sought::Response(side, seq));
-            }
+            Some(Sought::Request(other, head.answered()?))
         }
-        _ => {}
+        Rule::EventFromClient | Rule::NotInitialized | Rule::ConfiguredEarly => None,
     }
 }
 
-/// Explains that the message of a record violates a session rule. The records before it are
-/// searched.
-pub(crate) fn explain_rule(
-    lines: &mut Lines,
-    records: Records<'_>,
-    before: u64,
-    head: &Head<'_>,
-    rule: Rule,
-) {
-    let earlier = Earlier { records, before };
+/// Explains that the message of a record violates a session rule, after these records.
+pub(crate) fn explain_rule(lines: &mut Lines, earlier: Records<'_>, head: &Head<'_>, rule: Rule) {
     lines.add(rule.meaning());
-    add_earlier(lines, earlier, head, rule);
+    if let Some(sought) = relevant(rule, head) {
+        add_found(lines, earlier, sought);
+    }
+    if let (Rule::AnsweredTwice, Some(side), Some(seq)) = (rule, head.side, head.answered()) {
+        add_found(lines, earlier, Sought::Response(side, seq));
+    }
     lines.add(rule.fix());
 }

@@ -1,45 +1,42 @@
 //! Explains bytes that are not a piece of a trace, and invalid frames in its pieces.
-use crate::frame_faults::{BadFrame, FrameName, explain_frame};
-use crate::header::{KEEP_LINE_ENDS, count_of, first_line};
+use crate::explaining::Input;
+use crate::frame_faults::explain_frame;
+use crate::header::{KEEP_LINE_ENDS, STOPPED_EARLY, first_line, split_count};
 use crate::lines::Lines;
 use crate::records::{Format, Records, add_likeness};
 use crate::words::Bytes;
-use dap_frame::{FrameLimits, Framer};
-use dap_recording::{FedTrace, RecorderFault, TraceCause, TraceReader};
+use dap_frame::FrameFault;
+use dap_recording::{TraceCause, TracePart, TraceReader};
 use dap_tree::Side;
 use std::alloc::{AllocError, Global};
 
+/// Returns the next piece of a trace, and the bytes after it.
+fn next_piece<'a>(reader: &mut TraceReader, trace: &'a [u8]) -> Option<(TracePart<'a>, &'a [u8])> {
+    let fed = reader.feed(trace).ok()?;
+    Some((fed.part?, &trace[fed.used..]))
+}
+
 /// Returns the bytes of a trace from the piece with this number on, if those before it exist.
 fn from_piece(trace: &[u8], number: u64) -> Option<&[u8]> {
-    let mut reader = TraceReader::new();
-    let mut rest = trace;
+    let (mut reader, mut rest) = (TraceReader::new(), trace);
     for _ in 1..number {
-        let fed = reader.feed(rest).ok()?;
-        fed.part?;
-        rest = &rest[fed.used..];
+        rest = next_piece(&mut reader, rest)?.1;
     }
     Some(rest)
 }
 
 /// Adds the lines about an incomplete piece.
 fn add_cut(lines: &mut Lines, number: u64, bytes: &[u8]) {
-    let after = bytes.get(1..).unwrap_or(bytes);
-    match count_of(after) {
-        Some(count) => {
-            let received = after
-                .len()
-                .saturating_sub(first_line(after).len().saturating_add(1));
-            let missing = count.saturating_sub(received as u64);
-            lines.write(format_args!(
-                "piece {number} has {count} bytes, and {missing} of them are missing",
-            ));
-        }
-        None => {
-            let bytes = Bytes(bytes);
-            lines.write(format_args!("the trace ends in the length of piece {number}: {bytes}"));
-        }
+    if let Some((count, received)) = bytes.get(1..).and_then(split_count) {
+        let missing = count.saturating_sub(received.len() as u64);
+        lines.write(format_args!(
+            "piece {number} has {count} bytes, and {missing} of them are missing",
+        ));
+    } else {
+        let bytes = Bytes(bytes);
+        lines.write(format_args!("the trace ends in the length of piece {number}: {bytes}"));
     }
-    lines.add("the program that wrote the input may have been stopped early");
+    lines.add(STOPPED_EARLY);
 }
 
 /// Explains that the bytes of a piece are not a piece of a trace.
@@ -66,26 +63,16 @@ pub(crate) fn explain_piece(lines: &mut Lines, trace: &[u8], number: u64, cause:
 
 /// Returns the bytes that a side has sent by the end of the piece with this number.
 fn bytes_sent(alloc: Global, trace: &[u8], number: u64, side: Side) -> Result<Vec<u8>, AllocError> {
-    let mut reader = TraceReader::new();
-    let mut rest = trace;
+    let (mut reader, mut rest) = (TraceReader::new(), trace);
     let mut sent = Vec::new(alloc);
-    while !rest.is_empty() {
-        let Ok(
-            FedTrace {
-                used,
-                part: Some(part),
-            },
-        ) = reader.feed(rest)
-        else {
+    for _ in 0..number {
+        let Some((part, after)) = next_piece(&mut reader, rest) else {
             break;
         };
-        if part.piece > number {
-            break;
-        }
         if part.side == side {
             sent.extend_from_slice(part.bytes)?;
         }
-        rest = &rest[used..];
+        rest = after;
     }
     Ok(sent)
 }
@@ -93,23 +80,23 @@ fn bytes_sent(alloc: Global, trace: &[u8], number: u64, side: Side) -> Result<Ve
 /// Explains that a frame of a side is invalid in the piece with this number, or is incomplete.
 pub(crate) fn explain_recorder(
     lines: &mut Lines,
-    framer: &Framer,
-    trace: &[u8],
+    trace: Records<'_>,
     number: u64,
-    fault: RecorderFault,
-    limits: FrameLimits,
+    side: Side,
+    fault: FrameFault,
 ) {
-    let RecorderFault::Frame(side, fault) = fault else {
-        return;
-    };
-    let sent = bytes_sent(lines.alloc(), trace, number, side);
+    let sent = bytes_sent(lines.alloc, trace.input.bytes, number, side);
     let Some(sent) = lines.value_of(sent) else {
         return;
     };
-    let mut bytes = sent.as_slice();
-    for frame in Records::new(framer, Format::Frames, bytes) {
-        bytes = frame.rest;
-    }
-    let name = FrameName::Of(side);
-    explain_frame(lines, BadFrame { name, bytes }, fault, limits);
+    let input = Input {
+        bytes: sent.as_slice(),
+        format: Format::Frames,
+        rules: None,
+    };
+    let mut frames = Records::new(trace.framer, trace.limits, input);
+    for _ in frames.by_ref() {}
+    let name = lines.display(format_args!("the frame of the {side}"));
+    let (bytes, limits) = (frames.input.bytes, trace.limits.frame);
+    explain_frame(lines, name.as_str(), bytes, fault, limits);
 }
