@@ -1,4 +1,2 @@
-pub mod DefinitionLemmas
-pub mod Exits
 pub mod LeadingArguments
 pub mod WorkedLines

@@ -1,14 +1,13 @@
 -- Example command lines, with the commands, words and errors that the definition finds in them.
 use Rattle.std.proofs.Common.{◌≡◌, ◌==◌, refl, true, false, List, [], ◌∷◌, Some, None, codes}
 use Rattle.std.specs.List.{slice_split}
-use Rattle.clap.specs.Kinds.{Kinds}
-use Rattle.clap.specs.Words.{Text, subcommand_of}
+use Rattle.clap.specs.Words.{Text}
 use Rattle.clap.specs.declared.error.kind.ErrorKind.TheVariants as kind
 use Rattle.clap.proofs.OnLiterals.{clap_on_literals}
 use Rattle.dap_commands.specs.Commands.{command_named, program, words_named}
 use Rattle.dap_commands.specs.LeadingArguments.{decided_kinds}
 use Rattle.dap_commands.specs.declared.commands.Command.{Command}
-use Rattle.dap_commands.specs.declared.commands.Command.TheVariants.{Check, Golden, Pair, Stream}
+use Rattle.dap_commands.specs.declared.commands.Command.TheVariants.{Check, Pair, Stream}
 use Rattle.dap_commands.specs.declared.commands.Printed.TheVariants.{Verdict, AllDifferences}
 use Rattle.dap_commands.specs.declared.commands.Task.TheVariants.{Mask, Order, Show}
 use Rattle.dap_rename.specs.declared.mode.Mode.TheVariants.{PerStop, Whole}
@@ -19,28 +18,12 @@ split = slice_split (λ byte. byte == 32)
 
 -- The line selects this command.
 abbrev Selects : Text → Command → Type 0
-Selects line command = command_named (subcommand_of program (split line)) ≡ Some command
-
--- The line has these values of `--word`.
-abbrev HasWords : Text → List Text → Type 0
-HasWords line words = words_named (subcommand_of program (split line)) ≡ words
-
--- The arguments of the line decide these kinds of errors.
-abbrev Decides : Text → Kinds → Type 0
-Decides line kinds = decided_kinds program (split line) ≡ kinds
+Selects line command = command_named program (split line) ≡ Some command
 
 -- `-` is a file, and options may follow files.
 commands : Selects (codes "dapnorm check -") (Check false Whole (Some (codes "-")))
     × Selects (codes "dapnorm mask rules in -o out")
     (Stream (Mask (codes "rules")) (Some (codes "in")) (Some (codes "out")))
-    × Selects (codes "dapnorm golden --update --rules rules file") (Golden (record {
-      golden = codes "file";
-      input = None;
-      rules = Some (codes "rules");
-      mode = Whole;
-      «open» = false;
-      update = true;
-    }))
     × Selects (codes "dapnorm show --faulty --record=3 in --explain") (Stream (Show (record {
       full = false;
       faulty = true;
@@ -53,19 +36,21 @@ commands : Selects (codes "dapnorm check -") (Check false Whole (Some (codes "-"
     × Selects (codes "dapnorm order -o out rules")
     (Stream (Order (codes "rules")) None (Some (codes "out")))
 unfolding clap_on_literals
-commands = (refl, refl, refl, refl, refl, refl, refl)
+commands = (refl, refl, refl, refl, refl, refl)
 
 -- Each use of the option has a value, in order.
-words : HasWords (codes "dapnorm mask --word b=<b> rules --word=a== in")
-    (codes "b=<b>" ∷ codes "a==" ∷ []) × HasWords (codes "dapnorm golden file") []
+words : (words_named program (split (codes "dapnorm mask --word b=<b> rules --word=a== in"))
+    ≡ codes "b=<b>" ∷ codes "a==" ∷ [])
+    × (words_named program (split (codes "dapnorm golden file")) ≡ [])
 unfolding clap_on_literals
 words = (refl, refl)
 
 -- Help for a subcommand, even if its files are missing; an error before the request for help; and
 -- a missing file, which no argument decides.
-errors : Decides (codes "dapnorm compare --help") (kind.DisplayHelp ∷ [])
-    × Decides (codes "dapnorm check --all --help") (kind.UnknownArgument ∷ [])
-    × Decides (codes "dapnorm --version none") (kind.DisplayVersion ∷ [])
-    × Decides (codes "dapnorm compare a") []
+errors : (decided_kinds program (split (codes "dapnorm compare --help")) ≡ kind.DisplayHelp ∷ [])
+    × (decided_kinds program (split (codes "dapnorm check --all --help"))
+    ≡ kind.UnknownArgument ∷ [])
+    × (decided_kinds program (split (codes "dapnorm --version none")) ≡ kind.DisplayVersion ∷ [])
+    × (decided_kinds program (split (codes "dapnorm compare a")) ≡ [])
 unfolding clap_on_literals
 errors = (refl, refl, refl, refl)

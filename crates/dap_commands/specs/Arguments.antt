@@ -1,16 +1,16 @@
 -- The part of a command line's definition that the parser reads, and a definition by values.
 -- Source: own.
 use Rattle.std.specs.Prelude.{◌≡◌, List, [], map, Some, true, false, codes}
-use Rattle.std.specs.List.{fold}
 use Rattle.clap.specs.Simple.{new_shape}
-use Rattle.clap.specs.Words.{App, Rule, Shape, Text, app_of, new_app, new_rule, rule_of}
-use Rattle.clap.specs.Words.{with_subcommand}
+use Rattle.clap.specs.Walk.{is_empty}
+use Rattle.clap.specs.Words.{App, Rule, Shape, Text, app_of, new_rule, rule_of}
 use Rattle.clap.specs.declared.Arg.{Arg}
 use Rattle.clap.specs.declared.Command.{Command as Definition}
-use Rattle.clap.specs.declared.Command.TheViews.{out-Command as fields_of}
 use Rattle.clap.specs.declared.builder.ArgAction.TheVariants.{Append, Set, SetTrue}
 use Rattle.dap_commands.specs.declared.arguments.Argument.{Argument}
-use Rattle.dap_commands.specs.declared.arguments.Argument.TheVariants as argument
+use Rattle.dap_commands.specs.declared.arguments.Kind.{Kind}
+use Rattle.dap_commands.specs.declared.arguments.Kind.TheVariants as kind
+use Rattle.dap_commands.specs.declared.arguments.Program.{Program}
 use Rattle.dap_commands.specs.declared.arguments.Subcommand.{Subcommand}
 
 -- ---- arguments and subcommands
@@ -43,7 +43,7 @@ subcommand name rules = record (new_shape name) { rules = rules }
 abbrev pub program_with : List Shape → App
 program_with subcommands = record {
   top = record (new_shape (codes "dapnorm")) {
-    is_leaf = false;
+    is_leaf = is_empty subcommands;
     has_version = true;
     subcommand_required = true;
   };
@@ -52,36 +52,31 @@ program_with subcommands = record {
 
 -- ---- a definition by values
 
--- The rule by which the parser reads an argument.
+-- The rule by which the parser reads an argument of this kind and name.
+abbrev pub rule_by : Kind → Text → Rule
+rule_by kind.Flag name = flag name
+rule_by (kind.Value value) name = option name
+rule_by (kind.Values value) name = repeated name
+rule_by (kind.Lettered letter value) name = record (option name) { short = Some letter }
+rule_by kind.File name = file name
+rule_by kind.Optional name = optional name
+
 abbrev pub rule_for : Argument → Rule
-rule_for (argument.Flag name help) = flag name.now
-rule_for (argument.Value name value help) = option name.now
-rule_for (argument.Values name value help) = repeated name.now
-rule_for (argument.Lettered letter name value help) =
-    record (option name.now) { short = Some letter }
-rule_for (argument.File name help) = file name.now
-rule_for (argument.Optional name help) = optional name.now
+rule_for a = rule_by a.1 a.0.now
 
 -- A subcommand with its arguments.
 abbrev pub shape_for : Subcommand → Shape
 shape_for row = subcommand row.name.now (map rule_for row.arguments.now)
 
--- The program's command, which has a version and requires a subcommand.
-abbrev pub bare : App
-bare = record (new_app (codes "dapnorm")) {
-  top = record (new_app (codes "dapnorm")).top { has_version = true; subcommand_required = true };
-}
-
--- The program with these subcommands.
-abbrev pub program_for : List Subcommand → App
-program_for rows = fold with_subcommand bare (map shape_for rows)
+-- A program with its subcommands.
+abbrev pub app_for : Program → App
+app_for program = program_with (map shape_for program.subcommands.now)
 
 -- The argument is read by this rule, and is not global.
 pub record IsArgument (rule : Rule) (a : Arg) : Type 0 where
   pub is_read : rule_of a ≡ rule
   pub local : a.global ≡ false
 
--- The definition is that of this subcommand, and none of its arguments is global.
-pub record IsSubcommand (shape : Shape) (command : Definition) : Type 0 where
-  pub app : app_of command ≡ record { top = shape; subs = [] }
-  pub local : (fields_of command).has_globals ≡ false
+-- The definition is that of this subcommand.
+abbrev pub IsSubcommand : Shape → Definition → Type 0
+IsSubcommand shape command = app_of command ≡ record { top = shape; subs = [] }

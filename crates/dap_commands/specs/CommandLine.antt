@@ -1,12 +1,15 @@
 -- The command line of the library, as `clap` reads it, and the job that it selects. Source: own.
-use Rattle.std.specs.Prelude.{Bool, List, [], ◌∷◌, Option, Some, None, codes, is_some}
-use Rattle.std.specs.Prelude.{if◌then◌else◌, option_and_then}
-use Rattle.std.specs.Str.{bytes_eq}
-use Rattle.clap.specs.Words.{App, Row, Text}
+use Rattle.std.specs.Prelude.{Bool, List, [], ◌∷◌, Option, Some, None, codes, option_and_then}
+use Rattle.clap.specs.Words.{App, Text}
 use Rattle.dap_commands.specs.Arguments.{file, flag, program_with, subcommand}
-use Rattle.dap_commands.specs.Reading.{has_flag, required}
+use Rattle.dap_commands.specs.Commands.{command_named}
+use Rattle.dap_commands.specs.Jobs.{mode_for}
+use Rattle.dap_commands.specs.declared.commands.Command.{Command}
+use Rattle.dap_commands.specs.declared.commands.Command.TheVariants as command
 use Rattle.dap_commands.specs.declared.commands.Job.{Job}
 use Rattle.dap_commands.specs.declared.commands.Job.TheVariants as job
+use Rattle.dap_commands.specs.declared.commands.Task.TheVariants as task
+use Rattle.dap_rename.specs.declared.mode.Mode.{Mode}
 
 -- The program, which has a version and requires a subcommand.
 abbrev pub program : App
@@ -23,37 +26,29 @@ program = program_with (subcommand (codes "compact") []
 pub data JobSpec : Type 0 where
   compact : JobSpec
   recording : JobSpec
-  normalise : Bool → JobSpec
-  check : Bool → Bool → JobSpec
+  normalise : Mode → JobSpec
+  check : Bool → Mode → JobSpec
   show : JobSpec
-  compare : Text → Text → Bool → JobSpec
+  compare : Text → Text → Mode → JobSpec
 
 abbrev pub job_spec : Job → JobSpec
 job_spec job.Compact = compact
 job_spec job.Record = recording
-job_spec (job.Normalise per_stop) = normalise per_stop
-job_spec (job.Check complete per_stop) = check complete per_stop
+job_spec (job.Normalise per_stop) = normalise (mode_for per_stop)
+job_spec (job.Check complete per_stop) = check complete (mode_for per_stop)
 job_spec job.Show = show
-job_spec (job.Compare a b per_stop) = compare a.now b.now per_stop
+job_spec (job.Compare a b per_stop) = compare a.now b.now (mode_for per_stop)
 
--- The job of a subcommand with its arguments.
-abbrev pub job_of : Text → List Row → Option JobSpec
-job_of name given =
-    if bytes_eq name (codes "compact") then Some compact
-    else if bytes_eq name (codes "record") then Some recording
-    else if bytes_eq name (codes "normalise") then Some
-    (normalise (has_flag (codes "per-stop") given))
-    else if bytes_eq name (codes "check") then Some
-    (check (has_flag (codes "complete") given) (has_flag (codes "per-stop") given))
-    else if bytes_eq name (codes "show") then Some show
-    else if bytes_eq name (codes "compare") then Some
-    (compare (required (codes "A") given) (required (codes "B") given)
-    (has_flag (codes "per-stop") given))
-    else None
+-- The job of a command, whatever files and output the command has.
+abbrev pub job_of : Command → Option JobSpec
+job_of (command.Stream task.Compact input output) = Some compact
+job_of (command.Stream task.Record input output) = Some recording
+job_of (command.Stream (task.Normalise mode) input output) = Some (normalise mode)
+job_of (command.Stream (task.Show options) input output) = Some show
+job_of (command.Check complete mode input) = Some (check complete mode)
+job_of (command.Pair printed a b rules mode) = Some (compare a b mode)
+job_of other = None
 
-abbrev pub job_named : Option (Text × List Row) → Option JobSpec
-job_named = option_and_then (λ p. job_of p.0 p.1)
-
--- The subcommand is that of a job.
-abbrev pub names_job : Option (Text × List Row) → Bool
-names_job found = is_some (job_named found)
+-- The job that the arguments of a line select.
+abbrev pub job_named : App → List Text → Option JobSpec
+job_named app line = option_and_then job_of (command_named app line)

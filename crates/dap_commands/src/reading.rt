@@ -1,22 +1,21 @@
 //! Reads the arguments of the program's command line with `clap`.
-ghost use Rattle.std.specs.Prelude.{[], ◌≡◌, ◌≢◌, codes, IfOk, IfErr, None, Some, true};
+ghost use Rattle.std.specs.Prelude.{[], ◌≡◌, IfOk, IfErr, Some, is_some, true};
 ghost use Rattle.clap.specs.Walk.{texts};
 ghost use Rattle.clap.specs.Words.{HasKind, Kinds, fault_of as faults_of, first_of};
-ghost use Rattle.clap.specs.Words.{is_simple_and_free, subcommand_of, takes, kind_of};
-ghost use Rattle.dap_commands.specs.Arguments.{program_for};
-ghost use Rattle.dap_commands.specs.Commands.{command_named, command_of, explain_named, golden_of};
-ghost use Rattle.dap_commands.specs.Commands.{is_explained, mode_given, names_command, pair_of};
-ghost use Rattle.dap_commands.specs.Commands.{program, show_of, stream_of, values_of, words_named};
+ghost use Rattle.clap.specs.Words.{is_simple_and_free, takes, kind_of};
+ghost use Rattle.dap_commands.specs.Arguments.{app_for};
+ghost use Rattle.dap_commands.specs.Commands.{IsRead, command_named, command_of, explain_named};
+ghost use Rattle.dap_commands.specs.Commands.{is_explained, pair_of};
+ghost use Rattle.dap_commands.specs.Commands.{program, task_of, words_named, words_of};
 ghost use Rattle.dap_commands.specs.LeadingArguments.{FirstDecides};
 ghost use Rattle.dap_commands.specs.Reading.{IsUsageErrorFor, given, has_flag, required};
 ghost use Rattle.dap_commands.specs.declared.commands.UsageFault.TheVariants.{Memory};
 
-use crate::arguments::{Subcommand, program_of};
+use crate::arguments::{Program, clap_program};
 use crate::commands::{Command, Golden, Name, Printed, Request, Show, Task, UsageFault, mode_for};
-use crate::definition::{ABOUT, SUBCOMMANDS, VERSION};
+use crate::definition::PROGRAM;
 use clap::error::ErrorKind;
 use clap::{ArgMatches, Error};
-use dap_rename::Mode;
 use std::alloc::{AllocError, Global};
 
 /// Returns the name that is the value of an argument, if it has one.
@@ -27,37 +26,19 @@ fn name_of<'a>(rows: &ArgMatches<'a>, id: &str) -> Option<Name<'a>>
 }
 
 /// Returns the name that is the value of a required argument.
-pub(crate) fn required<'a>(rows: &ArgMatches<'a>, id: &str) -> Name<'a>
+fn required<'a>(rows: &ArgMatches<'a>, id: &str) -> Name<'a>
     ensures { result ≡ required id.now (given rows.now) }
 {
     name_of(rows, id).unwrap_or(Name::new(""))
 }
 
 /// Returns whether a flag was given.
-pub(crate) fn has_flag(rows: &ArgMatches<'_>, id: &str) -> bool
+fn has_flag(rows: &ArgMatches<'_>, id: &str) -> bool
     ensures { result ≡ has_flag id.now (given rows.now) }
 {
     match name_of(rows, id) {
         Some(value) => value.as_str() == "true",
         None => false,
-    }
-}
-
-/// Returns the mode that the flag `--per-stop` selects.
-fn mode_of(rows: &ArgMatches<'_>) -> Mode
-    ensures { result ≡ mode_given (given rows.now) }
-{
-    mode_for(has_flag(rows, "per-stop"))
-}
-
-/// Returns the command of a task, with its files.
-fn stream<'a>(rows: &ArgMatches<'a>, task: Task<'a>) -> Command<'a>
-    ensures { result ≡ stream_of task.entry (given rows.now) }
-{
-    Command::Stream {
-        task,
-        input: name_of(rows, "FILE"),
-        output: name_of(rows, "output"),
     }
 }
 
@@ -70,48 +51,54 @@ fn pair<'a>(rows: &ArgMatches<'a>, printed: Printed) -> Command<'a>
         a: required(rows, "A"),
         b: required(rows, "B"),
         rules: name_of(rows, "rules"),
-        mode: mode_of(rows),
+        mode: mode_for(has_flag(rows, "per-stop")),
     }
 }
 
-/// Returns the options of `show`.
-fn show<'a>(rows: &ArgMatches<'a>) -> Show<'a>
-    ensures { result ≡ show_of (given rows.now) }
+/// Returns the task of a subcommand that reads one input and writes one output.
+fn task_by<'a>(name: &str, rows: &ArgMatches<'a>) -> Option<Task<'a>>
+    ensures { result ≡ task_of name.now (given rows.now) }
 {
-    Show {
-        full: has_flag(rows, "full"),
-        faulty: has_flag(rows, "faulty"),
-        record: name_of(rows, "record"),
-    }
-}
-
-/// Returns the files and options of `golden`.
-fn golden<'a>(rows: &ArgMatches<'a>) -> Golden<'a>
-    ensures { result ≡ golden_of (given rows.now) }
-{
-    Golden {
-        golden: required(rows, "GOLDEN"),
-        input: name_of(rows, "INPUT"),
-        rules: name_of(rows, "rules"),
-        mode: mode_of(rows),
-        open: has_flag(rows, "open"),
-        update: has_flag(rows, "update"),
-    }
+    Some(match name {
+        "record" => Task::Record,
+        "normalise" => Task::Normalise(mode_for(has_flag(rows, "per-stop"))),
+        "show" => Task::Show(Show {
+            full: has_flag(rows, "full"),
+            faulty: has_flag(rows, "faulty"),
+            record: name_of(rows, "record"),
+        }),
+        "mask" => Task::Mask(required(rows, "RULES")),
+        "order" => Task::Order(required(rows, "RULES")),
+        "compact" => Task::Compact,
+        _ => return None,
+    })
 }
 
 /// Returns the command of a subcommand with its arguments.
 fn command_by<'a>(name: &str, rows: &ArgMatches<'a>) -> Option<Command<'a>>
     ensures { result ≡ command_of name.now (given rows.now) }
 {
+    if let Some(task) = task_by(name, rows) {
+        return Some(Command::Stream {
+            task,
+            input: name_of(rows, "FILE"),
+            output: name_of(rows, "output"),
+        });
+    }
     Some(match name {
-        "golden" => Command::Golden(golden(rows)),
-        "record" => stream(rows, Task::Record),
+        "golden" => Command::Golden(Golden {
+            golden: required(rows, "GOLDEN"),
+            input: name_of(rows, "INPUT"),
+            rules: name_of(rows, "rules"),
+            mode: mode_for(has_flag(rows, "per-stop")),
+            open: has_flag(rows, "open"),
+            update: has_flag(rows, "update"),
+        }),
         "check" => Command::Check {
             complete: has_flag(rows, "complete"),
-            mode: mode_of(rows),
+            mode: mode_for(has_flag(rows, "per-stop")),
             input: name_of(rows, "FILE"),
         },
-        "normalise" => stream(rows, Task::Normalise(mode_of(rows))),
         "compare" => pair(rows, Printed::Verdict),
         "diff" if has_flag(rows, "all") => pair(rows, Printed::AllDifferences),
         "diff" => pair(rows, Printed::FirstDifference),
@@ -120,10 +107,6 @@ fn command_by<'a>(name: &str, rows: &ArgMatches<'a>) -> Option<Command<'a>>
             b: required(rows, "B"),
             rules: name_of(rows, "rules"),
         },
-        "show" => stream(rows, Task::Show(show(rows))),
-        "mask" => stream(rows, Task::Mask(required(rows, "RULES"))),
-        "order" => stream(rows, Task::Order(required(rows, "RULES"))),
-        "compact" => stream(rows, Task::Compact),
         "rows" => Command::Rows {
             number: name_of(rows, "N"),
         },
@@ -140,10 +123,13 @@ fn explains(name: &str, rows: &ArgMatches<'_>) -> bool
 
 /// Returns the values of the option `--word`, in the order of the arguments.
 fn words_of<'a>(alloc: Global, rows: &ArgMatches<'a>) -> Result<Vec<Name<'a>>, AllocError>
-    ensures { IfOk result (λ words. words.items ≡ values_of (codes "word") (given rows.now)) }
+    ensures { IfOk result (λ words. words.items ≡ words_of (given rows.now)) }
 {
     let mut words = Vec::new(alloc);
-    for text in rows.get_strs("word").unwrap_or(&[]) {
+    let Some(texts) = rows.get_strs("word") else {
+        return Ok(words);
+    };
+    for text in texts {
         words.push(Name::new(text))?;
     }
     Ok(words)
@@ -154,10 +140,10 @@ fn words_of<'a>(alloc: Global, rows: &ArgMatches<'a>) -> Result<Vec<Name<'a>>, A
 pub(crate) fn no_subcommand(alloc: Global) -> UsageFault
     ensures { (kinds : Kinds) → kinds ≡ [] → IsUsageErrorFor kinds result }
 {
-    match String::from_str(alloc, "error: no subcommand was given\n") {
-        Ok(text) => UsageFault::Usage(text),
-        Err(_) => UsageFault::Memory,
-    }
+    String::from_str(alloc, "error: no subcommand was given\n").map_or(
+        UsageFault::Memory,
+        UsageFault::Usage,
+    )
 }
 
 /// Returns the message for the user: the requested help or version, or the usage error.
@@ -165,47 +151,46 @@ fn fault_of(alloc: Global, error: &Error) -> UsageFault
     ensures memory { kind_of error.now ≡ ErrorKind.OutOfMemory → result ≡ Memory }
     ensures reported { (kinds : Kinds) → HasKind kinds error.now → IsUsageErrorFor kinds result }
 {
-    let kind = error.kind();
-    if kind == ErrorKind::OutOfMemory {
+    let Ok(text) = format!(in alloc; "{error}") else {
         return UsageFault::Memory;
-    }
-    match format!(in alloc; "{error}") {
-        Ok(text) if matches!(kind, ErrorKind::DisplayHelp | ErrorKind::DisplayVersion) => {
-            UsageFault::Help(text)
-        }
-        Ok(text) => UsageFault::Usage(text),
-        Err(_) => UsageFault::Memory,
+    };
+    match error.kind() {
+        ErrorKind::OutOfMemory => UsageFault::Memory,
+        ErrorKind::DisplayHelp | ErrorKind::DisplayVersion => UsageFault::Help(text),
+        _ => UsageFault::Usage(text),
     }
 }
 
-/// Parses arguments by the definition of a program with these subcommands. Returns the name of the
-/// subcommand that they select, and its arguments.
-pub(crate) fn parse<'a>(
+/// Reads the arguments of a command line with this definition.
+pub(crate) fn request<'a>(
     alloc: Global,
-    about: &'a str,
-    rows: &[Subcommand<'a>],
+    program: &Program<'a>,
     words: &'a [&'a str],
-) -> Result<(&'a str, ArgMatches<'a>), UsageFault>
-    requires { is_simple_and_free (program_for rows.now) ≡ true }
-    ensures ok { IfOk result (λ p. subcommand_of (program_for rows.now) (texts words.entry.now)
-        ≡ Some (p.0.now, given p.1)) }
-    ensures taken { IfOk result
-        (λ _. faults_of (program_for rows.now) (texts words.entry.now) ≡ []) }
-    ensures err { IfErr result (λ fault. takes (program_for rows.now) (texts words.entry.now) ≡ true
-        → subcommand_of (program_for rows.now) (texts words.entry.now) ≢ None → fault ≡ Memory) }
-    ensures reported { IfErr result
-        (IsUsageErrorFor (faults_of (program_for rows.now) (texts words.entry.now))) }
+) -> Result<Request<'a>, UsageFault>
+    requires { is_simple_and_free (app_for program.now) ≡ true }
+    ensures { IsRead (app_for program.now) (texts words.entry.now) result }
 {
-    let Ok(program) = program_of(alloc, VERSION, about, rows) else {
+    let Ok(command) = clap_program(alloc, program) else {
         return Err(UsageFault::Memory);
     };
-    match program.try_get_matches_from(words) {
-        Ok(mut matches) => match matches.remove_subcommand() {
-            Some(found) => Ok(found),
-            None => Err(no_subcommand(alloc)),
-        },
-        Err(error) => Err(fault_of(alloc, &error)),
-    }
+    let matches = match command.try_get_matches_from(words) {
+        Ok(matches) => matches,
+        Err(error) => return Err(fault_of(alloc, &error)),
+    };
+    let Some((name, rows)) = matches.subcommand() else {
+        return Err(no_subcommand(alloc));
+    };
+    let Some(command) = command_by(name, rows) else {
+        return Err(no_subcommand(alloc));
+    };
+    let Ok(words) = words_of(alloc, rows) else {
+        return Err(UsageFault::Memory);
+    };
+    Ok(Request {
+        command,
+        words,
+        explain: explains(name, rows),
+    })
 }
 
 /// Reads the arguments of a command line. The first one is the program's name.
@@ -217,24 +202,19 @@ pub(crate) fn parse<'a>(
 /// - `Memory`: an allocation failed.
 pub fn command<'a>(alloc: Global, words: &'a [&'a str]) -> Result<Request<'a>, UsageFault>
     // The command, the words and the flag are those that the model of clap finds in the arguments.
-    ensures ok { IfOk result
-        (λ r. command_named (subcommand_of program (texts words.entry.now)) ≡ Some r.command) }
-    ensures words { IfOk result
-        (λ r. words_named (subcommand_of program (texts words.entry.now)) ≡ r.words.items) }
-    ensures explain { IfOk result
-        (λ r. explain_named (subcommand_of program (texts words.entry.now)) ≡ r.explain) }
+    ensures ok { IfOk result (λ r. command_named program (texts words.entry.now) ≡ Some r.command) }
+    ensures words { IfOk result (λ r. words_named program (texts words.entry.now) ≡ r.words.items) }
+    ensures explain { IfOk result (λ r. explain_named program (texts words.entry.now) ≡ r.explain) }
     ensures taken { IfOk result (λ _. faults_of program (texts words.entry.now) ≡ []) }
 
     // If the model of clap accepts the arguments with one of the subcommands, the only possible
     // error is `Memory`.
     ensures err { IfErr result (λ fault. takes program (texts words.entry.now) ≡ true
-        → names_command (subcommand_of program (texts words.entry.now)) ≡ true
-        → fault ≡ Memory) }
+        → is_some (command_named program (texts words.entry.now)) ≡ true → fault ≡ Memory) }
 
     // `Help` is returned only if that model finds a request for help or the version. `Usage` is
     // returned only if it finds another error, or no error at all.
-    ensures reported { IfErr result
-        (IsUsageErrorFor (faults_of program (texts words.entry.now))) }
+    ensures reported { IfErr result (IsUsageErrorFor (faults_of program (texts words.entry.now))) }
 
     // If some leading arguments request help or contain an error, the first of these decides the
     // result, whatever arguments follow. A missing argument is reported only if no argument decides
@@ -242,16 +222,5 @@ pub fn command<'a>(alloc: Global, words: &'a [&'a str]) -> Result<Request<'a>, U
     ensures first { IfErr result (λ fault. FirstDecides program (texts words.entry.now)
         (λ kinds. IsUsageErrorFor kinds fault)) }
 {
-    let (name, rows) = parse(alloc, ABOUT, &SUBCOMMANDS, words)?;
-    let Some(command) = command_by(name, &rows) else {
-        return Err(no_subcommand(alloc));
-    };
-    let Ok(words) = words_of(alloc, &rows) else {
-        return Err(UsageFault::Memory);
-    };
-    Ok(Request {
-        command,
-        words,
-        explain: explains(name, &rows),
-    })
+    request(alloc, &PROGRAM, words)
 }
