@@ -1,5 +1,5 @@
 -- The model of a file over a cache: a crash loses what is not synced. Source: own.
-use Rattle.std.specs.Prelude.{◌≡◌, ◌⊎◌, ◌≤◌, ℕ, Bool, true, List, Option, drop}
+use Rattle.std.specs.Prelude.{◌≡◌, ◌⊎◌, ◌≤◌, ℕ, Bool, true, false, List, Option, drop}
 use mathlib.Core.Logic.{inl, inr}
 use Rattle.dap_device.specs.Crash.{Content}
 use Rattle.dap_device.specs.Past.{OneOf, since_earlier}
@@ -13,6 +13,10 @@ pub record VersionState : Type 0 where
 -- The file with this content, which is synced.
 abbrev pub synced_file : Content → VersionState
 synced_file content = record { content = content; is_synced = true }
+
+-- The file with this content, which is not synced.
+abbrev pub unsynced_file : Content → VersionState
+unsynced_file content = record { content = content; is_synced = false }
 
 -- What a crash leaves of a file: its content if it is synced, and otherwise any content, or none.
 abbrev pub Leaves : VersionState → Content → Type 0

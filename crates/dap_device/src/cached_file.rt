@@ -1,10 +1,11 @@
 //! Implements a file in memory over a cache: a crash loses what is not synced.
-ghost use Rattle.std.specs.Prelude.{◌≡◌, ◌↔◌, [], None, Any, IsTrue, ⊤};
-ghost use Rattle.std.specs.Option.{option_copied};
+ghost use Rattle.std.specs.Prelude.{◌≡◌, ◌↔◌, ◌<◌, ◌≤◌, ◌++◌, [], false, length, take, ⊤};
+ghost use Rattle.std.specs.Prelude.{None, Some, Any, IfSome, IsTrue};
+ghost use Rattle.std.specs.Option.{option_copied, option_map};
 ghost use Rattle.std.proofs.Common.{inl, refl};
 ghost use Rattle.dap_device.specs.Calls.{content_of};
 ghost use Rattle.dap_device.specs.CachedFile.{Leaves, LeavesSince, MayLeave, since_now};
-ghost use Rattle.dap_device.specs.CachedFile.{synced_file};
+ghost use Rattle.dap_device.specs.CachedFile.{synced_file, unsynced_file};
 
 use crate::calls::{Calls, append, read_copy};
 use crate::file::{FileFault, ReadFault, Replaceable, Step};
@@ -40,11 +41,33 @@ impl Version {
         }
     }
 
+    /// Returns an empty file that is not synced.
+    fn created(alloc: Global) -> Version
+        ensures { result ≡ unsynced_file (Some []) }
+    {
+        Version {
+            content: Some(Vec::new(alloc)),
+            is_synced: false,
+        }
+    }
+
     /// Returns the content.
     fn bytes(&self) -> Option<&[u8]>
         ensures { option_copied result ≡ self.now.content }
     {
         self.content.as_deref()
+    }
+
+    /// Appends at most `most` of the bytes, and returns how many. Returns `None` as `append` does.
+    fn append(&mut self, bytes: &[u8], most: usize) -> Option<usize>
+        ensures unsynced { self.new.is_synced ≡ false }
+        ensures within { IfSome result (λ count. count ≤ length bytes.now) }
+        ensures some { IfSome result (λ count. 0 < length bytes.now → 0 < count) }
+        ensures appended { IfSome result (λ count. self.new.content
+            ≡ option_map (λ written. written ++ take count bytes.now) self.old.content) }
+    {
+        self.is_synced = false;
+        append(&mut self.content, bytes, most)
     }
 
     /// Returns whether a crash may leave this content of the file.
@@ -177,17 +200,13 @@ impl Replaceable for CachedFile {
 
     fn create(&mut self) -> Result<(), FileFault> {
         self.calls.start(Step::Create)?;
-        self.temporary = Version {
-            content: Some(Vec::new(self.alloc)),
-            is_synced: false,
-        };
+        self.temporary = Version::created(self.alloc);
         Ok(())
     }
 
     fn write(&mut self, bytes: &[u8]) -> Result<usize, FileFault> {
         self.calls.start(Step::Write)?;
-        self.temporary.is_synced = false;
-        match append(&mut self.temporary.content, bytes, self.longest_write) {
+        match self.temporary.append(bytes, self.longest_write) {
             Some(count) => Ok(count),
             None => self.calls.fail(Step::Write),
         }

@@ -1,5 +1,4 @@
-//! Finds a file of the operating system, after its symbolic links, and calls the file system on it
-//! and on its temporary file.
+//! Finds a file of the operating system, and calls the file system on it and its temporary file.
 ghost use Rattle.std.specs.Prelude.{◌<◌, ◌≤◌, length, IfOk};
 
 use crate::std_device::write_some;
@@ -46,8 +45,7 @@ fn check_replaceable(path: &str, found: &Option<Metadata>, is_stream: bool) -> i
     Ok(())
 }
 
-/// Returns the path of the temporary file next to a file. Its name does not contain a name that
-/// would make it too long.
+/// Returns the path of the temporary file next to a file. Leaves out a name that is too long.
 fn temporary_beside(alloc: Global, target: Path<'_>, tag: u64) -> io::Result<PathBuf> {
     let Some(name) = target.file_name() else {
         return Err(Error::new(ErrorKind::InvalidInput, "has no file name"));
@@ -103,11 +101,7 @@ impl Place {
         })
     }
 
-    /// Returns the path of the temporary file.
-    ///
-    /// # Errors
-    ///
-    /// `Unsupported`: the file is only read.
+    /// Returns the path of the temporary file, or `Unsupported` if the file is only read.
     fn temporary(&self) -> io::Result<&str> {
         match &self.temporary {
             Some(temporary) => Ok(temporary.as_str()),
@@ -145,7 +139,7 @@ impl Place {
     }
 
     /// Gives the temporary file the owner, the group and the permissions of the file, or not the
-    /// owner if the user may not set it. If it cannot have the group, its group gets no permissions.
+    /// owner if the user may not set it. A file that cannot have the group gives it no permissions.
     fn keep_attributes<R: Files>(&self, rt: &R, file: &R::File) -> io::Result<()> {
         let Some(old) = &self.old else {
             return Ok(());

@@ -1,5 +1,4 @@
-//! Follows symbolic links, also to the open streams of the program, and holds the streams that are
-//! closed.
+//! Follows symbolic links, finds the open streams of the program, and holds the closed ones.
 use std::alloc::Global;
 use std::fs::{self, File, OpenOptions};
 use std::io::{self, Error, ErrorKind};
@@ -13,9 +12,10 @@ pub(crate) const MOST_LINKS: usize = 40;
 /// The folder in which Linux names the open streams of this process by their numbers.
 const OWN_STREAMS: &str = "/proc/self/fd";
 
-/// The numbers of the first and the last of the three standard streams.
+/// The number of the first of the three standard streams.
 const STANDARD_INPUT: i32 = 0;
 
+/// The number of the last of them.
 const STANDARD_ERROR: i32 = 2;
 
 /// The device that is opened for a closed stream.
