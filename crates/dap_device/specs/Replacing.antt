@@ -14,9 +14,9 @@ replace_failures (Ok done) = 0
 replace_failures (Err fault) = if fault.is_left then 2 else 1
 
 -- The number of failures that a step counts.
-abbrev pub step_failures : {T : Type 0} → Result T Step → ℕ
+abbrev pub step_failures : {T E : Type 0} → Result T E → ℕ
 step_failures (Ok done) = 0
-step_failures (Err step) = 1
+step_failures (Err fault) = 1
 
 module _ {F : Type 0} (file : Replaceable F) where
   -- The calls from old to new left the file under the name unchanged at every moment.

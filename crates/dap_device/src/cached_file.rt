@@ -1,14 +1,13 @@
 //! Implements a file in memory over a cache: a crash loses what is not synced.
-ghost use Rattle.std.specs.Prelude.{◌≡◌, ◌↔◌, ◌+◌, ◌<◌, ◌≤◌, ◌++◌, ◌^◌, [], false, length, take, ⊤};
-ghost use Rattle.std.specs.Prelude.{None, Some, Any, IfNone, IfSome, IsErr, IsTrue, OnErr, OnOk};
+ghost use Rattle.std.specs.Prelude.{◌≡◌, ◌↔◌, ◌<◌, ◌≤◌, ◌++◌, [], false, length, take, ⊤};
+ghost use Rattle.std.specs.Prelude.{None, Some, Any, IfSome, IsTrue};
 ghost use Rattle.std.specs.Option.{option_copied, option_map};
-ghost use Rattle.std.proofs.Common.{inl, inr, refl};
+ghost use Rattle.std.proofs.Common.{inl, refl};
 ghost use Rattle.dap_device.specs.Calls.{content_of};
-ghost use Rattle.dap_device.specs.CachedFile.{after_folder_sync, after_rename, synced_file};
-ghost use Rattle.dap_device.specs.CachedFile.{unsynced_file, Leaves, LeavesSince, MayLeave};
-ghost use Rattle.dap_device.specs.CachedFile.{since_now};
+ghost use Rattle.dap_device.specs.CachedFile.{Leaves, LeavesSince, MayLeave, since_now};
+ghost use Rattle.dap_device.specs.CachedFile.{synced_file, unsynced_file};
 
-use crate::failing::{Failing, append, read_copy};
+use crate::calls::{Calls, append, read_copy};
 use crate::file::{FileFault, ReadFault, Replaceable, Step};
 use std::alloc::Global;
 use std::marker::Model;
@@ -56,10 +55,7 @@ impl Version {
     fn bytes(&self) -> Option<&[u8]>
         ensures { option_copied result ≡ self.now.content }
     {
-        match &self.content {
-            None => None,
-            Some(bytes) => Some(bytes.as_slice()),
-        }
+        self.content.as_deref()
     }
 
     /// Appends at most `most` of the bytes, and returns how many. Returns `None` as `append` does.
@@ -101,10 +97,8 @@ pub struct CachedFile {
     past: Vec<Version>,
     /// How many of them a crash cannot leave any more.
     settled: usize,
-    failing: Failing,
+    calls: Calls,
     longest_write: usize,
-    failures: u64,
-    failed_at: Option<Step>,
 }
 
 impl Model for CachedFile {
@@ -118,8 +112,8 @@ impl Model for CachedFile {
       temporary = m.temporary;
       past = m.past.items;
       settled = m.settled;
-      failures = m.failures;
-      failed_at = m.failed_at;
+      failures = m.calls.failures;
+      failed_at = m.calls.failed_at;
     } };
 
     ghost invariant = { λ m. m.settled ≤ length m.past.items };
@@ -151,10 +145,8 @@ impl CachedFile {
             temporary: Version::synced(None),
             past: Vec::new(alloc),
             settled: 0,
-            failing: Failing::new(failing),
+            calls: Calls::new(failing),
             longest_write,
-            failures: 0,
-            failed_at: None,
         }
     }
 
@@ -171,67 +163,6 @@ impl CachedFile {
     {
         let earlier = &self.past.as_slice()[self.settled..];
         self.target.leaves(content) || any_leaves(earlier, content)
-    }
-}
-
-impl CachedFile {
-    /// Counts a failure of a step and returns the error.
-    fn fail<T>(&mut self, step: Step) -> Result<T, FileFault>
-        requires { self.old.failures < 2 ^ 63 }
-        ensures err { IsErr result }
-        ensures counted { self.new ≡ record self.old
-            { failures = self.old.failures + 1; failed_at = Some step } }
-    {
-        self.failures += 1;
-        self.failed_at = Some(step);
-        Err(FileFault {})
-    }
-
-    /// Appends to the temporary file, which is then not synced.
-    fn append_to_temporary(&mut self, bytes: &[u8]) -> Option<usize>
-        ensures within { IfSome result (λ count. count ≤ length bytes.now) }
-        ensures some { IfSome result (λ count. 0 < length bytes.now → 0 < count) }
-        ensures appended { IfSome result (λ count. self.new ≡ record self.old {
-          temporary = unsynced_file (option_map (λ written. written ++ take count bytes.now)
-              self.old.temporary.content);
-        }) }
-        ensures none { IfNone result (self.new ≡ record self.old
-            { temporary = unsynced_file self.new.temporary.content }) }
-    {
-        self.temporary.append(bytes, self.longest_write)
-    }
-
-    /// Syncs the temporary file.
-    fn sync_temporary(&mut self)
-        ensures { self.new ≡ record self.old
-            { temporary = synced_file self.old.temporary.content } }
-    {
-        self.temporary.is_synced = true;
-    }
-
-    /// Renames the temporary file. Fails only if an allocation fails.
-    fn rename_temporary(&mut self) -> Result<(), FileFault>
-        ensures ok { OnOk result (self.new ≡ after_rename self.old) }
-        ensures err { OnErr result (self.new ≡ self.old) }
-    {
-        let old = mem::replace(&mut self.target, Version::synced(None));
-        match self.past.push(old) {
-            Ok(()) => {
-                self.target = mem::replace(&mut self.temporary, Version::synced(None));
-                Ok(())
-            }
-            Err(failed) => {
-                self.target = failed.value;
-                Err(FileFault {})
-            }
-        }
-    }
-
-    /// Syncs the folder.
-    fn sync_names(&mut self)
-        ensures { self.new ≡ after_folder_sync self.old }
-    {
-        self.settled = self.past.len();
     }
 }
 
@@ -261,69 +192,61 @@ impl Replaceable for CachedFile {
     ghost stays = { λ m known. inl (λ synced. refl) };
 
     fn read(&mut self, alloc: Global, limit: u64) -> Result<Option<Vec<u8>>, ReadFault> {
-        if self.failing.next_fails() {
-            self.failures += 1;
+        if self.calls.start_other().is_err() {
             return Err(ReadFault::Failed);
         }
         read_copy(alloc, &self.target.content, limit)
     }
 
     fn create(&mut self) -> Result<(), FileFault> {
-        if self.failing.next_fails() {
-            return self.fail(Step::Create);
-        }
+        self.calls.start(Step::Create)?;
         self.temporary = Version::created(self.alloc);
         Ok(())
     }
 
     fn write(&mut self, bytes: &[u8]) -> Result<usize, FileFault> {
-        if self.failing.next_fails() {
-            return self.fail(Step::Write);
-        }
-        match self.append_to_temporary(bytes) {
+        self.calls.start(Step::Write)?;
+        match self.temporary.append(bytes, self.longest_write) {
             Some(count) => Ok(count),
-            None => self.fail(Step::Write),
+            None => self.calls.fail(Step::Write),
         }
     }
 
     fn sync(&mut self) -> Result<(), FileFault> {
-        if self.failing.next_fails() {
-            return self.fail(Step::Sync);
-        }
-        self.sync_temporary();
+        self.calls.start(Step::Sync)?;
+        self.temporary.is_synced = true;
         Ok(())
     }
 
     fn rename(&mut self) -> Result<(), FileFault> {
-        if self.failing.next_fails() {
-            return self.fail(Step::Rename);
+        self.calls.start(Step::Rename)?;
+        if self.past.reserve(1).is_err() {
+            return self.calls.fail(Step::Rename);
         }
-        match self.rename_temporary() {
-            Ok(()) => Ok(()),
-            Err(_) => self.fail(Step::Rename),
-        }
+        let renamed = mem::replace(&mut self.temporary, Version::synced(None));
+        let earlier = mem::replace(&mut self.target, renamed);
+        self.past.push(earlier).unwrap();
+        Ok(())
     }
 
     /// Syncs the folder. Fails if the file under the name was renamed without being synced, since
     /// its content is then lost in a crash.
     fn sync_folder(&mut self) -> Result<(), FileFault> {
-        if self.failing.next_fails() || !self.target.is_synced {
-            return self.fail(Step::SyncFolder);
+        self.calls.start(Step::SyncFolder)?;
+        if !self.target.is_synced {
+            return self.calls.fail(Step::SyncFolder);
         }
-        self.sync_names();
+        self.settled = self.past.len();
         Ok(())
     }
 
     fn remove(&mut self) -> Result<(), FileFault> {
-        if self.failing.next_fails() {
-            self.failures += 1;
-            return Err(FileFault {});
-        }
+        self.calls.start_other()?;
         self.temporary = Version::synced(None);
         Ok(())
     }
 
     fn failures(&self) -> u64 {
-        self.failures
+        self.calls.failures()
     }
 }

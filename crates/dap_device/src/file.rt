@@ -1,5 +1,4 @@
-//! Defines a file that can be read and replaced: the effect of each call, and what a crash may
-//! leave.
+//! Defines a file that can be read and replaced: the effects of its calls and of a crash.
 ghost use Rattle.std.specs.Prelude.{◌≡◌, ◌⊎◌, ◌↔◌, ◌+◌, ◌<◌, ◌≤◌, ◌++◌, ◌^◌, [], List, ℕ, Option};
 ghost use Rattle.std.specs.Prelude.{length, take, Some, None, IfOk, IfSome, IsErrOf, IsSome, OnErr, OnOk};
 ghost use Rattle.std.specs.Option.{option_map};

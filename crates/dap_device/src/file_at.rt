@@ -1,15 +1,11 @@
 //! Replaces a file of the operating system.
-ghost use Rattle.std.specs.Prelude.{◌≡◌, ◌↔◌, ◌<◌, None, IfOk, IsSome};
+ghost use Rattle.std.specs.Prelude.{◌≡◌, ◌↔◌, ◌+◌, ◌<◌, ◌^◌, None, Ok, Some};
+ghost use Rattle.std.specs.Prelude.{IfOk, IsErr, IsSome, MatchResult};
 
-use crate::failures::Failures;
 use crate::file::{FileFault, ReadFault, Replaceable, Step};
-use crate::place::Place;
-use crate::system::{
-    create_temporary, read_at, remove_temporary, rename_temporary, sync_folder, sync_temporary,
-    write_temporary,
-};
+use crate::place::{Place, write_temporary};
 use std::alloc::Global;
-use std::io::{self, Error};
+use std::io::{self, Error, ErrorKind};
 use std::marker::Model;
 use std::rt::Files;
 
@@ -24,7 +20,10 @@ pub struct FileAt<'a, R: Files> {
     place: Place,
     /// The temporary file, if there is one.
     temporary: Option<R::File>,
-    failures: Failures,
+    failures: u64,
+    failed_at: Option<Step>,
+    /// The reason of the last failure, or of one before a failed removal.
+    reason: Option<Error>,
 }
 
 impl<'a, R: Files> Drop for FileAt<'a, R> {
@@ -34,16 +33,21 @@ impl<'a, R: Files> Drop for FileAt<'a, R> {
             place: _,
             temporary: _,
             failures: _,
+            failed_at: _,
+            reason: _,
         } = self;
     }
 }
 
 impl<'a, R: Files> Model for FileAt<'a, R> {
+    ghost use Rattle.std.specs.Prelude.{◌↔◌, ◌<◌, IsSome};
     ghost use Rattle.dap_device.specs.Calls.{FileCounts};
 
     ghost Value = { FileCounts };
 
-    ghost view = { λ f. f.failures };
+    ghost view = { λ f. record { failures = f.failures; failed_at = f.failed_at } };
+
+    ghost invariant = { λ f. IsSome f.reason ↔ (0 < f.failures) };
 }
 
 impl<'a, R: Files> FileAt<'a, R> {
@@ -67,12 +71,7 @@ impl<'a, R: Files> FileAt<'a, R> {
     pub fn new(alloc: Global, rt: &'a R, path: &str, tag: u64) -> io::Result<FileAt<'a, R>>
         ensures { IfOk result (λ file. file ≡ record { failures = 0; failed_at = None }) }
     {
-        Ok(FileAt {
-            rt,
-            place: Place::find(alloc, rt, path, tag)?,
-            temporary: None,
-            failures: Failures::none(),
-        })
+        Ok(FileAt::at(rt, Place::find(alloc, rt, path, tag)?))
     }
 
     /// Returns a file that is only read, by its path as it is. It may be a pipe or a device. Each
@@ -84,12 +83,21 @@ impl<'a, R: Files> FileAt<'a, R> {
     pub fn to_read(alloc: Global, rt: &'a R, path: &str) -> io::Result<FileAt<'a, R>>
         ensures { IfOk result (λ file. file ≡ record { failures = 0; failed_at = None }) }
     {
-        Ok(FileAt {
+        Ok(FileAt::at(rt, Place::to_read(alloc, path)?))
+    }
+
+    /// Returns the file at a place, before the first call.
+    fn at(rt: &'a R, place: Place) -> FileAt<'a, R>
+        ensures { result ≡ record { failures = 0; failed_at = None } }
+    {
+        FileAt {
             rt,
-            place: Place::to_read(alloc, path)?,
+            place,
             temporary: None,
-            failures: Failures::none(),
-        })
+            failures: 0,
+            failed_at: None,
+            reason: None,
+        }
     }
 
     /// Returns whether the temporary file exists. After a replacement that failed, it could not be
@@ -103,7 +111,25 @@ impl<'a, R: Files> FileAt<'a, R> {
     pub fn reason(&self) -> Option<&Error>
         ensures { IsSome result ↔ (0 < self.now.failures) }
     {
-        self.failures.reason()
+        self.reason.as_ref()
+    }
+
+    /// Counts a failed call of a step, and stores its reason.
+    fn note<T>(&mut self, step: Step, outcome: io::Result<T>) -> Result<T, FileFault>
+        requires { self.old.failures < 2 ^ 63 }
+        ensures { MatchResult outcome (λ value. (result ≡ Ok value) × (self.new ≡ self.old))
+            (λ error. IsErr result × (self.new
+            ≡ record { failures = self.old.failures + 1; failed_at = Some step })) }
+    {
+        match outcome {
+            Ok(value) => Ok(value),
+            Err(reason) => {
+                self.failures += 1;
+                self.failed_at = Some(step);
+                self.reason = Some(reason);
+                Err(FileFault {})
+            }
+        }
     }
 }
 
@@ -133,41 +159,58 @@ impl<'a, R: Files> Replaceable for FileAt<'a, R> {
     ghost stays = { λ f known. known };
 
     fn read(&mut self, alloc: Global, limit: u64) -> Result<Option<Vec<u8>>, ReadFault> {
-        let found = read_at(alloc, self.rt, self.place.target.as_str(), limit);
-        self.failures.note_read(found)
+        match self.place.read(alloc, self.rt, limit) {
+            Ok(None) => Ok(None),
+            Ok(Some(bytes)) if bytes.len() as u64 > limit => Err(ReadFault::TooLong),
+            Ok(Some(bytes)) => Ok(Some(bytes)),
+            Err(reason) => match (reason.kind(), reason.raw_os_error()) {
+                // A failed allocation in std has no error number of the operating system.
+                (ErrorKind::OutOfMemory, None) => Err(ReadFault::Memory),
+                _ => {
+                    self.failures += 1;
+                    self.reason = Some(reason);
+                    Err(ReadFault::Failed)
+                }
+            },
+        }
     }
 
     fn create(&mut self) -> Result<(), FileFault> {
-        let created = create_temporary(self.rt, &self.place, &mut self.temporary);
-        self.failures.note(Step::Create, created)
+        let created = self.place.create(self.rt, &mut self.temporary);
+        self.note(Step::Create, created)
     }
 
     fn write(&mut self, bytes: &[u8]) -> Result<usize, FileFault> {
         let written = write_temporary(&mut self.temporary, bytes);
-        self.failures.note(Step::Write, written)
+        self.note(Step::Write, written)
     }
 
     fn sync(&mut self) -> Result<(), FileFault> {
-        let synced = sync_temporary(self.rt, &self.place, &self.temporary);
-        self.failures.note(Step::Sync, synced)
+        let synced = self.place.sync(self.rt, &self.temporary);
+        self.note(Step::Sync, synced)
     }
 
     fn rename(&mut self) -> Result<(), FileFault> {
-        let renamed = rename_temporary(self.rt, &self.place, &mut self.temporary);
-        self.failures.note(Step::Rename, renamed)
+        let renamed = self.place.rename(self.rt, &mut self.temporary);
+        self.note(Step::Rename, renamed)
     }
 
     fn sync_folder(&mut self) -> Result<(), FileFault> {
-        let synced = sync_folder(self.rt, self.place.folder());
-        self.failures.note(Step::SyncFolder, synced)
+        let synced = self.place.sync_folder(self.rt);
+        self.note(Step::SyncFolder, synced)
     }
 
     fn remove(&mut self) -> Result<(), FileFault> {
-        let removed = remove_temporary(self.rt, &self.place, &mut self.temporary);
-        self.failures.note_removal(removed)
+        let removed = self.place.remove(self.rt, &mut self.temporary);
+        if let Err(reason) = removed {
+            self.failures += 1;
+            self.reason = self.reason.or(Some(reason));
+            return Err(FileFault {});
+        }
+        Ok(())
     }
 
     fn failures(&self) -> u64 {
-        self.failures.count()
+        self.failures
     }
 }

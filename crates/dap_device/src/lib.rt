@@ -18,12 +18,10 @@
 #![tactic(auto)]
 
 mod cached_file;
+mod calls;
 mod device;
-mod failing;
-mod failures;
 mod file;
 mod file_at;
-mod links;
 mod memory;
 mod memory_file;
 mod pieces;
@@ -32,7 +30,6 @@ mod reading;
 mod replacing;
 mod std_device;
 mod streams;
-mod system;
 mod writing;
 
 pub use cached_file::CachedFile;

@@ -142,9 +142,7 @@ impl Sink for MemorySink {
         }
         let count = bytes.len().min(room);
         self.bytes.extend_from_slice(&bytes[..count]).unwrap();
-        if count > 0 {
-            self.unflushed = true;
-        }
+        self.unflushed |= count > 0;
         Ok(count)
     }
 

@@ -1,11 +1,11 @@
 //! Implements a file in memory whose calls can be made to fail.
-ghost use Rattle.std.specs.Prelude.{◌≡◌, ◌+◌, ◌<◌, ◌^◌, [], None, Some, IsErr, length, ⊤};
+ghost use Rattle.std.specs.Prelude.{◌≡◌, [], None, length, ⊤};
 ghost use Rattle.std.specs.Option.{option_copied};
 ghost use Rattle.std.proofs.Common.{inl, refl};
 ghost use Rattle.dap_device.specs.Calls.{content_of};
 ghost use Rattle.dap_device.specs.MemoryFile.{MemoryState, MightHaveLeft, only_target};
 
-use crate::failing::{Failing, append, read_copy};
+use crate::calls::{Calls, append, read_copy};
 use crate::file::{FileFault, ReadFault, Replaceable, Step};
 use std::alloc::Global;
 use std::marker::Model;
@@ -18,10 +18,8 @@ pub struct MemoryFile {
     target: Option<Vec<u8>>,
     temporary: Option<Vec<u8>>,
     past: Vec<Option<Vec<u8>>>,
-    failing: Failing,
+    calls: Calls,
     longest_write: usize,
-    failures: u64,
-    failed_at: Option<Step>,
 }
 
 impl Model for MemoryFile {
@@ -35,8 +33,8 @@ impl Model for MemoryFile {
       target = content_of m.target;
       temporary = content_of m.temporary;
       past = map content_of m.past.items;
-      failures = m.failures;
-      failed_at = m.failed_at;
+      failures = m.calls.failures;
+      failed_at = m.calls.failed_at;
     } };
 }
 
@@ -64,10 +62,8 @@ impl MemoryFile {
             target: content,
             temporary: None,
             past: Vec::new(alloc),
-            failing: Failing::new(failing),
+            calls: Calls::new(failing),
             longest_write,
-            failures: 0,
-            failed_at: None,
         }
     }
 
@@ -75,34 +71,14 @@ impl MemoryFile {
     pub fn content(&self) -> Option<&[u8]>
         ensures { option_copied result ≡ self.now.target }
     {
-        match &self.target {
-            None => None,
-            Some(bytes) => Some(bytes.as_slice()),
-        }
+        self.target.as_deref()
     }
 
     /// Returns the content of the temporary file.
     pub fn temporary(&self) -> Option<&[u8]>
         ensures { option_copied result ≡ self.now.temporary }
     {
-        match &self.temporary {
-            None => None,
-            Some(bytes) => Some(bytes.as_slice()),
-        }
-    }
-}
-
-impl MemoryFile {
-    /// Counts a failure of a step and returns the error.
-    fn fail<T>(&mut self, step: Step) -> Result<T, FileFault>
-        requires { self.old.failures < 2 ^ 63 }
-        ensures err { IsErr result }
-        ensures counted { self.new ≡ record self.old
-            { failures = self.old.failures + 1; failed_at = Some step } }
-    {
-        self.failures += 1;
-        self.failed_at = Some(step);
-        Err(FileFault {})
+        self.temporary.as_deref()
     }
 }
 
@@ -132,71 +108,51 @@ impl Replaceable for MemoryFile {
     ghost stays = { λ m known. refl };
 
     fn read(&mut self, alloc: Global, limit: u64) -> Result<Option<Vec<u8>>, ReadFault> {
-        if self.failing.next_fails() {
-            self.failures += 1;
+        if self.calls.start_other().is_err() {
             return Err(ReadFault::Failed);
         }
         read_copy(alloc, &self.target, limit)
     }
 
     fn create(&mut self) -> Result<(), FileFault> {
-        if self.failing.next_fails() {
-            return self.fail(Step::Create);
-        }
+        self.calls.start(Step::Create)?;
         self.temporary = Some(Vec::new(self.alloc));
         Ok(())
     }
 
     fn write(&mut self, bytes: &[u8]) -> Result<usize, FileFault> {
-        if self.failing.next_fails() {
-            return self.fail(Step::Write);
-        }
+        self.calls.start(Step::Write)?;
         match append(&mut self.temporary, bytes, self.longest_write) {
             Some(count) => Ok(count),
-            None => self.fail(Step::Write),
+            None => self.calls.fail(Step::Write),
         }
     }
 
     fn sync(&mut self) -> Result<(), FileFault> {
-        if self.failing.next_fails() {
-            return self.fail(Step::Sync);
-        }
-        Ok(())
+        self.calls.start(Step::Sync)
     }
 
     fn rename(&mut self) -> Result<(), FileFault> {
-        if self.failing.next_fails() {
-            return self.fail(Step::Rename);
+        self.calls.start(Step::Rename)?;
+        if self.past.reserve(1).is_err() {
+            return self.calls.fail(Step::Rename);
         }
-        match self.past.push(self.target.take()) {
-            Ok(()) => {
-                self.target = self.temporary.take();
-                Ok(())
-            }
-            Err(failed) => {
-                self.target = failed.value;
-                self.fail(Step::Rename)
-            }
-        }
-    }
-
-    fn sync_folder(&mut self) -> Result<(), FileFault> {
-        if self.failing.next_fails() {
-            return self.fail(Step::SyncFolder);
-        }
+        self.past.push(self.target.take()).unwrap();
+        self.target = self.temporary.take();
         Ok(())
     }
 
+    fn sync_folder(&mut self) -> Result<(), FileFault> {
+        self.calls.start(Step::SyncFolder)
+    }
+
     fn remove(&mut self) -> Result<(), FileFault> {
-        if self.failing.next_fails() {
-            self.failures += 1;
-            return Err(FileFault {});
-        }
+        self.calls.start_other()?;
         self.temporary = None;
         Ok(())
     }
 
     fn failures(&self) -> u64 {
-        self.failures
+        self.calls.failures()
     }
 }

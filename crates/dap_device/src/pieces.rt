@@ -4,15 +4,12 @@ ghost use Rattle.dap_device.specs.Device.{HasRead};
 ghost use Rattle.dap_device.specs.Pieces.{HasFilled};
 
 use crate::device::{DeviceFault, Source};
-use crate::reading::Stop;
+use crate::reading::{PIECE, Stop};
 use std::alloc::{AllocError, Global};
 use std::marker::Model;
 
-/// The maximum number of bytes of one read.
-const PIECE: usize = 65_536;
-
 /// Reads at most `room` bytes into a prefix of the buffer.
-fn read_front<R: Source>(
+fn read_prefix<R: Source>(
     reader: &mut R,
     buffer: &mut [u8],
     room: usize,
@@ -114,7 +111,7 @@ impl Pieces {
         }
         let left = self.limit - self.taken;
         let room = PIECE.min((left as usize).max(1));
-        match read_front(reader, self.buffer.as_mut_slice(), room) {
+        match read_prefix(reader, self.buffer.as_mut_slice(), room) {
             Err(_) => Err(Stop::Failed),
             Ok(0) => Err(Stop::End),
             Ok(_) if left == 0 => Err(Stop::Full),

@@ -8,7 +8,7 @@ use crate::device::{DeviceFault, Source};
 use std::alloc::{AllocError, Global};
 
 /// The maximum number of bytes of one read.
-const PIECE: usize = 65_536;
+pub(crate) const PIECE: usize = 65_536;
 
 /// Why reading stopped.
 #[derive(Clone, Copy, Debug, PartialEq, Eq)]
@@ -35,7 +35,7 @@ fn make_room(bytes: &mut Vec<u8>, count: usize, most: usize) -> Result<(), Alloc
     requires piece { length bytes.old.items ≤ count + 65536 }
     requires goes_on { count < most }
     requires small { most ≤ 2 ^ 62 + 1 }
-    ensures front { OnOk result (take count bytes.new.items ≡ take count bytes.old.items) }
+    ensures prefix { OnOk result (take count bytes.new.items ≡ take count bytes.old.items) }
     ensures room { OnOk result (count < length bytes.new.items) }
     ensures within { OnOk result (length bytes.new.items ≤ most) }
     ensures piece { OnOk result (length bytes.new.items ≤ count + 65536) }
@@ -47,7 +47,7 @@ fn make_room(bytes: &mut Vec<u8>, count: usize, most: usize) -> Result<(), Alloc
 }
 
 /// Reads into the buffer, from index `count` on.
-fn read_behind<R: Source>(
+fn read_from<R: Source>(
     reader: &mut R,
     bytes: &mut Vec<u8>,
     count: usize,
@@ -58,7 +58,7 @@ fn read_behind<R: Source>(
     requires failures { R.failures reader.old < 2 ^ 63 }
     ensures read { HasRead R.left R.given R.failures reader.old reader.new result
         (drop count bytes.new.items) }
-    ensures front { take count bytes.new.items ≡ take count bytes.old.items }
+    ensures prefix { take count bytes.new.items ≡ take count bytes.old.items }
     ensures len { length bytes.new.items ≡ length bytes.old.items }
 {
     reader.read(&mut bytes.as_mut_slice()[count..])
@@ -97,7 +97,7 @@ pub fn read_all<R: Source>(alloc: Global, reader: &mut R, limit: u64) -> Result<
             return Ok(first_bytes(bytes, count, Stop::Full));
         }
         make_room(&mut bytes, count, most)?;
-        match read_behind(reader, &mut bytes, count) {
+        match read_from(reader, &mut bytes, count) {
             Err(_) => return Ok(first_bytes(bytes, count, Stop::Failed)),
             Ok(0) => return Ok(first_bytes(bytes, count, Stop::End)),
             Ok(more) => count += more,

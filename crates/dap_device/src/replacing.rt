@@ -1,6 +1,6 @@
 //! Replaces a file as a whole.
 ghost use Rattle.std.specs.Prelude.{◌≡◌, ◌↔◌, ◌+◌, ◌<◌, ◌^◌, [], Err, None, Some, IfErr, IsOk};
-ghost use Rattle.std.specs.Prelude.{MatchResult, OnErr, OnOk, false, take};
+ghost use Rattle.std.specs.Prelude.{MatchResult, OnOk, false};
 ghost use Rattle.dap_device.specs.Calls.{call_failures, step_after};
 ghost use Rattle.dap_device.specs.Crash.{LeavesOnly};
 ghost use Rattle.dap_device.specs.Replacing.{HasFailedAt, HasReplaced, IsInstalled, IsOldOrNew};
@@ -16,14 +16,15 @@ pub struct ReplaceFault {
     pub is_left: bool,
 }
 
-/// Returns this step if its call failed.
-fn in_step(step: Step, outcome: Result<(), FileFault>) -> Result<(), Step>
-    ensures { MatchResult outcome (λ done. IsOk result) (λ fault. result ≡ Err step) }
+/// Returns the fault of this step if its call failed.
+fn in_step(step: Step, outcome: Result<(), FileFault>) -> Result<(), ReplaceFault>
+    ensures { MatchResult outcome (λ done. IsOk result)
+        (λ fault. result ≡ Err (record { step = step; is_left = false })) }
 {
-    match outcome {
-        Ok(()) => Ok(()),
-        Err(_) => Err(step),
-    }
+    outcome.map_err(|_| ReplaceFault {
+        step,
+        is_left: false,
+    })
 }
 
 /// Writes all of the bytes to the temporary file, which is empty.
@@ -45,16 +46,16 @@ fn write_all<F: Replaceable>(file: &mut F, bytes: &[u8]) -> Result<(), FileFault
 }
 
 /// Writes the bytes to the temporary file, which is empty, syncs it and renames it.
-fn install<F: Replaceable>(file: &mut F, bytes: &[u8]) -> Result<(), Step>
+fn install<F: Replaceable>(file: &mut F, bytes: &[u8]) -> Result<(), ReplaceFault>
     requires few { F.failures file.old < 2 ^ 62 }
     requires created { F.is_known file.old → F.temporary file.old ≡ Some [] }
     ensures counted { F.failures file.new ≡ F.failures file.old + step_failures result }
-    ensures step { IfErr result (λ step. F.failed_at file.new ≡ Some step) }
+    ensures step { IfErr result (λ fault. F.failed_at file.new ≡ Some fault.step) }
     ensures known { F.is_known file.new ↔ F.is_known file.old }
     ensures installed { F.is_known file.old
         → OnOk result (IsInstalled F.Replaceable file.new bytes.now) }
     ensures failed { F.is_known file.old
-        → IfErr result (λ step. HasFailedAt F.Replaceable step file.old file.new bytes.now) }
+        → IfErr result (λ fault. HasFailedAt F.Replaceable fault.step file.old file.new bytes.now) }
     ensures any_moment { F.is_known file.old
         → LeavesOnly F.moment F.left_since (IsOldOrNew F.Replaceable file.old bytes.now)
         file.old file.new }
@@ -90,21 +91,10 @@ pub fn replace<F: Replaceable>(file: &mut F, bytes: &[u8]) -> Result<(), Replace
     ensures removed { F.is_known file.old
         → IfErr result (λ fault. fault.is_left ≡ false → F.temporary file.new ≡ None) }
 {
-    if let Err(_) = file.create() {
-        return Err(ReplaceFault {
-            step: Step::Create,
-            is_left: false,
-        });
-    }
-    if let Err(step) = install(file, bytes) {
+    in_step(Step::Create, file.create())?;
+    if let Err(fault) = install(file, bytes) {
         let is_left = file.remove().is_err();
-        return Err(ReplaceFault { step, is_left });
+        return Err(ReplaceFault { is_left, ..fault });
     }
-    match file.sync_folder() {
-        Ok(()) => Ok(()),
-        Err(_) => Err(ReplaceFault {
-            step: Step::SyncFolder,
-            is_left: false,
-        }),
-    }
+    in_step(Step::SyncFolder, file.sync_folder())
 }

@@ -1,8 +1,8 @@
 //! Readers and writers over those of std, whose contracts do not report their bytes.
-ghost use Rattle.std.specs.Prelude.{◌≡◌, None, false};
+ghost use Rattle.std.specs.Prelude.{◌≡◌, ◌≤◌, IfOk, None, false, length};
 
 use crate::device::{DeviceFault, Sink, Source};
-use std::io::{ErrorKind, Read, Write};
+use std::io::{self, ErrorKind, Read, Write};
 use std::marker::Model;
 
 /// Reads from a reader of std. A read that a signal interrupted is repeated.
@@ -70,6 +70,19 @@ impl<R: Read> Source for StdSource<R> {
     }
 }
 
+/// Writes a prefix of the bytes. Repeats a write that a signal interrupted.
+pub(crate) fn write_some<W: Write>(writer: &mut W, bytes: &[u8]) -> io::Result<usize>
+    ensures { IfOk result (λ count. count ≤ length bytes.now) }
+{
+    for _ in 0..u64::MAX {
+        match writer.write(bytes) {
+            Err(error) if error.kind() == ErrorKind::Interrupted => {}
+            outcome => return outcome,
+        }
+    }
+    Err(ErrorKind::Interrupted.into())
+}
+
 /// Writes to a writer of std. A write that a signal interrupted is repeated.
 #[derive(Drop)]
 pub struct StdSink<W> {
@@ -108,22 +121,13 @@ impl<W: Write> Sink for StdSink<W> {
     ghost failures = { λ s. s.failures };
 
     fn write(&mut self, bytes: &[u8]) -> Result<usize, DeviceFault> {
-        for _ in 0..u64::MAX {
-            match self.writer.write(bytes) {
-                Ok(count) => {
-                    if count > 0 {
-                        self.unflushed = true;
-                    } else if !bytes.is_empty() {
-                        self.failures += 1;
-                    }
-                    return Ok(count);
-                }
-                Err(error) if error.kind() == ErrorKind::Interrupted => {}
-                Err(_) => break,
-            }
+        let written = write_some(&mut self.writer, bytes).map_err(|_| DeviceFault {});
+        match written {
+            Ok(0) if bytes.is_empty() => {}
+            Ok(0) | Err(_) => self.failures += 1,
+            Ok(_) => self.unflushed = true,
         }
-        self.failures += 1;
-        Err(DeviceFault {})
+        written
     }
 
     fn flush(&mut self) -> Result<(), DeviceFault> {

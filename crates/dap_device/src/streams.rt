@@ -1,5 +1,4 @@
-//! Finds the open streams of the program that a path leads to, and holds those that are closed.
-use crate::links::{MOST_LINKS, target_of_link};
+//! Follows symbolic links, finds the open streams of the program, and holds the closed ones.
 use std::alloc::Global;
 use std::fs::{self, File, OpenOptions};
 use std::io::{self, Error, ErrorKind};
@@ -7,21 +6,36 @@ use std::os::fd::AsRawFd;
 use std::path::{Path, PathBuf};
 use std::rt::Files;
 
+/// The maximum number of symbolic links that are followed, as on Linux.
+pub(crate) const MOST_LINKS: usize = 40;
+
 /// The folder in which Linux names the open streams of this process by their numbers.
 const OWN_STREAMS: &str = "/proc/self/fd";
 
-/// The number of standard input, the first of the three standard streams.
+/// The number of the first of the three standard streams.
 const STANDARD_INPUT: i32 = 0;
 
-/// The number of standard error, the last of them.
+/// The number of the last of them.
 const STANDARD_ERROR: i32 = 2;
 
 /// The device that is opened for a closed stream.
 const NULL_DEVICE: &str = "/dev/null";
 
-/// Returns whether a folder names the open streams of a process.
-fn names_streams(folder: &str) -> bool {
-    folder.starts_with("/proc/") && folder.ends_with("/fd")
+/// Returns `None` in place of the error that there is no such file.
+pub(crate) fn if_found<T>(outcome: io::Result<T>) -> io::Result<Option<T>> {
+    match outcome {
+        Ok(found) => Ok(Some(found)),
+        Err(error) if error.kind() == ErrorKind::NotFound => Ok(None),
+        Err(error) => Err(error),
+    }
+}
+
+/// Returns the target of a symbolic link, relative to the folder that contains the link.
+pub(crate) fn follow<R: Files>(alloc: Global, rt: &R, mut link: PathBuf) -> io::Result<PathBuf> {
+    let target = rt.read_link(alloc, link.as_str())?;
+    link.pop();
+    link.push(target)?;
+    Ok(link)
 }
 
 /// Returns the number of the stream that a path names in the folder of open streams, without
@@ -43,12 +57,10 @@ pub(crate) fn stream_at<R: Files>(
     let Ok(number) = name.parse::<u32>() else {
         return Ok(None);
     };
-    let folder = match rt.canonicalize(alloc, folder.as_str()) {
-        Ok(folder) => folder,
-        Err(error) if error.kind() == ErrorKind::NotFound => return Ok(None),
-        Err(error) => return Err(error),
+    let Some(folder) = if_found(rt.canonicalize(alloc, folder.as_str()))? else {
+        return Ok(None);
     };
-    if !names_streams(folder.as_str()) {
+    if !(folder.as_str().starts_with("/proc/") && folder.as_str().ends_with("/fd")) {
         return Ok(None);
     }
     match rt.canonicalize(alloc, OWN_STREAMS) {
@@ -74,19 +86,11 @@ pub fn stream_number<R: Files>(alloc: Global, rt: &R, path: &str) -> io::Result<
             return Ok(number);
         }
         match fs::symlink_metadata(rt, path.as_str()) {
-            Ok(found) if found.is_symlink() => path = target_of_link(alloc, rt, path)?,
+            Ok(found) if found.is_symlink() => path = follow(alloc, rt, path)?,
             _ => return Ok(None),
         }
     }
     Err(ErrorKind::FilesystemLoop.into())
-}
-
-/// Opens a file, which gets the lowest number that is free.
-fn probe(rt: &HostRuntime) -> io::Result<File> {
-    match fs::open(rt, NULL_DEVICE) {
-        Ok(file) => Ok(file),
-        Err(_) => fs::open(rt, "/"),
-    }
 }
 
 /// Opens a device for each standard stream that is closed, so that no file gets its number. A read
@@ -99,9 +103,10 @@ fn probe(rt: &HostRuntime) -> io::Result<File> {
 pub fn hold_closed_streams(rt: &HostRuntime) -> io::Result<[Option<File>; 3]> {
     let mut held = [None, None, None];
     for place in held.iter_mut() {
-        let file = probe(rt)?;
-        let number = file.as_raw_fd();
-        drop(file);
+        // Any file gets the lowest number that is free.
+        let lowest = fs::open(rt, NULL_DEVICE).or_else(|_| fs::open(rt, "/"))?;
+        let number = lowest.as_raw_fd();
+        drop(lowest);
         if number > STANDARD_ERROR {
             break;
         }

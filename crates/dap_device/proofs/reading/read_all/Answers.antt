@@ -11,22 +11,22 @@ loop-count-preserved g c =
     let read = c.in-Ok.ensures.read in
     let before = c.loop-count.invariant in
     let room = c.in_ok-make_room.ensures in
-    let bytes = c.read_behind.new.bytes.items in
-    let behind : length (drop c.loop-count.count bytes) ≡ length bytes - c.loop-count.count =
+    let bytes = c.read_from.new.bytes.items in
+    let rest : length (drop c.loop-count.count bytes) ≡ length bytes - c.loop-count.count =
     length-drop c.loop-count.count bytes in
-    let front : take c.loop-count.count bytes ≡ take c.loop-count.count c.loop-count.bytes.items =
-    c.in-Ok.ensures.front ∙ room.front in
+    let prefix : take c.loop-count.count bytes ≡ take c.loop-count.count c.loop-count.bytes.items =
+    c.in-Ok.ensures.prefix ∙ room.prefix in
     let come : take (c.loop-count.count + c.in-Ok.more) bytes
     ≡ take c.loop-count.count c.loop-count.bytes.items
     ++ take c.in-Ok.more (drop c.loop-count.count bytes) =
     take-add c.loop-count.count c.in-Ok.more bytes
-    ∙ ap (λ xs. xs ++ take c.in-Ok.more (drop c.loop-count.count bytes)) front in
+    ∙ ap (λ xs. xs ++ take c.in-Ok.more (drop c.loop-count.count bytes)) prefix in
     record {
-      read = omega (arith, read.fits, behind, c.in-Ok.ensures.len, room.room);
+      read = omega (arith, read.fits, rest, c.in-Ok.ensures.len, room.room);
       within = omega (arith, c.in-Ok.ensures.len, room.within);
       piece = omega (arith, c.in-Ok.ensures.len, room.piece);
       came = subst (Consumes (g.R.Source.left c.args.reader.now)
-          (g.R.Source.left c.read_behind.new.reader)) (sym come)
+          (g.R.Source.left c.read_from.new.reader)) (sym come)
           (Consumes-trans _ _ _ _ _ before.came read.bytes);
       counted = omega (arith, read.counted, before.counted);
       no_failure = read.no_failure ∙ before.no_failure;
