@@ -78,10 +78,10 @@ each-preserved g c =
     (one_more c.args.view.marks_faults c.args.view.detail c.args.view.limits g.R.Source
     c.args.reader.now c.each.reader c.each.records c.each.session c.each.lines.items c.each.first
     was c.next.new.self c.next.new.reader c.in-Some.whole c.append_entry.new.session
-    c.append_entry.new.lines.items c.in_ok-refusal.refusal c.note.new.first read
+    c.append_entry.new.lines.items c.in_ok-refusal.refusal c.or.result read
     (rw c.number-number.ensures at c.in_ok-refusal.ensures was.entries was.session_is
     was.shown.lines_are was.going.behind.number_is)
-    c.note.ensures)
+    c.or.ensures)
 
 pub each-smaller : goal.each-smaller
 each-smaller g c =
