@@ -130,8 +130,7 @@ module _ (limits : Limits) where
   records_of before [] used bytes run = ([], run, tt)
   records_of before (m ∷ messages) used bytes (front, more, split, passes, run) =
       let rest = records_of (before ++ m ∷ []) messages (used + length front) more run in (
-        passes.held
-            ∷ rest.0,
+        passes.held ∷ rest.0,
         (front, more, passes.is_record, split, rest.1),
         (passes.is_next, rest.2),
       )

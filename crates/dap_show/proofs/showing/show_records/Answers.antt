@@ -1,6 +1,5 @@
-use Rattle.std.proofs.Common.{Ok, ◌∙◌, rules, subst, sym}
+use Rattle.std.proofs.Common.{◌∙◌, rules, sym}
 use Rattle.std.proofs.lemmas.Result.{err_from_is_err_and}
-use Rattle.dap_input.specs.RecordSteps.{ReadsNextRecord}
 use Rattle.dap_show.specs.Viewing.{kept}
 use Rattle.dap_show.proofs.ShowingFacts.{entries_of, lines_same, numbered, unmarked}
 use Rattle.dap_show.proofs.ShowingLoop.{all_shown, few_failed, few_given, few_records, fewer}
@@ -39,8 +38,7 @@ pub returns-in_default : goal.returns-in_default
 returns-in_default g c =
     all_shown c.args.limits g.R.Source c.args.reader.now c.each.reader c.each.records
     c.each.out.items c.each.invariant c.next.new.self c.next.new.reader
-    (subst (λ o. ReadsNextRecord c.args.limits.frame g.R.Source c.each.records c.next.new.self
-    c.each.reader c.next.new.reader (Ok o)) c.in_default.is
+    (rw c.in_default.is at
     (c.in_ok-whole.ensures c.args.limits.frame c.each.invariant.going.behind.between))
 
 pub returns-in_err-append_entry : goal.returns-in_err-append_entry
@@ -48,8 +46,7 @@ returns-in_err-append_entry g c =
     let because = err_from_is_err_and c.from_residual-in_err-append_entry.result
     c.from_residual-in_err-append_entry.ensures.1 in
     let was = c.each.invariant in
-    let read = subst (λ o. ReadsNextRecord c.args.limits.frame g.R.Source c.each.records
-    c.next.new.self c.each.reader c.next.new.reader (Ok o)) c.in-Some.is
+    let read = rw c.in-Some.is at
     (c.in_ok-whole.ensures c.args.limits.frame was.going.behind.between) in
     rw (because.1, because.2)
     (not_appended c.args.limits g.R.Source c.args.reader.now c.each.reader c.each.records
@@ -62,8 +59,7 @@ returns-in_err-append_entry g c =
 pub each-preserved : goal.each-preserved
 each-preserved g c =
     let was = c.each.invariant in
-    let read = subst (λ o. ReadsNextRecord c.args.limits.frame g.R.Source c.each.records
-    c.next.new.self c.each.reader c.next.new.reader (Ok o)) c.in-Some.is
+    let read = rw c.in-Some.is at
     (c.in_ok-whole.ensures c.args.limits.frame was.going.behind.between) in
     rw c.recycle.ensures
     (one_more c.args.limits g.R.Source c.args.reader.now c.each.reader c.each.records
@@ -80,6 +76,5 @@ each-smaller g c =
     rw c.recycle.ensures
     (fewer c.args.limits g.R.Source c.args.reader.now c.each.reader c.each.records
     c.each.out.items was c.next.new.self c.next.new.reader c.in-Some.whole
-    (subst (λ o. ReadsNextRecord c.args.limits.frame g.R.Source c.each.records c.next.new.self
-    c.each.reader c.next.new.reader (Ok o)) c.in-Some.is
+    (rw c.in-Some.is at
     (c.in_ok-whole.ensures c.args.limits.frame was.going.behind.between)))
