@@ -5,9 +5,11 @@ use Rattle.std.proofs.Common.{length, Option, Some, None, refl, sym, ◌∙◌, 
 use Rattle.std.proofs.Common.{arith, append_assoc, append-nil, length-append}
 use Rattle.std.proofs.lemmas.Bool.Decides.{nat_tests}
 use Rattle.std.proofs.lemmas.List.Concat.{flat_map-append}
+use Rattle.std.specs.Option.{option_or}
 use Rattle.dap_message.specs.Message.{Refusal, no_reading, fraction, faulty}
 use Rattle.dap_recording.specs.declared.record_fault.RecordCause.TheVariants as cause
 use Rattle.dap_input.specs.Refusals.{RejectsPayload}
+use Rattle.dap_input.specs.Validation.{ContentError, broken, grew, no_message, too_many_ids}
 use Rattle.dap_input.specs.declared.limits.Limits.{Limits}
 use Rattle.dap_input.specs.declared.refused.Refused.{Refused}
 use Rattle.dap_input.specs.declared.refused.Refused.TheVariants as because
@@ -20,7 +22,7 @@ use Rattle.dap_tree.specs.Doc.{Doc}
 use Rattle.dap_tree.specs.Json.{IsRead}
 use Rattle.dap_show.specs.Viewing.{Entry, Fits, Rejects, entry_lines, first_refusal, fits_in, kept}
 use Rattle.dap_show.specs.Viewing.{IsEntry, detail_lines, fault_words, head_lines, kept_of}
-use Rattle.dap_show.specs.Viewing.{lines_of, or_else, refusal_at, refusal_of}
+use Rattle.dap_show.specs.Viewing.{lines_of, refusal_at, refusal_of}
 use Rattle.dap_show.specs.Viewing.{rule_refusal, typed, untyped}
 use Rattle.dap_show.specs.ViewingSteps.{IsEntered, IsJudged, StandsIf}
 use Rattle.dap_show.specs.declared.detail.Detail.{Detail}
@@ -38,21 +40,21 @@ lines_push detail n k (first ∷ entries) e is =
     ∙ sym (append_assoc (entry_lines detail n first) (lines_of detail (n + 1) entries)
     (entry_lines detail k e))
 
-or_none : (o : Option Refused) → or_else o None ≡ o
+or_none : (o : Option Refused) → option_or o None ≡ o
 or_none None = refl
 or_none (Some refused) = refl
 
-or_assoc : (o p q : Option Refused) → or_else o (or_else p q) ≡ or_else (or_else o p) q
+or_assoc : (o p q : Option Refused) → option_or o (option_or p q) ≡ option_or (option_or o p) q
 or_assoc None p q = refl
 or_assoc (Some refused) p q = refl
 
 pub refusal_push : (n k : ℕ) (entries : List Entry) (e : Entry) → k ≡ length entries + n
-    → first_refusal n (entries ++ e ∷ []) ≡ or_else (first_refusal n entries) (refusal_at k e)
+    → first_refusal n (entries ++ e ∷ []) ≡ option_or (first_refusal n entries) (refusal_at k e)
 refusal_push n k [] e is =
     let same : n ≡ k = omega (arith, is) in
     or_none (refusal_at n e) ∙ ap (λ i. refusal_at i e) same
 refusal_push n k (first ∷ entries) e is =
-    ap (or_else (refusal_at n first)) (refusal_push (n + 1) k entries e (omega (arith, is)))
+    ap (option_or (refusal_at n first)) (refusal_push (n + 1) k entries e (omega (arith, is)))
     ∙ or_assoc (refusal_at n first) (first_refusal (n + 1) entries) (refusal_at k e)
 
 pub kept_push : (entries : List Entry) (e : Entry)
@@ -103,23 +105,27 @@ untyped_for held n (because.TooManyIds m) h other = absurd h.1
 untyped_for held n (because.Grew m) h other = absurd h.1
 untyped_for held n refused h other = absurd h
 
--- If errors are not marked, that reason rejects the record.
-pub refused_strictly : (detail : Detail) (limits : Limits) (before : List Entry) (held : Payload)
-    (n : ℕ) (refused : Refused) → RejectsPayload (HoldsNoMessage held) n refused
-    → RejectsPayload (Rejects false detail limits before held) n refused
-refused_strictly detail limits before held n (because.Json m) (same, has) = (same, (refl, has))
-refused_strictly detail limits before held n (because.Fraction m) (same, has) = (same, (refl, has))
-refused_strictly detail limits before held n (because.Message m fault) (same, has) =
-    (same, (refl, has))
-refused_strictly detail limits before held n because.Memory h = tt
-refused_strictly detail limits before held n (because.Record m cause.Cut) h = h
-refused_strictly detail limits before held n (because.Record m cause.Memory) h = h
-refused_strictly detail limits before held n (because.Record m why) h = h
-refused_strictly detail limits before held n (because.InputTooLong m) h = h
-refused_strictly detail limits before held n (because.Rule m rule) h = absurd h.1
-refused_strictly detail limits before held n (because.TooManyIds m) h = absurd h.1
-refused_strictly detail limits before held n (because.Grew m) h = absurd h.1
-refused_strictly detail limits before held n refused h = h
+-- A record that is rejected for one of these reasons is rejected for one of those.
+pub rejects_as : (P Q : ContentError → Type 0) → ((why : ContentError) → P why → Q why) → (n : ℕ)
+    (refused : Refused) → RejectsPayload P n refused → RejectsPayload Q n refused
+rejects_as P Q so n (because.Json m) h = (h.0, so (no_message no_reading) h.1)
+rejects_as P Q so n (because.Fraction m) h = (h.0, so (no_message fraction) h.1)
+rejects_as P Q so n (because.Message m fault) h = (h.0, so (no_message (faulty fault)) h.1)
+rejects_as P Q so n (because.Rule m rule) h = (h.0, so (broken rule) h.1)
+rejects_as P Q so n (because.TooManyIds m) h = (h.0, so too_many_ids h.1)
+rejects_as P Q so n (because.Grew m) h = (h.0, so grew h.1)
+rejects_as P Q so n because.Memory h = tt
+rejects_as P Q so n (because.Record m cause.Cut) h = h
+rejects_as P Q so n (because.Record m cause.Memory) h = h
+rejects_as P Q so n (because.Record m why) h = h
+rejects_as P Q so n (because.InputTooLong m) h = h
+rejects_as P Q so n refused h = h
+
+-- If errors are not marked, a record without a message is rejected.
+pub rejects_strictly : (detail : Detail) (limits : Limits) (before : List Entry) (held : Payload)
+    (why : ContentError) → HoldsNoMessage held why → Rejects false detail limits before held why
+rejects_strictly detail limits before held (no_message why) has = (refl, has)
+rejects_strictly detail limits before held why has = absurd has
 
 -- ---- one more entry
 

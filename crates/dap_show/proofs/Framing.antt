@@ -23,7 +23,7 @@ use Rattle.dap_input.specs.declared.records.Records.{Records}
 use Rattle.dap_input.specs.declared.refused.Refused.{Refused}
 use Rattle.dap_normalise.specs.Accepting.{Payload}
 use Rattle.dap_show.specs.OneRecord.{HasNoRecord, HasRecord, IsSought, StopsBefore, framing}
-use Rattle.dap_show.specs.ShowingSteps.{payload_of}
+use Rattle.dap_normalise.specs.JudgingSteps.{payload_of}
 use Rattle.dap_show.proofs.Stopping.{stops_read}
 
 module _ (limits : Limits) where

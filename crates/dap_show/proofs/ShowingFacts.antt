@@ -1,28 +1,70 @@
 -- The records that `show` accepts satisfy the laws of runs, and the accepted recordings are the
 -- accepted runs.
-use Rattle.std.proofs.Common.{◌≡◌, inl, inr, ℕ, ◌+◌, ◌≤◌, List, [], ◌∷◌, ◌++◌, length, refl, sym}
-use Rattle.std.proofs.Common.{◌∙◌, ap, arith, append_assoc, append-nil, length-append}
+use Rattle.std.proofs.Common.{◌≡◌, inl, inr, ℕ, suc, ◌+◌, ◌≤◌, true, false, List, [], ◌∷◌, ◌++◌}
+use Rattle.std.proofs.Common.{length, Some, None, refl, sym, ◌∙◌, ap, arith, length-append}
 use Rattle.dap_message.specs.Message.{Sent}
 use Rattle.dap_message.proofs.Contents.{one_refusal, typed_not_refused, some_message}
 use Rattle.dap_recording.specs.Recording.{IsRecording}
 use Rattle.dap_input.specs.declared.limits.Limits.{Limits}
-use Rattle.dap_input.specs.Validation.{ContentError, no_message}
+use Rattle.dap_input.specs.Validation.{ContentError, grew, no_message}
 use Rattle.dap_normalise.specs.Accepting.{Payload, HoldsNoMessage, IsMessage, AreMessages}
+use Rattle.dap_session.specs.SessionState.{SessionState}
 use Rattle.dap_show.specs.Showing.{lines_from, message_lines, showing}
+use Rattle.dap_show.specs.Viewing.{Entry, IsEntry, Rejects, lines_of, typed, untyped}
+use Rattle.dap_show.specs.ViewingSteps.{StandsIf}
+use Rattle.dap_show.specs.declared.detail.Detail.TheVariants.{Lists}
+use Rattle.dap_tree.specs.Doc.{Doc, null}
 use Rattle.dap_normalise.proofs.AcceptingFacts.{message_once}
 use Rattle.dap_input.proofs.Runs.{Run, run_within, ValueLaws, ValueFacts, AcceptedFacts}
 
--- The lines of one more message follow the others.
-pub lines_push : (n k : ℕ) (messages : List Sent) (m : Sent) → k ≡ length messages + n
-    → lines_from n (messages ++ m ∷ []) ≡ lines_from n messages ++ message_lines k m
-lines_push n k [] m is =
-    let same : n ≡ k = omega (arith, is) in
-    append-nil (message_lines n m) ∙ ap (λ i. message_lines i m) same
-lines_push n k (first ∷ messages) m is =
-    let later = lines_push (n + 1) k messages m (omega (arith, is)) in
-    ap (λ t. message_lines n first ++ t) later
-    ∙ sym (append_assoc (message_lines n first) (lines_from (n + 1) messages)
-    (message_lines k m))
+-- ---- the entries of messages
+
+-- Entries of these messages. Their documents are not printed.
+abbrev pub entries_of : List Sent → List Entry
+entries_of [] = []
+entries_of (m ∷ messages) = typed m null None ∷ entries_of messages
+
+pub lines_same : (n : ℕ) (messages : List Sent)
+    → lines_of Lists n (entries_of messages) ≡ lines_from n messages
+lines_same n [] = refl
+lines_same n (m ∷ messages) = ap (λ t. message_lines n m ++ t) (lines_same (n + 1) messages)
+
+next_lines : (n : ℕ) (messages : List Sent) (m : Sent) (d : Doc)
+    → lines_of Lists n (entries_of messages ++ typed m d None ∷ [])
+    ≡ lines_from n (messages ++ m ∷ [])
+next_lines n [] m d = refl
+next_lines n (first ∷ messages) m d =
+    ap (λ t. message_lines n first ++ t) (next_lines (n + 1) messages m d)
+
+length_same : (messages : List Sent) → length (entries_of messages) ≡ length messages
+length_same [] = refl
+length_same (m ∷ messages) = ap suc (length_same messages)
+
+pub numbered : (messages : List Sent) (number : ℕ) → number ≡ length messages + 1
+    → number ≡ length (entries_of messages) + 1
+numbered messages number is = is ∙ ap (λ n. n + 1) (sym (length_same messages))
+
+pub unmarked : (session : SessionState) (messages : List Sent) → StandsIf false session messages
+unmarked session messages marked = absurd (let clash : false ≡ true = marked in cc)
+
+module _ (limits : Limits) (messages : List Sent) (held : Payload) where
+  -- The next entry is that of a message.
+  pub next_message : (e : Entry) (text : List ℕ)
+      → IsEntry false Lists limits (entries_of messages) held e
+      → text ≡ lines_of Lists 1 (entries_of messages ++ e ∷ [])
+      → (m : Sent) × IsMessage held m × (text ≡ lines_from 1 (messages ++ m ∷ []))
+  next_message (typed m d None) text is text_is = (m, is.0, text_is ∙ next_lines 1 messages m d)
+  next_message (typed m d (Some rule)) text is text_is =
+      absurd (let clash : Some rule ≡ None = is.2 in cc)
+  next_message (untyped side why) text is text_is =
+      absurd (let clash : false ≡ true = is.0 in cc)
+
+  -- Only a record without a message is rejected.
+  pub holds_no_message : (why : ContentError)
+      → Rejects false Lists limits (entries_of messages) held why → HoldsNoMessage held why
+  holds_no_message (no_message why) rejects = rejects.1
+  holds_no_message grew rejects = absurd (rejects.2 refl)
+  holds_no_message why rejects = absurd rejects
 
 module _ (limits : Limits) where
   one_objection : (held : Payload) (why because : ContentError) → HoldsNoMessage held why
@@ -50,7 +92,7 @@ module _ (limits : Limits) where
     laws = value_laws;
     some_judgement = λ bytes before run held.
         elim (some_message held.0 held.1) [
-          | inl typed ↦ inl (record { side = held.0; doc = typed.0 }, (refl, typed.1))
+          | inl message ↦ inl (record { side = held.0; doc = message.0 }, (refl, message.1))
           | inr refused ↦ inr (no_message refused.0, refused.1)
         ];
   }
@@ -61,11 +103,11 @@ module _ (limits : Limits) where
       → IsRecording limits.frame bytes records → AreMessages records messages
       → used + length bytes ≤ limits.input → Run (showing limits) before used bytes messages
   unfolding Run
-  run_of before [] used bytes [] recording typed short = recording
-  run_of before (m ∷ messages) used bytes [] recording typed short = absurd typed
-  run_of before [] used bytes (held ∷ records) recording typed short = absurd typed
+  run_of before [] used bytes [] recording are short = recording
+  run_of before (m ∷ messages) used bytes [] recording are short = absurd are
+  run_of before [] used bytes (held ∷ records) recording are short = absurd are
   run_of before (m ∷ messages) used bytes (held ∷ records)
-      (front, more, is_record, split, recording) (is_message, typed) short = (
+      (front, more, is_record, split, recording) (is_message, are) short = (
         front,
         more,
         split,
@@ -75,7 +117,7 @@ module _ (limits : Limits) where
           is_next = is_message;
           in_time = omega (arith, ap length split, length-append front more);
         },
-        run_of (before ++ m ∷ []) messages (used + length front) more records recording typed
+        run_of (before ++ m ∷ []) messages (used + length front) more records recording are
             (omega (arith, ap length split, length-append front more)),
       )
 
@@ -88,8 +130,7 @@ module _ (limits : Limits) where
   records_of before [] used bytes run = ([], run, tt)
   records_of before (m ∷ messages) used bytes (front, more, split, passes, run) =
       let rest = records_of (before ++ m ∷ []) messages (used + length front) more run in (
-        passes.held
-            ∷ rest.0,
+        passes.held ∷ rest.0,
         (front, more, passes.is_record, split, rest.1),
         (passes.is_next, rest.2),
       )

@@ -1,6 +1,6 @@
 -- The invariant of the loop of `show` over the records of its input, and its possible results.
 use Rattle.std.proofs.Common.{◌≡◌, ℕ, ◌+◌, ◌-◌, ◌<◌, ◌≤◌, ◌^◌, List, [], ◌∷◌, ◌++◌, length, Option}
-use Rattle.std.proofs.Common.{Some, None, Result, Ok, Err, sym, ◌∙◌, ap}
+use Rattle.std.proofs.Common.{Some, None, Result, Ok, Err, false}
 use Rattle.dap_device.specs.declared.device.Source.{Ghosts as Source}
 use Rattle.dap_message.specs.Message.{Sent}
 use Rattle.dap_recording.proofs.Records.{readable}
@@ -9,15 +9,23 @@ use Rattle.dap_recording.specs.declared.record.Record.{Record as WholeRecord}
 use Rattle.dap_input.specs.InputSteps.{AcceptsAll, RefusesOne}
 use Rattle.dap_input.specs.ItemReading.{RepresentsRecord, record_items}
 use Rattle.dap_input.specs.RecordSteps.{IsAtStart, ReadsNextRecord}
+use Rattle.dap_input.specs.Refusals.{RejectsPayload}
 use Rattle.dap_input.specs.declared.limits.Limits.{Limits}
 use Rattle.dap_input.specs.declared.records.Records.{Records}
 use Rattle.dap_input.specs.declared.refused.Refused.{Refused}
 use Rattle.dap_input.proofs.InputLoop.{ReadsAs}
 use Rattle.dap_input.proofs.WholeInputs.{Going, accepts_all, at_start, few_failures, fewer_left}
 use Rattle.dap_input.proofs.WholeInputs.{on, refuses_held, refuses_read, small_count, small_number}
-use Rattle.dap_show.specs.Showing.{lines_from, message_lines, showing}
-use Rattle.dap_show.specs.ShowingSteps.{Appended, payload_of}
-use Rattle.dap_show.proofs.ShowingFacts.{accepted_facts, lines_push, value_laws}
+use Rattle.dap_normalise.specs.Accepting.{HoldsNoMessage}
+use Rattle.dap_normalise.specs.JudgingSteps.{payload_of}
+use Rattle.dap_session.specs.SessionState.{SessionState}
+use Rattle.dap_show.specs.Showing.{lines_from, showing}
+use Rattle.dap_show.specs.Viewing.{Rejects}
+use Rattle.dap_show.specs.ViewingSteps.{IsEntered}
+use Rattle.dap_show.specs.declared.detail.Detail.TheVariants.{Lists}
+use Rattle.dap_show.proofs.EntryLines.{rejects_as}
+use Rattle.dap_show.proofs.ShowingFacts.{accepted_facts, entries_of, holds_no_message}
+use Rattle.dap_show.proofs.ShowingFacts.{next_message, value_laws}
 
 -- A reader of records returns the records that are checked.
 pub reads_records : (limits : Limits)
@@ -100,28 +108,33 @@ module _ {R : Type 0} (limits : Limits) (source : Source R) where
       was.text_is,
     )
 
-    pub not_appended : (whole : WholeRecord) (longer : List ℕ) (because : Refused)
-        → Reads (Ok (Some whole))
-        → Appended {U = Unit {0}} records.number (payload_of whole) out longer (Err because)
+    pub not_appended : (whole : WholeRecord) (because : Refused) → Reads (Ok (Some whole))
+        → RejectsPayload
+        (Rejects false Lists limits (entries_of was.messages) (payload_of whole)) records.number
+        because
         → Refuses because
-    not_appended whole longer because read appended =
+    not_appended whole because read rejects =
         refuses_held (showing limits) (record_items limits.frame) payload_of (reads_records limits)
         (RepresentsRecord limits.frame) source start reader records was.messages
-        was.going new after whole read because appended
+        was.going new after whole read because
+        (rejects_as (Rejects false Lists limits (entries_of was.messages) (payload_of whole))
+        (HoldsNoMessage (payload_of whole))
+        (holds_no_message limits was.messages (payload_of whole)) records.number because rejects)
 
-    pub one_more : {U : Type 0} (done : U) (whole : WholeRecord) (longer : List ℕ)
-        → Reads (Ok (Some whole)) → Appended records.number (payload_of whole) out longer (Ok done)
+    pub one_more : (whole : WholeRecord) (longer : List ℕ) (session : SessionState)
+        (refusal : Option Refused) → Reads (Ok (Some whole))
+        → IsEntered false Lists limits (entries_of was.messages) records.number (payload_of whole)
+        session longer refusal
         → Showing limits source start after new longer
-    one_more done whole longer read appended =
-        let m : Sent = appended.0 in
-        let number_is = was.going.behind.number_is in
+    one_more whole longer session refusal read entered =
+        let next = next_message limits was.messages (payload_of whole) entered.entry longer
+        entered.is_next.0 entered.lines_are in
         record {
-          messages = was.messages ++ m ∷ [];
+          messages = was.messages ++ next.0 ∷ [];
           going = on (showing limits) (record_items limits.frame) payload_of (reads_records limits)
               (RepresentsRecord limits.frame) source start reader records was.messages
-              was.going new after whole read m appended.1;
-          text_is = appended.2 ∙ ap (λ t. t ++ message_lines records.number m) was.text_is
-              ∙ sym (lines_push 1 records.number was.messages m number_is);
+              was.going new after whole read next.0 next.1;
+          text_is = next.2;
         }
 
     pub fewer : (whole : WholeRecord) → Reads (Ok (Some whole))

@@ -1,6 +1,7 @@
 -- The result of `show_with` and `show_faulty` after the records of an input were formatted.
 use Rattle.std.proofs.Common.{◌≡◌, inl, inr, ℕ, ◌+◌, ◌≤◌, Bool, true, false, List, ◌++◌}
 use Rattle.std.proofs.Common.{Option, Some, Result, Ok, Err, refl, sym, ◌∙◌, ap, subst, arith}
+use Rattle.std.specs.Option.{option_or}
 use Rattle.dap_device.specs.declared.device.Sink.{Ghosts as Sink}
 use Rattle.dap_device.specs.declared.device.Source.{Ghosts as Source}
 use Rattle.dap_input.proofs.Refusals.{untold}
@@ -8,7 +9,7 @@ use Rattle.dap_input.specs.declared.limits.Limits.{Limits}
 use Rattle.dap_input.specs.declared.refused.Refused.{Refused}
 use Rattle.dap_input.specs.declared.refused.Refused.TheVariants as because
 use Rattle.dap_show.specs.Stopping.{StopsAt}
-use Rattle.dap_show.specs.Viewing.{IsFraming, Shows, ShowsAll, ShowsInput, ViewsInput, or_else}
+use Rattle.dap_show.specs.Viewing.{IsFraming, Shows, ShowsAll, ShowsInput, ViewsInput}
 use Rattle.dap_show.specs.Viewing.{stop_line, viewing}
 use Rattle.dap_show.specs.ViewingSteps.{Finishes, ShowsRecords}
 use Rattle.dap_show.specs.declared.detail.Detail.{Detail}
@@ -46,7 +47,7 @@ module _ {R : Type 0} (marks_faults : Bool) (detail : Detail) (limits : Limits) 
         framing = framing;
         stops = stops;
         text_is = text_is ∙ ap (λ t. t ++ stop_line refused) (shown framing).lines_are;
-        first_is = last_is ∙ ap (λ o. or_else o (Some refused)) (shown framing).first_is;
+        first_is = last_is ∙ ap (λ o. option_or o (Some refused)) (shown framing).first_is;
       })
 
   module _ {W : Type 0} (sink : Sink W) (writer : W) where

@@ -14,7 +14,7 @@ use Rattle.dap_input.specs.Validation.{ContentError, grew, no_message}
 use Rattle.dap_input.specs.declared.limits.Limits.{Limits}
 use Rattle.dap_normalise.proofs.AcceptingFacts.{message_once}
 use Rattle.dap_normalise.specs.Accepting.{Payload}
-use Rattle.dap_show.specs.ShowingSteps.{payload_of}
+use Rattle.dap_normalise.specs.JudgingSteps.{payload_of}
 use Rattle.dap_show.specs.Viewing.{AreEntries, Entry, Fits, IsEntry, IsNext, Rejects, kept}
 use Rattle.dap_show.specs.Viewing.{fits_in, lines_of, broken_rule, typed, untyped, viewing}
 use Rattle.dap_show.specs.declared.detail.Detail.{Detail}

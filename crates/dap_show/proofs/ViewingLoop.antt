@@ -2,6 +2,7 @@
 -- its possible results.
 use Rattle.std.proofs.Common.{◌≡◌, ℕ, ◌+◌, ◌-◌, ◌<◌, ◌≤◌, ◌^◌, Bool, List, [], ◌∷◌, ◌++◌, length}
 use Rattle.std.proofs.Common.{Option, Some, None, Result, Ok, Err, sym, ◌∙◌, ap₂}
+use Rattle.std.specs.Option.{option_or}
 use Rattle.dap_device.specs.declared.device.Source.{Ghosts as Source}
 use Rattle.dap_recording.specs.RecordReading.{RecordReading}
 use Rattle.dap_recording.specs.declared.record.Record.{Record as WholeRecord}
@@ -18,8 +19,8 @@ use Rattle.dap_input.specs.declared.refused.Refused.{Refused}
 use Rattle.dap_input.specs.declared.refused.Refused.TheVariants as because
 use Rattle.dap_input.proofs.WholeInputs.{Going, accepts_all, at_start, few_failures, fewer_left}
 use Rattle.dap_input.proofs.WholeInputs.{on, small_count, small_number}
-use Rattle.dap_show.specs.ShowingSteps.{payload_of}
-use Rattle.dap_show.specs.Viewing.{Entry, IsFraming, kept, or_else}
+use Rattle.dap_normalise.specs.JudgingSteps.{payload_of}
+use Rattle.dap_show.specs.Viewing.{Entry, IsFraming, kept}
 use Rattle.dap_show.specs.Viewing.{viewing, Rejects}
 use Rattle.dap_show.specs.ViewingSteps.{AreShown, IsEntered, ShowsRecords, StandsIf}
 use Rattle.dap_show.specs.declared.detail.Detail.{Detail}
@@ -142,7 +143,7 @@ module _ {R : Type 0} (marks_faults : Bool) (detail : Detail) (limits : Limits) 
               → IsEntered marks_faults detail limits was.entries records.number (payload_of whole)
               kept_now
               longer refusal
-              → last ≡ or_else first refusal
+              → last ≡ option_or first refusal
               → Viewed marks_faults detail limits source start after new kept_now longer last
           one_more whole kept_now longer refusal last read entered noted = record {
             entries = was.entries ++ entered.entry ∷ [];
@@ -154,7 +155,7 @@ module _ {R : Type 0} (marks_faults : Bool) (detail : Detail) (limits : Limits) 
             session_is = entered.session_is;
             shown = record {
               lines_are = entered.lines_are;
-              first_is = noted ∙ ap₂ or_else was.shown.first_is entered.refusal_is
+              first_is = noted ∙ ap₂ option_or was.shown.first_is entered.refusal_is
                   ∙ sym (refusal_push 1 records.number was.entries entered.entry
                   was.going.behind.number_is);
             };

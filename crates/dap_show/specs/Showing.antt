@@ -9,8 +9,7 @@ use Rattle.dap_tree.specs.Doc.{Doc, text}
 use Rattle.dap_tree.specs.Json.{text_of}
 use Rattle.dap_tree.specs.declared.side.Side.{Side}
 use Rattle.dap_tree.specs.declared.side.Side.TheVariants.{Client, Adapter}
-use Rattle.dap_profile.specs.declared.profile.Kind.{Kind}
-use Rattle.dap_profile.specs.declared.profile.Kind.TheVariants.{Request, Response, Event}
+use Rattle.dap_profile.specs.Profile.{kind_name}
 use Rattle.dap_message.specs.Envelope.{kind_of, name_of, seq_of, request_seq_of, success_of}
 use Rattle.dap_message.specs.Message.{Sent}
 use Rattle.dap_message.specs.Views.{StackFrame, Scope, Variable, frames_of, scopes_of, variables_of}
@@ -46,15 +45,10 @@ variable_line v =
     codes "  variable " ++ signed_decimal v.reference ++ codes " " ++ in_quotes v.name ++ codes " "
     ++ in_quotes v.value ++ codes "\n"
 
--- The marker of a side, and the word for a kind.
+-- The marker of a side.
 abbrev pub side_words : Side → List ℕ
 side_words Client = codes " > "
 side_words Adapter = codes " < "
-
-abbrev pub kind_word : Kind → List ℕ
-kind_word Request = codes "request "
-kind_word Response = codes "response "
-kind_word Event = codes "event "
 
 -- The `request_seq` and the success of a response. Empty for any other message.
 abbrev pub answered_words : Option ℤ → List ℕ
@@ -70,7 +64,7 @@ start_words n side = decimal n ++ side_words side
 
 abbrev pub title_words : Doc → List ℕ
 title_words d =
-    kind_word (kind_of d) ++ option_map_or in_quotes (name_of d) [] ++ codes " seq="
+    kind_name (kind_of d) ++ codes " " ++ option_map_or in_quotes (name_of d) [] ++ codes " seq="
     ++ option_map_or signed_decimal (seq_of d) []
 
 abbrev pub outcome_words : Doc → List ℕ

@@ -3,6 +3,7 @@
 use Rattle.std.specs.Prelude.{◌≡◌, ◌⊎◌, ℕ, ◌+◌, ◌≤◌, Bool, true, false, nat_le, List, [], ◌∷◌}
 use Rattle.std.specs.Prelude.{◌++◌, length, Option, Some, None, Result, Ok, Err, codes, decimal}
 use Rattle.std.specs.List.{flat_map}
+use Rattle.std.specs.Option.{option_or}
 use Rattle.dap_device.specs.Written.{AllSent, PrefixWritten}
 use Rattle.dap_device.specs.declared.device.Sink.{Ghosts as Sink}
 use Rattle.dap_device.specs.declared.device.Source.{Ghosts as Source}
@@ -65,14 +66,10 @@ abbrev pub refusal_at : ℕ → Entry → Option Refused
 refusal_at n (typed message d rule) = rule_refusal n rule
 refusal_at n (untyped side why) = Some (refusal_of n why)
 
-abbrev pub or_else : Option Refused → Option Refused → Option Refused
-or_else None later = later
-or_else (Some refused) later = Some refused
-
 -- The first rejection among entries, the first of which is record n.
 abbrev pub first_refusal : ℕ → List Entry → Option Refused
 first_refusal n [] = None
-first_refusal n (entry ∷ entries) = or_else (refusal_at n entry) (first_refusal (n + 1) entries)
+first_refusal n (entry ∷ entries) = option_or (refusal_at n entry) (first_refusal (n + 1) entries)
 
 -- An error of the framing: the start of the next record is unknown.
 abbrev pub IsFraming : Refused → Type 0
@@ -194,7 +191,7 @@ module _ (marks_faults : Bool) (detail : Detail) (limits : Limits) where
       pub framing : IsFraming refused
       pub stops : StopsAt viewing source old new refused
       pub text_is : text ≡ lines_of detail 1 stops.before.values ++ stop_line refused
-      pub first_is : first ≡ or_else (first_refusal 1 stops.before.values) (Some refused)
+      pub first_is : first ≡ option_or (first_refusal 1 stops.before.values) (Some refused)
 
     abbrev pub Shows : R → R → List ℕ → Option Refused → Type 0
     Shows old new text first = ShowsAll old new text first ⊎ ShowsFront old new text first

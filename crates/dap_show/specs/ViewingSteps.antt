@@ -1,6 +1,7 @@
 -- What the steps of `show_with` and `show_faulty` do.
-use Rattle.std.specs.Prelude.{◌≡◌, ℕ, ◌++◌, Bool, true, List, [], ◌∷◌, Option}
+use Rattle.std.specs.Prelude.{◌≡◌, ℕ, ◌+◌, ◌++◌, Bool, true, List, [], ◌∷◌, length, Option}
 use Rattle.std.specs.Prelude.{Some, Result, Ok, Err}
+use Rattle.std.specs.Option.{option_or}
 use Rattle.dap_device.specs.declared.device.Source.{Ghosts as Source}
 use Rattle.dap_input.specs.InputSteps.{AcceptsAll}
 use Rattle.dap_input.specs.Refusals.{RejectsPayload}
@@ -15,10 +16,11 @@ use Rattle.dap_session.specs.declared.rule.Rule.{Rule}
 use Rattle.dap_show.specs.Showing.{listed_lines}
 use Rattle.dap_show.specs.Stopping.{StopsAt}
 use Rattle.dap_show.specs.Viewing.{Entry, IsFraming, IsNext, Rejects, first_refusal, kept}
-use Rattle.dap_show.specs.Viewing.{kept_if, lines_of, or_else, refusal_at, broken_rule, stop_line}
+use Rattle.dap_show.specs.Viewing.{kept_if, lines_of, refusal_at, broken_rule, stop_line}
 use Rattle.dap_show.specs.Viewing.{viewing}
 use Rattle.dap_show.specs.declared.detail.Detail.{Detail}
 use Rattle.dap_show.specs.declared.detail.Detail.TheVariants.{Lists, Leaves}
+use Rattle.dap_show.specs.declared.detail.View.{View}
 
 -- If rules are checked, the session represents these messages.
 abbrev pub StandsIf : Bool → SessionState → List Sent → Type 0
@@ -73,6 +75,15 @@ module _ (marks_faults : Bool) (detail : Detail) (limits : Limits) where
         (stops : StopsAt (viewing marks_faults detail limits) source old new refused)
         × (IsFraming refused → AreShown stops.before.values lines first)
 
+-- After entries with these lines, the lines of the next record, which has number n, are appended, or
+-- the record is rejected.
+abbrev pub AppendsEntry : View → ℕ → Payload → SessionState → SessionState → List ℕ → List ℕ
+    → Result (Option Refused) Refused → Type 0
+AppendsEntry view n held old new lines longer result = (before : List Entry)
+    → StandsIf view.marks_faults old (kept before) → lines ≡ lines_of view.detail 1 before
+    → n ≡ length before + 1
+    → Enters view.marks_faults view.detail view.limits before n held new longer result
+
 -- The line of an error of the framing is appended, if errors are marked; any other rejection is
 -- returned.
 abbrev pub Finishes : {U V : Type 0} → Bool → Result U Refused → List ℕ → List ℕ → Option Refused
@@ -81,7 +92,7 @@ Finishes marks_faults (Ok done) old new first last (Ok over) = (new ≡ old) × 
 Finishes marks_faults (Ok done) old new first last (Err refused) = ⊥
 Finishes marks_faults (Err refused) old new first last (Ok over) = (marks_faults ≡ true)
     × IsFraming refused × (new ≡ old ++ stop_line refused)
-    × (last ≡ or_else first (Some refused))
+    × (last ≡ option_or first (Some refused))
 Finishes marks_faults (Err refused) old new first last (Err because.Memory) = Unit {0}
 Finishes marks_faults (Err refused) old new first last (Err other) = (other ≡ refused)
     × (marks_faults ≡ true → IsFraming refused → ⊥)

@@ -5,11 +5,10 @@ ghost use Rattle.dap_input.specs.Refusals.{RejectsPayload};
 ghost use Rattle.dap_flat_message.specs.FlatMessages.{flat_sent};
 ghost use Rattle.dap_message.specs.Message.{Sent, sent};
 ghost use Rattle.dap_normalise.specs.Accepting.{HoldsNoMessage, IsMessage};
-ghost use Rattle.dap_show.specs.ShowingSteps.{payload_of};
-ghost use Rattle.dap_show.specs.Viewing.{Entry, detail_lines, fits_in, head_lines, kept};
-ghost use Rattle.dap_show.specs.Viewing.{lines_of, rule_refusal};
+ghost use Rattle.dap_normalise.specs.JudgingSteps.{payload_of};
+ghost use Rattle.dap_show.specs.Viewing.{detail_lines, fits_in, head_lines, rule_refusal};
 ghost use Rattle.dap_session.specs.SessionState.{SessionState};
-ghost use Rattle.dap_show.specs.ViewingSteps.{AreListed, Enters, IsJudged, StandsIf};
+ghost use Rattle.dap_show.specs.ViewingSteps.{AppendsEntry, AreListed, IsJudged, StandsIf};
 ghost use Rattle.dap_tree.specs.Doc.{Doc};
 ghost use Rattle.dap_tree.specs.Json.{IsRead};
 
@@ -130,10 +129,8 @@ fn append_message<M: AnyMessage>(
 ) -> Result<Option<Refused>, Refused>
     requires message { IsMessage (payload_of whole.now) (M.sent message.now) }
     requires listed { AreListed view.detail (M.sent message.now) listed.now }
-    ensures { (before : List Entry) → StandsIf view.marks_faults session.old (kept before)
-        → lines.old.items ≡ lines_of view.detail 1 before → number ≡ length before + 1
-        → Enters view.marks_faults view.detail view.limits before number (payload_of whole.now)
-        session.new lines.new.items result }
+    ensures { AppendsEntry view number (payload_of whole.now) session.old session.new
+        lines.old.items lines.new.items result }
 {
     let Ok(rule) = judge(view.marks_faults, session, message) else {
         return Err(Refused::Memory);
@@ -163,11 +160,8 @@ fn append_refused(
     lines: &mut Vec<u8>,
 ) -> Result<Option<Refused>, Refused>
     requires { RejectsPayload (HoldsNoMessage (payload_of whole.now)) number refused }
-    ensures { (before : List Entry) (session : SessionState)
-        → StandsIf view.marks_faults session (kept before)
-        → lines.old.items ≡ lines_of view.detail 1 before → number ≡ length before + 1
-        → Enters view.marks_faults view.detail view.limits before number (payload_of whole.now)
-        session lines.new.items result }
+    ensures { (session : SessionState) → AppendsEntry view number (payload_of whole.now) session
+        session lines.old.items lines.new.items result }
 {
     if !view.marks_faults {
         return Err(refused);
@@ -206,11 +200,8 @@ fn append_flat(
     buffers: &mut Buffers,
     lines: &mut Vec<u8>,
 ) -> Option<Result<Option<Refused>, Refused>>
-    ensures appended { (before : List Entry)
-        → StandsIf view.marks_faults session.old (kept before)
-        → lines.old.items ≡ lines_of view.detail 1 before → number ≡ length before + 1
-        → IfSome result (Enters view.marks_faults view.detail view.limits before number
-        (payload_of whole.now) session.new lines.new.items) }
+    ensures appended { IfSome result (AppendsEntry view number (payload_of whole.now) session.old
+        session.new lines.old.items lines.new.items) }
     ensures unchanged { result ≡ None
         → (session.new ≡ session.old) × (lines.new.items ≡ lines.old.items) }
 {
@@ -242,38 +233,6 @@ fn tree_listed(alloc: Global, detail: Detail, message: &Message) -> Result<Vec<u
     }
 }
 
-/// Appends the lines of a record whose content is read as a tree.
-fn append_tree(
-    alloc: Global,
-    view: View,
-    number: u64,
-    whole: &Record,
-    session: &mut Session,
-    scratch: &mut Scratch,
-    buffers: &mut Buffers,
-    lines: &mut Vec<u8>,
-) -> Result<Option<Refused>, Refused>
-    ensures { (before : List Entry) → StandsIf view.marks_faults session.old (kept before)
-        → lines.old.items ≡ lines_of view.detail 1 before → number ≡ length before + 1
-        → Enters view.marks_faults view.detail view.limits before number (payload_of whole.now)
-        session.new lines.new.items result }
-{
-    let content = whole.content.as_slice();
-    let message = match read_message(alloc, number, whole.side, content, scratch) {
-        Ok(message) => message,
-        Err(refused) => return append_refused(view, number, whole, refused, lines),
-    };
-    match tree_listed(alloc, view.detail, &message) {
-        Ok(listed) => {
-            let listed = listed.as_slice();
-            append_message(
-                alloc, view, number, whole, &message, listed, session, buffers, lines,
-            )
-        }
-        Err(_) => Err(Refused::Memory),
-    }
-}
-
 /// Appends the lines of a record to those of the records before it. Returns the error that the
 /// record is marked with.
 ///
@@ -293,13 +252,23 @@ pub fn append_entry(
     buffers: &mut Buffers,
     lines: &mut Vec<u8>,
 ) -> Result<Option<Refused>, Refused>
-    ensures { (before : List Entry) → StandsIf view.marks_faults session.old (kept before)
-        → lines.old.items ≡ lines_of view.detail 1 before → number ≡ length before + 1
-        → Enters view.marks_faults view.detail view.limits before number (payload_of whole.now)
-        session.new lines.new.items result }
+    ensures { AppendsEntry view number (payload_of whole.now) session.old session.new
+        lines.old.items lines.new.items result }
 {
-    match append_flat(alloc, view, number, whole, session, scratch, buffers, lines) {
-        Some(outcome) => outcome,
-        None => append_tree(alloc, view, number, whole, session, scratch, buffers, lines),
+    let flat = append_flat(alloc, view, number, whole, session, scratch, buffers, lines);
+    if let Some(outcome) = flat {
+        return outcome;
     }
+    let content = whole.content.as_slice();
+    let message = match read_message(alloc, number, whole.side, content, scratch) {
+        Ok(message) => message,
+        Err(refused) => return append_refused(view, number, whole, refused, lines),
+    };
+    let Ok(listed) = tree_listed(alloc, view.detail, &message) else {
+        return Err(Refused::Memory);
+    };
+    let listed = listed.as_slice();
+    append_message(
+        alloc, view, number, whole, &message, listed, session, buffers, lines,
+    )
 }

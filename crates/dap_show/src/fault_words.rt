@@ -1,7 +1,7 @@
 //! Formats errors for the lines that mark them.
-ghost use Rattle.std.specs.Prelude.{◌≡◌, ◌++◌, OnOk, codes, decimal};
+ghost use Rattle.std.specs.Prelude.{◌≡◌, ◌++◌, ◌↔◌, IfOk, IsTrue, OnOk, codes, decimal};
 ghost use Rattle.dap_show.specs.Showing.{start_words};
-ghost use Rattle.dap_show.specs.Viewing.{fault_words, stop_line};
+ghost use Rattle.dap_show.specs.Viewing.{IsFraming, fault_words, stop_line};
 
 use crate::message_lines::{push_number, push_start};
 use dap_input::Refused;
@@ -42,14 +42,17 @@ fn push_numbered(out: &mut Vec<u8>, number: u64, refused: Refused) -> Result<(),
     push_fault(out, refused)
 }
 
-/// Appends the line of a record with an error in its framing. Appends nothing for any other
-/// rejection.
-pub fn push_stop(out: &mut Vec<u8>, refused: Refused) -> Result<(), AllocError>
-    ensures { OnOk result (out.new.items ≡ out.old.items ++ stop_line refused) }
+/// Appends the line of an error of the framing. Returns whether the rejection is one, and appends
+/// nothing for any other rejection.
+pub fn push_stop(out: &mut Vec<u8>, refused: Refused) -> Result<bool, AllocError>
+    ensures framing { IfOk result (λ is_framing. IsTrue is_framing ↔ IsFraming refused) }
+    ensures line { OnOk result (out.new.items ≡ out.old.items ++ stop_line refused) }
 {
     match refused {
-        Refused::Record(number, _) => push_numbered(out, number, refused),
-        Refused::InputTooLong(number) => push_numbered(out, number, refused),
-        _ => Ok(()),
+        Refused::Record(number, _) | Refused::InputTooLong(number) => {
+            push_numbered(out, number, refused)?;
+            Ok(true)
+        }
+        _ => Ok(false),
     }
 }

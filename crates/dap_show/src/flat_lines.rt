@@ -4,7 +4,7 @@ ghost use Rattle.std.specs.Prelude.{option_map};
 ghost use Rattle.dap_flat.specs.Finding.{Holds};
 ghost use Rattle.dap_flat_message.specs.FlatMessages.{flat_doc};
 ghost use Rattle.dap_flat_message.specs.Judging.{top_of};
-ghost use Rattle.dap_flat.specs.Pieces.{Represents, piece_of};
+ghost use Rattle.dap_flat.specs.Pieces.{piece_of};
 ghost use Rattle.dap_message.specs.Envelope.{text_value};
 ghost use Rattle.dap_message.specs.ViewItems.{frame_shown, scope_shown, variable_shown};
 ghost use Rattle.dap_message.specs.Views.{frame_of, number_value, reference_value, scope_of};
@@ -42,7 +42,9 @@ pub(crate) fn flat_lines(alloc: Global, message: &FlatMessage<'_>) -> Result<Vec
     let Some(kind) = listed_kind(message) else {
         return Ok(lines);
     };
-    push_listed(alloc, &mut lines, kind, message.nodes())?;
+    let nodes = message.nodes();
+    let from = first_element(nodes, array_name(kind)).ok_or(Unread::Unclear)?;
+    push_elements(alloc, &mut lines, kind, nodes, from)?;
     Ok(lines)
 }
 
@@ -76,20 +78,6 @@ fn array_name(kind: Element) -> &'static str
         Element::Scope => "scopes",
         Element::Variable => "variables",
     }
-}
-
-/// Appends the lines of the elements of this kind in the body of a response.
-fn push_listed(
-    alloc: Global,
-    out: &mut Vec<u8>,
-    kind: Element,
-    nodes: &[Node<'_>],
-) -> Result<(), Unread>
-    ensures { OnOk result ((d : Doc) → Represents nodes.now d
-        → out.new.items ≡ out.old.items ++ lines_of_kind kind d) }
-{
-    let from = first_element(nodes, array_name(kind)).ok_or(Unread::Unclear)?;
-    push_elements(alloc, out, kind, nodes, from)
 }
 
 /// Returns the place after the start of the named array in the body. Returns `None` if there is no

@@ -1,7 +1,6 @@
 //! Formats trees as indented JSON.
-ghost use Rattle.std.specs.Prelude.{◌≡◌, ℕ, ◌≤◌, ◌++◌, List, true, false, OnOk, codes, vec_len};
+ghost use Rattle.std.specs.Prelude.{◌≡◌, ℕ, ◌≤◌, ◌++◌, List, true, OnOk, codes, vec_len};
 ghost use Rattle.dap_show.specs.Indented.{indented, inner, next_line};
-ghost use Rattle.dap_show.specs.Leaves.{has_parts};
 ghost use Rattle.dap_tree.specs.Doc.{all_in_range, items_in_range, list, members_in_range, object};
 ghost use Rattle.dap_tree.specs.Doc.{text};
 ghost use Rattle.dap_tree.specs.Json.{text_of};
@@ -71,21 +70,12 @@ pub fn push_indented(
         Tree::List(items) => push_list(alloc, items, margin, out),
         Tree::Object(members) => push_object(alloc, members, margin, out),
         Tree::Null | Tree::Bool(_) | Tree::Whole(_) | Tree::Text(_) | Tree::Id(..) => {
-            push_leaf(alloc, tree, out)
+            let Ok(text) = write_tree(alloc, tree) else {
+                return Err(AllocError);
+            };
+            out.extend_from_slice(text.as_bytes())
         }
     }
-}
-
-/// Appends the text of a tree without parts.
-fn push_leaf(alloc: Global, leaf: &Tree, out: &mut Vec<u8>) -> Result<(), AllocError>
-    requires leaf { has_parts (view leaf.now) ≡ false }
-    requires in_range { all_in_range (view leaf.now) ≡ true }
-    ensures { OnOk result (out.new.items ≡ out.old.items ++ text_of (view leaf.now)) }
-{
-    let Ok(text) = write_tree(alloc, leaf) else {
-        return Err(AllocError);
-    };
-    out.extend_from_slice(text.as_bytes())
 }
 
 #[cycle(push_indented)]

@@ -1,18 +1,14 @@
 //! Formats a message as lines.
 ghost use Rattle.std.specs.Prelude.{◌≡◌, ◌++◌, IfOk, OnOk};
-ghost use Rattle.std.specs.List.{flat_map};
 ghost use Rattle.dap_message.specs.Message.{doc_of};
-ghost use Rattle.dap_message.specs.ViewItems.{frame_shown, frames_left, scope_shown, scopes_left};
-ghost use Rattle.dap_message.specs.ViewItems.{variable_shown, variables_left};
-ghost use Rattle.dap_show.specs.Showing.{answered_words, frame_line, in_quotes, kind_word};
-ghost use Rattle.dap_show.specs.Showing.{message_line, message_lines, outcome_words, place_words};
-ghost use Rattle.dap_show.specs.Showing.{scope_line, side_words, start_words, success_words};
+ghost use Rattle.dap_message.specs.ViewItems.{frame_shown, scope_shown, variable_shown};
+ghost use Rattle.dap_show.specs.Showing.{answered_words, frame_line, in_quotes};
+ghost use Rattle.dap_show.specs.Showing.{message_line, outcome_words, place_words};
+ghost use Rattle.dap_show.specs.Showing.{scope_line, start_words, success_words};
 ghost use Rattle.dap_show.specs.Showing.{listed_lines, title_words, variable_line};
 
 use dap_flat::{Node, write_flat};
-use dap_message::{
-    AnyMessage, FrameView, Frames, Kind, Message, ScopeView, Scopes, Side, VariableView, Variables,
-};
+use dap_message::{AnyMessage, FrameView, Message, ScopeView, Side, VariableView};
 use itoa::{Buffer, Integer};
 use std::alloc::{AllocError, Global};
 
@@ -100,61 +96,6 @@ pub(crate) fn push_variable(
     out.extend_from_slice(b"\n")
 }
 
-fn push_frames(alloc: Global, out: &mut Vec<u8>, frames: Frames<'_>) -> Result<(), AllocError>
-    ensures { OnOk result (out.new.items
-        ≡ out.old.items ++ flat_map frame_line (frames_left frames.entry)) }
-{
-    for frame in frames {
-        push_frame(alloc, out, frame)?;
-    }
-    Ok(())
-}
-
-fn push_scopes(alloc: Global, out: &mut Vec<u8>, scopes: Scopes<'_>) -> Result<(), AllocError>
-    ensures { OnOk result (out.new.items
-        ≡ out.old.items ++ flat_map scope_line (scopes_left scopes.entry)) }
-{
-    for scope in scopes {
-        push_scope(alloc, out, scope)?;
-    }
-    Ok(())
-}
-
-fn push_variables(
-    alloc: Global,
-    out: &mut Vec<u8>,
-    variables: Variables<'_>,
-) -> Result<(), AllocError>
-    ensures { OnOk result (out.new.items
-        ≡ out.old.items ++ flat_map variable_line (variables_left variables.entry)) }
-{
-    for variable in variables {
-        push_variable(alloc, out, variable)?;
-    }
-    Ok(())
-}
-
-/// Returns the marker of a side between spaces.
-fn marker(side: Side) -> &'static str
-    ensures { result.now ≡ side_words side }
-{
-    match side {
-        Side::Client => " > ",
-        Side::Adapter => " < ",
-    }
-}
-
-/// Returns the word for a kind, followed by a space.
-fn word(kind: Kind) -> &'static str
-    ensures { result.now ≡ kind_word kind }
-{
-    match kind {
-        Kind::Request => "request ",
-        Kind::Response => "response ",
-        Kind::Event => "event ",
-    }
-}
-
 /// Appends the `request_seq` of a response. Appends nothing for any other message.
 fn push_answered(out: &mut Vec<u8>, answered: Option<i64>) -> Result<(), AllocError>
     ensures { OnOk result (out.new.items ≡ out.old.items ++ answered_words answered) }
@@ -181,7 +122,10 @@ pub(crate) fn push_start(out: &mut Vec<u8>, number: u64, side: Side) -> Result<(
     ensures { OnOk result (out.new.items ≡ out.old.items ++ start_words number side) }
 {
     push_number(out, "", number)?;
-    out.extend_from_slice(marker(side).as_bytes())
+    match side {
+        Side::Client => out.extend_from_slice(b" > "),
+        Side::Adapter => out.extend_from_slice(b" < "),
+    }
 }
 
 /// Appends the kind, the name and the sequence number of a message.
@@ -193,7 +137,8 @@ fn push_title<M: AnyMessage>(
     ensures { OnOk result (out.new.items
         ≡ out.old.items ++ title_words (M.sent message.now).doc) }
 {
-    push_quoted(alloc, out, word(message.kind()), message.name())?;
+    out.extend_from_slice(message.kind().word().as_bytes())?;
+    push_quoted(alloc, out, " ", message.name())?;
     push_number(out, " seq=", message.seq())
 }
 
@@ -222,30 +167,19 @@ pub(crate) fn push_message<M: AnyMessage>(
     out.extend_from_slice(b"\n")
 }
 
-/// Appends the line of a message, which starts with the number of its record, and the lines of the
-/// frames, scopes and variables that it lists, which are `listed`.
-pub(crate) fn push_lines<M: AnyMessage>(
-    alloc: Global,
-    out: &mut Vec<u8>,
-    number: u64,
-    message: &M,
-    listed: &[u8],
-) -> Result<(), AllocError>
-    requires { listed.now ≡ listed_lines (M.sent message.now).doc }
-    ensures { OnOk result (out.new.items
-        ≡ out.old.items ++ message_lines number (M.sent message.now)) }
-{
-    push_message(alloc, out, number, message)?;
-    out.extend_from_slice(listed)
-}
-
 /// Returns the lines of the frames, scopes and variables that a message lists.
 pub(crate) fn tree_lines(alloc: Global, message: &Message) -> Result<Vec<u8>, AllocError>
     ensures { IfOk result (λ lines. lines.items ≡ listed_lines (doc_of message.now)) }
 {
     let mut lines = Vec::new(alloc);
-    push_frames(alloc, &mut lines, message.frames())?;
-    push_scopes(alloc, &mut lines, message.scopes())?;
-    push_variables(alloc, &mut lines, message.variables())?;
+    for frame in message.frames() {
+        push_frame(alloc, &mut lines, frame)?;
+    }
+    for scope in message.scopes() {
+        push_scope(alloc, &mut lines, scope)?;
+    }
+    for variable in message.variables() {
+        push_variable(alloc, &mut lines, variable)?;
+    }
     Ok(lines)
 }

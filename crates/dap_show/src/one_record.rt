@@ -1,18 +1,16 @@
 //! Prints the content of one record.
-ghost use Rattle.std.specs.Prelude.{◌≡◌, ◌+◌, ◌<◌, ◌≤◌, ◌^◌, ◌++◌, IfOk, codes, true};
+ghost use Rattle.std.specs.Prelude.{◌+◌, ◌<◌, ◌≤◌, ◌^◌, IfOk};
 ghost use Rattle.dap_input.specs.ItemReading.{RepresentsRecord};
 ghost use Rattle.dap_input.specs.Limits.{AreSound};
 ghost use Rattle.dap_input.specs.RecordSteps.{IsAtStart};
-ghost use Rattle.dap_show.specs.OneRecord.{PrintsContent, ShowsRecord, content_text};
+ghost use Rattle.dap_show.specs.OneRecord.{PrintsContent, ShowsRecord};
 ghost use Rattle.dap_show.specs.OneRecordSteps.{Finds};
-ghost use Rattle.dap_tree.specs.Doc.{all_in_range};
-ghost use Rattle.dap_tree.specs.View.{view};
 
 use crate::indented::push_indented;
 use dap_device::{Sink, Source, write_and_flush};
 use dap_input::{Limits, Records, Refused};
 use dap_recording::{Record, RecordReader};
-use dap_tree::{Tree, TreeFault, read_tree};
+use dap_tree::{TreeFault, read_tree};
 use std::alloc::{AllocError, Global};
 
 /// Whether the record exists.
@@ -56,34 +54,23 @@ fn find_record<R: Source>(
     }
 }
 
-/// Returns the indented text of a tree, with the final LF.
-fn indented_text(alloc: Global, tree: &Tree) -> Result<Vec<u8>, AllocError>
-    requires { all_in_range (view tree.now) ≡ true }
-    ensures { IfOk result (λ text. text.items ≡ content_text (view tree.now)) }
-{
-    let mut text = Vec::new(alloc);
-    let mut margin = Vec::new(alloc);
-    push_indented(alloc, tree, &mut margin, &mut text)?;
-    text.extend_from_slice(b"\n")?;
-    Ok(text)
-}
-
-/// Returns a content with a final LF.
-fn plain_text(alloc: Global, content: &[u8]) -> Result<Vec<u8>, AllocError>
-    ensures { IfOk result (λ text. text.items ≡ content.now ++ codes "\n") }
-{
-    let mut plain = Vec::from_slice(alloc, content)?;
-    plain.extend_from_slice(b"\n")?;
-    Ok(plain)
-}
-
-/// Returns the text that is printed of a content.
+/// Returns the text that is printed of a content, with the final LF.
 fn text_of(alloc: Global, content: &[u8]) -> Result<Vec<u8>, AllocError>
     ensures { IfOk result (λ text. PrintsContent content.now text.items) }
 {
     match read_tree(alloc, content) {
-        Ok(tree) => indented_text(alloc, &tree),
-        Err(TreeFault::Json | TreeFault::Fraction) => plain_text(alloc, content),
+        Ok(tree) => {
+            let mut text = Vec::new(alloc);
+            let mut margin = Vec::new(alloc);
+            push_indented(alloc, &tree, &mut margin, &mut text)?;
+            text.extend_from_slice(b"\n")?;
+            Ok(text)
+        }
+        Err(TreeFault::Json | TreeFault::Fraction) => {
+            let mut plain = Vec::from_slice(alloc, content)?;
+            plain.extend_from_slice(b"\n")?;
+            Ok(plain)
+        }
         Err(TreeFault::Memory) => Err(AllocError),
     }
 }

@@ -1,127 +1,60 @@
 //! Prints recordings as lines.
-ghost use Rattle.std.specs.Prelude.{◌≡◌, ◌+◌, ◌<◌, ◌≤◌, ◌^◌, IfSome, IsErrOf, None};
+ghost use Rattle.std.specs.Prelude.{◌+◌, ◌<◌, ◌≤◌, ◌^◌, IsErrOf};
 ghost use Rattle.dap_input.specs.Engine.{Answers, ReadsNoneOrAll};
 ghost use Rattle.dap_input.specs.ItemReading.{RepresentsRecord};
 ghost use Rattle.dap_input.specs.Limits.{AreSound};
 ghost use Rattle.dap_input.specs.RecordSteps.{IsAtStart};
 ghost use Rattle.dap_input.specs.Refusals.{IsRefused};
-ghost use Rattle.dap_input.specs.declared.limits.Limits.{Limits};
-ghost use Rattle.dap_normalise.specs.Accepting.{IsMessage, Payload};
-ghost use Rattle.dap_show.specs.Showing.{IsShownBy, listed_lines, showing};
-ghost use Rattle.dap_show.specs.ShowingSteps.{Appended, AreReady, JudgesInput, payload_of};
+ghost use Rattle.dap_show.specs.Showing.{IsShownBy, showing};
+ghost use Rattle.dap_show.specs.ShowingSteps.{JudgesInput};
 
-use crate::flat_lines::flat_lines;
-use crate::message_lines::{push_lines, tree_lines};
+use crate::detail::{Detail, View};
+use crate::entries::append_entry;
+use crate::leaves::Buffers;
 use dap_device::{Sink, Source, write_and_flush};
-use dap_flat::Unread;
 use dap_input::{Limits, Records, Refused};
-use dap_message::AnyMessage;
-use dap_normalise::{read_flat, read_message};
-use dap_recording::{Record, RecordReader};
+use dap_recording::RecordReader;
+use dap_session::Session;
 use dap_tree::Scratch;
 use std::alloc::Global;
-
-/// Appends the lines of a record that contains this message.
-fn append_message<M: AnyMessage>(
-    alloc: Global,
-    out: &mut Vec<u8>,
-    number: u64,
-    message: &M,
-    listed: &[u8],
-) -> Result<(), Refused>
-    requires { listed.now ≡ listed_lines (M.sent message.now).doc }
-    ensures { (held : Payload) → IsMessage held (M.sent message.now)
-        → Appended number held out.old.items out.new.items result }
-{
-    match push_lines(alloc, out, number, message, listed) {
-        Ok(()) => Ok(()),
-        Err(_) => Err(Refused::Memory),
-    }
-}
-
-/// Appends the lines of a record whose content is read as a flat document. Returns `None` if the
-/// content must be read as a tree.
-fn append_flat(
-    alloc: Global,
-    out: &mut Vec<u8>,
-    number: u64,
-    whole: &Record,
-    scratch: &mut Scratch,
-) -> Option<Result<(), Refused>>
-    ensures appended { IfSome result
-        (Appended number (payload_of whole.now) out.old.items out.new.items) }
-    ensures unchanged { result ≡ None → out.new.items ≡ out.old.items }
-{
-    let content = whole.content.as_slice();
-    let message = match read_flat(alloc, number, whole.side, content, scratch) {
-        Ok(Some(message)) => message,
-        Ok(None) => return None,
-        Err(refused) => return Some(Err(refused)),
-    };
-    match flat_lines(alloc, &message) {
-        Ok(listed) => {
-            let listed = listed.as_slice();
-            Some(append_message(alloc, out, number, &message, listed))
-        }
-        Err(Unread::Unclear) => None,
-        Err(Unread::Memory) => Some(Err(Refused::Memory)),
-    }
-}
-
-/// Appends the lines of a record whose content is read as a tree.
-fn append_tree(
-    alloc: Global,
-    out: &mut Vec<u8>,
-    number: u64,
-    whole: &Record,
-    scratch: &mut Scratch,
-) -> Result<(), Refused>
-    ensures { Appended number (payload_of whole.now) out.old.items out.new.items result }
-{
-    let message = read_message(alloc, number, whole.side, whole.content.as_slice(), scratch)?;
-    match tree_lines(alloc, &message) {
-        Ok(listed) => append_message(alloc, out, number, &message, listed.as_slice()),
-        Err(_) => Err(Refused::Memory),
-    }
-}
-
-/// Appends the lines of a record to those of the records before it.
-fn append_lines(
-    alloc: Global,
-    out: &mut Vec<u8>,
-    number: u64,
-    whole: &Record,
-    scratch: &mut Scratch,
-) -> Result<(), Refused>
-    ensures { Appended number (payload_of whole.now) out.old.items out.new.items result }
-{
-    match append_flat(alloc, out, number, whole, scratch) {
-        Some(outcome) => outcome,
-        None => append_tree(alloc, out, number, whole, scratch),
-    }
-}
 
 /// Returns the lines of all records, or why the input is rejected.
 fn show_records<R: Source>(
     alloc: Global,
+    limits: Limits,
     records: &mut Records<RecordReader>,
     reader: &mut R,
 ) -> Result<Vec<u8>, Refused>
-    requires start { AreReady records.old }
+    requires sound { AreSound limits }
+    requires start { IsAtStart (RepresentsRecord limits.frame) limits.input records.old }
     requires given { R.given reader.old < 2 ^ 62 }
     requires failures { R.failures reader.old < 2 ^ 62 }
-    ensures { (limits : Limits)
-        → IsAtStart (RepresentsRecord limits.frame) limits.input records.old
-        → JudgesInput limits R.Source reader.old reader.new records.new result }
+    ensures { JudgesInput limits R.Source reader.old reader.new records.new result }
 {
+    let view = View {
+        detail: Detail::Lists,
+        limits,
+        marks_faults: false,
+    };
+    let mut session = Session::new(alloc);
     let mut scratch = Scratch::new(alloc);
+    let mut buffers = Buffers::new(alloc);
     let mut out = Vec::new(alloc);
-    loop {
+    'each: loop {
         let number = records.number();
         let Some(whole) = records.next(reader)? else {
             return Ok(out);
         };
-        append_lines(alloc, &mut out, number, &whole, &mut scratch)?;
+        append_entry(
+            alloc,
+            view,
+            number,
+            &whole,
+            &mut session,
+            &mut scratch,
+            &mut buffers,
+            &mut out,
+        )?;
         records.recycle(whole);
     }
 }
@@ -179,7 +112,7 @@ pub fn show<R: Source, W: Sink>(
     let Ok(mut records) = Records::new(alloc, record_reader, limits.input) else {
         return Err(Refused::Memory);
     };
-    match show_records(alloc, &mut records, reader) {
+    match show_records(alloc, limits, &mut records, reader) {
         Ok(lines) => match write_and_flush(writer, lines.as_slice()) {
             Ok(()) => Ok(()),
             Err(_) => Err(Refused::WriteFault),

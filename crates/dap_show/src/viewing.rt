@@ -1,10 +1,9 @@
 //! Prints recordings with the leaves of their contents, and with their errors.
-ghost use Rattle.std.specs.Prelude.{◌≡◌, ◌+◌, ◌<◌, ◌≤◌, ◌^◌, ◌↔◌, [], None, true};
-ghost use Rattle.std.specs.Prelude.{IsTrue};
+ghost use Rattle.std.specs.Prelude.{◌≡◌, ◌+◌, ◌<◌, ◌≤◌, ◌^◌, [], None, true};
 ghost use Rattle.dap_input.specs.ItemReading.{RepresentsRecord};
 ghost use Rattle.dap_input.specs.Limits.{AreSound};
 ghost use Rattle.dap_input.specs.RecordSteps.{IsAtStart};
-ghost use Rattle.dap_show.specs.Viewing.{IsFraming, ShowsInput, ViewsInput, or_else};
+ghost use Rattle.dap_show.specs.Viewing.{ShowsInput, ViewsInput};
 ghost use Rattle.dap_show.specs.ViewingSteps.{Finishes, ShowsRecords};
 
 use crate::detail::{Detail, View};
@@ -17,15 +16,6 @@ use dap_recording::RecordReader;
 use dap_session::Session;
 use dap_tree::Scratch;
 use std::alloc::Global;
-
-/// Stores a rejection in `first`, unless `first` already has one.
-fn note(first: &mut Option<Refused>, refusal: Option<Refused>)
-    ensures { first.new ≡ or_else first.old refusal }
-{
-    if first.is_none() {
-        *first = refusal;
-    }
-}
 
 /// Appends the lines of all records, and stores the first error that marks a record.
 fn view_records<R: Source>(
@@ -63,16 +53,9 @@ fn view_records<R: Source>(
             &mut buffers,
             lines,
         )?;
-        note(first, refusal);
+        *first = first.or(refusal);
         records.recycle(whole);
     }
-}
-
-/// Returns whether a rejection is an error of the framing.
-fn is_framing(refused: Refused) -> bool
-    ensures { IsTrue result ↔ IsFraming refused }
-{
-    matches!(refused, Refused::Record(..) | Refused::InputTooLong(_))
 }
 
 /// Appends the line of an error of the framing, if errors are marked. Returns any other rejection.
@@ -88,14 +71,17 @@ fn finish(
     let Err(refused) = stopped else {
         return Ok(());
     };
-    if !marks_faults || !is_framing(refused) {
+    if !marks_faults {
         return Err(refused);
     }
-    if push_stop(lines, refused).is_err() {
-        return Err(Refused::Memory);
+    match push_stop(lines, refused) {
+        Ok(true) => {
+            *first = first.or(Some(refused));
+            Ok(())
+        }
+        Ok(false) => Err(refused),
+        Err(_) => Err(Refused::Memory),
     }
-    note(first, Some(refused));
-    Ok(())
 }
 
 /// Reads an input and writes its lines.

@@ -1,5 +1,5 @@
 use Rattle.std.proofs.Common.{Err, sym, ◌∙◌, ap, subst}
-use Rattle.dap_show.specs.ShowingSteps.{payload_of}
+use Rattle.dap_normalise.specs.JudgingSteps.{payload_of}
 use Rattle.dap_show.specs.Viewing.{kept}
 use Rattle.dap_tree.specs.Json.{IsRead}
 use Rattle.dap_show.proofs.EntryLines.{entered_typed, grown_detail, grown_typed}

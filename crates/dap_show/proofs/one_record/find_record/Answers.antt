@@ -1,6 +1,5 @@
-use Rattle.std.proofs.Common.{Ok, subst, ap, ◌-◌, ◌∙◌, sym}
+use Rattle.std.proofs.Common.{ap, ◌-◌, ◌∙◌, sym}
 use Rattle.std.proofs.lemmas.Result.{err_from_is_err_and}
-use Rattle.dap_input.specs.RecordSteps.{ReadsNextRecord}
 use Rattle.dap_show.proofs.Framing.{few_failed, few_given, few_records, fewer, found, go_on}
 use Rattle.dap_show.proofs.Framing.{missing, none_sought, not_framed}
 use Rattle.dap_show.proofs.one_record.find_record.Goals as goal
@@ -38,9 +37,7 @@ returns-in_default g c =
     missing c.args.limits g.R.Source c.args.number c.args.reader.now c.each.reader
     c.each.records c.each.invariant c.next.new.self c.next.new.reader _
     (ap (λ n. n - 1) c.number-at.ensures)
-    (subst (λ o. ReadsNextRecord c.args.limits.frame
-    g.R.Source c.each.records c.next.new.self
-    c.each.reader c.next.new.reader (Ok o)) c.in_default.is
+    (rw c.in_default.is at
     (c.in_ok-whole.ensures c.args.limits.frame c.each.invariant.going.behind.between))
 
 pub returns-then-at-number : goal.returns-then-at-number
@@ -48,9 +45,7 @@ returns-then-at-number g c =
     found c.args.limits g.R.Source c.args.number c.args.reader.now c.each.reader
     c.each.records c.each.invariant c.next.new.self c.next.new.reader c.in-Some.whole
     (sym c.number-at.ensures ∙ c.if-at-number.true)
-    (subst (λ o. ReadsNextRecord c.args.limits.frame
-    g.R.Source c.each.records c.next.new.self
-    c.each.reader c.next.new.reader (Ok o)) c.in-Some.is
+    (rw c.in-Some.is at
     (c.in_ok-whole.ensures c.args.limits.frame c.each.invariant.going.behind.between))
 
 pub each-preserved : goal.each-preserved
@@ -59,9 +54,7 @@ each-preserved g c =
     (go_on c.args.limits g.R.Source c.args.number c.args.reader.now c.each.reader
     c.each.records c.each.invariant c.next.new.self c.next.new.reader c.in-Some.whole
     (λ same. c.if-at-number.false (c.number-at.ensures ∙ same))
-    (subst (λ o. ReadsNextRecord c.args.limits.frame
-    g.R.Source c.each.records c.next.new.self
-    c.each.reader c.next.new.reader (Ok o)) c.in-Some.is
+    (rw c.in-Some.is at
     (c.in_ok-whole.ensures c.args.limits.frame c.each.invariant.going.behind.between)))
 
 pub each-smaller : goal.each-smaller
@@ -69,7 +62,5 @@ each-smaller g c =
     rw c.recycle.ensures
     (fewer c.args.limits g.R.Source c.args.number c.args.reader.now c.each.reader
     c.each.records c.each.invariant c.next.new.self c.next.new.reader c.in-Some.whole
-    (subst (λ o. ReadsNextRecord c.args.limits.frame
-    g.R.Source c.each.records c.next.new.self
-    c.each.reader c.next.new.reader (Ok o)) c.in-Some.is
+    (rw c.in-Some.is at
     (c.in_ok-whole.ensures c.args.limits.frame c.each.invariant.going.behind.between)))

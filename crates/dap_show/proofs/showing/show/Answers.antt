@@ -2,25 +2,20 @@ use Rattle.std.proofs.Common.{◌∙◌}
 use Rattle.dap_input.proofs.WholeInputs.{all_read, drained, refused_answer}
 use Rattle.dap_input.specs.ItemReading.{record_items}
 use Rattle.dap_show.specs.Showing.{lines_from, showing}
-use Rattle.dap_show.specs.ShowingSteps.{payload_of}
+use Rattle.dap_normalise.specs.JudgingSteps.{payload_of}
 use Rattle.dap_show.proofs.ShowingLoop.{reads_records}
 use Rattle.dap_show.proofs.ShownInputs.{accepted_taken, finished, not_written, refused_taken}
 use Rattle.dap_show.proofs.ShownInputs.{rest_counts, rest_failures}
 use Rattle.dap_show.proofs.showing.show.Goals as goal
 
 pub show_records-requires-clause-start : goal.show_records-requires-clause-start
-show_records-requires-clause-start g c = (
-  c.args.limits,
-  c.requires.limits,
-  c.in-Ok.ensures c.args.limits.frame
-      (c.new-record_reader.ensures.limits, (1, c.new-record_reader.ensures.represents)),
-)
+show_records-requires-clause-start g c =
+    c.in-Ok.ensures c.args.limits.frame
+    (c.new-record_reader.ensures.limits, (1, c.new-record_reader.ensures.represents))
 
 pub returns-in-Ok-write_and_flush-clause-outcome : goal.returns-in-Ok-write_and_flush-clause-outcome
 returns-in-Ok-write_and_flush-clause-outcome g c =
-    let shown = c.in-Ok-show_records.ensures c.args.limits
-    (c.in-Ok.ensures c.args.limits.frame
-    (c.new-record_reader.ensures.limits, (1, c.new-record_reader.ensures.represents))) in
+    let shown = c.in-Ok-show_records.ensures in
     finished c.args.limits g.R.Source c.args.reader.now
     c.show_records.new.reader shown.0 shown.1 g.W.Sink c.args.writer.now
     c.write_and_flush.new.writer _ (c.as_slice.ensures.value ∙ shown.2)
@@ -28,17 +23,13 @@ returns-in-Ok-write_and_flush-clause-outcome g c =
 
 pub returns-in-Ok-write_and_flush-clause-taken : goal.returns-in-Ok-write_and_flush-clause-taken
 returns-in-Ok-write_and_flush-clause-taken g c =
-    let shown = c.in-Ok-show_records.ensures c.args.limits
-    (c.in-Ok.ensures c.args.limits.frame
-    (c.new-record_reader.ensures.limits, (1, c.new-record_reader.ensures.represents))) in
+    let shown = c.in-Ok-show_records.ensures in
     accepted_taken c.args.limits g.R.Source
     c.args.reader.now c.show_records.new.reader shown.0 shown.1
 
 pub returns-in-Ok-show_records-clause-outcome : goal.returns-in-Ok-show_records-clause-outcome
 returns-in-Ok-show_records-clause-outcome g c =
-    let shown = c.in-Ok-show_records.ensures c.args.limits
-    (c.in-Ok.ensures c.args.limits.frame
-    (c.new-record_reader.ensures.limits, (1, c.new-record_reader.ensures.represents))) in
+    let shown = c.in-Ok-show_records.ensures in
     not_written c.args.limits g.R.Source
     c.args.reader.now c.show_records.new.reader shown.0 shown.1 g.W.Sink
     c.args.writer.now c.write_and_flush.new.writer _ (c.as_slice.ensures.value ∙ shown.2)
@@ -46,35 +37,27 @@ returns-in-Ok-show_records-clause-outcome g c =
 
 pub returns-in-Ok-show_records-clause-taken : goal.returns-in-Ok-show_records-clause-taken
 returns-in-Ok-show_records-clause-taken g c =
-    let shown = c.in-Ok-show_records.ensures c.args.limits
-    (c.in-Ok.ensures c.args.limits.frame
-    (c.new-record_reader.ensures.limits, (1, c.new-record_reader.ensures.represents))) in
+    let shown = c.in-Ok-show_records.ensures in
     accepted_taken c.args.limits g.R.Source
     c.args.reader.now c.show_records.new.reader shown.0 shown.1
 
 pub drain-requires-clause-given : goal.drain-requires-clause-given
 drain-requires-clause-given g c = λ goes_on.
-    let refused = c.in-Err.ensures c.args.limits
-    (c.in-Ok.ensures c.args.limits.frame
-    (c.new-record_reader.ensures.limits, (1, c.new-record_reader.ensures.represents))) in
+    let refused = c.in-Err.ensures in
     rest_counts c.args.limits g.R.Source
     c.args.reader.now c.show_records.new.reader c.show_records.new.records
     c.in-Err.refused refused goes_on c.requires.limits.input c.requires.given
 
 pub drain-requires-clause-failures : goal.drain-requires-clause-failures
 drain-requires-clause-failures g c = λ goes_on.
-    let refused = c.in-Err.ensures c.args.limits
-    (c.in-Ok.ensures c.args.limits.frame
-    (c.new-record_reader.ensures.limits, (1, c.new-record_reader.ensures.represents))) in
+    let refused = c.in-Err.ensures in
     rest_failures c.args.limits g.R.Source
     c.args.reader.now c.show_records.new.reader c.show_records.new.records
     c.in-Err.refused refused goes_on c.requires.read_failures
 
 pub returns-clause-outcome : goal.returns-clause-outcome
 returns-clause-outcome g c =
-    let refused = c.in-Err.ensures c.args.limits
-    (c.in-Ok.ensures c.args.limits.frame
-    (c.new-record_reader.ensures.limits, (1, c.new-record_reader.ensures.represents))) in
+    let refused = c.in-Err.ensures in
     refused_answer (showing c.args.limits) g.R.Source
     (lines_from 1) c.args.reader.now c.drain.new.reader g.W.Sink
     c.args.writer.now c.in-Err.refused
@@ -85,9 +68,7 @@ returns-clause-outcome g c =
 
 pub returns-clause-taken : goal.returns-clause-taken
 returns-clause-taken g c =
-    let refused = c.in-Err.ensures c.args.limits
-    (c.in-Ok.ensures c.args.limits.frame
-    (c.new-record_reader.ensures.limits, (1, c.new-record_reader.ensures.represents))) in
+    let refused = c.in-Err.ensures in
     refused_taken c.args.limits g.R.Source
     c.args.reader.now c.drain.new.reader c.in-Err.refused
     (drained (showing c.args.limits) (record_items c.args.limits.frame) payload_of
@@ -97,9 +78,7 @@ returns-clause-taken g c =
 
 pub returns-clause-memory : goal.returns-clause-memory
 returns-clause-memory g c = λ _.
-    let refused = c.in-Err.ensures c.args.limits
-    (c.in-Ok.ensures c.args.limits.frame
-    (c.new-record_reader.ensures.limits, (1, c.new-record_reader.ensures.represents))) in
+    let refused = c.in-Err.ensures in
     all_read (showing c.args.limits) g.R.Source
     (lines_from 1) c.args.reader.now c.drain.new.reader c.in-Err.refused
     (drained (showing c.args.limits) (record_items c.args.limits.frame) payload_of

@@ -1,6 +1,4 @@
-use Rattle.std.proofs.Common.{Ok, subst}
 use Rattle.std.proofs.lemmas.Result.{err_from_is_err_and}
-use Rattle.dap_input.specs.RecordSteps.{ReadsNextRecord}
 use Rattle.dap_show.proofs.ViewingLoop.{all_viewed, few_failed, few_given, few_records, fewer}
 use Rattle.dap_show.proofs.ViewingLoop.{none_viewed, not_entered, not_read, one_more}
 use Rattle.dap_show.proofs.viewing.view_records.Goals as goal
@@ -43,9 +41,7 @@ returns-in_default g c =
     all_viewed c.args.view.marks_faults c.args.view.detail c.args.view.limits g.R.Source
     c.args.reader.now c.each.reader c.each.records c.each.session c.each.lines.items c.each.first
     c.each.invariant c.next.new.self c.next.new.reader (tt {0})
-    (subst (λ o. ReadsNextRecord c.args.view.limits.frame
-    g.R.Source c.each.records c.next.new.self
-    c.each.reader c.next.new.reader (Ok o)) c.in_default.is
+    (rw c.in_default.is at
     (c.in_ok-whole.ensures c.args.view.limits.frame c.each.invariant.going.behind.between))
 
 pub returns-in_err-refusal : goal.returns-in_err-refusal
@@ -53,10 +49,7 @@ returns-in_err-refusal g c =
     let because = err_from_is_err_and c.from_residual-in_err-refusal.result
     c.from_residual-in_err-refusal.ensures.1 in
     let was = c.each.invariant in
-    let read = subst
-    (λ o. ReadsNextRecord c.args.view.limits.frame
-    g.R.Source c.each.records c.next.new.self
-    c.each.reader c.next.new.reader (Ok o)) c.in-Some.is
+    let read = rw c.in-Some.is at
     (c.in_ok-whole.ensures c.args.view.limits.frame was.going.behind.between) in
     rw (because.1, because.2)
     (not_entered c.args.view.marks_faults c.args.view.detail c.args.view.limits g.R.Source
@@ -69,19 +62,16 @@ returns-in_err-refusal g c =
 pub each-preserved : goal.each-preserved
 each-preserved g c =
     let was = c.each.invariant in
-    let read = subst
-    (λ o. ReadsNextRecord c.args.view.limits.frame
-    g.R.Source c.each.records c.next.new.self
-    c.each.reader c.next.new.reader (Ok o)) c.in-Some.is
+    let read = rw c.in-Some.is at
     (c.in_ok-whole.ensures c.args.view.limits.frame was.going.behind.between) in
     rw c.recycle.ensures
     (one_more c.args.view.marks_faults c.args.view.detail c.args.view.limits g.R.Source
     c.args.reader.now c.each.reader c.each.records c.each.session c.each.lines.items c.each.first
     was c.next.new.self c.next.new.reader c.in-Some.whole c.append_entry.new.session
-    c.append_entry.new.lines.items c.in_ok-refusal.refusal c.note.new.first read
+    c.append_entry.new.lines.items c.in_ok-refusal.refusal c.or.result read
     (rw c.number-number.ensures at c.in_ok-refusal.ensures was.entries was.session_is
     was.shown.lines_are was.going.behind.number_is)
-    c.note.ensures)
+    c.or.ensures)
 
 pub each-smaller : goal.each-smaller
 each-smaller g c =
@@ -90,7 +80,5 @@ each-smaller g c =
     (fewer c.args.view.marks_faults c.args.view.detail c.args.view.limits g.R.Source
     c.args.reader.now c.each.reader c.each.records c.each.session c.each.lines.items c.each.first
     was c.next.new.self c.next.new.reader c.in-Some.whole
-    (subst (λ o. ReadsNextRecord c.args.view.limits.frame
-    g.R.Source c.each.records c.next.new.self
-    c.each.reader c.next.new.reader (Ok o)) c.in-Some.is
+    (rw c.in-Some.is at
     (c.in_ok-whole.ensures c.args.view.limits.frame was.going.behind.between)))
