@@ -2,8 +2,8 @@
 use Rattle.std.proofs.Common.{⊎_elim}
 use Rattle.std.proofs.Common.{◌≡◌, ◌⊎◌, inl, inr, ℕ, ℤ, ◌+◌, Bool, true, false, List, [], ◌∷◌, ◌++◌}
 use Rattle.std.proofs.Common.{length, Option, Some, None, Ok, Err, refl, sym, ◌∙◌, ap, subst, arith}
-use Rattle.std.proofs.Common.{append_assoc, append-nil}
-use Rattle.std.proofs.lemmas.Bool.{true≢false}
+use Rattle.std.proofs.Common.{append_assoc, append-nil, eqb, not, rules}
+use lib.Pointwise.{pointwise}
 use Rattle.std.proofs.lemmas.List.{length_push}
 use Rattle.dap_device.specs.declared.device.Source.{Ghosts as Source}
 use Rattle.dap_device.specs.Pieces.{HasReadSoFar, HasPaused}
@@ -36,8 +36,7 @@ use Rattle.dap_normalise.specs.JudgingSteps.{judge_mode, record_of}
 use Rattle.dap_input.specs.Limits.{AreSound}
 use Rattle.dap_normalise.specs.NormalSteps.{HasEnded, HasAdvanced, HasNext, HasStoppedAt}
 use Rattle.dap_input.specs.ReadTo.{IsOf, IsReadTo, so_far}
-use Rattle.dap_compare.specs.ComparingSteps.{AreNext, IsRefusalOf}
-use Rattle.dap_compare.specs.declared.comparing.NextRecords.TheVariants.{Apart}
+use Rattle.dap_compare.specs.ComparingSteps.{IsRefusalOf}
 use Rattle.dap_compare.specs.Verdicts.{Compares, HasCompared, IsRecordingVerdict}
 use Rattle.dap_input.specs.Refusals.{RefusesAt}
 use Rattle.dap_input.proofs.Refusals.{refused_in}
@@ -52,6 +51,14 @@ use Rattle.dap_input.proofs.Runs.{none_accepted}
 use Rattle.dap_normalise.proofs.NormalTexts.{normal}
 use Rattle.dap_normalise.proofs.StreamLoop.{Going, before_in, next_in, normal_before}
 use Rattle.dap_compare.proofs.Verdicts.{same_lengths}
+
+-- The text of a record is not empty.
+pub not_empty_record : (m : Sent) (text : List ℕ) → text ≡ record_of m → text ≡ [] → ⊥
+not_empty_record m text is none = let never : [] ≡ record_of m = sym none ∙ is in cc
+
+-- Two texts that are not found to differ are equal.
+pub texts_equal : (xs ys : List ℕ) (r : Bool) → r ≡ not (pointwise eqb xs ys) → r ≡ false → xs ≡ ys
+texts_equal xs ys r is equal = search rules
 
 -- Nothing of both inputs has been read.
 pub none_compared : {R S : Type 0} (source_a : Source R) (source_b : Source S) (limits : Limits)
@@ -106,6 +113,28 @@ as_told {refused = why.Memory} stopped =
     inl refl
 as_told stopped =
     inr ((λ same. absurd (let e = same in cc)), stopped.says)
+
+-- An input has ended.
+module _ {T R : Type 0} {numbers : T → List ℤ} {table_limit : T → ℕ} {source : Source R}
+    {limits : Limits} {mode : Mode} {start reader : R} {records : NormalRecords T}
+    (was : Going numbers table_limit source limits mode start reader records)
+    {new : NormalRecords T} {after : R} {before longer : List ℕ}
+    (end : HasEnded numbers table_limit source limits mode was.bytes was.messages was.normal
+    records new reader after before longer) where
+  pub names_of : Represents numbers table_limit new.judge.names was.messages
+  names_of =
+      subst (λ judge. Represents numbers table_limit judge.names was.messages)
+      (sym end.judge_is) was.represents.represents.names
+
+  mode_of : judge_mode new.judge ≡ mode
+  mode_of =
+      subst (λ (judge : Judge T). judge_mode judge ≡ mode) (sym end.judge_is)
+      was.represents.judge_mode_is
+
+  names_in : RepresentsWith (stop_in mode) numbers table_limit new.judge.names was.messages
+  names_in =
+      subst (λ k. RepresentsWith (stop_in k) numbers table_limit new.judge.names was.messages)
+      mode_of names_of
 
 module _ {T R S : Type 0} {numbers : T → List ℤ} {table_limit : T → ℕ} {source_a : Source R}
     {source_b : Source S} {limits : Limits} {mode : Mode}
@@ -374,23 +403,16 @@ module _ {T R S : Type 0} {numbers : T → List ℤ} {table_limit : T → ℕ} {
 
   module _ (new_a : NormalRecords T) (after_a : R) (text_a longer_a : List ℕ)
       (new_b : NormalRecords T) (after_b : S) (text_b longer_b : List ℕ) where
-    abbrev pub Gone_a : Type 0
-    Gone_a = HasAdvanced numbers table_limit source_a limits mode a.bytes a.messages
-        a.normal records_a new_a reader_a after_a text_a longer_a
+    -- whether each input has a next record
+    abbrev pub Next_a : Bool → Type 0
+    Next_a some = HasNext numbers table_limit source_a limits mode a.bytes a.messages
+        a.normal records_a new_a reader_a after_a text_a longer_a (Ok some)
 
-    abbrev pub Ended_a : Type 0
-    Ended_a = HasEnded numbers table_limit source_a limits mode a.bytes a.messages
-        a.normal records_a new_a reader_a after_a text_a longer_a
+    abbrev pub Next_b : Bool → Type 0
+    Next_b some = HasNext numbers table_limit source_b limits mode b.bytes b.messages
+        b.normal records_b new_b reader_b after_b text_b longer_b (Ok some)
 
-    abbrev pub Gone_b : Type 0
-    Gone_b = HasAdvanced numbers table_limit source_b limits mode b.bytes b.messages
-        b.normal records_b new_b reader_b after_b text_b longer_b
-
-    abbrev pub Ended_b : Type 0
-    Ended_b = HasEnded numbers table_limit source_b limits mode b.bytes b.messages
-        b.normal records_b new_b reader_b after_b text_b longer_b
-
-    next_y : (gone : Gone_b) (y : Input) → IsOf (b.bytes ++ gone.more) None y
+    next_y : (gone : Next_b true) (y : Input) → IsOf (b.bytes ++ gone.more) None y
         → AcceptedBefore (accepting limits mode) y (number + 1)
     next_y gone y is_y =
         subst (λ n. AcceptedBefore (accepting limits mode) y (n + 1)) one_number
@@ -433,7 +455,7 @@ module _ {T R S : Type 0} {numbers : T → List ℤ} {table_limit : T → ℕ} {
           none_fails = (kept_a ∙ a.came.paused, kept_b ∙ b.came.paused);
         }
 
-    pub some_and_none : (n : ℕ) → n ≡ number → Gone_a → Ended_b
+    pub some_and_none : (n : ℕ) → n ≡ number → Next_a true → Next_b false
         → HasCompared source_a source_b limits mode start_a after_a
         start_b after_b (Ok (code.Differ n))
     some_and_none n is gone ended =
@@ -446,7 +468,7 @@ module _ {T R S : Type 0} {numbers : T → List ℤ} {table_limit : T → ℕ} {
         (taken_in limits mode (b.bytes ++ ended.more) y b.messages is_y ended.accepted) number_of_b
         (next_in a gone x is_x.0 is_x.1))
 
-    pub none_and_some : (n : ℕ) → n ≡ number → Ended_a → Gone_b
+    pub none_and_some : (n : ℕ) → n ≡ number → Next_a false → Next_b true
         → HasCompared source_a source_b limits mode start_a after_a
         start_b after_b (Ok (code.Differ n))
     none_and_some n is ended gone =
@@ -459,7 +481,7 @@ module _ {T R S : Type 0} {numbers : T → List ℤ} {table_limit : T → ℕ} {
         (taken_in limits mode (a.bytes ++ ended.more) x a.messages is_x ended.accepted) number_of_a
         (next_y gone y is_y))
 
-    module _ (gone : Gone_a) (went : Gone_b) where
+    module _ (gone : Next_a true) (went : Next_b true) where
       is_normal_b : IsNormal (stop_in mode) (b.messages ++ went.message ∷ []) (a.normal
           ++ went.named
           ∷ [])
@@ -512,33 +534,29 @@ module _ {T R S : Type 0} {numbers : T → List ℤ} {table_limit : T → ℕ} {
           ∙ ap (λ t. t ++ record_of went.named) nothing))
           ∙ ap (λ n. n ++ went.named ∷ []) alike
 
-    -- the result if the next records differ
-    abbrev pub Next_a : Bool → Type 0
-    Next_a some = HasNext numbers table_limit source_a limits mode a.bytes a.messages
-        a.normal records_a new_a reader_a after_a text_a longer_a (Ok some)
-
-    abbrev pub Next_b : Bool → Type 0
-    Next_b some = HasNext numbers table_limit source_b limits mode b.bytes b.messages
-        b.normal records_b new_b reader_b after_b text_b longer_b (Ok some)
-
     pub told_apart : (some_a some_b : Bool) → Next_a some_a → Next_b some_b → text_a ≡ []
-        → text_b ≡ [] → AreNext some_a some_b longer_a longer_b Apart → (n : ℕ) → n ≡ number
+        → text_b ≡ [] → (longer_a ≡ longer_b → ⊥) → (n : ℕ) → n ≡ number
         → HasCompared source_a source_b limits mode start_a after_a
         start_b after_b (Ok (code.Differ n))
     told_apart true false gone ended none nothing apart n is = some_and_none n is gone ended
     told_apart false true ended gone none nothing apart n is = none_and_some n is ended gone
-    told_apart true true gone went none nothing (inl wrong) n is =
-        absurd (true≢false wrong.1)
-    told_apart true true gone went none nothing (inr (inl wrong)) n is =
-        absurd (true≢false wrong.0)
-    told_apart true true gone went none nothing (inr (inr apart)) n is =
-        texts_apart gone went none nothing n is apart.2
-    told_apart false false ended over none nothing (inl wrong) n is =
-        absurd (true≢false (sym wrong.0))
-    told_apart false false ended over none nothing (inr (inl wrong)) n is =
-        absurd (true≢false (sym wrong.1))
-    told_apart false false ended over none nothing (inr (inr wrong)) n is =
-        absurd (true≢false (sym wrong.0))
+    told_apart true true gone went none nothing apart n is =
+        texts_apart gone went none nothing n is apart
+    told_apart false false ended over none nothing apart n is =
+        absurd (apart (ended.kept ∙ none ∙ sym (over.kept ∙ nothing)))
+
+    -- If the texts are equal, both inputs have a next record, or neither has one.
+    pub both_next : (some_a some_b : Bool) → Next_a some_a → Next_b some_b → text_a ≡ []
+        → text_b ≡ [] → longer_a ≡ longer_b → some_b ≡ some_a
+    both_next true true gone went none nothing same = refl
+    both_next false false ended over none nothing same = refl
+    both_next true false gone ended none nothing same =
+        absurd (not_empty_record gone.named longer_a
+        (gone.appended ∙ ap (λ t. t ++ record_of gone.named) none) (same ∙ ended.kept ∙ nothing))
+    both_next false true ended gone none nothing same =
+        absurd (not_empty_record gone.named longer_b
+        (gone.appended ∙ ap (λ t. t ++ record_of gone.named) nothing)
+        (sym same ∙ ended.kept ∙ none))
 
   -- both inputs have ended
 
@@ -548,45 +566,15 @@ module _ {T R S : Type 0} {numbers : T → List ℤ} {table_limit : T → ℕ} {
       records_a new_a reader_a after_a text_a longer_a)
       (end_b : HasEnded numbers table_limit source_b limits mode b.bytes b.messages b.normal
       records_b new_b reader_b after_b text_b longer_b) where
-    pub names_a : Represents numbers table_limit new_a.judge.names a.messages
-    names_a =
-        subst (λ judge. Represents numbers table_limit judge.names a.messages)
-        (sym end_a.judge_is) a.represents.represents.names
-
-    pub names_b : Represents numbers table_limit new_b.judge.names b.messages
-    names_b =
-        subst (λ judge. Represents numbers table_limit judge.names b.messages)
-        (sym end_b.judge_is) b.represents.represents.names
-
-    mode_a : judge_mode new_a.judge ≡ mode
-    mode_a =
-        subst (λ (judge : Judge T). judge_mode judge ≡ mode) (sym end_a.judge_is)
-        a.represents.judge_mode_is
-
-    mode_b : judge_mode new_b.judge ≡ mode
-    mode_b =
-        subst (λ (judge : Judge T). judge_mode judge ≡ mode) (sym end_b.judge_is)
-        b.represents.judge_mode_is
-
-    stand_a : RepresentsWith (stop_in mode) numbers table_limit new_a.judge.names a.messages
-    stand_a =
-        subst (λ k. RepresentsWith (stop_in k) numbers table_limit new_a.judge.names a.messages)
-        mode_a names_a
-
-    stand_b : RepresentsWith (stop_in mode) numbers table_limit new_b.judge.names b.messages
-    stand_b =
-        subst (λ k. RepresentsWith (stop_in k) numbers table_limit new_b.judge.names b.messages)
-        mode_b names_b
-
     pub equal_counts : HaveEqualCounts numbers new_a.judge.names new_b.judge.names
     equal_counts = record {
-      mode = mode_a ∙ sym mode_b;
-      stops = stand_a.stops ∙ same_stops (stop_in mode) (mode_is_told mode) a.messages
+      mode = mode_of a end_a ∙ sym (mode_of b end_b);
+      stops = (names_in a end_a).stops ∙ same_stops (stop_in mode) (mode_is_told mode) a.messages
           b.messages are
-          ∙ sym stand_b.stops;
-      classes = λ c. ap length (stand_a.classes c)
+          ∙ sym (names_in b end_b).stops;
+      classes = λ c. ap length ((names_in a end_a).classes c)
           ∙ same_counts (stop_in mode) a.messages b.messages are c
-          ∙ sym (ap length (stand_b.classes c));
+          ∙ sym (ap length ((names_in b end_b).classes c));
     }
 
     pub both_ended : (renaming : Renaming)
@@ -609,7 +597,7 @@ module _ {T R S : Type 0} {numbers : T → List ℤ} {table_limit : T → ℕ} {
           end_b.read_to;
       tells = λ x y is_x is_y.
           subst (λ how. IsRecordingVerdict limits mode x y (are_same how))
-          (sym (pairs ∙ ap (λ k. equal_places (stop_in k) a.messages b.messages) mode_a))
+          (sym (pairs ∙ ap (λ k. equal_places (stop_in k) a.messages b.messages) (mode_of a end_a)))
           (both_have_ended limits mode x y a.messages b.messages
           (taken_in limits mode (a.bytes ++ end_a.more) x a.messages is_x end_a.accepted)
           (taken_in limits mode (b.bytes ++ end_b.more) y b.messages is_y end_b.accepted) are);

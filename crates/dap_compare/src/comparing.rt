@@ -1,8 +1,5 @@
 //! Compares recordings.
-ghost use Rattle.std.specs.Prelude.{◌+◌, ◌-◌, ◌<◌, ◌≤◌, ◌^◌, ℕ, List, []};
-ghost use Rattle.dap_message.specs.Message.{Sent};
-ghost use Rattle.dap_normalise.specs.NormalSteps.{RepresentsBefore};
-ghost use Rattle.dap_compare.specs.ComparingSteps.{AreNext, IsRefusalOf, HasNextOutcome};
+ghost use Rattle.std.specs.Prelude.{◌+◌, ◌<◌, ◌≤◌, ◌^◌};
 ghost use Rattle.dap_input.specs.Limits.{AreSound};
 ghost use Rattle.dap_normalise.specs.NameTables.{AreReady};
 ghost use Rattle.dap_compare.specs.LeftTexts.{LeavesDifference};
@@ -10,70 +7,10 @@ ghost use Rattle.dap_compare.specs.Verdicts.{Compares};
 
 use crate::verdict::{CompareRefused, Verdict, Which};
 use dap_device::Source;
-use dap_input::{Limits, Refused};
+use dap_input::Limits;
 use dap_normalise::NormalRecords;
 use dap_rename::{Mode, NameTable, Tables, index_tables};
 use std::alloc::Global;
-
-/// Returns the error of an input. An allocation failure belongs to neither input.
-fn refusal_of(which: Which, refused: Refused) -> CompareRefused
-    ensures { IsRefusalOf which refused result }
-{
-    match refused {
-        Refused::Memory => CompareRefused::Memory,
-        refused => CompareRefused::Input(which, refused),
-    }
-}
-
-/// Reads and checks the next record of an input, and replaces `text` by the record of its normal
-/// form. Returns `false` if the input has ended and is accepted.
-fn next_text<R: Source, T: NameTable + Drop>(
-    alloc: Global,
-    which: Which,
-    records: &mut NormalRecords<T>,
-    reader: &mut R,
-    text: &mut Vec<u8>,
-) -> Result<bool, CompareRefused>
-    requires number { records.old.records.number < 2 ^ 63 }
-    requires given { R.given reader.old
-        + (records.old.records.pieces.limit - records.old.records.pieces.taken) < 2 ^ 63 }
-    requires failures { R.failures reader.old < 2 ^ 63 }
-    ensures { (limits : Limits) (mode : Mode) (bytes : List ℕ) (messages normal : List Sent)
-        → RepresentsBefore T.numbers T.limit limits mode bytes records.old messages normal
-        → HasNextOutcome T.numbers T.limit R.Source limits mode bytes messages normal
-        records.old records.new reader.old reader.new which text.new.items result }
-{
-    text.clear();
-    match records.next(alloc, reader, text) {
-        Ok(some) => Ok(some),
-        Err(refused) => Err(refusal_of(which, refused)),
-    }
-}
-
-/// How the next records of two inputs compare.
-enum NextRecords {
-    Alike,
-    /// Their normal forms differ, or exactly one of the inputs has a next record.
-    Apart,
-    NoneLeft,
-}
-
-/// Compares the next records: whether each input has one, and their normal forms.
-fn next_records(some_a: bool, some_b: bool, text_a: &[u8], text_b: &[u8]) -> NextRecords
-    ensures { AreNext some_a some_b text_a.now text_b.now result }
-{
-    match (some_a, some_b) {
-        (true, true) => {
-            if text_a == text_b {
-                NextRecords::Alike
-            } else {
-                NextRecords::Apart
-            }
-        }
-        (true, false) | (false, true) => NextRecords::Apart,
-        (false, false) => NextRecords::NoneLeft,
-    }
-}
 
 /// Compares two recordings. Returns the renaming of the ids of A to those of B, or the first record
 /// that differs.
@@ -206,115 +143,29 @@ pub fn compare_texts_with<A: Source, B: Source, T: NameTable + Drop>(
     ensures text_b { LeavesDifference B.Source limits mode reader_b.old reader_b.new
         text_b.new.items result }
 {
-    let Ok(mut records_a) = NormalRecords::new(alloc, limits, tables_a, mode) else {
-        return Err(CompareRefused::Memory);
-    };
-    let compared = compare_with_records(
-        alloc,
-        &mut records_a,
-        reader_a,
-        reader_b,
-        limits,
-        tables_b,
-        mode,
-        text_a,
-        text_b,
-    );
-    release(records_a);
-    compared
-}
-
-/// Compares the records of A with those of B, whose interning tables are `tables_b`. Nothing of
-/// either input has been read.
-fn compare_with_records<A: Source, B: Source, T: NameTable + Drop>(
-    alloc: Global,
-    records_a: &mut NormalRecords<T>,
-    reader_a: &mut A,
-    reader_b: &mut B,
-    limits: Limits,
-    tables_b: Tables<T>,
-    mode: Mode,
-    text_a: &mut Vec<u8>,
-    text_b: &mut Vec<u8>,
-) -> Result<Verdict, CompareRefused>
-    requires limits { AreSound limits }
-    requires stands_a { RepresentsBefore T.numbers T.limit limits mode [] records_a.old [] [] }
-    requires tables_b { AreReady T.numbers T.limit limits tables_b }
-    requires given_a { A.given reader_a.old < 2 ^ 62 }
-    requires given_b { B.given reader_b.old < 2 ^ 62 }
-    requires failures_a { A.failures reader_a.old < 2 ^ 62 }
-    requires failures_b { B.failures reader_b.old < 2 ^ 62 }
-    ensures outcome { Compares A.Source B.Source limits mode reader_a.old reader_a.new reader_b.old
-        reader_b.new result }
-    ensures taken_a { A.given reader_a.new ≤ A.given reader_a.old + limits.input + 1 }
-    ensures taken_b { B.given reader_b.new ≤ B.given reader_b.old + limits.input + 1 }
-    ensures text_a { LeavesDifference A.Source limits mode reader_a.old reader_a.new
-        text_a.new.items result }
-    ensures text_b { LeavesDifference B.Source limits mode reader_b.old reader_b.new
-        text_b.new.items result }
-{
-    let Ok(mut records_b) = NormalRecords::new(alloc, limits, tables_b, mode) else {
-        return Err(CompareRefused::Memory);
-    };
-    let compared = compare_records(
-        alloc,
-        records_a,
-        reader_a,
-        &mut records_b,
-        reader_b,
-        limits,
-        mode,
-        text_a,
-        text_b,
-    );
-    release(records_b);
-    compared
-}
-
-/// Frees the buffers and the interning tables of an input.
-fn release<T: NameTable + Drop>(records: NormalRecords<T>) {}
-
-/// Compares the records of two inputs of which nothing has been read.
-fn compare_records<A: Source, B: Source, T: NameTable + Drop>(
-    alloc: Global,
-    records_a: &mut NormalRecords<T>,
-    reader_a: &mut A,
-    records_b: &mut NormalRecords<T>,
-    reader_b: &mut B,
-    limits: Limits,
-    mode: Mode,
-    text_a: &mut Vec<u8>,
-    text_b: &mut Vec<u8>,
-) -> Result<Verdict, CompareRefused>
-    requires limits { AreSound limits }
-    requires stands_a { RepresentsBefore T.numbers T.limit limits mode [] records_a.old [] [] }
-    requires stands_b { RepresentsBefore T.numbers T.limit limits mode [] records_b.old [] [] }
-    requires given_a { A.given reader_a.old < 2 ^ 62 }
-    requires given_b { B.given reader_b.old < 2 ^ 62 }
-    requires failures_a { A.failures reader_a.old < 2 ^ 62 }
-    requires failures_b { B.failures reader_b.old < 2 ^ 62 }
-    ensures outcome { Compares A.Source B.Source limits mode reader_a.old reader_a.new reader_b.old
-        reader_b.new result }
-    ensures taken_a { A.given reader_a.new ≤ A.given reader_a.old + limits.input + 1 }
-    ensures taken_b { B.given reader_b.new ≤ B.given reader_b.old + limits.input + 1 }
-    ensures text_a { LeavesDifference A.Source limits mode reader_a.old reader_a.new
-        text_a.new.items result }
-    ensures text_b { LeavesDifference B.Source limits mode reader_b.old reader_b.new
-        text_b.new.items result }
-{
+    let mut records_a = NormalRecords::new(alloc, limits, tables_a, mode)?;
+    let mut records_b = NormalRecords::new(alloc, limits, tables_b, mode)?;
     'records: loop {
         let number = records_a.number();
-        let some_a = next_text(alloc, Which::A, records_a, reader_a, text_a)?;
-        let some_b = next_text(alloc, Which::B, records_b, reader_b, text_b)?;
-        match next_records(some_a, some_b, text_a.as_slice(), text_b.as_slice()) {
-            NextRecords::Alike => {}
-            NextRecords::Apart => return Ok(Verdict::Differ(number)),
-            NextRecords::NoneLeft => {
-                let Ok(renaming) = records_a.renaming_to(alloc, records_b) else {
-                    return Err(CompareRefused::Memory);
-                };
-                return Ok(Verdict::Same(renaming));
-            }
+        text_a.clear();
+        text_b.clear();
+        let some_a = match records_a.next(alloc, reader_a, text_a) {
+            Ok(some) => some,
+            Err(refused) => return Err(CompareRefused::of(Which::A, refused)),
+        };
+        match records_b.next(alloc, reader_b, text_b) {
+            Ok(_) => {}
+            Err(refused) => return Err(CompareRefused::of(Which::B, refused)),
+        }
+        // The text of an input that has ended is empty, and no record is.
+        if text_a.as_slice() != text_b.as_slice() {
+            return Ok(Verdict::Differ(number));
+        }
+        if !some_a {
+            let Ok(renaming) = records_a.renaming_to(alloc, &records_b) else {
+                return Err(CompareRefused::Memory);
+            };
+            return Ok(Verdict::Same(renaming));
         }
     }
 }

@@ -1,15 +1,17 @@
 //! The result of comparing two recordings.
 ghost use Rattle.std.specs.Prelude.{◌≡◌, ◌≤◌, length};
+ghost use Rattle.dap_compare.specs.ComparingSteps.{IsRefusalOf};
 ghost use Rattle.dap_compare.specs.Which.{compare_refused_text, which_text};
 
 use arrayvec::ArrayString;
 use dap_input::Refused;
 use dap_rename::Renaming;
+use std::alloc::AllocError;
 use std::fmt;
 use thiserror::Error;
 
 /// One of the two inputs.
-#[derive(Clone, Copy, Debug, PartialEq, Eq)]
+#[derive(Clone, Copy, Debug, PartialEq, Eq, PartialOrd, Ord)]
 pub enum Which {
     A,
     B,
@@ -62,6 +64,16 @@ pub enum CompareRefused {
 }
 
 impl CompareRefused {
+    /// Returns the error of an input. An allocation failure belongs to neither input.
+    pub fn of(which: Which, refused: Refused) -> CompareRefused
+        ensures { IsRefusalOf which refused result }
+    {
+        match refused {
+            Refused::Memory => CompareRefused::Memory,
+            refused => CompareRefused::Input(which, refused),
+        }
+    }
+
     /// Returns the text that the program prints after `dapnorm: `. Does not allocate.
     pub fn text(self) -> ArrayString<148>
         ensures { result.bytes ≡ compare_refused_text self }
@@ -76,5 +88,15 @@ impl CompareRefused {
             CompareRefused::Memory => text.push_str(Refused::Memory.text().as_str()),
         }
         text
+    }
+}
+
+impl From<AllocError> for CompareRefused {
+    ghost use Rattle.dap_compare.specs.declared.verdict.CompareRefused.TheVariants.{Memory};
+
+    ghost from_gives = { λ _ refused. refused ≡ Memory };
+
+    fn from(_: AllocError) -> CompareRefused {
+        CompareRefused::Memory
     }
 }

@@ -1,7 +1,7 @@
 use Rattle.std.proofs.Common.{◌≡◌}
 use Rattle.dap_normalise.specs.NormalSteps.{remaining}
 use Rattle.dap_normalise.proofs.StreamLoop.{Going}
-use Rattle.dap_compare.proofs.comparing.compare_records.Given as goal
+use Rattle.dap_compare.proofs.comparing.compare_texts_with.Given as goal
 
 abbrev pub invariant-records : goal.invariant-records
 invariant-records g l = record {
