@@ -6,7 +6,7 @@ use dap_host::is_standard;
 use dap_system::{OpenedInput, SystemInput, SystemOutput, stream};
 use dapnorm::{
     ApplyRefused, Command, CompareRefused, Ended, GoldenStop, LIMITS, Name, NoRules, OpenFault,
-    Refused, Replaceable, Request, Stream, Task, Unstreamed, Which, Why,
+    Refused, Replaceable, Request, Stream, Task, Unread, Unstreamed, Which, Why,
 };
 use std::alloc::Global;
 use std::fs;
@@ -108,11 +108,13 @@ fn opened<'a>(run: &'a SystemRun<'_>, which: Which) -> Option<&'a OpenedInput> {
 /// Returns the name of a file that did not open, and the reason.
 fn unopened<'a>(command: &Command<'a>, why: &'a Why<'_>) -> Option<(&'a str, &'a OpenFault)> {
     match why {
-        Why::Rules(NoRules::Unopened(fault)) => Some((rules_name(command)?.as_str(), fault)),
-        Why::Unopened(Some(which), fault) => Some((reported_name(command, *which), fault)),
-        Why::Unopened(None, fault) | Why::Session(fault) => {
-            Some((reported_name(command, Which::A), fault))
+        Why::Rules(NoRules::File(Unread::Unopened(fault))) => {
+            Some((rules_name(command)?.as_str(), fault))
         }
+        Why::Unread(which, Unread::Unopened(fault)) => {
+            Some((reported_name(command, which.unwrap_or(Which::A)), fault))
+        }
+        Why::Session(Unread::Unopened(fault)) => Some((reported_name(command, Which::A), fault)),
         Why::Output(name, fault) | Why::GoldenFile(name, _, fault) => Some((name.as_str(), fault)),
         _ => None,
     }
