@@ -10,7 +10,7 @@ use Rattle.dap_compare.specs.declared.verdict.Which.{Which}
 use Rattle.dap_rules.specs.declared.fault.ApplyRefused.{ApplyRefused}
 use Rattle.dap_rules.specs.declared.fault.ApplyRefused.TheVariants.{Memory}
 use Rattle.dap_suggest.specs.Suggested.{IsOneRejected}
-use Rattle.dap_suggest.specs.declared.inputs.Inputs.{Inputs}
+use Rattle.dap_suggest.specs.declared.suggestion.Inputs.{Inputs}
 use Rattle.dap_suggest.specs.declared.suggestion.SuggestRefused.{SuggestRefused}
 use Rattle.dap_suggest.specs.declared.suggestion.SuggestRefused.TheVariants as because
 

@@ -15,7 +15,7 @@ use Rattle.dap_rules.specs.Applying.{AppliesRules, IsRefusedByRules}
 use Rattle.dap_rules.specs.Modes.{mode_by}
 use Rattle.dap_rules.specs.declared.fault.ApplyRefused.{ApplyRefused}
 use Rattle.dap_rules.specs.declared.fault.ApplyRefused.TheVariants as step
-use Rattle.dap_suggest.specs.declared.inputs.Inputs.{Inputs}
+use Rattle.dap_suggest.specs.declared.suggestion.Inputs.{Inputs}
 use Rattle.dap_suggest.specs.declared.sessions.Sessions.{Sessions}
 use Rattle.dap_suggest.specs.declared.suggestion.Suggestion.{Suggestion}
 

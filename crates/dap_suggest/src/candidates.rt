@@ -1,7 +1,6 @@
 //! The actions that are tried at a place.
-use crate::confirming::read_rules;
 use crate::obstacle::Unsolved;
-use crate::words::{parts_of, push_parts, quoted, text_at};
+use crate::words::{parts_of, push_parts};
 use dap_mask::{MaskRules, read_masked};
 use dap_tree::{Scratch, Tree};
 use std::alloc::{AllocError, Global};
@@ -23,13 +22,8 @@ const CANDIDATES: [&[&str]; 9] = [
 /// The verb that makes any two values of one sort equal.
 const BLANK: &[&str] = &["blank  "];
 
-/// The messages and the places of a pair of texts that are compared alone.
-const FIRST: &[u8] = b"event    x a";
-
-const SECOND: &[u8] = b"event    x b";
-
 /// The start of the event that has a pair of texts, up to the first text.
-const EVENT: &[u8] = b"{\"type\":\"event\",\"event\":\"x\",\"a\":";
+const EVENT: &[u8] = b"{\"type\":\"event\",\"event\":\"x\",\"a\":[";
 
 /// Appends a rule of each verb, for these messages and this place.
 fn push_rules(verbs: &[&str], target: &[u8], out: &mut Vec<u8>) -> Result<(), AllocError> {
@@ -42,7 +36,7 @@ fn push_rules(verbs: &[&str], target: &[u8], out: &mut Vec<u8>) -> Result<(), Al
 /// Returns the verbs of a candidate, or the verb that blanks the value.
 fn verbs_of(candidate: Option<usize>) -> &'static [&'static str] {
     match candidate {
-        Some(candidate) => CANDIDATES.get(candidate).copied().unwrap_or(BLANK),
+        Some(index) => CANDIDATES.get(index).copied().unwrap_or(BLANK),
         None => BLANK,
     }
 }
@@ -64,39 +58,29 @@ pub fn target_of(line: &[u8]) -> &[u8] {
     line.get(7..).unwrap_or(line)
 }
 
-/// Returns the rules of a candidate by which a pair of texts is compared.
-fn test_of(alloc: Global, verbs: &[&str]) -> Result<MaskRules, Unsolved> {
-    let mut text = Vec::new(alloc);
-    push_rules(verbs, FIRST, &mut text)?;
-    push_rules(verbs, SECOND, &mut text)?;
-    read_rules(alloc, text.as_slice())
-}
-
-/// Returns for each candidate, in their order, the rules by which a pair of texts is compared.
+/// Returns for each candidate, in their order, the rules by which the two values of an event of
+/// [`event_of`] are compared.
 pub fn tests(alloc: Global) -> Result<Vec<MaskRules>, Unsolved> {
     let mut tests = Vec::new(alloc);
     for verbs in CANDIDATES.iter() {
-        tests.push(test_of(alloc, verbs)?)?;
+        let mut text = Vec::new(alloc);
+        push_rules(verbs, b"event    x a[]", &mut text)?;
+        tests.push(MaskRules::read(alloc, text.as_slice())?)?;
     }
     Ok(tests)
 }
 
-/// Returns the content of an event that has a pair of texts.
+/// Returns the content of an event that has two values, given as JSON.
 pub fn event_of(alloc: Global, a: &str, b: &str) -> Result<Vec<u8>, AllocError> {
-    let a = quoted(alloc, a)?;
-    let b = quoted(alloc, b)?;
-    parts_of(
-        alloc,
-        &[EVENT, a.as_bytes(), b",\"b\":", b.as_bytes(), b"}"],
-    )
+    parts_of(alloc, &[EVENT, a.as_bytes(), b",", b.as_bytes(), b"]}"])
 }
 
-/// Returns whether an event has a pair of equal texts.
+/// Returns whether an event has two equal texts.
 fn has_equal_texts(event: &Tree) -> bool {
-    match (text_at(event, "a"), text_at(event, "b")) {
-        (Some(a), Some(b)) => a == b,
-        _ => false,
-    }
+    let Some(Tree::List(values)) = event.child("a") else {
+        return false;
+    };
+    matches!(values.as_slice(), [Tree::Text(a), Tree::Text(b)] if a.as_str() == b.as_str())
 }
 
 /// Returns whether the rules of a candidate make the texts of such an event equal.

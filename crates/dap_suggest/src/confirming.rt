@@ -1,19 +1,17 @@
 //! Confirms that rules make two recordings the same.
-ghost use Rattle.std.specs.Prelude.{◌≡◌, IfOk, Ok, OnOk};
+ghost use Rattle.std.specs.Prelude.{IfOk, OnOk};
 ghost use Rattle.dap_input.specs.Limits.{AreSound};
 ghost use Rattle.dap_mask.specs.KeptRules.{mask_of};
-ghost use Rattle.dap_mask.specs.RulesFile.{rules_said};
 ghost use Rattle.dap_suggest.specs.Suggested.{AreSameBy, HaveOneNormal};
 ghost use Rattle.dap_suggest.specs.Suggested.{IsSuggestion};
 
-use crate::inputs::Inputs;
 use crate::joined_rules::joined;
 use crate::obstacle::{Obstacle, Unsolved};
 use crate::sessions::sessions_by;
-use crate::suggestion::Suggestion;
-use dap_mask::{MaskRules, RulesCause};
+use crate::suggestion::{Inputs, Suggestion};
+use dap_mask::MaskRules;
 use dap_rename::Mode;
-use dap_rules::{ApplyRefused, mode_by};
+use dap_rules::mode_by;
 use std::alloc::Global;
 
 /// The last line of rules.
@@ -28,33 +26,11 @@ const ADDED_PER_STOP: &[u8] =
 
 /// Returns the number of the record in which two different normal texts first differ.
 fn first_difference(text: &[u8], other: &[u8]) -> u64 {
-    let mut ends: u64 = 0;
-    for (index, byte) in text.iter().enumerate() {
-        match other.get(index) {
-            Some(found) => if *found != *byte {
-                break;
-            },
-            None => break,
-        }
-        if *byte == b'\n' {
-            ends = ends.saturating_add(1);
-        }
-    }
+    let both = text.iter().zip(other);
+    let same = both.take_while(|(byte, found)| **byte == **found);
+    let ends = same.filter(|(byte, _)| **byte == b'\n').count();
     // A record has three LF: two in its header part, and one after its content.
-    (ends / 3).saturating_add(1)
-}
-
-/// Reads the rules of a text.
-pub fn read_rules(alloc: Global, text: &[u8]) -> Result<MaskRules, Unsolved>
-    ensures { IfOk result (λ rules. rules_said text.now ≡ Ok (mask_of rules)) }
-{
-    match MaskRules::read(alloc, text) {
-        Ok(rules) => Ok(rules),
-        Err(fault) => match fault.cause {
-            RulesCause::Memory => Err(Unsolved::Memory),
-            _ => Err(Unsolved::NoRules(Obstacle::Unread)),
-        },
-    }
+    (ends as u64 / 3).saturating_add(1)
 }
 
 /// Compares what the rules make of two recordings.
@@ -72,13 +48,7 @@ fn compare_by(
     ensures { OnOk result (HaveOneNormal inputs.now.limits mode (mask_of rules.now) inputs.now.a.now
         inputs.now.b.now) }
 {
-    let sessions = match sessions_by(alloc, rules, inputs, mode) {
-        Ok(sessions) => sessions,
-        Err((_, ApplyRefused::Memory)) => return Err(Unsolved::Memory),
-        Err((which, refused)) => {
-            return Err(Unsolved::NoRules(Obstacle::Unapplied(which, refused)));
-        }
-    };
+    let sessions = sessions_by(alloc, rules, inputs, mode)?;
     let (one, other) = (sessions.a.normal.bytes(), sessions.b.normal.bytes());
     if one == other {
         return Ok(());
@@ -98,7 +68,7 @@ fn same_by(alloc: Global, text: &[u8], inputs: &Inputs<'_>) -> Result<Mode, Unso
     ensures { IfOk result (λ mode.
         AreSameBy inputs.now.limits mode text.now inputs.now.a.now inputs.now.b.now) }
 {
-    let rules = read_rules(alloc, text)?;
+    let rules = MaskRules::read(alloc, text)?;
     let mode = mode_by(&rules, Mode::Whole);
     compare_by(alloc, &rules, inputs, mode)?;
     Ok(mode)
@@ -120,18 +90,6 @@ fn suggested(
     Ok(Suggestion { rules, mode })
 }
 
-/// Suggests these rules, if two recordings are the same by them, or by them and the line
-/// `per-stop`.
-fn confirm_added(alloc: Global, inputs: &Inputs<'_>, found: &[u8]) -> Result<Suggestion, Unsolved>
-    requires { AreSound inputs.now.limits }
-    ensures { IfOk result (IsSuggestion inputs.now) }
-{
-    match suggested(alloc, inputs, found, SAME) {
-        Err(Unsolved::NoRules(_)) => suggested(alloc, inputs, found, ADDED_PER_STOP),
-        confirmed => confirmed,
-    }
-}
-
 /// Suggests these rules, if two recordings are the same by them. Ids are numbered once in each
 /// recording; or from each stop, if the rules that were given say so, or if only that makes the
 /// recordings the same.
@@ -140,7 +98,10 @@ pub fn confirm(alloc: Global, inputs: &Inputs<'_>, found: &[u8]) -> Result<Sugge
     ensures { IfOk result (IsSuggestion inputs.now) }
 {
     match inputs.mode {
-        Mode::Whole => confirm_added(alloc, inputs, found),
+        Mode::Whole => match suggested(alloc, inputs, found, SAME) {
+            Err(Unsolved::NoRules(_)) => suggested(alloc, inputs, found, ADDED_PER_STOP),
+            confirmed => confirmed,
+        },
         Mode::PerStop => suggested(alloc, inputs, found, SAME_PER_STOP),
     }
 }

@@ -1,21 +1,20 @@
 //! Counts the events of two recordings, and drops those of which they have different numbers.
-use crate::words::{push_name, push_named, text_at};
+use crate::words::{class_of, push_parts, text_at};
 use dap_compare::Which;
-use dap_diff::Entry;
+use dap_diff::{Entry, Recording};
+use dap_difference::{Step, push_path};
 use dap_message::{Kind, Message};
 use std::alloc::{AllocError, Global};
 use std::collections::BTreeMap;
 
 /// How many of some events each recording has.
-#[derive(Clone, Copy)]
+#[derive(Clone, Copy, Default)]
 struct Counts {
     a: u64,
     b: u64,
 }
 
 impl Counts {
-    const NONE: Counts = Counts { a: 0, b: 0 };
-
     fn add(&mut self, which: Which) {
         match which {
             Which::A => self.a = self.a.saturating_add(1),
@@ -41,6 +40,14 @@ pub struct Events {
 pub type EventsByName = BTreeMap<String, Events>;
 
 impl Events {
+    fn new(alloc: Global) -> Events {
+        Events {
+            all: Counts::default(),
+            others: Counts::default(),
+            by_category: BTreeMap::new(alloc),
+        }
+    }
+
     fn add(
         &mut self,
         alloc: Global,
@@ -48,22 +55,21 @@ impl Events {
         category: Option<&str>,
     ) -> Result<(), AllocError> {
         self.all.add(which);
-        let Some(category) = category else {
-            self.others.add(which);
-            return Ok(());
-        };
-        let category = String::from_str(alloc, category)?;
-        let counts = self.by_category.entry(category)?.or_insert(Counts::NONE);
-        counts.add(which);
+        match category {
+            Some(category) => {
+                let category = String::from_str(alloc, category)?;
+                self.by_category.entry(category)?.or_default().add(which);
+            }
+            None => self.others.add(which),
+        }
         Ok(())
     }
 
     /// Returns the counts of the events of this category, or of those without one.
     fn counts(&self, category: Option<&str>) -> &Counts {
-        match category {
-            Some(category) => self.by_category.get(category).unwrap_or(&self.others),
-            None => &self.others,
-        }
+        category
+            .and_then(|category| self.by_category.get(category))
+            .unwrap_or(&self.others)
     }
 
     /// Returns whether the events that have these counts are dropped: all events of the name are,
@@ -74,12 +80,16 @@ impl Events {
 
     /// Appends the rules that drop events of this name.
     fn push_drops(&self, alloc: Global, name: &str, out: &mut Vec<u8>) -> Result<(), AllocError> {
+        let class = class_of(alloc, Kind::Event, name)?;
         if self.drops(&self.others) {
-            return push_drop(alloc, name, None, &self.all, out);
+            return push_drop(alloc, &self.all, class.as_slice(), out);
         }
         for (category, counts) in self.by_category.iter() {
             if self.drops(counts) {
-                push_drop(alloc, name, Some(category.as_str()), counts, out)?;
+                let mut events = class.clone()?;
+                events.extend_from_slice(b" category=")?;
+                push_path(alloc, &[Step::Member(category.as_str())], &mut events)?;
+                push_drop(alloc, counts, events.as_slice(), out)?;
             }
         }
         Ok(())
@@ -101,13 +111,11 @@ fn category_of(message: &Message) -> Option<&str> {
 
 /// Returns whether a record is an event that is dropped.
 pub fn is_dropped(entry: &Entry, events: &EventsByName) -> bool {
-    if entry.message.kind() != Kind::Event {
-        return false;
-    }
-    match events.get(entry.message.name()) {
-        Some(found) => found.drops(found.counts(category_of(&entry.message))),
-        None => false,
-    }
+    let message = &entry.message;
+    message.kind() == Kind::Event
+        && events
+            .get(message.name())
+            .is_some_and(|found| found.drops(found.counts(category_of(message))))
 }
 
 /// Counts the events of a recording by their names, and by their category too if that is wanted.
@@ -115,52 +123,32 @@ pub fn is_dropped(entry: &Entry, events: &EventsByName) -> bool {
 pub fn count_events(
     alloc: Global,
     which: Which,
-    entries: &[Entry],
+    recording: &Recording,
     by_category: bool,
     events: &mut EventsByName,
 ) -> Result<(), AllocError> {
-    for entry in entries {
+    for entry in recording.entries.iter() {
         let message = &entry.message;
         if message.kind() == Kind::Event && !is_needed(message.name()) {
             let name = String::from_str(alloc, message.name())?;
-            let found = events.entry(name)?.or_insert(Events {
-                all: Counts::NONE,
-                others: Counts::NONE,
-                by_category: BTreeMap::new(alloc),
-            });
-            let category = if by_category {
-                category_of(message)
-            } else {
-                None
-            };
+            let found = events.entry(name)?.or_insert_with(|| Events::new(alloc));
+            let category = category_of(message).filter(|_| by_category);
             found.add(alloc, which, category)?;
         }
     }
     Ok(())
 }
 
-/// Appends the comment on the rule that drops events that have these counts, and the rule's verb.
-fn push_verb(alloc: Global, counts: &Counts, out: &mut Vec<u8>) -> Result<(), AllocError> {
-    let (a, b) = (counts.a, counts.b);
-    let start = format!(in alloc; "# {a} in A, {b} in B\ndrop   ")?;
-    out.extend_from_slice(start.as_bytes())
-}
-
-/// Appends the rule that drops the events of a name, or those of a category, after a comment.
+/// Appends the rule that drops these events, after a comment with their counts.
 fn push_drop(
     alloc: Global,
-    name: &str,
-    category: Option<&str>,
     counts: &Counts,
+    events: &[u8],
     out: &mut Vec<u8>,
 ) -> Result<(), AllocError> {
-    push_verb(alloc, counts, out)?;
-    push_named(alloc, Kind::Event, name, out)?;
-    if let Some(category) = category {
-        out.extend_from_slice(b" category=")?;
-        push_name(alloc, category, out)?;
-    }
-    out.extend_from_slice(b"\n\n")
+    let (a, b) = (counts.a, counts.b);
+    let start = format!(in alloc; "# {a} in A, {b} in B\ndrop   ")?;
+    push_parts(&[start.as_bytes(), events, b"\n\n"], out)
 }
 
 /// Returns the rules that drop events.

@@ -2,11 +2,11 @@
 ghost use Rattle.dap_input.specs.Limits.{AreSound};
 
 use crate::candidates::push_commented;
-use crate::inputs::Inputs;
-use crate::joined_rules::{fault_of, joined, missing_end};
-use crate::words::{push_member, push_named, shown};
+use crate::joined_rules::{joined, missing_end};
+use crate::suggestion::Inputs;
+use crate::words::{class_of, push_member};
 use dap_compare::Which;
-use dap_mask::{MaskRules, read_masked};
+use dap_mask::{MaskRules, RulesCause, read_masked};
 use dap_message::Kind;
 use dap_recording::{FedRecord, RecordCause, RecordReader};
 use dap_tree::{Scratch, TreeFault};
@@ -15,7 +15,7 @@ use std::alloc::{AllocError, Global};
 use std::collections::BTreeMap;
 
 /// The comments on rules, by the messages and the places of the rules.
-type Comments = BTreeMap<Vec<u8>, Vec<u8>>;
+type Comments = BTreeMap<Vec<u8>, String>;
 
 /// A record, as comments name it.
 #[derive(Clone, Copy)]
@@ -34,8 +34,8 @@ fn add_number(
     comments: &mut Comments,
 ) -> Result<(), AllocError> {
     if value.is_f64() && !comments.contains_key(target) {
-        let text = value.to_string(alloc)?;
-        let comment = shown(alloc, origin.which, origin.number, text.as_str())?;
+        let Origin { which, number } = origin;
+        let comment = format!(in alloc; "# {which} record {number}: {value}\n")?;
         drop(comments.insert(Vec::from_slice(alloc, target)?, comment)?);
     }
     Ok(())
@@ -71,38 +71,14 @@ fn search(
     Ok(())
 }
 
-fn text_at<'m>(message: &'m Value, name: &str) -> Option<&'m str> {
-    match message.get(name)? {
-        Value::String(text) => Some(text.as_str()),
-        _ => None,
-    }
-}
-
 /// Returns the kind and the name of a message, if it has them.
 fn head_of(message: &Value) -> Option<(Kind, &str)> {
-    let (kind, member) = match text_at(message, "type")? {
-        "request" => (Kind::Request, "command"),
-        "response" => (Kind::Response, "command"),
-        "event" => (Kind::Event, "event"),
-        _ => return None,
+    let kind = Kind::named(message.get("type")?.as_str()?)?;
+    let name = match kind {
+        Kind::Request | Kind::Response => message.get("command"),
+        Kind::Event => message.get("event"),
     };
-    Some((kind, text_at(message, member)?))
-}
-
-/// Adds the rules for the numbers of a message.
-fn add_message(
-    alloc: Global,
-    origin: Origin,
-    message: &Value,
-    comments: &mut Comments,
-) -> Result<(), AllocError> {
-    let Some((kind, name)) = head_of(message) else {
-        return Ok(());
-    };
-    let mut target = Vec::new(alloc);
-    push_named(alloc, kind, name, &mut target)?;
-    target.push(b' ')?;
-    search(alloc, origin, message, &mut target, comments)
+    Some((kind, name?.as_str()?))
 }
 
 /// Adds the rules for the numbers of a record, if it has some after the rules that were given.
@@ -118,10 +94,13 @@ fn add_record(
         Err(TreeFault::Fraction) => {}
         _ => return Ok(()),
     }
-    let Ok(message) = Value::from_slice(alloc, content) else {
-        return Err(AllocError);
+    let message = Value::from_slice(alloc, content).map_err(|_| AllocError)?;
+    let Some((kind, name)) = head_of(&message) else {
+        return Ok(());
     };
-    add_message(alloc, origin, &message, comments)
+    let mut target = class_of(alloc, kind, name)?;
+    target.push(b' ')?;
+    search(alloc, origin, &message, &mut target, comments)
 }
 
 /// Adds the rules for the numbers of a recording, up to an error in its bytes.
@@ -178,10 +157,12 @@ fn accepted_rules(alloc: Global, given: &[u8], comments: &Comments) -> Result<Ve
     let mut out = Vec::from_slice(alloc, missing_end(given))?;
     for (target, comment) in comments.iter() {
         let length = out.len();
-        push_commented(comment.as_slice(), None, target.as_slice(), &mut out)?;
+        push_commented(comment.as_bytes(), None, target.as_slice(), &mut out)?;
         let whole = joined(alloc, given, out.as_slice())?;
-        if fault_of(alloc, whole.as_slice())?.is_some() {
-            out.truncate(length);
+        match MaskRules::read(alloc, whole.as_slice()) {
+            Err(fault) if fault.cause == RulesCause::Memory => return Err(AllocError),
+            Err(_) => out.truncate(length),
+            Ok(_) => {}
         }
     }
     Ok(out)

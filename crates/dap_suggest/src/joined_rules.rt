@@ -37,79 +37,62 @@ fn line_at(text: &[u8], number: usize) -> &[u8] {
         .unwrap_or(&[])
 }
 
-/// Returns why a text is not a rules file.
-pub fn fault_of(alloc: Global, text: &[u8]) -> Result<Option<RulesFault>, AllocError> {
-    match MaskRules::read(alloc, text) {
-        Ok(_) => Ok(None),
-        Err(fault) => match fault.cause {
-            RulesCause::Memory => Err(AllocError),
-            _ => Ok(Some(fault)),
-        },
-    }
+/// The rules that were found for the places and for the order.
+#[derive(Drop)]
+struct Rules<'m> {
+    spots: Spots<'m>,
+    swaps: Swaps,
 }
 
-/// Removes the rule of the line that is rejected. If there are too many rules, removes those for
-/// elements by their name.
-///
-/// # Errors
-///
-/// The line has another rule, or an allocation failed.
-fn exclude_rejected(
-    alloc: Global,
-    whole: &[u8],
-    fault: RulesFault,
-    spots: &mut Spots<'_>,
-    swaps: &mut Swaps,
-) -> Result<(), Unsolved> {
-    let is_excluded = match fault.cause {
-        RulesCause::TooLong | RulesCause::TooMany => spots.join_elements(),
-        _ => {
-            let target = target_of(line_at(whole, fault.line));
-            swaps.exclude(target) || spots.exclude(alloc, target)?
+impl Rules<'_> {
+    /// Removes the rule of the line that is rejected. If there are too many rules, removes those
+    /// for elements by their name.
+    ///
+    /// # Errors
+    ///
+    /// The line has another rule, or an allocation failed.
+    fn exclude(&mut self, whole: &[u8], fault: RulesFault) -> Result<(), Unsolved> {
+        let is_excluded = match fault.cause {
+            RulesCause::Memory => false,
+            RulesCause::TooLong | RulesCause::TooMany => self.spots.join_elements(),
+            _ => {
+                let target = target_of(line_at(whole, fault.line));
+                self.swaps.exclude(target) || self.spots.exclude(target)?
+            }
+        };
+        if is_excluded {
+            Ok(())
+        } else {
+            Err(Unsolved::from(fault))
         }
-    };
-    if is_excluded {
-        Ok(())
-    } else {
-        Err(Unsolved::NoRules(Obstacle::Unread))
     }
 }
 
-/// Returns the rules for two recordings that are matched. They can follow those that were given.
+/// Returns the rules for two recordings that are matched, after those `before` them. They can
+/// follow the rules that were given: a rule that cannot is left out.
 ///
 /// # Errors
 ///
 /// No rules make some record the same, or an allocation failed.
-pub fn rules_for(alloc: Global, given: &[u8], matched: &Matched) -> Result<Vec<u8>, Unsolved> {
-    let pairs = pairs_of(alloc, matched)?;
-    let pairs = pairs.as_slice();
-    let mut spots = spots_of(alloc, pairs)?;
-    let mut swaps = swaps_of(alloc, pairs)?;
-    text_of(
-        alloc,
-        given,
-        matched.drops.as_slice(),
-        &mut spots,
-        &mut swaps,
-    )
-}
-
-/// Returns the text of rules that can follow those that were given. A rule that cannot is removed.
-fn text_of(
+pub fn rules_for(
     alloc: Global,
     given: &[u8],
-    drops: &[u8],
-    spots: &mut Spots<'_>,
-    swaps: &mut Swaps,
+    before: &[u8],
+    matched: &Matched,
 ) -> Result<Vec<u8>, Unsolved> {
+    let pairs = pairs_of(alloc, matched)?;
+    let mut rules = Rules {
+        spots: spots_of(alloc, pairs.as_slice())?,
+        swaps: swaps_of(alloc, pairs.as_slice())?,
+    };
     for _ in 0..ATTEMPTS {
-        let mut text = joined(alloc, missing_end(given), drops)?;
-        spots.push(&mut text)?;
-        swaps.push(&mut text)?;
+        let mut text = joined(alloc, before, matched.drops.as_slice())?;
+        rules.spots.push(alloc, &mut text)?;
+        rules.swaps.push(&mut text)?;
         let whole = joined(alloc, given, text.as_slice())?;
-        match fault_of(alloc, whole.as_slice())? {
-            None => return Ok(text),
-            Some(fault) => exclude_rejected(alloc, whole.as_slice(), fault, spots, swaps)?,
+        match MaskRules::read(alloc, whole.as_slice()) {
+            Ok(_) => return Ok(text),
+            Err(fault) => rules.exclude(whole.as_slice(), fault)?,
         }
     }
     Err(Unsolved::NoRules(Obstacle::Unread))

@@ -8,7 +8,6 @@ mod candidates;
 mod confirming;
 mod counting;
 mod fractions;
-mod inputs;
 mod joined_rules;
 mod matched;
 mod obstacle;

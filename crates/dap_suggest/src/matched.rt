@@ -1,15 +1,14 @@
 //! Two recordings whose records are matched.
 ghost use Rattle.dap_input.specs.Limits.{AreSound};
 
-use crate::counting::{EventsByName, count_events, drops, is_dropped};
-use crate::obstacle::{Obstacle, Reason, Unsolved, unsolved_at};
-use crate::sessions::Sessions;
+use crate::counting::{count_events, drops, is_dropped};
+use crate::obstacle::{Reason, Unsolved, unsolved_at};
+use crate::sessions::{Session, Sessions};
 use dap_compare::{CompareRefused, Which};
 use dap_device::MemorySource;
 use dap_diff::{Entry, Recording, match_records, read_recording};
 use dap_input::Limits;
 use dap_rename::{Mode, index_tables};
-use dap_rules::ApplyRefused;
 use std::alloc::Global;
 use std::collections::BTreeMap;
 
@@ -34,15 +33,15 @@ pub struct Pair<'m> {
 fn read_session(
     alloc: Global,
     which: Which,
-    session: &[u8],
+    session: &Session,
     limits: Limits,
-) -> Result<Recording, Unsolved>
+) -> Result<Recording, CompareRefused>
     requires { AreSound limits }
 {
-    let mut reader = MemorySource::new(session);
+    let mut reader = MemorySource::new(session.bytes.as_slice());
     let mut recording = Recording::new(alloc);
     let tables = index_tables(alloc, limits.ids);
-    match read_recording(
+    read_recording(
         alloc,
         which,
         &mut reader,
@@ -50,19 +49,8 @@ fn read_session(
         tables,
         Mode::Whole,
         &mut recording,
-    ) {
-        Ok(()) => Ok(recording),
-        Err(CompareRefused::Input(which, refused)) => Err(Unsolved::NoRules(Obstacle::Unapplied(
-            which,
-            ApplyRefused::Order(refused),
-        ))),
-        Err(CompareRefused::Memory) => Err(Unsolved::Memory),
-    }
-}
-
-/// Removes the events that are dropped.
-fn remove_dropped(recording: &mut Recording, events: &EventsByName) {
-    recording.entries.retain(|entry| !is_dropped(entry, events));
+    )?;
+    Ok(recording)
 }
 
 /// Reads and matches the recordings of two sessions that are accepted. Events that they have in
@@ -75,38 +63,23 @@ pub fn read_matched(
 ) -> Result<Matched, Unsolved>
     requires { AreSound limits }
 {
-    let mut a = read_session(alloc, Which::A, sessions.a.bytes.as_slice(), limits)?;
-    let mut b = read_session(alloc, Which::B, sessions.b.bytes.as_slice(), limits)?;
+    let mut a = read_session(alloc, Which::A, &sessions.a, limits)?;
+    let mut b = read_session(alloc, Which::B, &sessions.b, limits)?;
     let mut events = BTreeMap::new(alloc);
-    count_events(
-        alloc,
-        Which::A,
-        a.entries.as_slice(),
-        by_category,
-        &mut events,
-    )?;
-    count_events(
-        alloc,
-        Which::B,
-        b.entries.as_slice(),
-        by_category,
-        &mut events,
-    )?;
-    remove_dropped(&mut a, &events);
-    remove_dropped(&mut b, &events);
+    count_events(alloc, Which::A, &a, by_category, &mut events)?;
+    count_events(alloc, Which::B, &b, by_category, &mut events)?;
+    a.entries.retain(|entry| !is_dropped(entry, &events));
+    b.entries.retain(|entry| !is_dropped(entry, &events));
     match_records(alloc, a.entries.as_mut_slice(), b.entries.as_mut_slice())?;
     let drops = drops(alloc, &events)?;
     Ok(Matched { a, b, drops })
 }
 
 /// Returns a record of A with its counterpart.
-fn pair_of<'m>(entry: &'m Entry, others: &'m [Entry]) -> Option<Pair<'m>> {
-    let place = entry.counterpart?;
-    Some(Pair {
-        a: entry,
-        b: others.get(place)?,
-        place,
-    })
+fn pair_of<'m>(a: &'m Entry, others: &'m [Entry]) -> Option<Pair<'m>> {
+    let place = a.counterpart?;
+    let b = others.get(place)?;
+    Some(Pair { a, b, place })
 }
 
 /// Returns the pairs in the order of A.
@@ -119,13 +92,16 @@ pub fn pairs_of<'m>(alloc: Global, matched: &'m Matched) -> Result<Vec<Pair<'m>>
     for entry in matched.a.entries.iter() {
         match pair_of(entry, matched.b.entries.as_slice()) {
             Some(pair) => pairs.push(pair)?,
-            None => return Err(unsolved_at(alloc, Reason::NoCounterpart, Which::A, entry)),
+            None => return Err(unsolved_at(Reason::NoCounterpart, Which::A, entry)),
         }
     }
-    for entry in matched.b.entries.iter() {
-        if entry.counterpart.is_none() {
-            return Err(unsolved_at(alloc, Reason::NoCounterpart, Which::B, entry));
-        }
+    match matched
+        .b
+        .entries
+        .iter()
+        .find(|entry| entry.counterpart.is_none())
+    {
+        Some(entry) => Err(unsolved_at(Reason::NoCounterpart, Which::B, entry)),
+        None => Ok(pairs),
     }
-    Ok(pairs)
 }

@@ -1,10 +1,9 @@
 //! Why no rules make two recordings the same.
-ghost use Rattle.std.specs.Prelude.{◌≡◌};
-
-use dap_compare::Which;
+use dap_compare::{CompareRefused, Which};
 use dap_diff::Entry;
+use dap_mask::{RulesCause, RulesFault};
 use dap_rules::ApplyRefused;
-use std::alloc::{AllocError, AllocFailed, Global};
+use std::alloc::{AllocError, AllocFailed};
 
 /// What is wrong with a record that no rule can make the same.
 #[derive(Clone, Copy, Debug, PartialEq, Eq)]
@@ -58,9 +57,38 @@ impl<T: Drop> From<AllocFailed<T>> for Unsolved {
     }
 }
 
+impl From<RulesFault> for Unsolved {
+    fn from(fault: RulesFault) -> Unsolved {
+        match fault.cause {
+            RulesCause::Memory => Unsolved::Memory,
+            _ => Unsolved::NoRules(Obstacle::Unread),
+        }
+    }
+}
+
+impl From<(Which, ApplyRefused)> for Unsolved {
+    fn from((which, refused): (Which, ApplyRefused)) -> Unsolved {
+        match refused {
+            ApplyRefused::Memory => Unsolved::Memory,
+            _ => Unsolved::NoRules(Obstacle::Unapplied(which, refused)),
+        }
+    }
+}
+
+impl From<CompareRefused> for Unsolved {
+    fn from(refused: CompareRefused) -> Unsolved {
+        match refused {
+            CompareRefused::Memory => Unsolved::Memory,
+            CompareRefused::Input(which, refused) => {
+                Unsolved::NoRules(Obstacle::Unapplied(which, ApplyRefused::Order(refused)))
+            }
+        }
+    }
+}
+
 /// Returns that a record of a recording is the reason.
-pub fn unsolved_at(alloc: Global, reason: Reason, which: Which, entry: &Entry) -> Unsolved {
-    match String::from_str(alloc, entry.head.as_str()) {
+pub fn unsolved_at(reason: Reason, which: Which, entry: &Entry) -> Unsolved {
+    match entry.head.clone() {
         Ok(head) => Unsolved::NoRules(Obstacle::Record {
             reason,
             which,

@@ -5,7 +5,7 @@ ghost use Rattle.dap_mask.specs.KeptRules.{mask_of};
 ghost use Rattle.dap_rules.specs.ApplyingSteps.{order_refusal};
 ghost use Rattle.dap_suggest.specs.Suggested.{AreMade, IsOneRejected, IsRejected, MakesNormal};
 
-use crate::inputs::Inputs;
+use crate::suggestion::Inputs;
 use dap_compare::Which;
 use dap_input::{Limits, Refused};
 use dap_mask::MaskRules;
@@ -48,10 +48,7 @@ pub fn session_of(
         (λ s. MakesNormal limits mode (mask_of rules.now) recording.now s.normal.bytes) }
     ensures err { IfErr result (IsRejected limits mode (mask_of rules.now) recording.now) }
 {
-    let bytes = match apply_rules(alloc, rules, recording, limits, mode) {
-        Ok(bytes) => bytes,
-        Err(refused) => return Err(refused),
-    };
+    let bytes = apply_rules(alloc, rules, recording, limits, mode)?;
     match normalise_bytes(alloc, bytes.as_slice(), limits, mode) {
         Ok(normal) => Ok(Session { bytes, normal }),
         Err(refused) => Err(rejected(refused)),
@@ -81,12 +78,9 @@ pub fn sessions_by(
     ensures err { IfErr result (IsOneRejected inputs.now.limits mode (mask_of rules.now)
         inputs.now.a.now inputs.now.b.now) }
 {
-    let a = match session_of(alloc, rules, inputs.a, inputs.limits, mode) {
-        Ok(session) => session,
-        Err(refused) => return Err((Which::A, refused)),
-    };
-    match session_of(alloc, rules, inputs.b, inputs.limits, mode) {
-        Ok(b) => Ok(Sessions { a, b }),
-        Err(refused) => Err((Which::B, refused)),
-    }
+    let made = session_of(alloc, rules, inputs.a, inputs.limits, mode);
+    let a = made.map_err(|refused| (Which::A, refused))?;
+    let made = session_of(alloc, rules, inputs.b, inputs.limits, mode);
+    let b = made.map_err(|refused| (Which::B, refused))?;
+    Ok(Sessions { a, b })
 }

@@ -4,10 +4,11 @@ use crate::matched::Pair;
 use crate::obstacle::{Reason, Unsolved, unsolved_at};
 use crate::trial::Trial;
 use crate::walking::{Element, Found, compare_trees};
-use crate::words::{class_of, parts_of, push_parts, quoted};
+use crate::words::{class_of, json_of, parts_of};
 use dap_compare::Which;
 use dap_diff::Entry;
 use dap_mask::MaskRules;
+use dap_tree::Tree;
 use std::alloc::{AllocError, Global};
 use std::collections::BTreeMap;
 
@@ -22,91 +23,119 @@ struct Part {
     names: Vec<u8>,
 }
 
+impl Part {
+    /// Returns the element of a list at a first pair of values, at which no candidates are tried
+    /// yet.
+    fn new(
+        alloc: Global,
+        tests: &[MaskRules],
+        pair: &Pair<'_>,
+        found: &Found<'_>,
+        list: &[u8],
+    ) -> Result<Part, AllocError> {
+        Ok(Part {
+            trial: Trial::new(alloc, tests, pair, found)?,
+            names: parts_of(alloc, &[list, b"[].name"])?,
+        })
+    }
+}
+
+/// The elements with a name to whose places pairs differ, by the messages and the places of their
+/// rules.
+type Parts = BTreeMap<Vec<u8>, Part>;
+
 /// A place of the messages of one kind and name at which some pair differs.
 #[derive(Drop)]
 struct Spot<'m> {
     whole: Trial,
     /// The record of A in the first pair.
     first: &'m Entry,
-    /// The elements with a name to whose places the pairs differ, by the messages and the places of
-    /// their rules. Not used if `is_split` is false.
-    parts: BTreeMap<Vec<u8>, Part>,
-    /// Whether each pair differs at an element with a name, and these are few.
-    is_split: bool,
+    /// The elements at which the pairs differ, if each differs at an element with a name, and these
+    /// are few.
+    parts: Option<Parts>,
 }
 
 impl<'m> Spot<'m> {
-    /// Returns the place at a first pair of values, at which the candidates are tried.
+    /// Returns the place at a first pair of values, at which no candidates are tried yet.
     fn new(
         alloc: Global,
         tests: &[MaskRules],
         pair: &Pair<'m>,
         found: &Found<'_>,
     ) -> Result<Spot<'m>, AllocError> {
-        let mut spot = Spot {
+        Ok(Spot {
             whole: Trial::new(alloc, tests, pair, found)?,
             first: pair.a,
-            parts: BTreeMap::new(alloc),
-            is_split: true,
-        };
-        spot.try_part(alloc, tests, pair, found)?;
-        Ok(spot)
+            parts: Some(BTreeMap::new(alloc)),
+        })
     }
 
-    /// Tries the candidates at a pair of values, for the element.
-    fn try_part(
+    /// Tries the candidates at a pair of values, for the place and for the element.
+    fn try_at(
         &mut self,
         alloc: Global,
         tests: &[MaskRules],
         pair: &Pair<'_>,
         found: &Found<'_>,
     ) -> Result<(), AllocError> {
-        let Some(element) = found.element else {
-            self.is_split = false;
-            return Ok(());
+        self.whole.try_at(alloc, tests, found)?;
+        let is_split = match &mut self.parts {
+            Some(parts) => try_part(alloc, tests, pair, found, parts)?,
+            None => false,
         };
-        if !self.is_split {
-            return Ok(());
+        if !is_split {
+            self.parts = None;
         }
-        let (target, names) = part_targets(alloc, found, element)?;
-        if let Some(part) = self.parts.get_mut(target.as_slice()) {
-            return part.trial.try_at(alloc, tests, found);
-        }
-        let trial = Trial::new(alloc, tests, pair, found)?;
-        drop(self.parts.insert(target, Part { trial, names })?);
-        self.is_split = self.parts.len() <= MAX_ELEMENTS;
         Ok(())
     }
 
     /// Leaves out the candidate for an element. If there is none, drops all rules for elements.
     /// Returns whether the element is one of this place.
     fn exclude_part(&mut self, target: &[u8]) -> bool {
-        let Some(part) = self.parts.get_mut(target) else {
+        let Some(parts) = &mut self.parts else {
+            return false;
+        };
+        let Some(part) = parts.get_mut(target) else {
             return false;
         };
         if !part.trial.exclude() {
-            self.is_split = false;
+            self.parts = None;
         }
         true
     }
 }
 
-/// Returns the messages and the place of a rule for the elements of one name, and those of a rule
-/// for the names of the elements of the list.
-fn part_targets(
+/// Tries the candidates at a pair of values, for the element. Returns whether there is an element
+/// with a name, and these are few.
+fn try_part(
     alloc: Global,
+    tests: &[MaskRules],
+    pair: &Pair<'_>,
     found: &Found<'_>,
-    element: Element<'_>,
-) -> Result<(Vec<u8>, Vec<u8>), AllocError> {
+    parts: &mut Parts,
+) -> Result<bool, AllocError> {
+    let Some(Element { start, name }) = found.element else {
+        return Ok(false);
+    };
     let target = found.target.as_slice();
-    let list = target.get(..element.start).unwrap_or(&[]);
+    let list = target.get(..start).unwrap_or(&[]);
     // Two bytes are the brackets of the place.
-    let after = target.get(element.start.saturating_add(2)..).unwrap_or(&[]);
-    let name = quoted(alloc, element.name)?;
-    let mut part = Vec::from_slice(alloc, list)?;
-    push_parts(&[b"[", name.as_bytes(), b"]", after], &mut part)?;
-    let names = parts_of(alloc, &[list, b"[].name"])?;
-    Ok((part, names))
+    let after = target.get(start.saturating_add(2)..).unwrap_or(&[]);
+    let name = json_of(alloc, &Tree::Text(String::from_str(alloc, name)?))?;
+    let target = parts_of(alloc, &[list, b"[", name.as_bytes(), b"]", after])?;
+    let part = parts
+        .entry(target)?
+        .or_try_insert_with(|| Part::new(alloc, tests, pair, found, list))?;
+    part.trial.try_at(alloc, tests, found)?;
+    Ok(parts.len() <= MAX_ELEMENTS)
+}
+
+/// Appends the rules for the elements of a place by their name.
+fn push_elements(parts: &Parts, out: &mut Vec<u8>) -> Result<(), AllocError> {
+    for (target, part) in parts.iter() {
+        part.trial.push(target.as_slice(), out)?;
+    }
+    Ok(())
 }
 
 /// Returns whether a target is a place inside that of another target.
@@ -119,115 +148,92 @@ fn is_inside(target: &[u8], whole: &[u8]) -> bool {
 pub struct Spots<'m> {
     tests: Vec<MaskRules>,
     by_target: BTreeMap<Vec<u8>, Spot<'m>>,
-    /// Whether no place has rules for elements by their name.
-    is_joined: bool,
 }
 
 impl<'m> Spots<'m> {
     fn add(&mut self, alloc: Global, pair: &Pair<'m>, found: &Found<'_>) -> Result<(), AllocError> {
         let tests = self.tests.as_slice();
-        if let Some(spot) = self.by_target.get_mut(found.target.as_slice()) {
-            spot.whole.try_at(alloc, tests, found)?;
-            return spot.try_part(alloc, tests, pair, found);
-        }
         let target = found.target.clone()?;
-        let spot = Spot::new(alloc, tests, pair, found)?;
-        drop(self.by_target.insert(target, spot)?);
-        Ok(())
+        let spot = self
+            .by_target
+            .entry(target)?
+            .or_try_insert_with(|| Spot::new(alloc, tests, pair, found))?;
+        spot.try_at(alloc, tests, pair, found)
     }
 
     /// Adds the places at which a pair differs. Returns whether rules for them make it equal.
     fn add_pair(&mut self, alloc: Global, pair: &Pair<'m>) -> Result<bool, AllocError> {
-        let mut target = class_of(alloc, &pair.a.message)?;
+        let (a, b) = (&pair.a.message, &pair.b.message);
+        let mut target = class_of(alloc, a.kind(), a.name())?;
         target.push(b' ')?;
         let mut found = Vec::new(alloc);
-        let (a, b) = (pair.a.message.tree(), pair.b.message.tree());
-        let is_enough = compare_trees(alloc, a, b, None, &mut target, &mut found)?;
+        let is_enough = compare_trees(alloc, a.tree(), b.tree(), None, &mut target, &mut found)?;
         for one in found.iter() {
             self.add(alloc, pair, one)?;
         }
         Ok(is_enough)
     }
 
-    /// Returns whether a place has rules for elements by their name: no candidate works for all of
+    /// Returns the elements of a place that have rules by their name: no candidate works for all of
     /// them, and no other rule changes their names.
-    fn is_split(&self, spot: &Spot<'_>) -> bool {
-        if self.is_joined || !spot.is_split || spot.whole.candidate().is_some() {
-            return false;
-        }
-        for (_, part) in spot.parts.iter() {
-            if self.by_target.contains_key(part.names.as_slice()) {
-                return false;
-            }
-        }
-        true
+    fn elements_of<'s>(&self, spot: &'s Spot<'_>) -> Option<&'s Parts> {
+        let parts = spot.parts.as_ref()?;
+        let is_split = spot.whole.candidate().is_none()
+            && !parts
+                .values()
+                .any(|part| self.by_target.contains_key(part.names.as_slice()));
+        if is_split { Some(parts) } else { None }
     }
 
-    /// Returns whether a target is inside the place of another rule that blanks it.
-    fn is_blanked(&self, target: &[u8]) -> bool {
-        for (whole, spot) in self.by_target.iter() {
-            if is_inside(target, whole.as_slice())
-                && spot.whole.candidate().is_none()
-                && !self.is_split(spot)
-            {
-                return true;
-            }
-        }
-        false
-    }
-
-    /// Appends the rules for all places, each after its comment.
-    pub fn push(&self, out: &mut Vec<u8>) -> Result<(), AllocError> {
+    /// Appends the rules for all places that are not inside a place that is blanked, each after its
+    /// comment.
+    pub fn push(&self, alloc: Global, out: &mut Vec<u8>) -> Result<(), AllocError> {
+        // The blanked places whose targets are prefixes of the target, the longest last. None is
+        // inside another one, so only the last one can have the target inside it.
+        let mut blanked: Vec<&[u8]> = Vec::new(alloc);
         for (target, spot) in self.by_target.iter() {
-            if !self.is_blanked(target.as_slice()) {
-                self.push_spot(target.as_slice(), spot, out)?;
+            let target = target.as_slice();
+            let last = blanked.iter().rposition(|whole| target.starts_with(*whole));
+            blanked.truncate(last.map_or(0, |last| last.saturating_add(1)));
+            if blanked
+                .last()
+                .is_some_and(|whole| is_inside(target, *whole))
+            {
+                continue;
             }
+            if let Some(parts) = self.elements_of(spot) {
+                push_elements(parts, out)?;
+                continue;
+            }
+            if spot.whole.candidate().is_none() {
+                blanked.push(target)?;
+            }
+            spot.whole.push(target, out)?;
         }
         Ok(())
     }
 
-    /// Appends the rules for a place, or for its elements by their name.
-    fn push_spot(
-        &self,
-        target: &[u8],
-        spot: &Spot<'_>,
-        out: &mut Vec<u8>,
-    ) -> Result<(), AllocError> {
-        if !self.is_split(spot) {
-            return spot.whole.push(target, out);
-        }
-        for (target, part) in spot.parts.iter() {
-            part.trial.push(target.as_slice(), out)?;
-        }
-        Ok(())
-    }
-
-    /// Drops all rules for elements by their name. Returns whether they were not dropped before.
+    /// Drops all rules for elements by their name. Returns whether there were some.
     pub fn join_elements(&mut self) -> bool {
-        let could_split = !self.is_joined;
-        self.is_joined = true;
-        could_split
-    }
-
-    /// Leaves out the candidate for elements by their name. Returns whether there are such
-    /// elements.
-    fn exclude_part(&mut self, target: &[u8]) -> bool {
-        for (_, spot) in self.by_target.iter_mut() {
-            if spot.exclude_part(target) {
-                return true;
-            }
+        let mut had_parts = false;
+        for spot in self.by_target.values_mut() {
+            had_parts = spot.parts.take().is_some() || had_parts;
         }
-        false
+        had_parts
     }
 
-    /// Leaves out the candidate for a place, because a file of rules cannot have it. Returns
-    /// whether there is such a place.
+    /// Leaves out the candidate for a place or for elements by their name, because a file of rules
+    /// cannot have it. Returns whether there is such a place, or are such elements.
     ///
     /// # Errors
     ///
     /// The place cannot be blanked either.
-    pub fn exclude(&mut self, alloc: Global, target: &[u8]) -> Result<bool, Unsolved> {
-        if self.exclude_part(target) {
+    pub fn exclude(&mut self, target: &[u8]) -> Result<bool, Unsolved> {
+        if self
+            .by_target
+            .values_mut()
+            .any(|spot| spot.exclude_part(target))
+        {
             return Ok(true);
         }
         let Some(spot) = self.by_target.get_mut(target) else {
@@ -236,7 +242,7 @@ impl<'m> Spots<'m> {
         if spot.whole.exclude() {
             return Ok(true);
         }
-        Err(unsolved_at(alloc, Reason::Differs, Which::A, spot.first))
+        Err(unsolved_at(Reason::Differs, Which::A, spot.first))
     }
 }
 
@@ -249,11 +255,10 @@ pub fn spots_of<'m>(alloc: Global, pairs: &[Pair<'m>]) -> Result<Spots<'m>, Unso
     let mut spots = Spots {
         tests: tests(alloc)?,
         by_target: BTreeMap::new(alloc),
-        is_joined: false,
     };
     for pair in pairs {
         if !spots.add_pair(alloc, pair)? {
-            return Err(unsolved_at(alloc, Reason::Differs, Which::A, pair.a));
+            return Err(unsolved_at(Reason::Differs, Which::A, pair.a));
         }
     }
     Ok(spots)

@@ -4,43 +4,20 @@ ghost use Rattle.dap_input.specs.Limits.{AreSound};
 ghost use Rattle.dap_mask.specs.KeptRules.{mask_of};
 ghost use Rattle.dap_mask.specs.RulesFile.{rules_said};
 ghost use Rattle.dap_suggest.specs.NotSuggested.{HasNoSuggestion, IsNotSuggested};
-ghost use Rattle.dap_suggest.specs.NotSuggested.{IsRulesRefusal, IsSearchRefusal, input_refusal};
 ghost use Rattle.dap_suggest.specs.Suggested.{AreSameBy, IsSuggestion};
 
-use crate::confirming::{confirm, read_rules};
+use crate::confirming::confirm;
 use crate::fractions::fraction_rules;
-use crate::inputs::Inputs;
-use crate::joined_rules::{joined, rules_for};
+use crate::joined_rules::{joined, missing_end, rules_for};
 use crate::matched::read_matched;
 use crate::obstacle::Unsolved;
 use crate::sessions::{Sessions, sessions_by};
-use crate::suggestion::{SuggestRefused, Suggestion};
-use dap_compare::Which;
+use crate::suggestion::{Inputs, SuggestRefused, Suggestion};
 use dap_input::{Limits, Refused};
-use dap_mask::{MaskRules, RulesCause, RulesFault};
+use dap_mask::MaskRules;
 use dap_rename::Mode;
 use dap_rules::{ApplyRefused, mode_by};
 use std::alloc::Global;
-
-/// Returns why the rules that were given are rejected.
-fn rules_refusal(fault: RulesFault) -> SuggestRefused
-    ensures { IsRulesRefusal fault result }
-{
-    match fault.cause {
-        RulesCause::Memory => SuggestRefused::Memory,
-        _ => SuggestRefused::Rules(fault),
-    }
-}
-
-/// Returns why a search found no rules.
-fn search_refusal(unsolved: Unsolved) -> SuggestRefused
-    ensures { IsSearchRefusal result }
-{
-    match unsolved {
-        Unsolved::NoRules(obstacle) => SuggestRefused::NoRules(obstacle),
-        Unsolved::Memory => SuggestRefused::Memory,
-    }
-}
 
 /// Searches rules for two recordings and their sessions, which the rules that were given and those
 /// `before` the others make, and confirms them. Events are dropped by their category only if that
@@ -55,10 +32,8 @@ fn find_by(
     requires { AreSound inputs.now.limits }
     ensures { IfOk result (IsSuggestion inputs.now) }
 {
-    let known = joined(alloc, inputs.given, before)?;
     let matched = read_matched(alloc, sessions, by_category, inputs.limits)?;
-    let found = rules_for(alloc, known.as_slice(), &matched)?;
-    let rules = joined(alloc, before, found.as_slice())?;
+    let rules = rules_for(alloc, inputs.given, before, &matched)?;
     confirm(alloc, inputs, rules.as_slice())
 }
 
@@ -79,24 +54,6 @@ fn find_confirmed(
     }
 }
 
-/// Returns the sessions that the rules that were given and those of a text after them make. Returns
-/// `None` if they make none.
-fn sessions_after(
-    alloc: Global,
-    inputs: &Inputs<'_>,
-    before: &[u8],
-) -> Result<Option<Sessions>, Unsolved>
-    requires { AreSound inputs.now.limits }
-{
-    let known = joined(alloc, inputs.given, before)?;
-    let rules = read_rules(alloc, known.as_slice())?;
-    match sessions_by(alloc, &rules, inputs, Mode::Whole) {
-        Ok(sessions) => Ok(Some(sessions)),
-        Err((_, ApplyRefused::Memory)) => Err(Unsolved::Memory),
-        Err(_) => Ok(None),
-    }
-}
-
 /// Searches rules after those that blank the numbers of which no session can be made. Returns
 /// `None` if these do not make sessions either.
 fn find_after_fractions(
@@ -108,20 +65,15 @@ fn find_after_fractions(
     ensures { IfOk result (λ o. IfSome o (IsSuggestion inputs.now)) }
 {
     let before = fraction_rules(alloc, rules, inputs)?;
-    let Some(sessions) = sessions_after(alloc, inputs, before.as_slice())? else {
-        return Ok(None);
-    };
-    let found = find_confirmed(alloc, inputs, before.as_slice(), &sessions)?;
-    Ok(Some(found))
-}
-
-/// Returns that a recording is rejected by the rules.
-fn input_refusal(which: Which, refused: ApplyRefused) -> SuggestRefused
-    ensures { result ≡ input_refusal which refused }
-{
-    match refused {
-        ApplyRefused::Memory => SuggestRefused::Memory,
-        refused => SuggestRefused::Input(which, refused),
+    let known = joined(alloc, inputs.given, before.as_slice())?;
+    let rules = MaskRules::read(alloc, known.as_slice())?;
+    match sessions_by(alloc, &rules, inputs, Mode::Whole) {
+        Ok(sessions) => {
+            let found = find_confirmed(alloc, inputs, before.as_slice(), &sessions)?;
+            Ok(Some(found))
+        }
+        Err((_, ApplyRefused::Memory)) => Err(Unsolved::Memory),
+        Err(_) => Ok(None),
     }
 }
 
@@ -149,10 +101,9 @@ fn suggest_after(
     if !has_fraction(&refused) {
         return Err(refused);
     }
-    match find_after_fractions(alloc, rules, inputs) {
-        Ok(Some(suggestion)) => Ok(suggestion),
-        Ok(None) => Err(refused),
-        Err(unsolved) => Err(search_refusal(unsolved)),
+    match find_after_fractions(alloc, rules, inputs)? {
+        Some(suggestion) => Ok(suggestion),
+        None => Err(refused),
     }
 }
 
@@ -167,15 +118,14 @@ fn suggest_by(
     ensures ok { IfOk result (IsSuggestion inputs.now) }
     ensures err { IfErr result (HasNoSuggestion inputs.now) }
 {
-    match sessions_by(alloc, rules, inputs, Mode::Whole) {
-        Ok(sessions) => match find_confirmed(alloc, inputs, b"", &sessions) {
-            Ok(suggestion) => Ok(suggestion),
-            Err(unsolved) => Err(search_refusal(unsolved)),
-        },
+    let sessions = match sessions_by(alloc, rules, inputs, Mode::Whole) {
+        Ok(sessions) => sessions,
         Err(rejected) => {
-            suggest_after(alloc, rules, inputs, input_refusal(rejected.0, rejected.1))
+            return suggest_after(alloc, rules, inputs, SuggestRefused::from(rejected));
         }
-    }
+    };
+    let found = find_confirmed(alloc, inputs, missing_end(inputs.given), &sessions)?;
+    Ok(found)
 }
 
 /// Suggests rules that make two recordings of one scenario the same, in addition to the rules that
@@ -216,17 +166,14 @@ pub fn suggest(
     // rules were found. `Memory` is returned only if the rules that were given are not too long.
     ensures err { IfErr result (IsNotSuggested limits given.now a.now b.now) }
 {
-    match MaskRules::read(alloc, given) {
-        Ok(rules) => {
-            let inputs = Inputs {
-                given,
-                mode: mode_by(&rules, Mode::Whole),
-                a,
-                b,
-                limits,
-            };
-            suggest_by(alloc, &rules, &inputs)
-        }
-        Err(fault) => Err(rules_refusal(fault)),
-    }
+    let rules = MaskRules::read(alloc, given)?;
+    let mode = mode_by(&rules, Mode::Whole);
+    let inputs = Inputs {
+        given,
+        mode,
+        a,
+        b,
+        limits,
+    };
+    suggest_by(alloc, &rules, &inputs)
 }

@@ -1,9 +1,21 @@
-//! What a suggestion returns.
-use crate::obstacle::Obstacle;
+//! What rules are suggested for, and what a suggestion returns.
+use crate::obstacle::{Obstacle, Unsolved};
 use dap_compare::Which;
-use dap_mask::RulesFault;
+use dap_input::Limits;
+use dap_mask::{RulesCause, RulesFault};
 use dap_rename::Mode;
 use dap_rules::ApplyRefused;
+
+/// Two recordings of one scenario, and the text of the rules that were given for them.
+#[derive(Clone, Copy)]
+pub struct Inputs<'i> {
+    pub given: &'i [u8],
+    /// The mode in which ids are numbered after these rules.
+    pub mode: Mode,
+    pub a: &'i [u8],
+    pub b: &'i [u8],
+    pub limits: Limits,
+}
 
 /// Rules that make two recordings the same.
 #[derive(Drop)]
@@ -26,4 +38,44 @@ pub enum SuggestRefused {
     NoRules(Obstacle),
     /// An allocation failed.
     Memory,
+}
+
+impl From<RulesFault> for SuggestRefused {
+    ghost use Rattle.dap_suggest.specs.NotSuggested.{IsRulesRefusal};
+
+    ghost from_gives = { λ fault refused. IsRulesRefusal fault refused };
+
+    fn from(fault: RulesFault) -> SuggestRefused {
+        match fault.cause {
+            RulesCause::Memory => SuggestRefused::Memory,
+            _ => SuggestRefused::Rules(fault),
+        }
+    }
+}
+
+impl From<(Which, ApplyRefused)> for SuggestRefused {
+    ghost use Rattle.std.specs.Prelude.{◌≡◌};
+    ghost use Rattle.dap_suggest.specs.NotSuggested.{input_refusal};
+
+    ghost from_gives = { λ rejected refused. refused ≡ input_refusal rejected.0 rejected.1 };
+
+    fn from((which, refused): (Which, ApplyRefused)) -> SuggestRefused {
+        match refused {
+            ApplyRefused::Memory => SuggestRefused::Memory,
+            _ => SuggestRefused::Input(which, refused),
+        }
+    }
+}
+
+impl From<Unsolved> for SuggestRefused {
+    ghost use Rattle.dap_suggest.specs.NotSuggested.{IsSearchRefusal};
+
+    ghost from_gives = { λ _ refused. IsSearchRefusal refused };
+
+    fn from(unsolved: Unsolved) -> SuggestRefused {
+        match unsolved {
+            Unsolved::NoRules(obstacle) => SuggestRefused::NoRules(obstacle),
+            Unsolved::Memory => SuggestRefused::Memory,
+        }
+    }
 }

@@ -14,51 +14,46 @@ pub struct Swaps {
     by_halves: BTreeMap<Vec<u8>, String>,
 }
 
+/// Returns the half that names all messages of the kind of a message.
+fn half_of(message: &Message) -> Half {
+    Half {
+        kind: message.kind(),
+        name: None,
+    }
+}
+
 /// Returns whether two messages may change places if a rule names them.
 fn may_pass(x: &Message, y: &Message) -> bool {
-    let one = Half {
-        kind: x.kind(),
-        name: None,
+    let rule = SwapRule {
+        one: half_of(x),
+        another: half_of(y),
     };
-    let another = Half {
-        kind: y.kind(),
-        name: None,
-    };
-    is_free(&[SwapRule { one, another }], x, y)
+    is_free(&[rule], x, y)
 }
 
-/// Returns the two halves of a rule.
-fn halves_of(alloc: Global, one: &[u8], another: &[u8]) -> Result<Vec<u8>, AllocError> {
-    parts_of(alloc, &[one, b" ", another])
-}
-
-/// Returns the comment that names two records.
-fn comment_of(alloc: Global, one: u64, another: u64) -> Result<String, AllocError> {
-    format!(in alloc; "# in A records {one} and {another}, in B the other way round\n")
+/// Returns the kind and the name of the messages of a pair, as rules have them.
+fn class_of_pair(alloc: Global, pair: &Pair<'_>) -> Result<Vec<u8>, AllocError> {
+    let message = &pair.a.message;
+    class_of(alloc, message.kind(), message.name())
 }
 
 impl Swaps {
-    /// Returns whether there is a rule with these two halves.
-    fn has(&self, alloc: Global, one: &[u8], another: &[u8]) -> Result<bool, AllocError> {
-        let halves = halves_of(alloc, one, another)?;
-        Ok(self.by_halves.contains_key(halves.as_slice()))
-    }
-
-    /// Adds the rule for two pairs of these classes, the second of which comes first in B, unless
-    /// there is one, whichever half comes first.
-    fn add(
-        &mut self,
-        alloc: Global,
-        x: &Pair<'_>,
-        y: &Pair<'_>,
-        one: &[u8],
-        another: &[u8],
-    ) -> Result<(), AllocError> {
-        if self.has(alloc, one, another)? || self.has(alloc, another, one)? {
+    /// Adds the rule for two pairs, the second of which comes first in B, unless there is one,
+    /// whichever half comes first.
+    fn add(&mut self, alloc: Global, x: &Pair<'_>, y: &Pair<'_>) -> Result<(), AllocError> {
+        let one = class_of_pair(alloc, x)?;
+        let another = class_of_pair(alloc, y)?;
+        let halves = parts_of(alloc, &[one.as_slice(), b" ", another.as_slice()])?;
+        let exchanged = parts_of(alloc, &[another.as_slice(), b" ", one.as_slice()])?;
+        if self.by_halves.contains_key(halves.as_slice())
+            || self.by_halves.contains_key(exchanged.as_slice())
+        {
             return Ok(());
         }
-        let halves = halves_of(alloc, one, another)?;
-        let comment = comment_of(alloc, x.a.number, y.a.number)?;
+        let (first, second) = (x.a.number, y.a.number);
+        let comment = format!(in alloc;
+            "# in A records {first} and {second}, in B the other way round\n"
+        )?;
         drop(self.by_halves.insert(halves, comment)?);
         Ok(())
     }
@@ -80,28 +75,34 @@ impl Swaps {
     }
 }
 
-/// Adds the rules for a pair and the latest pair of each class before it, if that comes after it in
-/// B.
-fn add_inverted(
-    alloc: Global,
-    latest: &BTreeMap<Vec<u8>, Pair<'_>>,
-    pair: &Pair<'_>,
-    class: &[u8],
-    swaps: &mut Swaps,
-) -> Result<(), Unsolved> {
-    for (earlier, before) in latest.iter() {
-        if before.place < pair.place {
-            continue;
+/// The pair of each class that comes last in B, of the pairs so far.
+#[derive(Drop)]
+struct Latest<'m> {
+    /// The pairs, by their places in B.
+    by_place: BTreeMap<usize, Pair<'m>>,
+    /// The place of the pair of each class.
+    places: BTreeMap<Vec<u8>, usize>,
+}
+
+impl<'m> Latest<'m> {
+    /// Adds a pair, in place of the latest one of its class if it comes after that in B.
+    fn add(&mut self, alloc: Global, pair: &Pair<'m>) -> Result<(), AllocError> {
+        let class = class_of_pair(alloc, pair)?;
+        let place = self.places.entry(class)?.or_insert(pair.place);
+        let before = *place;
+        if before <= pair.place {
+            *place = pair.place;
+            let _ = self.by_place.remove(&before);
+            let _ = self.by_place.insert(pair.place, *pair)?;
         }
-        if !may_pass(&before.a.message, &pair.a.message) {
-            return Err(unsolved_at(alloc, Reason::OutOfOrder, Which::A, pair.a));
-        }
-        swaps.add(alloc, before, pair, earlier.as_slice(), class)?;
+        Ok(())
     }
-    Ok(())
 }
 
 /// Returns the rules that let pairs change places which come in another order in B.
+///
+/// The time per pair is logarithmic in the number of pairs, and linear in the number of classes
+/// that the pair passes.
 ///
 /// # Errors
 ///
@@ -110,33 +111,18 @@ pub fn swaps_of(alloc: Global, pairs: &[Pair<'_>]) -> Result<Swaps, Unsolved> {
     let mut swaps = Swaps {
         by_halves: BTreeMap::new(alloc),
     };
-    // The pair of each class that comes last in B.
-    let mut latest = BTreeMap::new(alloc);
+    let mut latest = Latest {
+        by_place: BTreeMap::new(alloc),
+        places: BTreeMap::new(alloc),
+    };
     for pair in pairs {
-        add_pair(alloc, pair, &mut latest, &mut swaps)?;
+        for (_, before) in latest.by_place.range(pair.place..) {
+            if !may_pass(&before.a.message, &pair.a.message) {
+                return Err(unsolved_at(Reason::OutOfOrder, Which::A, pair.a));
+            }
+            swaps.add(alloc, before, pair)?;
+        }
+        latest.add(alloc, pair)?;
     }
     Ok(swaps)
-}
-
-/// Adds the rules for a pair and those before it, and keeps it if it is the latest of its class.
-fn add_pair<'m>(
-    alloc: Global,
-    pair: &Pair<'m>,
-    latest: &mut BTreeMap<Vec<u8>, Pair<'m>>,
-    swaps: &mut Swaps,
-) -> Result<(), Unsolved> {
-    let class = class_of(alloc, &pair.a.message)?;
-    add_inverted(alloc, latest, pair, class.as_slice(), swaps)?;
-    if is_later(latest, class.as_slice(), pair) {
-        let _ = latest.insert(class, *pair)?;
-    }
-    Ok(())
-}
-
-/// Returns whether a pair comes after the latest one of its class in B.
-fn is_later(latest: &BTreeMap<Vec<u8>, Pair<'_>>, class: &[u8], pair: &Pair<'_>) -> bool {
-    match latest.get(class) {
-        Some(before) => before.place < pair.place,
-        None => true,
-    }
 }

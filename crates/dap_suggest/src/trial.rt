@@ -2,11 +2,15 @@
 use crate::candidates::{are_equal_by, event_of, push_commented};
 use crate::matched::Pair;
 use crate::walking::Found;
-use crate::words::{json_of, push_shown};
+use crate::words::json_of;
 use dap_compare::Which;
+use dap_difference::push_window;
 use dap_mask::MaskRules;
 use dap_tree::Tree;
 use std::alloc::{AllocError, Global};
+
+/// How many characters of a value a comment has at most.
+const SHOWN: usize = 120;
 
 /// Which candidates make the values of all pairs equal at a place.
 #[derive(Drop)]
@@ -17,18 +21,17 @@ pub struct Trial {
 }
 
 impl Trial {
-    /// Returns a trial of the candidates at a first pair of values.
+    /// Returns a trial at a first pair of values, at which no candidates are tried yet.
     pub fn new(
         alloc: Global,
         tests: &[MaskRules],
         pair: &Pair<'_>,
         found: &Found<'_>,
     ) -> Result<Trial, AllocError> {
-        let works = vec![in alloc; true; tests.len()]?;
-        let comment = comment_of(alloc, pair, found)?;
-        let mut trial = Trial { works, comment };
-        trial.try_at(alloc, tests, found)?;
-        Ok(trial)
+        Ok(Trial {
+            works: vec![in alloc; true; tests.len()]?,
+            comment: comment_of(alloc, pair, found)?,
+        })
     }
 
     /// Tries the candidates at a pair of values.
@@ -38,23 +41,14 @@ impl Trial {
         tests: &[MaskRules],
         found: &Found<'_>,
     ) -> Result<(), AllocError> {
-        let (Tree::Text(a), Tree::Text(b)) = (found.a, found.b) else {
+        let (Tree::Text(_), Tree::Text(_)) = (found.a, found.b) else {
             self.works.clear();
             return Ok(());
         };
+        let (a, b) = (json_of(alloc, found.a)?, json_of(alloc, found.b)?);
         let event = event_of(alloc, a.as_str(), b.as_str())?;
-        self.try_event(alloc, tests, event.as_slice())
-    }
-
-    /// Tries the candidates at the texts of an event.
-    fn try_event(
-        &mut self,
-        alloc: Global,
-        tests: &[MaskRules],
-        event: &[u8],
-    ) -> Result<(), AllocError> {
         for (works, test) in self.works.iter_mut().zip(tests) {
-            *works = *works && are_equal_by(alloc, test, event)?;
+            *works = *works && are_equal_by(alloc, test, event.as_slice())?;
         }
         Ok(())
     }
@@ -66,13 +60,13 @@ impl Trial {
 
     /// Excludes the candidate, since a file cannot have its rules. Returns whether there was one.
     pub fn exclude(&mut self) -> bool {
-        let Some(index) = self.candidate() else {
-            return false;
-        };
-        if let Some(works) = self.works.get_mut(index) {
-            *works = false;
+        match self.works.iter_mut().find(|works| **works) {
+            Some(works) => {
+                *works = false;
+                true
+            }
+            None => false,
         }
-        true
     }
 
     /// Appends the rules for a place, after their comment.
@@ -81,20 +75,18 @@ impl Trial {
     }
 }
 
-/// Returns the comment that shows a pair of values.
+/// Returns the comment that shows a pair of values, or the part of a long value in which it differs
+/// from the other value.
 fn comment_of(alloc: Global, pair: &Pair<'_>, found: &Found<'_>) -> Result<Vec<u8>, AllocError> {
-    let a = json_of(alloc, found.a)?;
-    let b = json_of(alloc, found.b)?;
+    let (a, b) = (json_of(alloc, found.a)?, json_of(alloc, found.b)?);
+    let (a, b) = (a.as_str(), b.as_str());
     let mut comment = Vec::new(alloc);
-    let (first, second) = (pair.a.number, pair.b.number);
-    push_shown(alloc, Which::A, first, a.as_str(), b.as_str(), &mut comment)?;
-    push_shown(
-        alloc,
-        Which::B,
-        second,
-        b.as_str(),
-        a.as_str(),
-        &mut comment,
-    )?;
+    for (which, entry, text, other) in [(Which::A, pair.a, a, b), (Which::B, pair.b, b, a)] {
+        let number = entry.number;
+        let start = format!(in alloc; "# {which} record {number}: ")?;
+        comment.extend_from_slice(start.as_bytes())?;
+        push_window(text, other, SHOWN, &mut comment)?;
+        comment.push(b'\n')?;
+    }
     Ok(comment)
 }

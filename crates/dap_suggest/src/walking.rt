@@ -51,55 +51,18 @@ fn are_equal(a: &Tree, b: &Tree) -> bool {
     }
 }
 
-/// Returns whether `blank` makes two values without parts equal.
-fn have_one_blank(a: &Tree, b: &Tree) -> bool {
-    matches!(
-        (a, b),
+/// Returns whether `blank` at a target makes two values equal. A whole message is not blanked, and
+/// neither is each element of a list, which would lose what the profile wants of it.
+fn can_blank(a: &Tree, b: &Tree, target: &[u8]) -> bool {
+    match (a, b) {
         (Tree::Bool(_), Tree::Bool(_))
-            | (Tree::Whole(_), Tree::Whole(_))
-            | (Tree::Text(_), Tree::Text(_))
-    )
-}
-
-/// Returns whether a target is a whole message, or each element of a list. Neither is blanked: an
-/// element would lose what the profile wants of it.
-fn is_kept(target: &[u8]) -> bool {
-    target.ends_with(b" ") || target.ends_with(b"]")
-}
-
-/// Adds a place at which two messages differ. Returns that a rule for it makes the values equal.
-fn add<'t>(
-    a: &'t Tree,
-    b: &'t Tree,
-    element: Option<Element<'t>>,
-    target: &Vec<u8>,
-    found: &mut Vec<Found<'t>>,
-) -> Result<bool, AllocError> {
-    let target = target.clone()?;
-    found.push(Found {
-        target,
-        element,
-        a,
-        b,
-    })?;
-    Ok(true)
-}
-
-/// Compares two values that are not both lists or both objects, as [`compare_trees`] does.
-fn compare_scalars<'t>(
-    a: &'t Tree,
-    b: &'t Tree,
-    element: Option<Element<'t>>,
-    target: &Vec<u8>,
-    found: &mut Vec<Found<'t>>,
-) -> Result<bool, AllocError> {
-    if are_equal(a, b) {
-        return Ok(true);
+        | (Tree::Whole(_), Tree::Whole(_))
+        | (Tree::Text(_), Tree::Text(_)) => true,
+        (Tree::List(_), Tree::List(_)) | (Tree::Object(_), Tree::Object(_)) => {
+            !target.ends_with(b" ") && !target.ends_with(b"]")
+        }
+        _ => false,
     }
-    if !have_one_blank(a, b) {
-        return Ok(false);
-    }
-    add(a, b, element, target, found)
 }
 
 /// Adds the places at which two trees differ. The place of a list or an object is added in place of
@@ -115,21 +78,27 @@ pub fn compare_trees<'t>(
     found: &mut Vec<Found<'t>>,
 ) -> Result<bool, AllocError> {
     let start = found.len();
-    let compared = match (a, b) {
+    let is_enough = match (a, b) {
         (Tree::List(items), Tree::List(others)) => {
-            compare_items(alloc, items, others, element, target, found)
+            compare_items(alloc, items, others, element, target, found)?
         }
         (Tree::Object(members), Tree::Object(others)) => {
-            compare_members(alloc, members, others, element, target, found)
+            compare_members(alloc, members, others, element, target, found)?
         }
-        _ => return compare_scalars(a, b, element, target, found),
+        _ => are_equal(a, b),
     };
-    let is_enough = compared?;
-    if is_enough || is_kept(target.as_slice()) {
+    if is_enough || !can_blank(a, b, target.as_slice()) {
         return Ok(is_enough);
     }
     found.truncate(start);
-    add(a, b, element, target, found)
+    let target = target.clone()?;
+    found.push(Found {
+        target,
+        element,
+        a,
+        b,
+    })?;
+    Ok(true)
 }
 
 #[cycle(compare_trees)]

@@ -1,7 +1,10 @@
+use Rattle.std.proofs.lemmas.Result.{err_from_is_err_and}
 use Rattle.dap_suggest.proofs.Refusals.{rules_rejected}
 use Rattle.dap_suggest.proofs.suggesting.suggest.Goals as goal
 
-pub returns-in-Err-clause-err : goal.returns-in-Err-clause-err
-returns-in-Err-clause-err c =
-    rules_rejected c.args.limits c.args.given.now c.args.a.now c.args.b.now c.in-Err.fault
-    c.rules_refusal.result c.rules_refusal.ensures c.in-Err.ensures.err c.in-Err.ensures.memory
+pub returns-in_err-rules-clause-err : goal.returns-in_err-rules-clause-err
+returns-in_err-rules-clause-err c =
+    let because = err_from_is_err_and c.from_residual.result c.from_residual.ensures.1 in
+    rw because.1
+    (rules_rejected c.args.limits c.args.given.now c.args.a.now c.args.b.now _ because.0 because.2
+    c.in_err-rules.ensures.err c.in_err-rules.ensures.memory)
