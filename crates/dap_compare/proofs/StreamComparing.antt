@@ -1,8 +1,7 @@
 -- The results of `compare` while it reads two inputs.
-use Rattle.std.proofs.Common.{⊎_elim}
 use Rattle.std.proofs.Common.{◌≡◌, ◌⊎◌, inl, inr, ℕ, ℤ, ◌+◌, Bool, true, false, List, [], ◌∷◌, ◌++◌}
 use Rattle.std.proofs.Common.{length, Option, Some, None, Ok, Err, refl, sym, ◌∙◌, ap, subst, arith}
-use Rattle.std.proofs.Common.{append_assoc, append-nil, eqb, not, rules}
+use Rattle.std.proofs.Common.{append_assoc, append-nil, eqb, not, rules, ⊎_elim}
 use lib.Pointwise.{pointwise}
 use Rattle.std.proofs.lemmas.List.{length_push}
 use Rattle.dap_device.specs.declared.device.Source.{Ghosts as Source}
@@ -57,8 +56,10 @@ pub not_empty_record : (m : Sent) (text : List ℕ) → text ≡ record_of m →
 not_empty_record m text is none = let never : [] ≡ record_of m = sym none ∙ is in cc
 
 -- Two texts that are not found to differ are equal.
-pub texts_equal : (xs ys : List ℕ) (r : Bool) → r ≡ not (pointwise eqb xs ys) → r ≡ false → xs ≡ ys
-texts_equal xs ys r is equal = search rules
+pub texts_equal : {xs ys a b : List ℕ} {r : Bool} → xs ≡ a → ys ≡ b
+    → r ≡ not (pointwise eqb xs ys) → r ≡ false → a ≡ b
+texts_equal {xs = xs} {ys = ys} one two is equal =
+    let same : xs ≡ ys = search rules in sym one ∙ same ∙ two
 
 -- Nothing of both inputs has been read.
 pub none_compared : {R S : Type 0} (source_a : Source R) (source_b : Source S) (limits : Limits)

@@ -1,7 +1,6 @@
 -- Reading a text that is the record of a message.
 use Rattle.std.proofs.Common.{◌≡◌, ℕ, List, [], ◌++◌, length, take, drop, Option, Some, None}
-use Rattle.std.proofs.Common.{MatchOption}
-use Rattle.std.proofs.Common.{refl, sym, ◌∙◌, subst, append-nil, take-append-drop}
+use Rattle.std.proofs.Common.{MatchOption, refl, sym, ◌∙◌, subst, append-nil, take-append-drop}
 use Rattle.dap_frame.specs.declared.limits.FrameLimits.{FrameLimits}
 use Rattle.dap_tree.specs.Json.{text_of}
 use Rattle.dap_frame.proofs.Ends.{item_not_faulty, item_not_open, one_item}
@@ -18,8 +17,7 @@ use Rattle.dap_recording.proofs.Records.{record_grammar}
 use Rattle.dap_recording.proofs.RecordSteps.{represented_is_incomplete}
 use Rattle.dap_input.specs.declared.limits.Limits.{Limits}
 use Rattle.dap_input.specs.Limits.{AreSound}
-use Rattle.dap_input.specs.Validation.{Reason, faulty, input_too_long, cut, objected, no_message}
-use Rattle.dap_input.specs.Validation.{broken, too_many_ids, grew}
+use Rattle.dap_input.specs.Validation.{Reason, objected, no_message}
 use Rattle.dap_input.specs.Refusals.{IsObjected, RejectsPayload, reason_of}
 use Rattle.dap_input.specs.declared.refused.Refused.{Refused}
 use Rattle.dap_input.specs.declared.refused.Refused.TheVariants as why
@@ -93,33 +91,12 @@ module _ (held : Payload) (m : Sent) (is : IsMessage held m) where
   no_reason None reported = reported
   no_reason (Some (n, objected (no_message e))) reported =
       typed_not_refused held.0 held.1 m.doc e is.1 reported.1
-  no_reason (Some (n, objected (broken rule))) reported = reported.1
-  no_reason (Some (n, objected too_many_ids)) reported = reported.1
-  no_reason (Some (n, objected grew)) reported = reported.1
-  no_reason (Some (n, faulty cause)) reported = reported.1
-  no_reason (Some (n, input_too_long)) reported = reported.1
-  no_reason (Some (n, cut)) reported = reported.1
+  no_reason (Some (n, reason)) reported = reported.1
 
   not_refused : (because : Refused) → (because ≡ why.Memory → ⊥)
       → RejectsPayload (HoldsNoMessage held) 1 because → ⊥
-  not_refused (why.InputTooLong n) other reported = no_reason (reason_of (why.InputTooLong n))
-      reported
-  not_refused (why.Record n x) other reported = no_reason (reason_of (why.Record n x)) reported
-  not_refused (why.Json n) other reported = no_reason (reason_of (why.Json n)) reported
-  not_refused (why.Fraction n) other reported = no_reason (reason_of (why.Fraction n)) reported
-  not_refused (why.Message n x) other reported = no_reason (reason_of (why.Message n x)) reported
-  not_refused (why.Rule n x) other reported = no_reason (reason_of (why.Rule n x)) reported
-  not_refused (why.TooManyIds n) other reported = no_reason (reason_of (why.TooManyIds n)) reported
-  not_refused (why.Grew n) other reported = no_reason (reason_of (why.Grew n)) reported
-  not_refused (why.Incomplete n x) other reported = no_reason (reason_of (why.Incomplete n x))
-      reported
-  not_refused (why.TraceTooLong n) other reported = no_reason (reason_of (why.TraceTooLong n))
-      reported
-  not_refused (why.Trace n x) other reported = no_reason (reason_of (why.Trace n x)) reported
-  not_refused (why.Recorder n x) other reported = no_reason (reason_of (why.Recorder n x)) reported
-  not_refused why.ReadFault other reported = no_reason (reason_of why.ReadFault) reported
-  not_refused why.WriteFault other reported = no_reason (reason_of why.WriteFault) reported
   not_refused why.Memory other reported = other refl
+  not_refused because other reported = no_reason (reason_of because) reported
 
 -- The text of a record is not rejected as having no message.
 pub refused_none : (limits : Limits) (text : List ℕ) (held : Payload) (because : Refused)

@@ -27,6 +27,7 @@ use Rattle.dap_compare.specs.LeftTexts.{IsRecordAt, LeavesRecord}
 use Rattle.dap_compare.specs.Verdicts.{Compares}
 use Rattle.dap_compare.specs.declared.verdict.CompareRefused.TheVariants.{Memory}
 use Rattle.dap_compare.specs.declared.verdict.Verdict.TheVariants.{Differ}
+use Rattle.dap_compare.proofs.StreamComparing.{not_empty_record}
 use Rattle.dap_diff.specs.Diffs.{HasAt, HasRead, DescribesRecord}
 use Rattle.dap_diff.specs.Texts.{IsRecordOf, IsRecordText, Holds, IsLeftText, DescribesTexts}
 
@@ -95,10 +96,6 @@ module _ (limits : Limits) (mode : Mode) (sound : AreSound limits) where
     record_is text next.front next.values normal named next.accepted is_normal is,
     (next, normal, is_normal),
   )
-
--- The text of a record is not empty.
-not_empty_record : (m : Sent) (text : List ℕ) → text ≡ record_of m → text ≡ [] → ⊥
-not_empty_record m text is none = let never : [] ≡ record_of m = sym none ∙ is in cc
 
 pub left_record : (limits : Limits) (text : List ℕ) → (text ≡ [] → ⊥) → IsLeftText limits text
     → IsRecordText limits text

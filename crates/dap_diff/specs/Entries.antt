@@ -1,5 +1,5 @@
 -- The records of a recording in memory: their numbers, messages and heads. Source: own.
-use Rattle.std.specs.Prelude.{◌≡◌, ℕ, suc, Bool, false, cond, List, [], ◌∷◌, ◌++◌, None}
+use Rattle.std.specs.Prelude.{◌≡◌, ℕ, suc, cond, List, [], ◌∷◌, ◌++◌, None}
 use Rattle.std.specs.Prelude.{string_bytes}
 use Rattle.dap_device.specs.declared.device.Source.{Ghosts as Source}
 use Rattle.dap_message.specs.Message.{Sent, sent}
@@ -15,15 +15,11 @@ use Rattle.dap_diff.specs.declared.entry.Recording.{Recording}
 
 -- ---- stops
 
--- The numbering of frame ids and variables references restarts after this message.
-abbrev pub restarts_after : Mode → Sent → Bool
-restarts_after Whole m = false
-restarts_after PerStop m = is_stopped m
-
 -- The number of the last stop after a record with this number and this message, if it was `stop`
--- before.
+-- before. With `PerStop`, the numbering of frame ids and variables references restarts there.
 abbrev pub stop_after : Mode → ℕ → Sent → ℕ → ℕ
-stop_after mode number m stop = cond (restarts_after mode m) number stop
+stop_after Whole number m stop = stop
+stop_after PerStop number m stop = cond (is_stopped m) number stop
 
 -- The number of the last stop after messages whose records are numbered from this number on.
 abbrev pub last_stop : Mode → ℕ → ℕ → List Sent → ℕ

@@ -30,8 +30,7 @@ fn lines_of(
     let mut scratch = Scratch::new(alloc);
     let message_a = message_in(alloc, text_a, limits, &mut scratch)?;
     let message_b = message_in(alloc, text_b, limits, &mut scratch)?;
-    let lines = diff_lines(alloc, &message_a, &message_b, &mut scratch)?;
-    Ok(lines)
+    diff_lines(alloc, &message_a, &message_b, &mut scratch)
 }
 
 /// Compares two recordings like [`compare`](dap_compare::compare). If they differ, returns the
@@ -123,10 +122,8 @@ pub fn diff_with<A: Source, B: Source, T: NameTable + Drop>(
     match verdict {
         Verdict::Same(_) => Ok(Diff::Same),
         Verdict::Differ(record) => {
-            match lines_of(alloc, text_a.as_slice(), text_b.as_slice(), limits) {
-                Ok(lines) => Ok(Diff::Differ { record, lines }),
-                Err(_) => Err(CompareRefused::Memory),
-            }
+            let lines = lines_of(alloc, text_a.as_slice(), text_b.as_slice(), limits)?;
+            Ok(Diff::Differ { record, lines })
         }
     }
 }

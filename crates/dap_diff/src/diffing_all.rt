@@ -66,8 +66,6 @@ pub fn diff_all_with<A: Source, B: Source, T: NameTable + Drop>(
     if a.text.as_slice() == b.text.as_slice() {
         return Ok(AllDifferences::Same);
     }
-    match report_lines(alloc, &mut a, &mut b) {
-        Ok(lines) => Ok(AllDifferences::Differ { lines }),
-        Err(_) => Err(CompareRefused::Memory),
-    }
+    let lines = report_lines(alloc, &mut a, &mut b)?;
+    Ok(AllDifferences::Differ { lines })
 }

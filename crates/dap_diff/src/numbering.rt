@@ -22,7 +22,10 @@ fn join_trees(
     match (a, b) {
         (Tree::Id(sort, x), Tree::Id(other, y)) => {
             if sort == other {
-                numbers.join(Id::new(*sort, stops.0, *x), Id::new(*other, stops.1, *y))?;
+                numbers.join(
+                    Id::new(Which::A, *sort, stops.0, *x),
+                    Id::new(Which::B, *other, stops.1, *y),
+                )?;
             }
             Ok(())
         }
@@ -41,10 +44,8 @@ fn join_items(
     others: &Vec<Tree>,
     numbers: &mut JointNumbers,
 ) -> Result<(), AllocError> {
-    for (place, item) in items.iter().enumerate() {
-        if let Some(other) = others.get(place) {
-            join_trees(stops, item, other, numbers)?;
-        }
+    for (item, other) in items.iter().zip(others.iter()) {
+        join_trees(stops, item, other, numbers)?;
     }
     Ok(())
 }
@@ -89,7 +90,7 @@ fn numbers_of(
 {
     let mut joint = Vec::new(alloc);
     for (sort, number) in ids {
-        joint.push(numbers.number(which, Id::new(*sort, stop, *number))?)?;
+        joint.push(numbers.number(Id::new(which, *sort, stop, *number))?)?;
     }
     Ok(joint)
 }

@@ -1,12 +1,10 @@
 //! Reads a recording into memory: its normal form, as a text and as messages.
 ghost use Rattle.std.specs.Prelude.{◌≡◌, ◌+◌, ◌<◌, ◌≤◌, ◌^◌, [], OnOk};
-ghost use Rattle.dap_compare.specs.ComparingSteps.{IsRefusalOf};
-ghost use Rattle.dap_diff.specs.Entries.{AddsEntry, AddsRecording, restarts_after, stop_after};
+ghost use Rattle.dap_diff.specs.Entries.{AddsEntry, AddsRecording, stop_after};
 ghost use Rattle.dap_diff.specs.Texts.{IsRecordText};
 ghost use Rattle.dap_input.specs.Limits.{AreSound};
 ghost use Rattle.dap_message.specs.Message.{sent};
 ghost use Rattle.dap_normalise.specs.NameTables.{AreReady};
-ghost use Rattle.dap_normalise.specs.NormalSteps.{RepresentsBefore};
 ghost use Rattle.dap_rename.specs.Modes.{is_stopped};
 ghost use Rattle.dap_diff.specs.Matching.{Reads};
 
@@ -15,7 +13,7 @@ use crate::reading::message_of;
 use crate::record_lines::head_of;
 use dap_compare::{CompareRefused, Which};
 use dap_device::Source;
-use dap_input::{Limits, Refused};
+use dap_input::Limits;
 use dap_message::{Kind, Message};
 use dap_normalise::NormalRecords;
 use dap_rename::{Mode, NameTable, Tables};
@@ -32,24 +30,14 @@ fn is_stopped(message: &Message) -> bool
     }
 }
 
-/// Returns whether the numbering of frame ids and variables references restarts after a message.
-fn restarts_after(mode: Mode, message: &Message) -> bool
-    ensures { result ≡ restarts_after mode (sent message.now) }
-{
-    match mode {
-        Mode::Whole => false,
-        Mode::PerStop => is_stopped(message),
-    }
-}
-
-/// Returns the number of the last stop after a record of this number, given that before it.
+/// Returns the number of the last stop after a record of this number, given that before it. The
+/// numbering of frame ids and variables references restarts after a stop if `mode` is `PerStop`.
 fn stop_after(mode: Mode, number: u64, message: &Message, stop: u64) -> u64
     ensures { result ≡ stop_after mode number (sent message.now) stop }
 {
-    if restarts_after(mode, message) {
-        number
-    } else {
-        stop
+    match mode {
+        Mode::PerStop if is_stopped(message) => number,
+        Mode::PerStop | Mode::Whole => stop,
     }
 }
 
@@ -81,54 +69,6 @@ fn add_record(
     })?;
     recording.text.extend_from_slice(text)?;
     Ok(())
-}
-
-/// Returns whose refusal it is. A refused allocation belongs to neither input.
-fn refusal_of(which: Which, refused: Refused) -> CompareRefused
-    ensures { IsRefusalOf which refused result }
-{
-    match refused {
-        Refused::Memory => CompareRefused::Memory,
-        refused => CompareRefused::Input(which, refused),
-    }
-}
-
-/// Reads the records of an input, none of which has been read.
-fn read_records<R: Source, T: NameTable + Drop>(
-    alloc: Global,
-    which: Which,
-    records: &mut NormalRecords<T>,
-    reader: &mut R,
-    limits: Limits,
-    mode: Mode,
-    recording: &mut Recording,
-) -> Result<(), CompareRefused>
-    requires limits { AreSound limits }
-    requires represents { RepresentsBefore T.numbers T.limit limits mode [] records.old [] [] }
-    requires empty { recording.old.text.items ≡ [] }
-    requires given { R.given reader.old < 2 ^ 62 }
-    requires failures { R.failures reader.old < 2 ^ 62 }
-    ensures outcome { Reads R.Source limits mode reader.old reader.new which
-        recording.new.text.items result }
-    ensures entries { OnOk result
-        (AddsRecording R.Source limits mode reader.old reader.new recording.old recording.new) }
-    ensures taken { R.given reader.new ≤ R.given reader.old + limits.input + 1 }
-{
-    let mut text = Vec::new(alloc);
-    let mut scratch = Scratch::new(alloc);
-    'records: loop {
-        let number = records.number();
-        text.clear();
-        match records.next(alloc, reader, &mut text) {
-            Ok(true) => {}
-            Ok(false) => return Ok(()),
-            Err(refused) => return Err(refusal_of(which, refused)),
-        }
-        let record = text.as_slice();
-        if add_record(alloc, number, record, limits, mode, &mut scratch, recording).is_err() {
-            return Err(CompareRefused::Memory);
-        }
-    }
 }
 
 /// Reads a recording whole and checks it, as [`check`](dap_normalise::check) does.
@@ -163,8 +103,18 @@ pub fn read_recording<R: Source, T: NameTable + Drop>(
     // At most one byte past the limit is taken.
     ensures taken { R.given reader.new ≤ R.given reader.old + limits.input + 1 }
 {
-    let Ok(mut records) = NormalRecords::new(alloc, limits, tables, mode) else {
-        return Err(CompareRefused::Memory);
-    };
-    read_records(alloc, which, &mut records, reader, limits, mode, recording)
+    let mut records = NormalRecords::new(alloc, limits, tables, mode)?;
+    let mut text = Vec::new(alloc);
+    let mut scratch = Scratch::new(alloc);
+    'records: loop {
+        let number = records.number();
+        text.clear();
+        match records.next(alloc, reader, &mut text) {
+            Ok(true) => {}
+            Ok(false) => return Ok(()),
+            Err(refused) => return Err(CompareRefused::of(which, refused)),
+        }
+        let record = text.as_slice();
+        add_record(alloc, number, record, limits, mode, &mut scratch, recording)?;
+    }
 }

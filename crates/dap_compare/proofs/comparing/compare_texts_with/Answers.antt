@@ -102,9 +102,8 @@ returns-then-ne-clause-text_b g c =
 pub renaming_to-requires : goal.renaming_to-requires
 renaming_to-requires g c =
     let was = c.records.invariant in
-    let alike = sym c.as_slice.ensures.value
-    ∙ texts_equal c.as_slice.result.now c.as_slice-in-records.result.now c.ne.result c.ne.ensures
-    c.if-ne.false ∙ c.as_slice-in-records.ensures.value in
+    let alike = texts_equal c.as_slice.ensures.value c.as_slice-in-records.ensures.value
+    c.ne.ensures c.if-ne.false in
     let as_a = both_next was.a was.b was.alike _ _ _ _ _ _ _ _ c.in-Ok.some c.in-Ok-next.field-0
     (c.in-Ok.ensures.next _ _ _ _ _ was.a.represents)
     (c.in-Ok-next.ensures.next _ _ _ _ _ was.b.represents)
@@ -117,9 +116,8 @@ renaming_to-requires g c =
 pub returns-in_default-clause-outcome : goal.returns-in_default-clause-outcome
 returns-in_default-clause-outcome g c =
     let was = c.records.invariant in
-    let alike = sym c.as_slice.ensures.value
-    ∙ texts_equal c.as_slice.result.now c.as_slice-in-records.result.now c.ne.result c.ne.ensures
-    c.if-ne.false ∙ c.as_slice-in-records.ensures.value in
+    let alike = texts_equal c.as_slice.ensures.value c.as_slice-in-records.ensures.value
+    c.ne.ensures c.if-ne.false in
     let as_a = both_next was.a was.b was.alike _ _ _ _ _ _ _ _ c.in-Ok.some c.in-Ok-next.field-0
     (c.in-Ok.ensures.next _ _ _ _ _ was.a.represents)
     (c.in-Ok-next.ensures.next _ _ _ _ _ was.b.represents)
@@ -143,9 +141,8 @@ returns-in_default-clause-taken_b g c =
 pub returns-then-not-some_a-clause-outcome : goal.returns-then-not-some_a-clause-outcome
 returns-then-not-some_a-clause-outcome g c =
     let was = c.records.invariant in
-    let alike = sym c.as_slice.ensures.value
-    ∙ texts_equal c.as_slice.result.now c.as_slice-in-records.result.now c.ne.result c.ne.ensures
-    c.if-ne.false ∙ c.as_slice-in-records.ensures.value in
+    let alike = texts_equal c.as_slice.ensures.value c.as_slice-in-records.ensures.value
+    c.ne.ensures c.if-ne.false in
     let as_a = both_next was.a was.b was.alike _ _ _ _ _ _ _ _ c.in-Ok.some c.in-Ok-next.field-0
     (c.in-Ok.ensures.next _ _ _ _ _ was.a.represents)
     (c.in-Ok-next.ensures.next _ _ _ _ _ was.b.represents)
@@ -176,9 +173,8 @@ records-smaller g c =
 pub records-preserved : goal.records-preserved
 records-preserved g c =
     let was = c.records.invariant in
-    let alike = sym c.as_slice.ensures.value
-    ∙ texts_equal c.as_slice.result.now c.as_slice-in-records.result.now c.ne.result c.ne.ensures
-    c.if-ne.false ∙ c.as_slice-in-records.ensures.value in
+    let alike = texts_equal c.as_slice.ensures.value c.as_slice-in-records.ensures.value
+    c.ne.ensures c.if-ne.false in
     let as_a = both_next was.a was.b was.alike _ _ _ _ _ _ _ _ c.in-Ok.some c.in-Ok-next.field-0
     (c.in-Ok.ensures.next _ _ _ _ _ was.a.represents)
     (c.in-Ok-next.ensures.next _ _ _ _ _ was.b.represents)

@@ -1,4 +1,5 @@
 use Rattle.std.proofs.Common.{sym, subst}
+use Rattle.std.proofs.lemmas.Result.{err_from_is_err_and}
 use Rattle.dap_diff.specs.Texts.{IsLeftText, DescribesTexts}
 use Rattle.dap_diff.proofs.Texts.{gave_up_after, is_left, tells_record}
 use Rattle.dap_diff.proofs.diffing.diff_with.Goals as goal
@@ -21,11 +22,11 @@ lines_of-requires-clause-is_left_b g c =
     c.compare_texts_with.new.reader_b c.in-Differ.record c.compare_texts_with.new.text_b.items
     (rw c.in-Differ.is at c.in_ok-verdict.ensures.text_b))
 
-pub returns-in-Ok-clause-outcome : goal.returns-in-Ok-clause-outcome
-returns-in-Ok-clause-outcome g c =
+pub returns-clause-outcome : goal.returns-clause-outcome
+returns-clause-outcome g c =
     let tells : DescribesTexts c.args.limits c.compare_texts_with.new.text_a.items
-    c.compare_texts_with.new.text_b.items c.in-Ok.lines.items =
-    rw (c.as_slice.ensures.value, c.as_slice-in-Differ.ensures.value) at c.in-Ok.ensures in (
+    c.compare_texts_with.new.text_b.items c.in_ok-lines-in-Differ.lines.items =
+    rw (c.as_slice.ensures.value, c.as_slice-in-Differ.ensures.value) at c.in_ok-lines-in-Differ.ensures in (
       rw c.in-Differ.is at c.in_ok-verdict.ensures.outcome,
       tells_record c.args.limits c.args.mode c.requires.limits g.A.Source g.B.Source
           c.args.reader_a.now
@@ -34,8 +35,11 @@ returns-in-Ok-clause-outcome g c =
           (rw c.in-Differ.is at c.in_ok-verdict.ensures.text_b) tells,
     )
 
-pub returns-clause-outcome : goal.returns-clause-outcome
-returns-clause-outcome g c =
-    gave_up_after g.A.Source g.B.Source c.args.limits c.args.mode c.args.reader_a.now
+pub returns-in_err-lines-in-Differ-clause-outcome : goal.returns-in_err-lines-in-Differ-clause-outcome
+returns-in_err-lines-in-Differ-clause-outcome g c =
+    let because = err_from_is_err_and c.from_residual-in_err-lines-in-Differ.result
+    c.from_residual-in_err-lines-in-Differ.ensures.1 in
+    rw (because.1, because.2)
+    (gave_up_after g.A.Source g.B.Source c.args.limits c.args.mode c.args.reader_a.now
     c.compare_texts_with.new.reader_a c.args.reader_b.now c.compare_texts_with.new.reader_b
-    c.in-Differ.record (rw c.in-Differ.is at c.in_ok-verdict.ensures.outcome)
+    c.in-Differ.record (rw c.in-Differ.is at c.in_ok-verdict.ensures.outcome))

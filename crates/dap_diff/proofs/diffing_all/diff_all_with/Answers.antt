@@ -3,8 +3,8 @@ use Rattle.std.proofs.lemmas.Result.{err_from_is_err_and}
 use Rattle.dap_diff.proofs.Differing.{a_refused, apart_texts, b_refused}
 use Rattle.dap_diff.proofs.diffing_all.diff_all_with.Goals as goal
 
-pub returns-in-Ok-clause-outcome : goal.returns-in-Ok-clause-outcome
-returns-in-Ok-clause-outcome g c =
+pub returns-clause-outcome : goal.returns-clause-outcome
+returns-clause-outcome g c =
     let apart : c.as_slice.result.now ≡ c.as_slice-2.result.now → ⊥ = search rules in (
       c.read_recording.new.recording.text.items,
       c.read_recording-2.new.recording.text.items,
@@ -17,10 +17,13 @@ returns-in-Ok-clause-outcome g c =
           c.as_slice.ensures.value c.as_slice-2.ensures.value apart,
     )
 
-pub returns-clause-outcome : goal.returns-clause-outcome
-returns-clause-outcome g c =
+pub returns-in_err-lines-clause-outcome : goal.returns-in_err-lines-clause-outcome
+returns-in_err-lines-clause-outcome g c =
     let apart : c.as_slice.result.now ≡ c.as_slice-2.result.now → ⊥ = search rules in
-    inr (inr (
+    let because = err_from_is_err_and c.from_residual-in_err-lines.result
+    c.from_residual-in_err-lines.ensures.1 in
+    rw (because.1, because.2)
+    (inr (inr (
       c.read_recording.new.recording.text.items,
       c.read_recording-2.new.recording.text.items,
       record {
@@ -30,7 +33,7 @@ returns-clause-outcome g c =
       apart_texts c.as_slice.result.now c.as_slice-2.result.now
           c.read_recording.new.recording.text.items c.read_recording-2.new.recording.text.items
           c.as_slice.ensures.value c.as_slice-2.ensures.value apart,
-    ))
+    )))
 
 pub returns-in_err-read_recording-clause-outcome : goal.returns-in_err-read_recording-clause-outcome
 returns-in_err-read_recording-clause-outcome g c =

@@ -1,6 +1,6 @@
 use Rattle.dap_normalise.specs.NormalSteps.{remaining}
 use Rattle.dap_diff.proofs.ReadRecords.{Keeps}
-use Rattle.dap_diff.proofs.recordings.read_records.Given as goal
+use Rattle.dap_diff.proofs.recordings.read_recording.Given as goal
 
 abbrev pub invariant-records : goal.invariant-records
 invariant-records g l =

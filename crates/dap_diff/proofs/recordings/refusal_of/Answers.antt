@@ -1,5 +1,0 @@
-use Rattle.std.proofs.Common.{refl}
-use Rattle.dap_diff.proofs.recordings.refusal_of.Goals as goal
-
-pub returns-in_default : goal.returns-in_default
-returns-in_default c = (λ memory. absurd (c.in_default.not-Memory memory), λ other. refl)
