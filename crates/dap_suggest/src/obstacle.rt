@@ -4,6 +4,7 @@ use dap_diff::Entry;
 use dap_mask::{RulesCause, RulesFault};
 use dap_rules::ApplyRefused;
 use std::alloc::{AllocError, AllocFailed};
+use std::fmt::{self, Display, Formatter, Write};
 
 /// What is wrong with a record that no rule can make the same.
 #[derive(Clone, Copy, Debug, PartialEq, Eq)]
@@ -16,7 +17,17 @@ pub enum Reason {
     OutOfOrder,
 }
 
-/// Why no rules make two recordings the same.
+impl Display for Reason {
+    fn fmt<W: Write>(&self, f: &mut Formatter<W>) -> fmt::Result {
+        f.write_str(match self {
+            Reason::NoCounterpart => "has no counterpart in",
+            Reason::Differs => "differs where no rule may change it from",
+            Reason::OutOfOrder => "comes in an order that no rule allows in",
+        })
+    }
+}
+
+/// Why no rules make two recordings the same. Its text follows `no rules can: `.
 #[derive(Drop)]
 pub enum Obstacle {
     /// This record of a recording. `head` is its side, its kind and its name. Records count from 1
@@ -34,6 +45,32 @@ pub enum Obstacle {
     Unread,
     /// After the rules that were found, the recordings still differ from this record on.
     StillDiffers(u64),
+}
+
+impl Display for Obstacle {
+    fn fmt<W: Write>(&self, f: &mut Formatter<W>) -> fmt::Result {
+        match self {
+            Obstacle::Record {
+                reason,
+                which,
+                number,
+                head,
+            } => {
+                let other = match which {
+                    Which::A => Which::B,
+                    Which::B => Which::A,
+                };
+                // The kind and the name follow the marker of the side and a space.
+                let message = head.get(2..).unwrap_or(head.as_str());
+                write!(f, "record {number} of {which}, {message}, {reason} {other}")
+            }
+            Obstacle::Unapplied(which, refused) => write!(f, "{which}: after the rules: {refused}"),
+            Obstacle::Unread => f.write_str("a file cannot have the rules that would be needed"),
+            Obstacle::StillDiffers(number) => {
+                write!(f, "after the rules, record {number} still differs")
+            }
+        }
+    }
 }
 
 /// Why a search found no rules.

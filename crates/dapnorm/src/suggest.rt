@@ -17,50 +17,8 @@ use dap_host::{Host, LIMITS, Purpose};
 use dap_input::Refused;
 use dap_mask::MaskRules;
 use dap_rules::ApplyRefused;
-use dap_suggest::{Obstacle, Reason, SuggestRefused, suggest};
-use std::alloc::{AllocError, Global};
-
-/// Returns what is wrong with a record.
-fn reason_words(reason: Reason) -> &'static str {
-    match reason {
-        Reason::NoCounterpart => "has no counterpart in",
-        Reason::Differs => "differs where no rule may change it from",
-        Reason::OutOfOrder => "comes in an order that no rule allows in",
-    }
-}
-
-/// Returns the line that says why no rules make two recordings the same.
-fn obstacle_line(alloc: Global, obstacle: &Obstacle) -> Result<String, AllocError> {
-    match obstacle {
-        Obstacle::Record {
-            reason,
-            which,
-            number,
-            head,
-        } => {
-            let (one, other) = match which {
-                Which::A => ("A", "B"),
-                Which::B => ("B", "A"),
-            };
-            // The kind and the name follow the marker of the side and a space.
-            let message = head.get(2..).unwrap_or(head.as_str());
-            let words = reason_words(*reason);
-            format!(in alloc;
-                "no rules can: record {number} of {one}, {message}, {words} {other}\n"
-            )
-        }
-        Obstacle::Unapplied(which, refused) => {
-            format!(in alloc; "no rules can: {which}: after the rules: {refused}\n")
-        }
-        Obstacle::Unread => String::from_str(
-            alloc,
-            "no rules can: a file cannot have the rules that would be needed\n",
-        ),
-        Obstacle::StillDiffers(number) => {
-            format!(in alloc; "no rules can: after the rules, record {number} still differs\n")
-        }
-    }
-}
+use dap_suggest::{SuggestRefused, suggest};
+use std::alloc::Global;
 
 /// Returns how a rejected input is reported: without rules that were given, the session is the
 /// recording itself.
@@ -92,10 +50,12 @@ fn suggestion<'a>(
                 Err(_) => Err(Why::Input(Refused::Memory)),
             }
         }
-        Err(SuggestRefused::NoRules(obstacle)) => match obstacle_line(alloc, &obstacle) {
-            Ok(line) => Err(Why::NoSuggestion(line)),
-            Err(_) => Err(Why::Input(Refused::Memory)),
-        },
+        Err(SuggestRefused::NoRules(obstacle)) => {
+            match format!(in alloc; "no rules can: {obstacle}\n") {
+                Ok(line) => Err(Why::NoSuggestion(line)),
+                Err(_) => Err(Why::Input(Refused::Memory)),
+            }
+        }
         Err(SuggestRefused::Memory) => Err(Why::Input(Refused::Memory)),
     }
 }
