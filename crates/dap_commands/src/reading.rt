@@ -36,10 +36,7 @@ fn required<'a>(rows: &ArgMatches<'a>, id: &str) -> Name<'a>
 fn has_flag(rows: &ArgMatches<'_>, id: &str) -> bool
     ensures { result ≡ has_flag id.now (given rows.now) }
 {
-    match name_of(rows, id) {
-        Some(value) => value.as_str() == "true",
-        None => false,
-    }
+    name_of(rows, id).is_some_and(|value| value.as_str() == "true")
 }
 
 /// Returns the command of `compare` or `diff`.
