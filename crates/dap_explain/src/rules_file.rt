@@ -115,7 +115,7 @@ fn add_earlier(lines: &mut Lines, number: usize, earlier: &[u8], line: &[u8], ca
 /// rejected for this reason. Only a rule for a word can be rejected without an earlier line.
 fn add_excluded(lines: &mut Lines, rules: &[u8], fault: RulesFault) {
     let line = line_of(rules, fault.line);
-    if fault_in(lines, line).is_some() {
+    if fault_in(lines, line).is_some_and(|alone| alone.cause == fault.cause) {
         lines.add("the text is empty, or its word can overlap it");
         return lines.add(WORD_ADVICE);
     }
