@@ -6,7 +6,7 @@ use Rattle.std.specs.List.{Any}
 use Rattle.std.specs.declared.alloc.Global.{Global}
 use Rattle.dap_device.specs.Crash.{Elapses}
 use Rattle.dap_device.specs.Calls.{content_of, MayBeRenamed}
-use Rattle.dap_device.specs.CachedFile.{CachedState, Leaves, LeavesSince, MayLeave}
+use Rattle.dap_device.specs.CachedFile.{after_rename, CachedState, Leaves, LeavesSince, MayLeave}
 use Rattle.dap_device.specs.MemoryFile.{MemoryState, MightHaveLeft}
 use Rattle.dap_device.specs.Past.{OneOf}
 
@@ -79,13 +79,18 @@ module _ (old new : MemoryState) (pushed : new.past ≡ old.past ++ old.target �
   }
 
 -- The temporary file of a file over a cache was renamed.
-module _ (old new : CachedState) (pushed : new.past ≡ old.past ++ old.target ∷ [])
-    (moved : new.target ≡ old.temporary) (same : new.settled ≡ old.settled)
+module _ (old new : CachedState) (is : new ≡ after_rename old)
     (few : old.settled ≤ length old.past) where
+  pushed : new.past ≡ old.past ++ old.target ∷ []
+  pushed = ap (λ (m : CachedState). m.past) is
+
+  same : new.settled ≡ old.settled
+  same = ap (λ (m : CachedState). m.settled) is
+
   pub leaves_rename : MayBeRenamed MayLeave (λ m. Leaves m.temporary) old new
   leaves_rename c left =
       ⊎_elim (λ was. inl was)
-      (λ now. inr (subst (λ v. Leaves v c) moved now))
+      (λ now. inr (subst (λ (m : CachedState). Leaves m.target c) is now))
       (was_or_is (λ v. Leaves v c) old.past new.past old.target pushed old.settled few new.target
       (subst (λ t. LeavesSince new t c) same left))
 

@@ -1,5 +1,6 @@
 -- The model of a file over a cache: a crash loses what is not synced. Source: own.
-use Rattle.std.specs.Prelude.{◌≡◌, ◌⊎◌, ◌≤◌, ℕ, Bool, true, false, List, Option, drop}
+use Rattle.std.specs.Prelude.{◌≡◌, ◌⊎◌, ◌++◌, ℕ, Bool, true, false, List, [], ◌∷◌, Option, None}
+use Rattle.std.specs.Prelude.{◌≤◌, drop, length}
 use mathlib.Core.Logic.{inl, inr}
 use Rattle.dap_device.specs.Crash.{Content}
 use Rattle.dap_device.specs.Past.{OneOf, since_earlier}
@@ -47,3 +48,15 @@ pub since_now : (m : CachedState) (t : ℕ) (c : Content) → t ≤ m.settled �
     → LeavesSince m t c
 since_now m t c le (inl now) = inl now
 since_now m t c le (inr had) = inr (since_earlier (λ v. Leaves v c) t m.settled m.past le had)
+
+-- The temporary file now has the name. Neither the earlier file nor the new one is settled.
+abbrev pub after_rename : CachedState → CachedState
+after_rename m = record m {
+  target = m.temporary;
+  temporary = synced_file None;
+  past = m.past ++ m.target ∷ [];
+}
+
+-- The folder is synced, so that a crash leaves no earlier file.
+abbrev pub after_folder_sync : CachedState → CachedState
+after_folder_sync m = record m { settled = length m.past }

@@ -1,9 +1,10 @@
 //! Implements a file in memory over a cache: a crash loses what is not synced.
 ghost use Rattle.std.specs.Prelude.{◌≡◌, ◌↔◌, ◌<◌, ◌≤◌, ◌++◌, [], false, length, take, ⊤};
-ghost use Rattle.std.specs.Prelude.{None, Some, Any, IfSome, IsTrue};
+ghost use Rattle.std.specs.Prelude.{None, Some, Any, IfSome, IsTrue, OnErr, OnOk};
 ghost use Rattle.std.specs.Option.{option_copied, option_map};
 ghost use Rattle.std.proofs.Common.{inl, refl};
 ghost use Rattle.dap_device.specs.Calls.{content_of};
+ghost use Rattle.dap_device.specs.CachedFile.{after_folder_sync, after_rename};
 ghost use Rattle.dap_device.specs.CachedFile.{Leaves, LeavesSince, MayLeave, since_now};
 ghost use Rattle.dap_device.specs.CachedFile.{synced_file, unsynced_file};
 
@@ -164,6 +165,27 @@ impl CachedFile {
         let earlier = &self.past.as_slice()[self.settled..];
         self.target.leaves(content) || any_leaves(earlier, content)
     }
+
+    /// Renames the temporary file. Fails only if an allocation fails.
+    fn rename_temporary(&mut self) -> Result<(), FileFault>
+        ensures ok { OnOk result (self.new ≡ after_rename self.old) }
+        ensures err { OnErr result (self.new ≡ self.old) }
+    {
+        if self.past.reserve(1).is_err() {
+            return Err(FileFault {});
+        }
+        let renamed = mem::replace(&mut self.temporary, Version::synced(None));
+        let earlier = mem::replace(&mut self.target, renamed);
+        self.past.push(earlier).unwrap();
+        Ok(())
+    }
+
+    /// Syncs the folder.
+    fn sync_names(&mut self)
+        ensures { self.new ≡ after_folder_sync self.old }
+    {
+        self.settled = self.past.len();
+    }
 }
 
 impl Replaceable for CachedFile {
@@ -220,13 +242,10 @@ impl Replaceable for CachedFile {
 
     fn rename(&mut self) -> Result<(), FileFault> {
         self.calls.start(Step::Rename)?;
-        if self.past.reserve(1).is_err() {
-            return self.calls.fail(Step::Rename);
+        match self.rename_temporary() {
+            Ok(()) => Ok(()),
+            Err(_) => self.calls.fail(Step::Rename),
         }
-        let renamed = mem::replace(&mut self.temporary, Version::synced(None));
-        let earlier = mem::replace(&mut self.target, renamed);
-        self.past.push(earlier).unwrap();
-        Ok(())
     }
 
     /// Syncs the folder. Fails if the file under the name was renamed without being synced, since
@@ -236,7 +255,7 @@ impl Replaceable for CachedFile {
         if !self.target.is_synced {
             return self.calls.fail(Step::SyncFolder);
         }
-        self.settled = self.past.len();
+        self.sync_names();
         Ok(())
     }
 

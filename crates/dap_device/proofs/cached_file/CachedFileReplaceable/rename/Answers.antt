@@ -1,31 +1,33 @@
-use Rattle.std.proofs.Common.{◌≤◌, ◌++◌, ◌∷◌, [], ◌∙◌, ap, length, subst}
-use Rattle.dap_device.specs.CachedFile.{CachedState}
+use Rattle.std.proofs.Common.{◌≤◌, ◌∙◌, ap, length, subst}
+use Rattle.dap_device.specs.Calls.{FileCounts}
+use Rattle.dap_device.specs.CachedFile.{after_rename, CachedState}
 use Rattle.dap_device.proofs.Past.{elapses_rename, leaves_rename}
 use Rattle.dap_device.proofs.cached_file.CachedFileReplaceable.rename.Goals as goal
 
-pub returns-clause-crash : goal.returns-clause-crash
-returns-clause-crash c =
-    let pushed = rw (c.unwrap.ensures, c.reserve.ensures.items) at c.push.ensures.items in
-    let new : CachedState = record c.args.self.now {
-      target = c.replace-earlier.new.dest;
-      past = c.push.new.self.items;
+pub returns-in-Ok-clause-crash : goal.returns-in-Ok-clause-crash
+returns-in-Ok-clause-crash c =
+    let started = ap (λ (calls : FileCounts). record {
+      target = c.self.inside.target;
+      temporary = c.self.inside.temporary;
+      past = c.self.inside.past.items;
       settled = c.self.inside.settled;
-    } in
-    λ known. leaves_rename c.args.self.now new
-    (pushed ∙ ap (λ v. c.self.inside.past.items ++ v ∷ []) c.replace-earlier.ensures.value
-    ∙ ap (λ (m : CachedState). m.past ++ m.target ∷ []) c.self.view_is)
-    (c.replace-earlier.ensures.after ∙ c.replace-renamed.ensures.value
-    ∙ ap (λ (m : CachedState). m.temporary) c.self.view_is)
-    (ap (λ (m : CachedState). m.settled) c.self.view_is)
+      failures = calls.failures;
+      failed_at = calls.failed_at;
+    }) c.in_ok-start.ensures ∙ c.self.view_is in
+    λ known. leaves_rename c.args.self.now c.rename_temporary.new.self
+    (c.in-Ok.ensures.ok ∙ ap after_rename started)
     (subst (λ (m : CachedState). m.settled ≤ length m.past) c.self.view_is c.self.invariant)
 
-pub returns-clause-time : goal.returns-clause-time
-returns-clause-time c =
-    let pushed = rw (c.unwrap.ensures, c.reserve.ensures.items) at c.push.ensures.items in
-    λ known. elapses_rename c.args.self.now _
-    (pushed ∙ ap (λ v. c.self.inside.past.items ++ v ∷ []) c.replace-earlier.ensures.value
-    ∙ ap (λ (m : CachedState). m.past ++ m.target ∷ []) c.self.view_is)
-    (c.replace-earlier.ensures.after ∙ c.replace-renamed.ensures.value
-    ∙ ap (λ (m : CachedState). m.temporary) c.self.view_is)
-    (ap (λ (m : CachedState). m.settled) c.self.view_is)
+pub returns-in-Ok-clause-time : goal.returns-in-Ok-clause-time
+returns-in-Ok-clause-time c =
+    let started = ap (λ (calls : FileCounts). record {
+      target = c.self.inside.target;
+      temporary = c.self.inside.temporary;
+      past = c.self.inside.past.items;
+      settled = c.self.inside.settled;
+      failures = calls.failures;
+      failed_at = calls.failed_at;
+    }) c.in_ok-start.ensures ∙ c.self.view_is in
+    λ known. elapses_rename c.args.self.now c.rename_temporary.new.self
+    (c.in-Ok.ensures.ok ∙ ap after_rename started)
     (subst (λ (m : CachedState). m.settled ≤ length m.past) c.self.view_is c.self.invariant)
