@@ -57,7 +57,7 @@ fn job_of<'a>(command: &Command<'a>) -> Option<Job<'a>>
                 per_stop: *mode == Mode::PerStop,
             },
             Task::Show(_) => Job::Show,
-            Task::Mask(_) | Task::Order(_) => return None,
+            _ => return None,
         },
         Command::Check { complete, mode, .. } => Job::Check {
             complete: *complete,
