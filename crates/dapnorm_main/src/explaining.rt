@@ -192,7 +192,9 @@ pub fn explain_run(rt: &HostRuntime, request: &Request<'_>, run: &SystemRun<'_>)
     let is_rejected = run.status == REFUSED && !matches!(why, Why::Rules(_) | Why::Golden(..));
     let may_be_trace = is_rejected && !matches!(format_of(command), Format::Trace);
     for which in [Which::A, Which::B] {
-        if let Some(input) = opened(run, which) {
+        // What is wrong with the other input is not known then.
+        let is_other = matches!(why, Why::Unapplied(rejected, ..) if *rejected != which);
+        if !is_other && let Some(input) = opened(run, which) {
             let is_trace = may_be_trace && input.is_trace() && input.bytes().is_none();
             let words = is_trace.then_some(IS_TRACE);
             report_file(rt, reported_name(command, which), input.failure(), words);
