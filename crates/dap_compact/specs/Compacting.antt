@@ -2,14 +2,11 @@
 -- the DAP base protocol.
 use Rattle.std.specs.Prelude.{◌≡◌, ℕ, ◌≤◌, List, [], ◌∷◌, ◌++◌, length}
 use Rattle.std.specs.List.{flat_map, AllByRecursion}
-use Rattle.dap_frame.specs.Frame.{AreFrames, frames, frame_text}
-use Rattle.dap_frame.specs.Combinators.{map_fault}
+use Rattle.dap_frame.specs.{Frame.{AreFrames, frames, frame_text}, Combinators.map_fault}
 use Rattle.dap_message.specs.Message.{no_reading, fraction}
 use Rattle.dap_recording.specs.declared.record_fault.RecordCause.TheVariants.{Frame}
-use Rattle.dap_tree.specs.Doc.{Doc}
-use Rattle.dap_tree.specs.Json.{IsRead, HasFraction, HasNoReading, text_of}
-use Rattle.dap_input.specs.declared.limits.Limits.{Limits}
-use Rattle.dap_input.specs.Limits.{AreSound}
+use Rattle.dap_tree.specs.{Doc.Doc, Json.{IsRead, HasFraction, HasNoReading, text_of}}
+use Rattle.dap_input.specs.{declared.limits.Limits.Limits, Limits.AreSound}
 use Rattle.dap_input.specs.Validation.{Validation, ContentError, no_message, grew}
 use Rattle.dap_input.specs.Refusals.{HasOneOutcome, RefusalStays}
 

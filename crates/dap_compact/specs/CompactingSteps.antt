@@ -1,16 +1,12 @@
 -- The effects of the steps of `compact`.
-use Rattle.std.specs.Prelude.{◌≡◌, ℕ, List, [], ◌∷◌, ◌++◌, Result, Ok, Err}
-use Rattle.std.specs.declared.vec.Vec.{Vec}
+use Rattle.std.specs.{Prelude.{◌≡◌, ℕ, List, [], ◌∷◌, ◌++◌, Result, Ok, Err}, declared.vec.Vec.Vec}
 use Rattle.std.specs.declared.alloc.Global.{Global}
 use Rattle.dap_device.specs.declared.device.Source.{Ghosts as Source}
-use Rattle.dap_tree.specs.Doc.{Doc}
-use Rattle.dap_tree.specs.Json.{IsRead}
-use Rattle.dap_input.specs.declared.limits.Limits.{Limits}
-use Rattle.dap_frame.specs.Reading.{Reading}
-use Rattle.dap_input.specs.declared.records.Records.{Records}
-use Rattle.dap_input.specs.declared.refused.Refused.{Refused}
-use Rattle.dap_input.specs.InputSteps.{JudgesAll}
+use Rattle.dap_tree.specs.{Doc.Doc, Json.IsRead}
+use Rattle.dap_input.specs.{declared.limits.Limits.Limits, declared.records.Records.Records}
+use Rattle.dap_input.specs.{declared.refused.Refused.Refused, InputSteps.JudgesAll}
 use Rattle.dap_input.specs.Refusals.{RejectsPayload}
+use Rattle.dap_frame.specs.Reading.{Reading}
 use Rattle.dap_compact.specs.Compacting.{Fits, Rejects, compacting, text}
 
 -- The value of the content follows the values whose output was appended.

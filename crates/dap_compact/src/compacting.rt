@@ -1,13 +1,11 @@
 //! Rewrites the contents of frames as canonical JSON.
-ghost use Rattle.std.specs.Prelude.{◌≡◌, ◌+◌, ◌<◌, ◌≤◌, ◌^◌, IsErrOf, List, Result, Ok, Err};
+ghost use Rattle.std.specs.Prelude.{◌≡◌, ◌+◌, ◌≤◌, IsErrOf, List, Result, Ok, Err};
+ghost use Rattle.dap_device.specs.Devices.{CanRead, CanWrite};
 ghost use Rattle.dap_tree.specs.Doc.{Doc};
 ghost use Rattle.dap_compact.specs.Compacting.{Compacts, Fits, compacting, text};
 ghost use Rattle.dap_compact.specs.CompactingSteps.{Appended, JudgesInput};
-ghost use Rattle.dap_input.specs.Engine.{Answers, ReadsNoneOrAll};
-ghost use Rattle.dap_input.specs.ItemReading.{RepresentsFrame};
-ghost use Rattle.dap_input.specs.Limits.{AreSound};
-ghost use Rattle.dap_input.specs.RecordSteps.{IsAtStart};
-ghost use Rattle.dap_input.specs.Refusals.{IsRefused};
+ghost use Rattle.dap_input.specs.{Engine.{Answers, ReadsNoneOrAll}, ItemReading.RepresentsFrame};
+ghost use Rattle.dap_input.specs.{Limits.AreSound, RecordSteps.IsAtStart, Refusals.IsRefused};
 
 use dap_device::{Sink, Source, write_and_flush};
 use dap_flat::append_canonical;
@@ -64,8 +62,7 @@ fn compact_records<R: Source>(
 ) -> Result<Vec<u8>, Refused>
     requires sound { AreSound limits }
     requires start { IsAtStart (RepresentsFrame limits.frame) limits.input records.old }
-    requires given { R.given reader.old < 2 ^ 62 }
-    requires failures { R.failures reader.old < 2 ^ 62 }
+    requires reader { CanRead R.Source reader.old }
     ensures { JudgesInput limits R.Source reader.old reader.new records.new
         result }
 {
@@ -114,9 +111,7 @@ pub fn compact<R: Source, W: Sink>(
     limits: Limits,
 ) -> Result<(), Refused>
     requires limits { AreSound limits }
-    requires given { R.given reader.old < 2 ^ 62 }
-    requires read_failures { R.failures reader.old < 2 ^ 62 }
-    requires write_failures { W.failures writer.old < 2 ^ 62 }
+    requires devices { CanRead R.Source reader.old × CanWrite W.Sink writer.old }
 
     // The output for the input is written and flushed, or its first error is returned and nothing
     // is written. `WriteFault` is returned if and only if the writer failed. `ReadFault` is

@@ -1,17 +1,12 @@
 -- The records that are stored if two recordings differ, as in their normal forms. Source: own.
 use Rattle.std.specs.Prelude.{◌≡◌, ◌⊎◌, ℕ, ◌+◌, List, [], ◌∷◌, ◌++◌, Option, Result, Ok, Err}
 use Rattle.dap_device.specs.declared.device.Source.{Ghosts as Source}
-use Rattle.dap_device.specs.declared.reading.Stop.{Stop}
-use Rattle.dap_device.specs.Pieces.{HasReadSoFar}
+use Rattle.dap_device.specs.{declared.reading.Stop.Stop, Pieces.HasReadSoFar}
 use Rattle.dap_message.specs.Message.{Sent}
-use Rattle.dap_rename.specs.Messages.{IsNormal}
-use Rattle.dap_rename.specs.Modes.{stop_in}
-use Rattle.dap_rename.specs.declared.mode.Mode.{Mode}
-use Rattle.dap_input.specs.declared.limits.Limits.{Limits}
-use Rattle.dap_input.specs.Inputs.{Input, AcceptedBefore}
+use Rattle.dap_rename.specs.{Messages.IsNormal, Modes.stop_in, declared.mode.Mode.Mode}
+use Rattle.dap_input.specs.{declared.limits.Limits.Limits, Inputs.{Input, AcceptedBefore}}
 use Rattle.dap_input.specs.ReadTo.{IsOf}
-use Rattle.dap_normalise.specs.Accepting.{accepting}
-use Rattle.dap_normalise.specs.JudgingSteps.{record_of}
+use Rattle.dap_normalise.specs.{Accepting.accepting, JudgingSteps.record_of}
 use Rattle.dap_compare.specs.declared.verdict.CompareRefused.{CompareRefused}
 use Rattle.dap_compare.specs.declared.verdict.Verdict.{Verdict as CodeVerdict}
 use Rattle.dap_compare.specs.declared.verdict.Verdict.TheVariants as code

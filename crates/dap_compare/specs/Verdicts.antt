@@ -4,27 +4,21 @@ use Rattle.std.specs.Prelude.{◌≡◌, ℕ, ℤ, ◌-◌, List, Option, Result
 use Rattle.dap_device.specs.declared.device.Source.{Ghosts as Source}
 use Rattle.dap_message.specs.Message.{Sent}
 use Rattle.dap_rename.specs.Messages.{Class, IsProperId, AreSame, Carries, equal_places}
-use Rattle.dap_rename.specs.Modes.{stop_in}
-use Rattle.dap_rename.specs.declared.mode.Mode.{Mode}
-use Rattle.dap_rename.specs.Pairs.{entries}
-use Rattle.dap_rename.specs.Renaming.{pairs_of}
-use Rattle.dap_rename.specs.Renamings.{IsRenaming}
-use Rattle.dap_input.specs.declared.limits.Limits.{Limits}
+use Rattle.dap_rename.specs.{Modes.stop_in, declared.mode.Mode.Mode, Pairs.entries}
+use Rattle.dap_rename.specs.{Renaming.pairs_of, Renamings.IsRenaming}
+use Rattle.dap_input.specs.{declared.limits.Limits.Limits, declared.refused.Refused.Refused}
 use Rattle.dap_device.specs.declared.reading.Stop.{Stop}
-use Rattle.dap_input.specs.declared.refused.Refused.{Refused}
 use Rattle.dap_compare.specs.declared.verdict.CompareRefused.{CompareRefused}
 use Rattle.dap_compare.specs.declared.verdict.CompareRefused.TheVariants as because
 use Rattle.dap_compare.specs.declared.verdict.Verdict.{Verdict as CodeVerdict}
 use Rattle.dap_compare.specs.declared.verdict.Verdict.TheVariants as code
 use Rattle.dap_compare.specs.declared.verdict.Which.TheVariants.{A, B}
-use Rattle.dap_input.specs.Limits.{AreSound}
-use Rattle.dap_normalise.specs.Accepting.{accepting}
-use Rattle.dap_input.specs.Refusals.{RefusalMatches}
-use Rattle.dap_device.specs.Pieces.{HasReadSoFar}
-use Rattle.dap_input.specs.ReadTo.{IsOf, IsReadTo}
-use Rattle.dap_input.specs.Inputs.{Input, Fault, IsTaken}
 use Rattle.dap_compare.specs.Comparing.{Verdict, IsVerdict, are_same, differ, refused_a, refused_b}
 use Rattle.dap_compare.specs.Comparing.{AreSameBefore, HasOneVerdict}
+use Rattle.dap_input.specs.{Limits.AreSound, Refusals.RefusalMatches, ReadTo.{IsOf, IsReadTo}}
+use Rattle.dap_input.specs.Inputs.{Input, Fault, IsTaken}
+use Rattle.dap_normalise.specs.Accepting.{accepting}
+use Rattle.dap_device.specs.Pieces.{HasReadSoFar}
 
 -- Two recordings are the same if a renaming maps the messages of the first to those of the second.
 -- The evidence is pairing by position. Both use the classes of the mode.

@@ -1,9 +1,9 @@
 //! Compares recordings.
-ghost use Rattle.std.specs.Prelude.{◌+◌, ◌<◌, ◌≤◌, ◌^◌};
+ghost use Rattle.std.specs.Prelude.{◌+◌, ◌≤◌};
+ghost use Rattle.dap_device.specs.Devices.{CanRead};
 ghost use Rattle.dap_input.specs.Limits.{AreSound};
 ghost use Rattle.dap_normalise.specs.NameTables.{AreReady};
-ghost use Rattle.dap_compare.specs.LeftTexts.{LeavesDifference};
-ghost use Rattle.dap_compare.specs.Verdicts.{Compares};
+ghost use Rattle.dap_compare.specs.{LeftTexts.LeavesDifference, Verdicts.Compares};
 
 use crate::verdict::{CompareRefused, Verdict, Which};
 use dap_device::Source;
@@ -33,10 +33,7 @@ pub fn compare<A: Source, B: Source>(
     mode: Mode,
 ) -> Result<Verdict, CompareRefused>
     requires limits { AreSound limits }
-    requires given_a { A.given reader_a.old < 2 ^ 62 }
-    requires given_b { B.given reader_b.old < 2 ^ 62 }
-    requires failures_a { A.failures reader_a.old < 2 ^ 62 }
-    requires failures_b { B.failures reader_b.old < 2 ^ 62 }
+    requires readers { CanRead A.Source reader_a.old × CanRead B.Source reader_b.old }
 
     // The result is the one verdict on the two inputs. `ReadFault` is returned only if the reader
     // failed. With a verdict or `Memory`, neither reader failed. With `Memory`, no more was read
@@ -77,10 +74,7 @@ pub fn compare_with<A: Source, B: Source, T: NameTable + Drop>(
     requires limits { AreSound limits }
     requires tables_a { AreReady T.numbers T.limit limits tables_a }
     requires tables_b { AreReady T.numbers T.limit limits tables_b }
-    requires given_a { A.given reader_a.old < 2 ^ 62 }
-    requires given_b { B.given reader_b.old < 2 ^ 62 }
-    requires failures_a { A.failures reader_a.old < 2 ^ 62 }
-    requires failures_b { B.failures reader_b.old < 2 ^ 62 }
+    requires readers { CanRead A.Source reader_a.old × CanRead B.Source reader_b.old }
 
     // The guarantees of `compare`, for any tables.
     ensures outcome { Compares A.Source B.Source limits mode reader_a.old reader_a.new reader_b.old
@@ -126,10 +120,7 @@ pub fn compare_texts_with<A: Source, B: Source, T: NameTable + Drop>(
     requires limits { AreSound limits }
     requires tables_a { AreReady T.numbers T.limit limits tables_a }
     requires tables_b { AreReady T.numbers T.limit limits tables_b }
-    requires given_a { A.given reader_a.old < 2 ^ 62 }
-    requires given_b { B.given reader_b.old < 2 ^ 62 }
-    requires failures_a { A.failures reader_a.old < 2 ^ 62 }
-    requires failures_b { B.failures reader_b.old < 2 ^ 62 }
+    requires readers { CanRead A.Source reader_a.old × CanRead B.Source reader_b.old }
 
     // The guarantees of `compare`, for any tables.
     ensures outcome { Compares A.Source B.Source limits mode reader_a.old reader_a.new reader_b.old

@@ -6,6 +6,7 @@ pub mod Past
 pub mod Replacing
 pub mod Counts
 pub mod Device
+pub mod Devices
 pub mod Memory
 pub mod Pieces
 pub mod Reading

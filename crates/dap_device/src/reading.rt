@@ -1,6 +1,7 @@
 //! Reads a complete input.
 ghost use Rattle.std.specs.Prelude.{◌≡◌, ◌≤◌, ◌+◌, ◌^◌, ◌<◌, IfOk, OnErr, OnOk, drop, length};
 ghost use Rattle.std.specs.Prelude.{take};
+ghost use Rattle.dap_device.specs.Devices.{CanRead};
 ghost use Rattle.dap_device.specs.Device.{HasRead};
 ghost use Rattle.dap_device.specs.Reading.{HasReadInput, HasReadPartly};
 
@@ -80,8 +81,7 @@ fn first_bytes(mut bytes: Vec<u8>, count: usize, stop: Stop) -> Input
 /// - `AllocError`: an allocation failed.
 pub fn read_all<R: Source>(alloc: Global, reader: &mut R, limit: u64) -> Result<Input, AllocError>
     requires small { limit ≤ 2 ^ 62 }
-    requires given { R.given reader.old < 2 ^ 62 }
-    requires failures { R.failures reader.old < 2 ^ 62 }
+    requires reader { CanRead R.Source reader.old }
     ensures given { R.given reader.new ≤ R.given reader.old + limit + 1 }
     ensures came { IfOk result
         (λ input. HasReadInput R.Source reader.old reader.new limit input.bytes.items input.stop) }

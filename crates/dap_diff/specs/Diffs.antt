@@ -1,35 +1,23 @@
 -- The differences of two recordings: the lines for the first record that differs. Source: own; the
 -- leaves that differ are those that `dap_difference` defines.
-use Rattle.std.specs.Prelude.{◌≡◌, ℕ, ◌+◌, Bool, ◌&&◌, List, [], ◌∷◌, ◌++◌, Option}
-use Rattle.std.specs.Prelude.{Some, None}
+use Rattle.std.specs.Prelude.{◌≡◌, ℕ, ◌+◌, Bool, ◌&&◌, List, [], ◌∷◌, ◌++◌, Option, Some, None}
 use Rattle.std.specs.Prelude.{Result, Ok, Err, bytes_eq, codes, unwrap_or, if◌then◌else◌}
 use Rattle.std.specs.List.{flat_map}
 use Rattle.dap_device.specs.declared.device.Source.{Ghosts as Source}
-use Rattle.dap_device.specs.declared.reading.Stop.{Stop}
-use Rattle.dap_device.specs.Pieces.{HasReadSoFar}
-use Rattle.dap_tree.specs.Doc.{Doc, text}
-use Rattle.dap_tree.specs.Ids.{without_ids}
-use Rattle.dap_tree.specs.Json.{text_of}
-use Rattle.dap_tree.specs.Side.{same_side}
+use Rattle.dap_device.specs.{declared.reading.Stop.Stop, Pieces.HasReadSoFar}
+use Rattle.dap_tree.specs.{Doc.{Doc, text}, Ids.without_ids, Json.text_of, Side.same_side}
 use Rattle.dap_tree.specs.declared.side.Side.{Side}
 use Rattle.dap_tree.specs.declared.side.Side.TheVariants.{Client, Adapter}
 use Rattle.dap_profile.specs.declared.profile.Kind.{Kind}
 use Rattle.dap_profile.specs.declared.profile.Kind.TheVariants.{Request, Response, Event}
-use Rattle.dap_message.specs.Envelope.{kind_of, name_of}
-use Rattle.dap_message.specs.Message.{Sent}
-use Rattle.dap_message.specs.Rows.{is_of_kind}
-use Rattle.dap_rename.specs.Messages.{IsNormal}
-use Rattle.dap_rename.specs.Modes.{stop_in}
-use Rattle.dap_rename.specs.declared.mode.Mode.{Mode}
-use Rattle.dap_input.specs.declared.limits.Limits.{Limits}
-use Rattle.dap_input.specs.Inputs.{Input, AcceptedBefore}
+use Rattle.dap_message.specs.{Envelope.{kind_of, name_of}, Message.Sent, Rows.is_of_kind}
+use Rattle.dap_rename.specs.{Messages.IsNormal, Modes.stop_in, declared.mode.Mode.Mode}
+use Rattle.dap_input.specs.{declared.limits.Limits.Limits, Inputs.{Input, AcceptedBefore}}
 use Rattle.dap_input.specs.ReadTo.{IsOf}
 use Rattle.dap_normalise.specs.Accepting.{accepting}
-use Rattle.dap_compare.specs.Verdicts.{Compares}
-use Rattle.dap_compare.specs.declared.verdict.CompareRefused.{CompareRefused}
+use Rattle.dap_compare.specs.{Verdicts.Compares, declared.verdict.CompareRefused.CompareRefused}
 use Rattle.dap_compare.specs.declared.verdict.Verdict.TheVariants as verdict
-use Rattle.dap_difference.specs.Telling.{differences}
-use Rattle.dap_difference.specs.Lines.{difference_lines}
+use Rattle.dap_difference.specs.{Telling.differences, Lines.difference_lines}
 use Rattle.dap_diff.specs.declared.outcome.Diff.{Diff}
 use Rattle.dap_diff.specs.declared.outcome.Diff.TheVariants.{Same, Differ}
 

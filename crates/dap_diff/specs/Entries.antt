@@ -1,17 +1,12 @@
 -- The records of a recording in memory: their numbers, messages and heads. Source: own.
-use Rattle.std.specs.Prelude.{◌≡◌, ℕ, suc, cond, List, [], ◌∷◌, ◌++◌, None}
-use Rattle.std.specs.Prelude.{string_bytes}
+use Rattle.std.specs.Prelude.{◌≡◌, ℕ, suc, cond, List, [], ◌∷◌, ◌++◌, None, string_bytes}
 use Rattle.dap_device.specs.declared.device.Source.{Ghosts as Source}
 use Rattle.dap_message.specs.Message.{Sent, sent}
-use Rattle.dap_rename.specs.Modes.{is_stopped}
-use Rattle.dap_rename.specs.declared.mode.Mode.{Mode}
+use Rattle.dap_rename.specs.{Modes.is_stopped, declared.mode.Mode.Mode}
 use Rattle.dap_rename.specs.declared.mode.Mode.TheVariants.{Whole, PerStop}
 use Rattle.dap_input.specs.declared.limits.Limits.{Limits}
-use Rattle.dap_diff.specs.Diffs.{head_text}
-use Rattle.dap_diff.specs.Matching.{HasNormalText}
-use Rattle.dap_diff.specs.Texts.{IsRecordOf}
-use Rattle.dap_diff.specs.declared.entry.Entry.{Entry}
-use Rattle.dap_diff.specs.declared.entry.Recording.{Recording}
+use Rattle.dap_diff.specs.{Diffs.head_text, Matching.HasNormalText, Texts.IsRecordOf}
+use Rattle.dap_diff.specs.{declared.entry.Entry.Entry, declared.entry.Recording.Recording}
 
 -- ---- stops
 

@@ -1,6 +1,5 @@
 -- The joint numbers of ids. Source: own.
-use Rattle.std.specs.Prelude.{◌≡◌, ℕ, suc, ℤ, pos, Some}
-use Rattle.std.specs.BTreeMap.{BTreeMap, get}
+use Rattle.std.specs.{Prelude.{◌≡◌, ℕ, suc, ℤ, pos, Some}, BTreeMap.{BTreeMap, get}}
 use Rattle.std.specs.declared.cmp.Ordering.{Ordering}
 use Rattle.dap_diff.specs.declared.ids.Id.{Id}
 

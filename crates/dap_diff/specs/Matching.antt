@@ -2,12 +2,10 @@
 use Rattle.std.specs.Prelude.{◌≡◌, ◌⊎◌, ℕ, false, List, Result, Ok, Err}
 use Rattle.dap_device.specs.declared.device.Source.{Ghosts as Source}
 use Rattle.dap_rename.specs.declared.mode.Mode.{Mode}
-use Rattle.dap_input.specs.declared.limits.Limits.{Limits}
-use Rattle.dap_input.specs.declared.refused.Refused.{Refused}
+use Rattle.dap_input.specs.{declared.limits.Limits.Limits, declared.refused.Refused.Refused}
 use Rattle.dap_input.specs.declared.refused.Refused.TheVariants as why
 use Rattle.dap_input.specs.Engine.{Accepts}
-use Rattle.dap_normalise.specs.Checking.{Checks}
-use Rattle.dap_normalise.specs.Normalising.{Normalises}
+use Rattle.dap_normalise.specs.{Checking.Checks, Normalising.Normalises}
 use Rattle.dap_compare.specs.declared.verdict.CompareRefused.{CompareRefused}
 use Rattle.dap_compare.specs.declared.verdict.CompareRefused.TheVariants.{Input, Memory}
 use Rattle.dap_compare.specs.declared.verdict.Which.{Which}

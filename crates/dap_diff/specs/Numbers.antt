@@ -1,6 +1,5 @@
 -- Joint numbers of ids. Source: own.
-use Rattle.std.specs.Prelude.{ℤ, pos, negsuc, Bool, false, nat_lt, List}
-use Rattle.std.specs.List.{list_all}
+use Rattle.std.specs.{Prelude.{ℤ, pos, negsuc, Bool, false, nat_lt, List}, List.list_all}
 
 -- A number from 1 on.
 abbrev pub is_positive : ℤ → Bool

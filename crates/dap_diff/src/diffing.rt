@@ -1,9 +1,9 @@
 //! Finds the differences of two recordings.
-ghost use Rattle.std.specs.Prelude.{◌+◌, ◌<◌, ◌≤◌, ◌^◌, IfOk};
+ghost use Rattle.std.specs.Prelude.{◌+◌, ◌≤◌, IfOk};
+ghost use Rattle.dap_device.specs.Devices.{CanRead};
 ghost use Rattle.dap_input.specs.Limits.{AreSound};
 ghost use Rattle.dap_normalise.specs.NameTables.{AreReady};
-ghost use Rattle.dap_diff.specs.Diffs.{DescribesDifference};
-ghost use Rattle.dap_diff.specs.Texts.{IsLeftText, DescribesTexts};
+ghost use Rattle.dap_diff.specs.{Diffs.DescribesDifference, Texts.{IsLeftText, DescribesTexts}};
 
 use crate::lines::diff_lines;
 use crate::outcome::Diff;
@@ -52,10 +52,7 @@ pub fn diff<A: Source, B: Source>(
     mode: Mode,
 ) -> Result<Diff, CompareRefused>
     requires limits { AreSound limits }
-    requires given_a { A.given reader_a.old < 2 ^ 62 }
-    requires given_b { B.given reader_b.old < 2 ^ 62 }
-    requires failures_a { A.failures reader_a.old < 2 ^ 62 }
-    requires failures_b { B.failures reader_b.old < 2 ^ 62 }
+    requires readers { CanRead A.Source reader_a.old × CanRead B.Source reader_b.old }
 
     // The result is the one verdict on the two inputs; if they differ, with the differences as
     // lines.
@@ -95,10 +92,7 @@ pub fn diff_with<A: Source, B: Source, T: NameTable + Drop>(
     requires limits { AreSound limits }
     requires tables_a { AreReady T.numbers T.limit limits tables_a }
     requires tables_b { AreReady T.numbers T.limit limits tables_b }
-    requires given_a { A.given reader_a.old < 2 ^ 62 }
-    requires given_b { B.given reader_b.old < 2 ^ 62 }
-    requires failures_a { A.failures reader_a.old < 2 ^ 62 }
-    requires failures_b { B.failures reader_b.old < 2 ^ 62 }
+    requires readers { CanRead A.Source reader_a.old × CanRead B.Source reader_b.old }
 
     // The guarantees of `diff`, for any tables.
     ensures outcome { DescribesDifference A.Source B.Source limits mode reader_a.old reader_a.new

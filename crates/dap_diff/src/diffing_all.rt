@@ -1,5 +1,6 @@
 //! Compares all records of two recordings.
-ghost use Rattle.std.specs.Prelude.{◌+◌, ◌<◌, ◌≤◌, ◌^◌};
+ghost use Rattle.std.specs.Prelude.{◌+◌, ◌≤◌};
+ghost use Rattle.dap_device.specs.Devices.{CanRead};
 ghost use Rattle.dap_input.specs.Limits.{AreSound};
 ghost use Rattle.dap_normalise.specs.NameTables.{AreReady};
 ghost use Rattle.dap_diff.specs.Matching.{DiffersAll};
@@ -46,10 +47,7 @@ pub fn diff_all_with<A: Source, B: Source, T: NameTable + Drop>(
     requires limits { AreSound limits }
     requires tables_a { AreReady T.numbers T.limit limits tables_a }
     requires tables_b { AreReady T.numbers T.limit limits tables_b }
-    requires given_a { A.given reader_a.old < 2 ^ 62 }
-    requires given_b { B.given reader_b.old < 2 ^ 62 }
-    requires failures_a { A.failures reader_a.old < 2 ^ 62 }
-    requires failures_b { B.failures reader_b.old < 2 ^ 62 }
+    requires readers { CanRead A.Source reader_a.old × CanRead B.Source reader_b.old }
 
     // `Same` is returned exactly for two accepted recordings with one normal form.
     ensures outcome { DiffersAll A.Source B.Source limits mode reader_a.old reader_a.new

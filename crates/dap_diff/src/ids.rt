@@ -1,6 +1,5 @@
 //! The numbers that the ids of two recordings share.
-ghost use Rattle.std.specs.Prelude.{◌≡◌, ℕ, suc, pos, ◌<ℤ◌, None, Some, IfOk, IsOk};
-ghost use Rattle.std.specs.Prelude.{unwrap_or};
+ghost use Rattle.std.specs.Prelude.{◌≡◌, ℕ, suc, pos, ◌<ℤ◌, None, Some, IfOk, IsOk, unwrap_or};
 ghost use Rattle.std.specs.BTreeMap.{get};
 ghost use Rattle.dap_diff.specs.JointNumbers.{IsNumberOf};
 

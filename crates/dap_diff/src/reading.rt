@@ -2,11 +2,8 @@
 ghost use Rattle.std.specs.Prelude.{◌≡◌, [], IfOk, IsOk, option_map, true};
 ghost use Rattle.dap_input.specs.Limits.{AreSound};
 ghost use Rattle.dap_message.specs.Message.{Sent, doc_of, sent};
-ghost use Rattle.dap_normalise.specs.Accepting.{IsMessage};
-ghost use Rattle.dap_normalise.specs.JudgingSteps.{payload_of};
-ghost use Rattle.dap_tree.specs.Doc.{is_sound};
-ghost use Rattle.dap_tree.specs.Ids.{without_ids};
-ghost use Rattle.dap_tree.specs.View.{view};
+ghost use Rattle.dap_normalise.specs.{Accepting.IsMessage, JudgingSteps.payload_of};
+ghost use Rattle.dap_tree.specs.{Doc.is_sound, Ids.without_ids, View.view};
 ghost use Rattle.dap_diff.specs.Texts.{Holds, IsLeftText, IsRecordOf, IsRecordText};
 
 use dap_input::{Limits, Refused};

@@ -1,12 +1,12 @@
 //! Reads a recording into memory: its normal form, as a text and as messages.
-ghost use Rattle.std.specs.Prelude.{◌≡◌, ◌+◌, ◌<◌, ◌≤◌, ◌^◌, [], OnOk};
+ghost use Rattle.std.specs.Prelude.{◌≡◌, ◌+◌, ◌≤◌, [], OnOk};
+ghost use Rattle.dap_device.specs.Devices.{CanRead};
 ghost use Rattle.dap_diff.specs.Entries.{AddsEntry, AddsRecording, stop_after};
-ghost use Rattle.dap_diff.specs.Texts.{IsRecordText};
+ghost use Rattle.dap_diff.specs.{Texts.IsRecordText, Matching.Reads};
 ghost use Rattle.dap_input.specs.Limits.{AreSound};
 ghost use Rattle.dap_message.specs.Message.{sent};
 ghost use Rattle.dap_normalise.specs.NameTables.{AreReady};
 ghost use Rattle.dap_rename.specs.Modes.{is_stopped};
-ghost use Rattle.dap_diff.specs.Matching.{Reads};
 
 use crate::entry::{Entry, Recording};
 use crate::reading::message_of;
@@ -88,8 +88,7 @@ pub fn read_recording<R: Source, T: NameTable + Drop>(
     requires limits { AreSound limits }
     requires tables { AreReady T.numbers T.limit limits tables }
     requires empty { recording.old.text.items ≡ [] }
-    requires given { R.given reader.old < 2 ^ 62 }
-    requires failures { R.failures reader.old < 2 ^ 62 }
+    requires reader { CanRead R.Source reader.old }
 
     // The text is that of the normal form, or the refusal is that of the input.
     ensures outcome { Reads R.Source limits mode reader.old reader.new which

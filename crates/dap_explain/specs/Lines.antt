@@ -1,6 +1,5 @@
 -- The lines of an explanation. Source: own; they follow the line of a rejection on standard error.
-use Rattle.std.specs.Prelude.{◌≡◌, ◌≢◌, ◌≤◌, ℕ, List, ◌++◌, codes, All}
-use Rattle.std.specs.List.{flat_map}
+use Rattle.std.specs.{Prelude.{◌≡◌, ◌≢◌, ◌≤◌, ℕ, List, ◌++◌, codes, All}, List.flat_map}
 
 -- A byte that a terminal prints: not an ASCII control character.
 abbrev pub IsPrinted : ℕ → Type 0

@@ -2,8 +2,7 @@
 ghost use Rattle.std.specs.Prelude.{◌≡◌, IfOk, string_bytes};
 ghost use Rattle.dap_frame.specs.Limits.{IsSound};
 ghost use Rattle.dap_input.specs.declared.limits.Limits.{Limits};
-ghost use Rattle.dap_explain.specs.Lines.{AreLines};
-ghost use Rattle.dap_explain.specs.Unexplained.{IsEmpty, IsFailure};
+ghost use Rattle.dap_explain.specs.{Lines.AreLines, Unexplained.{IsEmpty, IsFailure}};
 
 use crate::fractions::explain_fraction;
 use crate::head::{Head, add_head, read_message};

@@ -1,6 +1,5 @@
 //! Builds the lines of an explanation, indented and without control characters.
-ghost use Rattle.std.specs.Prelude.{◌≡◌, ◌≢◌, ◌<◌, ◌≤◌, true, All, IfOk, OnOk};
-ghost use Rattle.std.specs.Prelude.{string_bytes};
+ghost use Rattle.std.specs.Prelude.{◌≡◌, ◌≢◌, ◌<◌, ◌≤◌, true, All, IfOk, OnOk, string_bytes};
 ghost use Rattle.dap_explain.specs.Lines.{AreLines, IsPrinted};
 
 use crate::words::{Bytes, first_characters};
@@ -25,8 +24,7 @@ pub(crate) struct Lines {
 }
 
 impl Lines {
-    ghost use Rattle.dap_explain.specs.NoLines.{AreNone};
-    ghost use Rattle.dap_explain.specs.Unexplained.{IsEmpty};
+    ghost use Rattle.dap_explain.specs.{NoLines.AreNone, Unexplained.IsEmpty};
 
     /// Returns an explanation without lines. Does not allocate.
     pub(crate) fn new(alloc: Global) -> Lines

@@ -1,7 +1,6 @@
 //! Explains rejected files of rules.
 ghost use Rattle.std.specs.Prelude.{◌≡◌, IfOk, string_bytes};
-ghost use Rattle.dap_explain.specs.Lines.{AreLines};
-ghost use Rattle.dap_explain.specs.Unexplained.{IsEmpty};
+ghost use Rattle.dap_explain.specs.{Lines.AreLines, Unexplained.IsEmpty};
 
 use crate::header::is_lf;
 use crate::lines::Lines;

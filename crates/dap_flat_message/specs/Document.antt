@@ -5,8 +5,7 @@ use Rattle.dap_tree.specs.Doc.{Doc, null, list, object, Items, no_items, item, M
 use Rattle.dap_tree.specs.Doc.{member}
 use Rattle.dap_flat.specs.declared.node.Node.{Node}
 use Rattle.dap_flat.specs.Pieces.{Piece, leaf, begin_list, end_list, begin_object, end_object, name}
-use Rattle.dap_flat.specs.Pieces.{piece_of}
-use Rattle.dap_flat.specs.Placing.{size}
+use Rattle.dap_flat.specs.{Pieces.piece_of, Placing.size}
 
 -- The number of pieces of the value that the list starts with.
 abbrev pub first_size : List Piece → ℕ

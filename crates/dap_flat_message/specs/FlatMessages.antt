@@ -1,10 +1,8 @@
 -- The message that a flat message is.
 use Rattle.std.specs.Prelude.{◌≡◌, ℕ, List}
-use Rattle.dap_tree.specs.Doc.{Doc}
-use Rattle.dap_tree.specs.declared.side.Side.{Side}
+use Rattle.dap_tree.specs.{Doc.Doc, declared.side.Side.Side}
 use Rattle.dap_message.specs.Message.{Sent, IsTypedContent, HasRefusal, faulty}
-use Rattle.dap_flat_message.specs.Document.{document_of}
-use Rattle.dap_flat_message.specs.declared.message.FlatMessage.{FlatMessage}
+use Rattle.dap_flat_message.specs.{Document.document_of, declared.message.FlatMessage.FlatMessage}
 use Rattle.dap_flat_message.specs.declared.reading.FlatFault.{FlatFault}
 use Rattle.dap_flat_message.specs.declared.reading.FlatFault.TheVariants.{Memory, Unclear, Message}
 use Rattle.dap_flat.specs.declared.unread.Unread.{Unread}

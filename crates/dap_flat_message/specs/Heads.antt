@@ -1,17 +1,12 @@
 -- The top members of a message, and its first fault.
-use Rattle.std.specs.Prelude.{◌≡◌, ℕ, List, cond, Option, Some, None, option_map}
-use Rattle.std.specs.Prelude.{bytes_eq, codes}
+use Rattle.std.specs.Prelude.{◌≡◌, ℕ, List, cond, Option, Some, None, option_map, bytes_eq, codes}
 use Rattle.std.specs.Borrow.{Bor}
 use Rattle.dap_tree.specs.Doc.{Doc, get}
-use Rattle.dap_profile.specs.ProfileRows.{ProfileRow}
-use Rattle.dap_profile.specs.declared.profile.Kind.{Kind}
+use Rattle.dap_profile.specs.{ProfileRows.ProfileRow, declared.profile.Kind.Kind}
 use Rattle.dap_message.specs.AskedRows.{kind_of_tree, name_of_tree, first_by, asked_rows}
-use Rattle.dap_message.specs.Faults.{fault}
-use Rattle.dap_message.specs.declared.fault.MessageFault.{MessageFault}
-use Rattle.dap_flat.specs.declared.node.Node.{Node}
-use Rattle.dap_flat.specs.Pieces.{Represents}
-use Rattle.dap_flat_message.specs.Judging.{Begins}
-use Rattle.dap_flat_message.specs.Places.{Locates}
+use Rattle.dap_message.specs.{Faults.fault, declared.fault.MessageFault.MessageFault}
+use Rattle.dap_flat.specs.{declared.node.Node.Node, Pieces.Represents}
+use Rattle.dap_flat_message.specs.{Judging.Begins, Places.Locates}
 use Rattle.dap_flat_message.specs.declared.members.Envelope.{Envelope}
 
 -- ---- the members of an envelope

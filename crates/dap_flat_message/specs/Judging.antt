@@ -1,21 +1,16 @@
 -- The first fault of a message that nodes represent.
 use Rattle.std.specs.Prelude.{◌≡◌, ℕ, List, [], ◌∷◌, ◌++◌, map, Bool, true, false, Option, Some}
-use Rattle.std.specs.Prelude.{None, option_map, MatchOption}
-use Rattle.std.specs.List.{flat_map}
-use Rattle.dap_tree.specs.Doc.{Doc, null, list, object, Items, no_items}
-use Rattle.dap_tree.specs.Doc.{no_members}
-use Rattle.dap_profile.specs.PlaceSteps.{PlaceStep, named}
-use Rattle.dap_profile.specs.declared.profile.Want.{Want}
+use Rattle.std.specs.{Prelude.{None, option_map, MatchOption}, List.flat_map}
+use Rattle.dap_tree.specs.Doc.{Doc, null, list, object, Items, no_items, no_members}
+use Rattle.dap_profile.specs.{PlaceSteps.{PlaceStep, named}, declared.profile.Want.Want}
 use Rattle.dap_message.specs.Places.{parts_at, elements}
 use Rattle.dap_message.specs.Rows.{cause_against, first_cause, broken_at, of_row}
 use Rattle.dap_message.specs.declared.fault.MessageFault.{MessageFault}
 use Rattle.dap_message.specs.declared.fault.MessageFault.TheVariants as fault
-use Rattle.dap_flat.specs.declared.node.Node.{Node}
-use Rattle.dap_flat.specs.Finding.{Stand, Holds}
+use Rattle.dap_flat.specs.{declared.node.Node.Node, Finding.{Stand, Holds}}
 use Rattle.dap_flat.specs.Pieces.{Piece, leaf, begin_list, end_list, begin_object, end_object, name}
 use Rattle.dap_flat.specs.Pieces.{items_pieces}
-use Rattle.dap_flat_message.specs.Places.{Locates}
-use Rattle.dap_flat_message.specs.declared.members.Envelope.{Envelope}
+use Rattle.dap_flat_message.specs.{Places.Locates, declared.members.Envelope.Envelope}
 use Rattle.dap_flat_message.specs.declared.rows.Broken.{Broken}
 use Rattle.dap_flat_message.specs.declared.rows.Broken.TheVariants.{Missing, WrongType}
 

@@ -1,15 +1,11 @@
 -- For private clauses: what a flat message is made of.
 use Rattle.std.specs.Prelude.{◌≡◌, ℤ, Bool, List, true, Option, is_some}
-use Rattle.dap_tree.specs.Doc.{Doc, is_plain}
-use Rattle.dap_tree.specs.declared.side.Side.{Side}
+use Rattle.dap_tree.specs.{Doc.{Doc, is_plain}, declared.side.Side.Side}
 use Rattle.dap_profile.specs.declared.profile.Kind.TheVariants.{Response}
-use Rattle.dap_message.specs.Envelope.{request_seq_of, success_of}
-use Rattle.dap_message.specs.Faults.{Fits}
-use Rattle.dap_message.specs.Message.{message_of}
-use Rattle.dap_message.specs.Rows.{is_of_kind}
+use Rattle.dap_message.specs.{Envelope.{request_seq_of, success_of}, Faults.Fits}
+use Rattle.dap_message.specs.{Message.message_of, Rows.is_of_kind}
 use Rattle.dap_flat.specs.declared.node.Node.{Node}
-use Rattle.dap_flat_message.specs.Places.{Locates}
-use Rattle.dap_flat_message.specs.declared.members.Envelope.{Envelope}
+use Rattle.dap_flat_message.specs.{Places.Locates, declared.members.Envelope.Envelope}
 
 -- The nodes represent the message that some document is on this side, and the envelope has the
 -- places of its members.

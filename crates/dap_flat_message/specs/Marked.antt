@@ -1,12 +1,10 @@
 -- A message that nodes represent, with its ids marked.
 use Rattle.std.specs.Prelude.{◌≡◌, List}
-use Rattle.dap_tree.specs.Doc.{Doc}
-use Rattle.dap_tree.specs.declared.side.Side.{Side}
+use Rattle.dap_tree.specs.{Doc.Doc, declared.side.Side.Side}
 use Rattle.dap_profile.specs.ProfileRows.{ProfileRow}
 use Rattle.dap_message.specs.AskedRows.{marks_by}
 use Rattle.dap_flat.specs.declared.node.Node.{Node}
-use Rattle.dap_flat_message.specs.Places.{Locates}
-use Rattle.dap_flat_message.specs.declared.members.Envelope.{Envelope}
+use Rattle.dap_flat_message.specs.{Places.Locates, declared.members.Envelope.Envelope}
 
 -- The nodes represent f of the document that they represented. Its members have the same places.
 abbrev pub Makes : Envelope → List Node → List Node → (Doc → Doc) → Type 0

@@ -1,11 +1,9 @@
 -- A part of a flat document that is changed in its place.
 use Rattle.std.specs.Prelude.{◌≡◌, ℕ, ◌+◌, List, [], ◌∷◌, ◌++◌, map, length}
-use Rattle.dap_tree.specs.declared.sort.Sort.{Sort}
-use Rattle.dap_tree.specs.Doc.{Doc, Items, no_items, item, map_items}
+use Rattle.dap_tree.specs.{declared.sort.Sort.Sort, Doc.{Doc, Items, no_items, item, map_items}}
 use Rattle.dap_profile.specs.PlaceSteps.{PlaceStep, named, each}
 use Rattle.dap_message.specs.Marks.{marked}
-use Rattle.dap_flat.specs.declared.node.Node.{Node}
-use Rattle.dap_flat.specs.Finding.{Stand, Holds}
+use Rattle.dap_flat.specs.{declared.node.Node.Node, Finding.{Stand, Holds}}
 use Rattle.dap_flat.specs.Pieces.{Piece, leaf, begin_list, end_list, begin_object, end_object, name}
 use Rattle.dap_flat.specs.Pieces.{piece_of, pieces, items_pieces}
 use Rattle.dap_flat_message.specs.declared.marks.Step.{Step}

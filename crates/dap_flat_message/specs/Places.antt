@@ -1,16 +1,13 @@
 -- Where the members of a message start among its nodes (own): each name that rows look at, its
 -- member's place in a document, and the envelope that notes these places.
 use Rattle.std.specs.Prelude.{◌≡◌, ℕ, ◌+◌, List, Option, Some, None, option_map, length, codes}
-use Rattle.std.specs.Ordering.{nat_cmp, match_ordering}
-use Rattle.std.specs.Cmp.Lexicographic.{slice_cmp}
+use Rattle.std.specs.{Ordering.{nat_cmp, match_ordering}, Cmp.Lexicographic.slice_cmp}
 use Rattle.std.specs.Option.{option_or}
 use Rattle.dap_tree.specs.Doc.{Doc, null, boolean, whole, text, list, object, id, Members}
 use Rattle.dap_tree.specs.Doc.{no_members, member, get, change_child}
-use Rattle.dap_flat.specs.declared.node.Node.{Node}
-use Rattle.dap_flat.specs.Finding.{HoldsMembers, Finds}
+use Rattle.dap_flat.specs.{declared.node.Node.Node, Finding.{HoldsMembers, Finds}}
 use Rattle.dap_flat.specs.Pieces.{pieces, Represents}
-use Rattle.dap_flat_message.specs.declared.members.Envelope.{Envelope}
-use Rattle.dap_flat_message.specs.declared.members.Key.{Key}
+use Rattle.dap_flat_message.specs.{declared.members.Envelope.Envelope, declared.members.Key.Key}
 use Rattle.dap_flat_message.specs.declared.members.Key.TheVariants as key
 
 -- ---- places in a document

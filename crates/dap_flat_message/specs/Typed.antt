@@ -1,18 +1,14 @@
 -- The nodes of a document that is typed as a message.
 use Rattle.std.specs.Prelude.{◌≡◌, ℕ, List, Bool, false, Option, Some, None, bytes_eq, codes}
 use Rattle.std.specs.Option.{option_map_or}
-use Rattle.dap_tree.specs.Doc.{Doc}
-use Rattle.dap_tree.specs.declared.side.Side.{Side}
+use Rattle.dap_tree.specs.{Doc.Doc, declared.side.Side.Side}
 use Rattle.dap_tree.specs.declared.side.Side.TheVariants.{Client, Adapter}
 use Rattle.dap_profile.specs.declared.profile.Kind.{Kind}
 use Rattle.dap_profile.specs.declared.profile.Kind.TheVariants.{Request, Response, Event}
-use Rattle.dap_message.specs.Faults.{fault, Fits}
-use Rattle.dap_message.specs.Message.{message_of}
+use Rattle.dap_message.specs.{Faults.{fault, Fits}, Message.message_of}
 use Rattle.dap_message.specs.declared.fault.MessageFault.{MessageFault}
-use Rattle.dap_flat.specs.declared.node.Node.{Node}
-use Rattle.dap_flat.specs.Pieces.{Represents}
-use Rattle.dap_flat_message.specs.Places.{HasPlaces}
-use Rattle.dap_flat_message.specs.declared.members.Envelope.{Envelope}
+use Rattle.dap_flat.specs.{declared.node.Node.Node, Pieces.Represents}
+use Rattle.dap_flat_message.specs.{Places.HasPlaces, declared.members.Envelope.Envelope}
 
 -- Without a fault, the document fits the profile, and the nodes represent the message that it is on
 -- this side. Otherwise the fault is the document's first.

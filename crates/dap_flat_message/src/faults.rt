@@ -1,13 +1,10 @@
 //! Finds the first row that a flat message violates.
 ghost use Rattle.std.specs.Prelude.{◌≡◌, Some, None, IfOk, map, option_map};
 ghost use Rattle.dap_tree.specs.Doc.{Doc};
-ghost use Rattle.dap_profile.specs.RowRanges.{rows_in};
-ghost use Rattle.dap_profile.specs.ProfileRows.{row_of};
-ghost use Rattle.dap_message.specs.AskedRows.{fault_by, asked_rows, first_by};
-ghost use Rattle.dap_message.specs.Faults.{fault};
+ghost use Rattle.dap_profile.specs.{RowRanges.rows_in, ProfileRows.row_of};
+ghost use Rattle.dap_message.specs.{AskedRows.{fault_by, asked_rows, first_by}, Faults.fault};
 ghost use Rattle.dap_flat_message.specs.Heads.{IsFirst, IsTold, IsFault, IsNamed, AreAsked};
-ghost use Rattle.dap_flat_message.specs.Heads.{text_in};
-ghost use Rattle.dap_flat_message.specs.Places.{IsEnvelope};
+ghost use Rattle.dap_flat_message.specs.{Heads.text_in, Places.IsEnvelope};
 
 use crate::members::{Envelope, kind_of_tree, name_of_tree};
 use crate::rows::{Broken, broken_by, is_object};

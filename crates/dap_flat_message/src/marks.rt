@@ -1,10 +1,9 @@
 //! Marks the numbers of a flat message that are ids, in place.
 ghost use Rattle.std.specs.Prelude.{◌≡◌, ◌<◌, ◌^◌, length, slice_set, slice_index_or, OnOk, pos};
+ghost use Rattle.std.specs.Bool.{MatchBool};
 ghost use Rattle.dap_tree.specs.Doc.{change_child, change_items};
 ghost use Rattle.dap_message.specs.Marks.{edit, marked, is_id_of};
-ghost use Rattle.dap_flat.specs.declared.node.Node.{Node};
-ghost use Rattle.std.specs.Bool.{MatchBool};
-ghost use Rattle.dap_flat.specs.Pieces.{piece_of, end_list};
+ghost use Rattle.dap_flat.specs.{declared.node.Node.Node, Pieces.{piece_of, end_list}};
 ghost use Rattle.dap_flat_message.specs.Marking.{Edits, EditsItems, steps, marked_piece};
 
 use dap_flat::{Node, Unclear, child, value_end};

@@ -3,11 +3,9 @@ ghost use Rattle.std.specs.Prelude.{◌≡◌, false, IfOk, MatchOption, bytes_e
 ghost use Rattle.std.specs.Option.{option_or};
 ghost use Rattle.dap_tree.specs.Doc.{Doc};
 ghost use Rattle.dap_message.specs.AskedRows.{kind_typed, kind_of_tree, name_of_tree};
-ghost use Rattle.dap_message.specs.Envelope.{text_value, boolean_value, id_number};
-ghost use Rattle.dap_message.specs.Rows.{is_true};
+ghost use Rattle.dap_message.specs.{Envelope.{text_value, boolean_value, id_number}, Rows.is_true};
 ghost use Rattle.dap_flat.specs.Pieces.{piece_of};
-ghost use Rattle.dap_flat_message.specs.Judging.{top_of};
-ghost use Rattle.dap_flat_message.specs.Heads.{note, IsValue, text_in, Tells};
+ghost use Rattle.dap_flat_message.specs.{Judging.top_of, Heads.{note, IsValue, text_in, Tells}};
 ghost use Rattle.dap_flat_message.specs.Places.{IsEnvelope, FindsTop, word, place_at, put_at};
 ghost use Rattle.dap_flat_message.specs.declared.members.Key.{Key};
 

@@ -1,19 +1,14 @@
 //! Messages as flat documents.
 ghost use Rattle.std.specs.Prelude.{◌≡◌, ◌++◌, true, Some, is_some, OnOk, OnErr, IfOk};
-ghost use Rattle.dap_tree.specs.Doc.{Doc, get};
-ghost use Rattle.dap_tree.specs.Ids.{ids, with_ids};
-ghost use Rattle.dap_tree.specs.Json.{text_of};
+ghost use Rattle.dap_tree.specs.{Doc.{Doc, get}, Ids.{ids, with_ids}, Json.text_of};
 ghost use Rattle.dap_profile.specs.declared.profile.Kind.{Kind};
 ghost use Rattle.dap_message.specs.AskedRows.{kind_of_tree};
 ghost use Rattle.dap_message.specs.Envelope.{kind_of, name_of, seq_of, request_seq_of, success_of};
-ghost use Rattle.dap_message.specs.Envelope.{text_value};
-ghost use Rattle.dap_message.specs.Numbers.{is_proper};
+ghost use Rattle.dap_message.specs.{Envelope.text_value, Numbers.is_proper};
 ghost use Rattle.dap_message.specs.Rows.{is_of_kind, name_key};
-ghost use Rattle.dap_flat_message.specs.Document.{document_of};
-ghost use Rattle.dap_flat.specs.Pieces.{Represents};
-ghost use Rattle.dap_flat_message.specs.Made.{IsMadeOf, Answers};
+ghost use Rattle.dap_flat_message.specs.{Document.document_of, Made.{IsMadeOf, Answers}};
 ghost use Rattle.dap_flat_message.specs.Heads.{Tells, text_in};
-ghost use Rattle.dap_flat.specs.Lengths.{IsLengthWithin};
+ghost use Rattle.dap_flat.specs.{Pieces.Represents, Lengths.IsLengthWithin};
 
 use crate::members::{Envelope, boolean_at, kind_of_tree, number_at, text_at};
 use dap_flat::{Node, Unclear, add_ids, length_within, replace_ids, write_flat};

@@ -1,13 +1,9 @@
 //! Marks the ids of a flat message in place, by the rows that apply to it.
 ghost use Rattle.std.specs.Prelude.{◌≡◌, ◌∷◌, OnOk, map};
-ghost use Rattle.dap_profile.specs.RowRanges.{rows_in};
-ghost use Rattle.dap_profile.specs.PlaceSteps.{named, steps_of};
+ghost use Rattle.dap_profile.specs.{RowRanges.rows_in, PlaceSteps.{named, steps_of}};
 ghost use Rattle.dap_profile.specs.ProfileRows.{row_of};
-ghost use Rattle.dap_message.specs.AskedRows.{mark_by, marks_by};
-ghost use Rattle.dap_message.specs.Marks.{marked, edit, mark};
-ghost use Rattle.dap_flat_message.specs.Heads.{AreAsked};
-ghost use Rattle.dap_flat_message.specs.Marked.{Makes};
-ghost use Rattle.dap_flat_message.specs.Marking.{steps};
+ghost use Rattle.dap_message.specs.{AskedRows.{mark_by, marks_by}, Marks.{marked, edit, mark}};
+ghost use Rattle.dap_flat_message.specs.{Heads.AreAsked, Marked.Makes, Marking.steps};
 
 use crate::marks::{Step, mark_path};
 use crate::members::{Envelope, top_child};

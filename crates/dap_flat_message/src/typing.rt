@@ -1,7 +1,6 @@
 //! Types a flat document as a message.
 ghost use Rattle.std.specs.Prelude.{◌≡◌, Some, IfOk};
-ghost use Rattle.dap_flat_message.specs.Heads.{IsNamed, text_in};
-ghost use Rattle.dap_flat_message.specs.Places.{IsEnvelope};
+ghost use Rattle.dap_flat_message.specs.{Heads.{IsNamed, text_in}, Places.IsEnvelope};
 ghost use Rattle.dap_flat_message.specs.Typed.{IsTypedFlat, KeepsPlaces, HasFault, may_tell};
 
 use crate::faults::{first_asked, message_fault};

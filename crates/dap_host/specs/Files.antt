@@ -1,8 +1,6 @@
 -- The files that names lead to. Source: own.
-use Rattle.std.specs.Prelude.{ℕ, Bool, List, codes}
-use Rattle.std.specs.Str.{bytes_eq}
-use Rattle.dap_host.specs.declared.host.OpenFault.{OpenFault}
-use Rattle.dap_host.specs.declared.host.Purpose.{Purpose}
+use Rattle.std.specs.{Prelude.{ℕ, Bool, List, codes}, Str.bytes_eq}
+use Rattle.dap_host.specs.{declared.host.OpenFault.OpenFault, declared.host.Purpose.Purpose}
 use Rattle.dap_host.specs.declared.host.Stream.{Stream}
 
 -- the name of standard input and of standard output

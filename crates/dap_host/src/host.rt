@@ -64,8 +64,7 @@ pub trait Host {
     type Table: NameTable + Drop;
 
     ghost use Rattle.std.specs.Prelude.{◌≡◌, None, IfErr, IfOk};
-    ghost use Rattle.dap_host.specs.Files.{Files};
-    ghost use Rattle.dap_host.specs.declared.limits.TheConstants.{LIMITS};
+    ghost use Rattle.dap_host.specs.{Files.Files, declared.limits.TheConstants.LIMITS};
     ghost use Rattle.dap_normalise.specs.NameTables.{AreReady};
 
     /// Which file a name leads to, or why it leads to none.

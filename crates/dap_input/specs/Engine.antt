@@ -6,12 +6,11 @@ use Rattle.dap_device.specs.declared.device.Source.{Ghosts as Source}
 use Rattle.dap_device.specs.declared.device.Sink.{Ghosts as Sink}
 use Rattle.dap_recording.specs.declared.record_fault.RecordCause.TheVariants.{Cut}
 use Rattle.dap_device.specs.declared.reading.Stop.{Stop}
-use Rattle.dap_device.specs.declared.reading.Stop.TheVariants.{End, Failed}
+use Rattle.dap_device.specs.{declared.reading.Stop.TheVariants.{End, Failed}, Reading.HasReadInput}
+use Rattle.dap_device.specs.Written.{AllSent, PrefixWritten}
 use Rattle.dap_input.specs.declared.refused.Refused.{Refused}
 use Rattle.dap_input.specs.declared.refused.Refused.TheVariants.{Record, ReadFault, WriteFault}
 use Rattle.dap_input.specs.declared.refused.Refused.TheVariants.{Memory}
-use Rattle.dap_device.specs.Reading.{HasReadInput}
-use Rattle.dap_device.specs.Written.{AllSent, PrefixWritten}
 
 -- An engine over a reader, by the bytes and failures that the reader reports.
 module _ {R : Type 0} (source : Source R) (input : ℕ) where

@@ -1,15 +1,11 @@
 -- The progress of an engine that validates an input record by record. Source: own.
 use Rattle.std.specs.Prelude.{◌≡◌, ℕ, List, length, Option, Some, None, is_some, Result, Ok, Err}
 use Rattle.dap_device.specs.declared.device.Source.{Ghosts as Source}
-use Rattle.dap_device.specs.Pieces.{HasReadSoFar}
-use Rattle.dap_device.specs.declared.reading.Stop.{Stop}
+use Rattle.dap_device.specs.{Pieces.HasReadSoFar, declared.reading.Stop.Stop}
 use Rattle.dap_device.specs.declared.reading.Stop.TheVariants.{End}
 use Rattle.dap_recording.specs.declared.record_fault.RecordCause.TheVariants.{Cut}
-use Rattle.dap_input.specs.Validation.{Validation}
-use Rattle.dap_input.specs.ReadTo.{so_far}
-use Rattle.dap_input.specs.RecordSteps.{IsWithin}
-use Rattle.dap_input.specs.Refusals.{RefusesAt}
-use Rattle.dap_input.specs.declared.records.Records.{Records}
+use Rattle.dap_input.specs.{Validation.Validation, ReadTo.so_far, RecordSteps.IsWithin}
+use Rattle.dap_input.specs.{Refusals.RefusesAt, declared.records.Records.Records}
 use Rattle.dap_input.specs.declared.refused.Refused.{Refused}
 use Rattle.dap_input.specs.declared.refused.Refused.TheVariants.{Record, Memory}
 

@@ -1,9 +1,7 @@
 -- The result of a reader of items, for any kind of item, and the items of the readers.
 use Rattle.std.specs.Prelude.{◌≡◌, ℕ, List, [], ◌++◌, length, take, Result, Ok, Err, MatchOption}
-use Rattle.dap_frame.specs.Grammar.{Grammar, IsItem, FailsAt}
-use Rattle.dap_frame.specs.Combinators.{map_fault}
-use Rattle.dap_frame.specs.declared.limits.FrameLimits.{FrameLimits}
-use Rattle.dap_frame.specs.Frame.{frames}
+use Rattle.dap_frame.specs.{Grammar.{Grammar, IsItem, FailsAt}, Combinators.map_fault}
+use Rattle.dap_frame.specs.{declared.limits.FrameLimits.FrameLimits, Frame.frames}
 use Rattle.dap_frame.specs.Reading.{Reading, Represents, limits_of}
 use Rattle.dap_recording.specs.Recording.{IsRecord, IsOpenRecord, records}
 use Rattle.dap_recording.specs.RecordReading.{RecordReading, RepresentsRecords, record_limits}

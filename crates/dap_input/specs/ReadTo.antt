@@ -5,8 +5,7 @@ use Rattle.dap_device.specs.declared.reading.Stop.{Stop}
 use Rattle.dap_device.specs.declared.reading.Stop.TheVariants.{End, Failed}
 use Rattle.dap_frame.specs.Grammar.{IsItem, FailsAt}
 use Rattle.dap_recording.specs.declared.record_fault.RecordCause.{RecordCause}
-use Rattle.dap_input.specs.Inputs.{AcceptedBefore, EndsAt, Input}
-use Rattle.dap_input.specs.Validation.{Validation}
+use Rattle.dap_input.specs.{Inputs.{AcceptedBefore, EndsAt, Input}, Validation.Validation}
 
 -- No more was read than this record required: without at most the last 65,536 bytes, the received
 -- bytes end before it or inside it, and contain no error.

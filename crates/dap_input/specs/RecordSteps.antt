@@ -2,21 +2,17 @@
 use Rattle.std.specs.Prelude.{◌≡◌, ◌≢◌, ◌⊎◌, ℕ, ◌+◌, ◌<◌, ◌≤◌, false, List, [], ◌∷◌, ◌++◌, length}
 use Rattle.std.specs.Prelude.{Option, Some, None, is_some, Result, Ok, Err}
 use Rattle.dap_device.specs.declared.device.Source.{Ghosts as Source}
-use Rattle.dap_device.specs.Pieces.{HasReadSoFar}
-use Rattle.dap_device.specs.declared.reading.Stop.{Stop}
+use Rattle.dap_device.specs.{Pieces.HasReadSoFar, declared.reading.Stop.Stop}
 use Rattle.dap_device.specs.declared.reading.Stop.TheVariants.{End, Full, Failed}
-use Rattle.dap_frame.specs.Frame.{HasContentByte}
-use Rattle.dap_frame.specs.Grammar.{Grammar, IsItem, FailsAt}
-use Rattle.dap_frame.specs.Reading.{Reading}
-use Rattle.dap_frame.specs.declared.limits.FrameLimits.{FrameLimits}
+use Rattle.dap_frame.specs.{Frame.HasContentByte, Grammar.{Grammar, IsItem, FailsAt}}
+use Rattle.dap_frame.specs.{Reading.Reading, declared.limits.FrameLimits.FrameLimits}
 use Rattle.dap_recording.specs.RecordReading.{HasMarkedContent, RecordReading}
 use Rattle.dap_recording.specs.declared.record.Record.{Record as WholeRecord}
 use Rattle.dap_recording.specs.declared.record_fault.RecordCause.{RecordCause}
 use Rattle.dap_recording.specs.declared.record_fault.RecordCause.TheVariants.{Cut}
 use Rattle.dap_recording.specs.declared.record_fault.RecordCause.TheVariants.{Memory as NoMemory}
 use Rattle.dap_input.specs.ItemReading.{frame_items, record_items, RepresentsFrame}
-use Rattle.dap_input.specs.ItemReading.{RepresentsRecord}
-use Rattle.dap_input.specs.declared.records.Records.{Records}
+use Rattle.dap_input.specs.{ItemReading.RepresentsRecord, declared.records.Records.Records}
 use Rattle.dap_input.specs.declared.refused.Refused.{Refused}
 use Rattle.dap_input.specs.declared.refused.Refused.TheVariants.{InputTooLong, Record, ReadFault}
 use Rattle.dap_input.specs.declared.refused.Refused.TheVariants.{Memory}

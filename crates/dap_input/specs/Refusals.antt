@@ -5,10 +5,8 @@ use Rattle.dap_recording.specs.declared.record_fault.RecordCause.TheVariants.{Cu
 use Rattle.dap_recording.specs.declared.record_fault.RecordCause.TheVariants.{Memory as NoMemory}
 use Rattle.dap_input.specs.Inputs.{Input, Fault, refused, read_fault, IsRefusedAt}
 use Rattle.dap_input.specs.Validation.{Validation, ContentError, Reason, faulty, input_too_long}
-use Rattle.dap_input.specs.Validation.{cut}
-use Rattle.dap_input.specs.Validation.{objected, no_message, broken, too_many_ids, grew}
-use Rattle.dap_input.specs.Validation.{IsFirstRefusal}
-use Rattle.dap_input.specs.declared.refused.Refused.{Refused}
+use Rattle.dap_input.specs.Validation.{cut, objected, no_message, broken, too_many_ids, grew}
+use Rattle.dap_input.specs.{Validation.IsFirstRefusal, declared.refused.Refused.Refused}
 use Rattle.dap_input.specs.declared.refused.Refused.TheVariants.{InputTooLong, Record, Json}
 use Rattle.dap_input.specs.declared.refused.Refused.TheVariants.{Fraction, Message, Rule}
 use Rattle.dap_input.specs.declared.refused.Refused.TheVariants.{TooManyIds, Grew, ReadFault}

@@ -2,22 +2,16 @@
 -- how far it has then read and written. Source: own. `Gives` states the text of an input, and
 -- `Promises` everything that is promised about the text of a complete one.
 use Rattle.std.specs.Prelude.{◌≡◌, ◌⊎◌, ℕ, ◌+◌, ◌≤◌, List, [], ◌++◌, length, take, Option, Some}
-use Rattle.std.specs.Prelude.{Result, Ok, Err}
-use Rattle.std.specs.Io.KnownBytes.{Appends}
+use Rattle.std.specs.{Prelude.{Result, Ok, Err}, Io.KnownBytes.Appends}
 use Rattle.dap_device.specs.declared.device.Source.{Ghosts as Source}
 use Rattle.dap_device.specs.declared.device.Sink.{Ghosts as Sink}
 use Rattle.dap_device.specs.Device.{AwaitFlush, HasFlushedAll, HasTakenNothing}
-use Rattle.dap_device.specs.Pieces.{HasReadSoFar}
-use Rattle.dap_device.specs.Written.{AllSent, AllWritten, PrefixWritten}
-use Rattle.dap_device.specs.declared.reading.Stop.{Stop}
-use Rattle.dap_device.specs.declared.reading.Stop.TheVariants.{End}
+use Rattle.dap_device.specs.{Pieces.HasReadSoFar, Written.{AllSent, AllWritten, PrefixWritten}}
+use Rattle.dap_device.specs.{declared.reading.Stop.Stop, declared.reading.Stop.TheVariants.End}
 use Rattle.dap_recording.specs.declared.record_fault.RecordCause.TheVariants.{Cut}
-use Rattle.dap_input.specs.Validation.{Validation}
-use Rattle.dap_input.specs.declared.refused.Refused.{Refused}
+use Rattle.dap_input.specs.{Validation.Validation, declared.refused.Refused.Refused}
 use Rattle.dap_input.specs.declared.refused.Refused.TheVariants.{Record, WriteFault, Memory}
-use Rattle.dap_input.specs.Inputs.{AcceptedBefore}
-use Rattle.dap_input.specs.Engine.{Accepts}
-use Rattle.dap_input.specs.ReadTo.{IsReadTo, so_far}
+use Rattle.dap_input.specs.{Inputs.AcceptedBefore, Engine.Accepts, ReadTo.{IsReadTo, so_far}}
 use Rattle.dap_input.specs.Refusals.{RefusesAt}
 
 -- An engine over a reader, by the bytes and counts that the reader reports.

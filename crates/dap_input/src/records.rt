@@ -1,8 +1,6 @@
 //! Reads the records of an input one by one.
-ghost use Rattle.std.specs.Prelude.{◌≡◌, ◌+◌, ◌-◌, ◌<◌, ◌≤◌, ◌^◌, [], IfOk, IsTrue, true};
-ghost use Rattle.std.specs.Prelude.{false};
-ghost use Rattle.dap_frame.specs.Grammar.{HasItem};
-ghost use Rattle.dap_frame.specs.declared.limits.FrameLimits.{FrameLimits};
+ghost use Rattle.std.specs.Prelude.{◌≡◌, ◌+◌, ◌-◌, ◌<◌, ◌≤◌, ◌^◌, [], IfOk, IsTrue, true, false};
+ghost use Rattle.dap_frame.specs.{Grammar.HasItem, declared.limits.FrameLimits.FrameLimits};
 
 use crate::item_reader::ItemReader;
 use crate::refused::Refused;

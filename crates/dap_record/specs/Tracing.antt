@@ -5,20 +5,17 @@
 use Rattle.std.specs.Prelude.{◌≡◌, ◌≢◌, ◌⊎◌, ℕ, ◌+◌, ◌<◌, ◌≤◌, List, [], ◌∷◌, ◌++◌, length, map}
 use Rattle.dap_frame.specs.declared.fault.FrameFault.{FrameFault}
 use Rattle.dap_frame.specs.declared.fault.FrameFault.TheVariants.{Cut}
-use Rattle.dap_frame.specs.declared.limits.FrameLimits.{FrameLimits}
-use Rattle.dap_frame.specs.Frame.{IsOpen, FailsAt}
+use Rattle.dap_frame.specs.{declared.limits.FrameLimits.FrameLimits, Frame.{IsOpen, FailsAt}}
 use Rattle.dap_frame.specs.Lines.{number_of}
 use Rattle.dap_recording.specs.declared.recorder_fault.RecorderFault.TheVariants.{Frame}
 use Rattle.dap_recording.specs.declared.trace_fault.TraceCause.{TraceCause}
 use Rattle.dap_recording.specs.declared.trace_fault.TraceCause.TheVariants as trace_cause
-use Rattle.dap_recording.specs.Marker.{marker}
-use Rattle.dap_recording.specs.OneSide.{WantsMemory}
+use Rattle.dap_recording.specs.{Marker.marker, OneSide.WantsMemory}
 use Rattle.dap_recording.specs.RecordedTraces.{AreRecorded, bytes_of}
 use Rattle.dap_recording.specs.Trace.{IsCount, IsTrace, ShowsTraceFault}
 use Rattle.dap_tree.specs.declared.side.Side.{Side}
 use Rattle.dap_tree.specs.declared.side.Side.TheVariants.{Client, Adapter}
-use Rattle.dap_input.specs.declared.limits.Limits.{Limits}
-use Rattle.dap_input.specs.declared.refused.Refused.{Refused}
+use Rattle.dap_input.specs.{declared.limits.Limits.Limits, declared.refused.Refused.Refused}
 use Rattle.dap_input.specs.declared.refused.Refused.TheVariants.{TraceTooLong, Trace, Recorder}
 use Rattle.dap_input.specs.Limits.{AreSound}
 

@@ -4,13 +4,11 @@ use Rattle.dap_device.specs.declared.device.Sink.{Ghosts as Sink}
 use Rattle.dap_device.specs.declared.device.Source.{Ghosts as Source}
 use Rattle.dap_recording.specs.Recording.{recording_text}
 use Rattle.dap_tree.specs.declared.side.Side.{Side}
-use Rattle.dap_input.specs.declared.limits.Limits.{Limits}
+use Rattle.dap_input.specs.{declared.limits.Limits.Limits, declared.refused.Refused.Refused}
+use Rattle.dap_input.specs.declared.refused.Refused.TheVariants.{ReadFault, WriteFault, Memory}
 use Rattle.dap_device.specs.declared.reading.Stop.{Stop}
 use Rattle.dap_device.specs.declared.reading.Stop.TheVariants.{End, Failed}
-use Rattle.dap_input.specs.declared.refused.Refused.{Refused}
-use Rattle.dap_input.specs.declared.refused.Refused.TheVariants.{ReadFault, WriteFault, Memory}
-use Rattle.dap_device.specs.Written.{AllSent, PrefixWritten}
-use Rattle.dap_device.specs.Reading.{HasReadInput}
+use Rattle.dap_device.specs.{Written.{AllSent, PrefixWritten}, Reading.HasReadInput}
 use Rattle.dap_record.specs.Tracing.{IsRecordedAs, IsTraceRefused, IsOfEnd, TakesMemory}
 
 -- The bytes received contain no error other than being incomplete.

@@ -1,29 +1,23 @@
 -- What the steps of `record` do.
-use Rattle.std.specs.Prelude.{◌≡◌, ◌⊎◌, ℕ, ◌+◌, ◌≤◌, List, [], ◌∷◌, ◌++◌, length, Some}
-use Rattle.std.specs.Prelude.{Result, Ok, Err}
+use Rattle.std.specs.Prelude.{◌≡◌, ◌⊎◌, ℕ, ◌+◌, ◌≤◌, List, [], ◌∷◌, ◌++◌, length, Some, Result, Ok}
+use Rattle.std.specs.Prelude.{Err}
 use Rattle.dap_frame.specs.declared.fault.FrameFault.{FrameFault}
-use Rattle.dap_frame.specs.declared.limits.FrameLimits.{FrameLimits}
-use Rattle.dap_frame.specs.Frame.{IsOpen, FailsAt}
+use Rattle.dap_frame.specs.{declared.limits.FrameLimits.FrameLimits, Frame.{IsOpen, FailsAt}}
 use Rattle.dap_recording.specs.declared.recorder_fault.RecorderFault.{RecorderFault}
 use Rattle.dap_recording.specs.declared.recorder_fault.RecorderFault.TheVariants.{Frame}
 use Rattle.dap_recording.specs.declared.recorder_fault.RecorderFault.TheVariants.{Memory as NoRoom}
 use Rattle.dap_recording.specs.RecordedTraces.{AreRecorded}
 use Rattle.dap_recording.specs.RecorderReading.{RecorderReading, RepresentsRests, recorder_limits}
-use Rattle.dap_recording.specs.RecorderReading.{text_of}
-use Rattle.dap_recording.specs.Marker.{marker}
-use Rattle.dap_recording.specs.Recording.{recording_text}
+use Rattle.dap_recording.specs.{RecorderReading.text_of, Marker.marker, Recording.recording_text}
 use Rattle.dap_recording.specs.TraceReading.{RepresentsPiece, TraceReading}
 use Rattle.dap_tree.specs.declared.side.Side.{Side}
 use Rattle.dap_input.specs.declared.limits.Limits.{Limits}
 use Rattle.dap_device.specs.declared.device.Sink.{Ghosts as Sink}
 use Rattle.dap_device.specs.declared.device.Source.{Ghosts as Source}
-use Rattle.dap_device.specs.declared.reading.Stop.{Stop}
-use Rattle.dap_device.specs.Pieces.{HasReadSoFar, Window}
-use Rattle.dap_device.specs.Reading.{HasReadInput}
-use Rattle.dap_input.specs.RecordSteps.{IsWithin}
-use Rattle.dap_input.specs.declared.refused.Refused.{Refused}
+use Rattle.dap_device.specs.{declared.reading.Stop.Stop, Pieces.{HasReadSoFar, Window}}
+use Rattle.dap_device.specs.{Reading.HasReadInput, Written.{AllSent, PrefixWritten}}
+use Rattle.dap_input.specs.{RecordSteps.IsWithin, declared.refused.Refused.Refused}
 use Rattle.dap_input.specs.declared.refused.Refused.TheVariants.{WriteFault, Memory}
-use Rattle.dap_device.specs.Written.{AllSent, PrefixWritten}
 use Rattle.dap_recording.specs.OneSide.{WantsMemory}
 use Rattle.dap_record.specs.Tracing.{SoFar, TakesMemory, next_piece, sent_by}
 use Rattle.dap_record.specs.TracingRun.{JudgesTrace}

@@ -1,11 +1,10 @@
 //! Converts traces into recordings.
-ghost use Rattle.std.specs.Prelude.{[], ◌≡◌, ◌+◌, ◌-◌, ◌<◌, ◌≤◌, ◌^◌, List, ℕ, ◌++◌, length};
-ghost use Rattle.std.specs.Prelude.{take};
+ghost use Rattle.std.specs.Prelude.{[], ◌≡◌, ◌+◌, ◌-◌, ◌<◌, ◌≤◌, ◌^◌, List, ℕ, ◌++◌, length, take};
+ghost use Rattle.dap_device.specs.{Devices.{CanRead, CanWrite}, Reading.FitsStop};
 ghost use Rattle.dap_frame.specs.declared.limits.FrameLimits.{FrameLimits};
 ghost use Rattle.dap_recording.specs.RecorderReading.{RepresentsRests, recorder_limits, text_of};
 ghost use Rattle.dap_tree.specs.declared.side.Side.{Side};
 ghost use Rattle.dap_input.specs.Limits.{AreSound};
-ghost use Rattle.dap_device.specs.Reading.{FitsStop};
 ghost use Rattle.dap_record.specs.TracingRun.{RecordsTrace};
 ghost use Rattle.dap_record.specs.TracingSteps.{HasReadOn, HasRecorded, HasSentRecords};
 ghost use Rattle.dap_record.specs.TracingSteps.{RecordsPiece, RecordsRun, Traces, TracesInput};
@@ -119,8 +118,7 @@ fn record_input<R: Source>(
 ) -> Result<(), Refused>
     requires sound { AreSound limits }
     requires at_start { pieces.old ≡ record { unread = []; taken = 0; limit = limits.input } }
-    requires given { R.given reader.old < 2 ^ 62 }
-    requires failures { R.failures reader.old < 2 ^ 62 }
+    requires reader { CanRead R.Source reader.old }
     requires new { RepresentsRests recorder.old (λ side. []) }
     requires empty { text_of recorder.old ≡ [] }
     requires its_limits { recorder_limits recorder.old ≡ limits.frame }
@@ -151,7 +149,7 @@ fn write_records<W: Sink>(
     records: &[u8],
     outcome: Result<(), Refused>,
 ) -> Result<(), Refused>
-    requires { W.failures writer.old < 2 ^ 62 }
+    requires writer { CanWrite W.Sink writer.old }
     ensures { HasSentRecords W.Sink records.now outcome writer.old writer.new result }
 {
     match outcome {
@@ -190,9 +188,7 @@ pub fn record<R: Source, W: Sink>(
     limits: Limits,
 ) -> Result<(), Refused>
     requires limits { AreSound limits }
-    requires given { R.given reader.old < 2 ^ 62 }
-    requires read_failures { R.failures reader.old < 2 ^ 62 }
-    requires write_failures { W.failures writer.old < 2 ^ 62 }
+    requires devices { CanRead R.Source reader.old × CanWrite W.Sink writer.old }
 
     // The records of the frames that ended are written and flushed, even after a rejection. After
     // `Memory` nothing is written. `WriteFault` is returned if and only if the writer failed,

@@ -1,7 +1,6 @@
 -- Why no rules are suggested for two recordings. Source: own.
 use Rattle.std.specs.Prelude.{◌≡◌, ◌≢◌, ℕ, ◌≤◌, List, length, Ok, Err}
-use Rattle.dap_mask.specs.Mask.{Mask}
-use Rattle.dap_mask.specs.RulesFile.{rules_said}
+use Rattle.dap_mask.specs.{Mask.Mask, RulesFile.rules_said}
 use Rattle.dap_mask.specs.declared.fault.RulesCause.TheVariants as cause
 use Rattle.dap_mask.specs.declared.fault.RulesFault.{RulesFault}
 use Rattle.dap_rename.specs.declared.mode.Mode.TheVariants.{Whole}
@@ -9,8 +8,7 @@ use Rattle.dap_input.specs.declared.limits.Limits.{Limits}
 use Rattle.dap_compare.specs.declared.verdict.Which.{Which}
 use Rattle.dap_rules.specs.declared.fault.ApplyRefused.{ApplyRefused}
 use Rattle.dap_rules.specs.declared.fault.ApplyRefused.TheVariants.{Memory}
-use Rattle.dap_suggest.specs.Suggested.{IsOneRejected}
-use Rattle.dap_suggest.specs.declared.suggestion.Inputs.{Inputs}
+use Rattle.dap_suggest.specs.{Suggested.IsOneRejected, declared.suggestion.Inputs.Inputs}
 use Rattle.dap_suggest.specs.declared.suggestion.SuggestRefused.{SuggestRefused}
 use Rattle.dap_suggest.specs.declared.suggestion.SuggestRefused.TheVariants as because
 

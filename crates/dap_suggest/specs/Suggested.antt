@@ -1,18 +1,13 @@
 -- Rules that make two recordings the same, and why there are none. Source: own, over masks, the
 -- order of messages and normal forms.
 use Rattle.std.specs.Prelude.{◌≡◌, ◌⊎◌, ◌++◌, ℕ, List, Ok}
-use Rattle.dap_mask.specs.Mask.{Mask}
-use Rattle.dap_mask.specs.RulesFile.{rules_said}
-use Rattle.dap_rename.specs.declared.mode.Mode.{Mode}
-use Rattle.dap_rename.specs.declared.mode.Mode.TheVariants.{Whole}
+use Rattle.dap_mask.specs.{Mask.Mask, RulesFile.rules_said}
+use Rattle.dap_rename.specs.{declared.mode.Mode.Mode, declared.mode.Mode.TheVariants.Whole}
 use Rattle.dap_compare.specs.declared.verdict.Which.{Which}
 use Rattle.dap_compare.specs.declared.verdict.Which.TheVariants.{A, B}
-use Rattle.dap_input.specs.declared.limits.Limits.{Limits}
-use Rattle.dap_input.specs.Refusals.{IsRefused}
-use Rattle.dap_normalise.specs.Accepting.{accepting}
-use Rattle.dap_normalise.specs.Normalising.{Normalises}
-use Rattle.dap_rules.specs.Applying.{AppliesRules, IsRefusedByRules}
-use Rattle.dap_rules.specs.Modes.{mode_by}
+use Rattle.dap_input.specs.{declared.limits.Limits.Limits, Refusals.IsRefused}
+use Rattle.dap_normalise.specs.{Accepting.accepting, Normalising.Normalises}
+use Rattle.dap_rules.specs.{Applying.{AppliesRules, IsRefusedByRules}, Modes.mode_by}
 use Rattle.dap_rules.specs.declared.fault.ApplyRefused.{ApplyRefused}
 use Rattle.dap_rules.specs.declared.fault.ApplyRefused.TheVariants as step
 use Rattle.dap_suggest.specs.declared.suggestion.Inputs.{Inputs}

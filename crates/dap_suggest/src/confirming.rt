@@ -2,8 +2,7 @@
 ghost use Rattle.std.specs.Prelude.{IfOk, OnOk};
 ghost use Rattle.dap_input.specs.Limits.{AreSound};
 ghost use Rattle.dap_mask.specs.KeptRules.{mask_of};
-ghost use Rattle.dap_suggest.specs.Suggested.{AreSameBy, HaveOneNormal};
-ghost use Rattle.dap_suggest.specs.Suggested.{IsSuggestion};
+ghost use Rattle.dap_suggest.specs.Suggested.{AreSameBy, HaveOneNormal, IsSuggestion};
 
 use crate::joined_rules::joined;
 use crate::obstacle::{Obstacle, Unsolved};

@@ -1,8 +1,7 @@
 //! Suggests rules that make two recordings the same.
 ghost use Rattle.std.specs.Prelude.{◌≡◌, ◌++◌, IfErr, IfOk, IfSome};
 ghost use Rattle.dap_input.specs.Limits.{AreSound};
-ghost use Rattle.dap_mask.specs.KeptRules.{mask_of};
-ghost use Rattle.dap_mask.specs.RulesFile.{rules_said};
+ghost use Rattle.dap_mask.specs.{KeptRules.mask_of, RulesFile.rules_said};
 ghost use Rattle.dap_suggest.specs.NotSuggested.{HasNoSuggestion, IsNotSuggested};
 ghost use Rattle.dap_suggest.specs.Suggested.{AreSameBy, IsSuggestion};
 

@@ -21,12 +21,12 @@ next-requires-clause-number g c =
 pub next-requires-clause-given : goal.next-requires-clause-given
 next-requires-clause-given g c =
     few_given c.args.limits c.requires.sound g.R.Source c.args.reader.now c.loop-out.reader
-    c.loop-out.records c.loop-out.out.items c.loop-out.invariant c.requires.given
+    c.loop-out.records c.loop-out.out.items c.loop-out.invariant c.requires.reader.0
 
 pub next-requires-clause-failures : goal.next-requires-clause-failures
 next-requires-clause-failures g c =
     few_failed c.args.limits c.requires.sound g.R.Source c.args.reader.now c.loop-out.reader
-    c.loop-out.records c.loop-out.out.items c.loop-out.invariant c.requires.failures
+    c.loop-out.records c.loop-out.out.items c.loop-out.invariant c.requires.reader.1
 
 pub returns-in_err-content : goal.returns-in_err-content
 returns-in_err-content g c =

@@ -18,13 +18,13 @@ pub fill-requires-clause-given : goal.fill-requires-clause-given
 fill-requires-clause-given g c =
     given_small g.R.Source c.args.limits c.args.reader.now c.loop-stop.reader c.loop-stop.pieces
     c.loop-stop.trace c.loop-stop.recorder c.loop-stop.last c.loop-stop.invariant
-    c.requires.sound.input c.requires.given
+    c.requires.sound.input c.requires.reader.0
 
 pub fill-requires-clause-failures : goal.fill-requires-clause-failures
 fill-requires-clause-failures g c =
     few_failures g.R.Source c.args.limits c.args.reader.now c.loop-stop.reader c.loop-stop.pieces
     c.loop-stop.trace c.loop-stop.recorder c.loop-stop.last c.loop-stop.invariant
-    c.requires.failures
+    c.requires.reader.1
 
 pub end_trace-requires-clause-represents : goal.end_trace-requires-clause-represents
 end_trace-requires-clause-represents g c =
@@ -48,14 +48,14 @@ drop_rest-requires-clause-given g c =
     room g.R.Source c.args.limits c.args.reader.now c.loop-stop.reader c.loop-stop.pieces
     c.loop-stop.trace c.loop-stop.recorder c.loop-stop.last c.loop-stop.invariant
     c.fill.new.self c.fill.new.reader c.in_default.ensures
-    c.requires.sound.input c.requires.given
+    c.requires.sound.input c.requires.reader.0
 
 pub drop_rest-requires-clause-failures : goal.drop_rest-requires-clause-failures
 drop_rest-requires-clause-failures g c =
     no_failure g.R.Source c.args.limits c.args.reader.now c.loop-stop.reader c.loop-stop.pieces
     c.loop-stop.trace c.loop-stop.recorder c.loop-stop.last c.loop-stop.invariant
     c.fill.new.self c.fill.new.reader c.in_default.ensures
-    c.requires.failures
+    c.requires.reader.1
 
 pub returns-in-Err-record_piece : goal.returns-in-Err-record_piece
 returns-in-Err-record_piece g c =
