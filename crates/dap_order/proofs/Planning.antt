@@ -8,6 +8,7 @@ use Rattle.std.proofs.lemmas.Bool.{and_left, and_right, and_cases, not-true, not
 use Rattle.std.proofs.lemmas.List.Elements.{All-from_get_or, Contains-get_or, All-map}
 use Rattle.std.proofs.lemmas.List.Sorted.{All-permutation, length_permutation}
 use Rattle.dap_message.specs.Message.{Sent}
+use Rattle.dap_message.specs.declared.any_message.AnyMessage.{Ghosts as Form}
 use Rattle.dap_message.specs.SwapRules.{SwapRule, swaps_of}
 use Rattle.dap_order.specs.Swaps.{Swaps}
 use Rattle.dap_order.specs.declared.plan.Plan.{Plan}
@@ -50,11 +51,11 @@ permuted_below n xs p =
     (All-from_get_or (λ i. i < n) (range_with_len 0 n) 0
     (λ i low. omega (arith, range_below 0 n i 0 (omega (arith, range_len 0 n)))))
 
-module _ (t : Table) (plan : Plan) (firsts : List ℕ) where
+module _ {M : Type 0} {form : Form M} (t : Table M form) (plan : Plan) (firsts : List ℕ) where
   abbrev rules : List SwapRule
   rules = swaps_of t.rules.now
 
-  abbrev es : List Entry
+  abbrev es : List (Entry M form)
   es = t.entries.items
 
   abbrev ms : List Sent
@@ -101,12 +102,12 @@ module _ (t : Table) (plan : Plan) (firsts : List ℕ) where
 
     -- The message at a place.
     abbrev Here : ℕ → Type 0
-    Here i = (e : Entry) × (slice_get es i ≡ Some e)
+    Here i = (e : Entry M form) × (slice_get es i ≡ Some e)
 
     here : (i : ℕ) → i < length es → Here i
     here i low = there es i low
 
-    looks : (i : ℕ) (e : Entry) → slice_get es i ≡ Some e → (x : Sent)
+    looks : (i : ℕ) (e : Entry M form) → slice_get es i ≡ Some e → (x : Sent)
         × (slice_get ms (get_or firsts (group_of plan i) 0) ≡ Some x)
         × (look_key rules x ≡ look_key rules (sent_by e))
     looks i e at =
@@ -117,7 +118,7 @@ module _ (t : Table) (plan : Plan) (firsts : List ℕ) where
         ∙ get_map (look_key rules) ms i (sent_by e) (get_map sent_by es i e at))
 
     -- Groups block each other if their messages may not be swapped.
-    blocked_is : (i j : ℕ) (e f : Entry) → i < length es → j < length es
+    blocked_is : (i j : ℕ) (e f : Entry M form) → i < length es → j < length es
         → slice_get es i ≡ Some e → slice_get es j ≡ Some f
         → is_blocked_by_group plan i j ≡ not (may_swap rules (sent_by e) (sent_by f))
     blocked_is i j e f low below at there =
@@ -135,14 +136,14 @@ module _ (t : Table) (plan : Plan) (firsts : List ℕ) where
         (get_or firsts (group_of plan j) 0) u.0 v.0 u.1 v.1
         ∙ swap_alike rules u.0 (sent_by e) v.0 (sent_by f) u.2 v.2)
 
-    free_is : (i j : ℕ) (e f : Entry) → slice_get es i ≡ Some e → slice_get es j ≡ Some f
+    free_is : (i j : ℕ) (e f : Entry M form) → slice_get es i ≡ Some e → slice_get es j ≡ Some f
         → s.free i j
         ≡ may_swap rules (sent_by e) (sent_by f) && not (are_tied (sent_by e) (sent_by f))
     free_is i j e f at there =
         free_at rules es t.requests_are i j e f at there
         ∙ free_parts rules (sent_by e) (sent_by f)
 
-    tied_is : (i j : ℕ) (e f : Entry) → slice_get es i ≡ Some e → slice_get es j ≡ Some f
+    tied_is : (i j : ℕ) (e f : Entry M form) → slice_get es i ≡ Some e → slice_get es j ≡ Some f
         → at_both are_tied ms i j ≡ are_tied (sent_by e) (sent_by f)
     tied_is i j e f at there =
         both_at ms are_tied i j (sent_by e) (sent_by f) (get_map sent_by es i e at)
@@ -209,7 +210,8 @@ module _ (t : Table) (plan : Plan) (firsts : List ℕ) where
     }
 
 -- The parts of a plan, created from the entries and the first places as slices.
-pub has_parts : (t : Table) (plan : Plan) (firsts : List ℕ) (es : List Entry) (fs : List ℕ)
+pub has_parts : {M : Type 0} {form : Form M} (t : Table M form) (plan : Plan) (firsts : List ℕ)
+    (es : List (Entry M form)) (fs : List ℕ)
     → es ≡ t.entries.items → fs ≡ firsts
     → AreGroups (map (look_key (swaps_of t.rules.now)) (map sent_by es)) (length es)
     plan.groups.items firsts
@@ -220,15 +222,15 @@ pub has_parts : (t : Table) (plan : Plan) (firsts : List ℕ) (es : List Entry) 
     → IsPermutation (range_with_len 0 (length es)) plan.by_key.items
     → AreByKey es plan.by_key.items → HasParts t plan firsts
 has_parts t plan firsts es fs e f groups blocks after_len after ranks by_key = record {
-  groups = subst (λ (zs : List Entry). AreGroups (map (look_key (swaps_of t.rules.now))
+  groups = subst (λ (zs : List (Entry _ _)). AreGroups (map (look_key (swaps_of t.rules.now))
       (map sent_by zs)) (length zs) plan.groups.items firsts) e groups;
   blocks = blocks
-      ∙ ap (λ (zs : List Entry). block_table (swaps_of t.rules.now) (map sent_by zs) fs) e
+      ∙ ap (λ (zs : List (Entry _ _)). block_table (swaps_of t.rules.now) (map sent_by zs) fs) e
       ∙ ap (block_table (swaps_of t.rules.now) (map sent_by t.entries.items)) f;
   after_len = after_len ∙ ap length e;
-  after = λ place low. subst (λ (zs : List Entry). Covers are_tied (map sent_by zs) place
+  after = λ place low. subst (λ (zs : List (Entry _ _)). Covers are_tied (map sent_by zs) place
       (followed_by plan place)) e (after place (omega (arith, low, ap length e)));
-  ranks = subst (λ (zs : List Entry). IsPermutation (range_with_len 0 (length zs))
+  ranks = subst (λ (zs : List (Entry _ _)). IsPermutation (range_with_len 0 (length zs))
       plan.by_key.items) e ranks;
-  by_key = subst (λ (zs : List Entry). AreByKey zs plan.by_key.items) e by_key;
+  by_key = subst (λ (zs : List (Entry _ _)). AreByKey zs plan.by_key.items) e by_key;
 }

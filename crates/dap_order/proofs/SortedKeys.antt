@@ -16,6 +16,7 @@ use Rattle.std.proofs.lemmas.Cmp.{nat_cmp_total, int_cmp_total, nat_list_cmp_tot
 use Rattle.std.proofs.lemmas.Cmp.{on_total, then_total}
 use Rattle.std.proofs.lemmas.List.Sorted.{sorted_far, ranks_by}
 use Rattle.dap_message.specs.Message.{Sent}
+use Rattle.dap_message.specs.declared.any_message.AnyMessage.{Ghosts as Form}
 use Rattle.dap_order.specs.ByPlace.{less_by_place}
 use Rattle.dap_order.specs.Free.{Class, class_of, class_cmp}
 use Rattle.dap_order.specs.MessageOrder.{message_answers}
@@ -75,7 +76,7 @@ less_parts x y i j (Some a) (Some b) h =
     (nat_cmp i j)))) (cond-true (nat_lt a b) Less _ h)
 
 -- Sort keys are ordered in the same way as the parts of the keys of their entries.
-sort_is : (k l : ReadSortKey) (e f : Entry) (i j : ℕ) → sort_key_of k ≡ entry_key e i
+sort_is : {M : Type 0} {form : Form M} (k l : ReadSortKey) (e f : Entry M form) (i j : ℕ) → sort_key_of k ≡ entry_key e i
     → sort_key_of l ≡ entry_key f j
     → sort_cmp k l
     ≡ parts_cmp (request_by e) (class_of (sent_by e)) i (request_by f) (class_of (sent_by f)) j
@@ -92,12 +93,12 @@ sort_is k l e f i j h g =
         (slice_cmp nat_cmp m.class.name n.class.name))) (nat_cmp m.place n.place)))
 
 -- The key is that of an entry of the list, and has its place.
-abbrev pub IsKeyOf : List Entry → ReadSortKey → Type 0
+abbrev pub IsKeyOf : {M : Type 0} {form : Form M} → List (Entry M form) → ReadSortKey → Type 0
 IsKeyOf es k =
-    (e : Entry) × (slice_get es k.place ≡ Some e) × (sort_key_of k ≡ entry_key e k.place)
+    (e : _) × (slice_get es k.place ≡ Some e) × (sort_key_of k ≡ entry_key e k.place)
 
 -- The places of sorted keys are in the order of the keys of their entries.
-pub sorted_places : (es : List Entry) (ks : List ReadSortKey) → All (IsKeyOf es) ks
+pub sorted_places : {M : Type 0} {form : Form M} (es : List (Entry M form)) (ks : List ReadSortKey) → All (IsKeyOf es) ks
     → IsSorted sort_cmp ks → AreByKey es (map (λ k. k.place) ks)
 sorted_places es [] all sorted u v before high e f h g = absurd (omega arith)
 sorted_places es (d ∷ ks) all sorted u v before high e f h g =
@@ -121,8 +122,8 @@ sorted_places es (d ∷ ks) all sorted u v before high e f h g =
     false_from_ne_true _ (λ less.
     both_ways (is_lt (sort_cmp l k)) far
     (ap is_lt (sort_is l k f e l.place k.place
-    (b.2 ∙ ap (λ (z : Entry). entry_key z l.place) f_is)
-    (a.2 ∙ ap (λ (z : Entry). entry_key z k.place) e_is))
+    (b.2 ∙ ap (λ (z : Entry _ _). entry_key z l.place) f_is)
+    (a.2 ∙ ap (λ (z : Entry _ _). entry_key z k.place) e_is))
     ∙ less_parts (sent_by f) (sent_by e) l.place k.place (request_by f) (request_by e)
     (ap (λ i. less_entry i f k.place e) (sym second)
     ∙ ap (λ i. less_entry (get_or (map (λ (k : ReadSortKey). k.place) whole) v 0) f i e) (sym first)

@@ -8,6 +8,7 @@ use Rattle.std.proofs.lemmas.Bool.{and_parts, or_left, or_right, cases_Bool, cas
 use Rattle.std.proofs.lemmas.Bool.{cond-true, cond-false, and_left}
 use Rattle.dap_tree.specs.declared.side.Side.TheVariants.{Client}
 use Rattle.dap_message.specs.Message.{Sent}
+use Rattle.dap_message.specs.declared.any_message.AnyMessage.{Ghosts as Form}
 use Rattle.dap_session.specs.Messages.{is_from}
 use Rattle.dap_order.specs.Labels.{Labelled, label, by_label}
 use Rattle.dap_order.specs.ByPlace.{passes_both, by_place, place_answered, places_answered}
@@ -85,26 +86,26 @@ one_class q r x y h k =
     client_class q (and_parts (is_from Client q) (answers x q) h).0
     ∙ sym (client_class r (and_parts (is_from Client r) (answers y r) k).0)
 
-module _ (rules : List SwapRule) (es : List Entry) where
+module _ {M : Type 0} {form : Form M} (rules : List SwapRule) (es : List (Entry M form)) where
   abbrev messages : List Sent
   messages = map sent_by es
 
   abbrev labelled : List (Labelled Sent ((Class × ℕ) ⊎ (Class × ℕ)))
   labelled = label (message_labels rules) messages
 
-  abbrev labelled_at : ℕ → Entry → Labelled Sent ((Class × ℕ) ⊎ (Class × ℕ))
+  abbrev labelled_at : ℕ → Entry M form → Labelled Sent ((Class × ℕ) ⊎ (Class × ℕ))
   labelled_at i e = record {
     item = sent_by e;
     label = (message_labels rules).label_of (take i messages) (sent_by e);
   }
 
-  entry_at : (i : ℕ) (e : Entry) → slice_get es i ≡ Some e
+  entry_at : (i : ℕ) (e : Entry M form) → slice_get es i ≡ Some e
       → slice_get labelled i ≡ Some (labelled_at i e)
   entry_at i e h =
       label_at (message_labels rules) [] messages i (sent_by e) (get_map sent_by es i e h)
 
   module _ (are : map request_by es ≡ places_answered (message_answers []) messages) where
-    request_is : (i : ℕ) (e : Entry) → slice_get es i ≡ Some e
+    request_is : (i : ℕ) (e : Entry M form) → slice_get es i ≡ Some e
         → place_answered (message_answers rules) (take i messages) (sent_by e) ≡ request_by e
     request_is i e h =
         let there = place_at (message_answers []) [] messages i (sent_by e)
@@ -116,11 +117,11 @@ module _ (rules : List SwapRule) (es : List Entry) where
         unwrapped : (o p : Option ℕ) → Some o ≡ Some p → o ≡ p
         unwrapped o p e = cc
 
-    abbrev less_there : ℕ → Entry → ℕ → Entry → Bool
+    abbrev less_there : ℕ → Entry M form → ℕ → Entry M form → Bool
     less_there i e j f =
         less_by_place (message_answers []) (sent_by e) i (request_by e) (sent_by f) j (request_by f)
 
-    less_label : (i j : ℕ) (e f : Entry) → slice_get es i ≡ Some e → slice_get es j ≡ Some f
+    less_label : (i j : ℕ) (e f : Entry M form) → slice_get es i ≡ Some e → slice_get es j ≡ Some f
         → (message_labels rules).less (labelled_at i e).label (labelled_at j f).label
         ≡ less_there i e j f
     less_label i j e f h k =
@@ -131,7 +132,7 @@ module _ (rules : List SwapRule) (es : List Entry) where
         ∙ ap (λ o. less_by_place (message_answers []) (sent_by e) i (request_by e) (sent_by f) j o)
         (request_is j f k)
 
-    pub less_is : (i j : ℕ) (e f : Entry) → slice_get es i ≡ Some e → slice_get es j ≡ Some f
+    pub less_is : (i j : ℕ) (e f : Entry M form) → slice_get es i ≡ Some e → slice_get es j ≡ Some f
         → (by_place (by_label (message_labels rules)) labelled).less i j ≡ less_there i e j f
     less_is i j e f h k =
         ap (λ o. passes_both (by_label (message_labels rules)).less o (slice_get labelled j))
@@ -140,7 +141,7 @@ module _ (rules : List SwapRule) (es : List Entry) where
         (entry_at j f k)
         ∙ less_label i j e f h k
 
-    pub free_is : (i j : ℕ) (e f : Entry) → slice_get es i ≡ Some e → slice_get es j ≡ Some f
+    pub free_is : (i j : ℕ) (e f : Entry M form) → slice_get es i ≡ Some e → slice_get es j ≡ Some f
         → (by_place (by_label (message_labels rules)) labelled).free i j
         ≡ free rules (sent_by e) (sent_by f) && (less_there i e j f || less_there j f i e)
     free_is i j e f h k =
@@ -155,7 +156,7 @@ module _ (rules : List SwapRule) (es : List Entry) where
         (less_label j i f e k h)
 
     -- Free messages do not answer the same request.
-    other_request : (i j : ℕ) (e f : Entry) → slice_get es i ≡ Some e → slice_get es j ≡ Some f
+    other_request : (i j : ℕ) (e f : Entry M form) → slice_get es i ≡ Some e → slice_get es j ≡ Some f
         → free rules (sent_by e) (sent_by f) ≡ true → (a : ℕ) → request_by e ≡ Some a
         → request_by f ≡ Some a → ⊥
     other_request i j e f h k fr a one two =
@@ -170,7 +171,7 @@ module _ (rules : List SwapRule) (es : List Entry) where
         (ap (λ (z : Sent). is_client_request_of z (sent_by f)) (sym same) ∙ r.2)
 
     -- Two places are free if and only if the messages at these places are.
-    pub free_at : (i j : ℕ) (e f : Entry) → slice_get es i ≡ Some e → slice_get es j ≡ Some f
+    pub free_at : (i j : ℕ) (e f : Entry M form) → slice_get es i ≡ Some e → slice_get es j ≡ Some f
         → (by_place (by_label (message_labels rules)) labelled).free i j
         ≡ free rules (sent_by e) (sent_by f)
     free_at i j e f h k =

@@ -1,8 +1,6 @@
 -- Two kinds of items with the same freeness and the same order of keys.
-use Rattle.std.specs.Prelude.{◌≡◌, ⊤, List, [], ◌∷◌, ◌++◌}
-use Rattle.std.specs.List.{AllZip}
-use Rattle.dap_order.specs.Swaps.{Swaps}
-use Rattle.dap_order.specs.Labels.{Labels}
+use Rattle.std.specs.{Prelude.{◌≡◌, ⊤, List, [], ◌∷◌, ◌++◌}, List.AllZip}
+use Rattle.dap_order.specs.{Swaps.Swaps, Labels.Labels}
 
 -- Items that are alike have the same freeness and the same order of keys.
 pub record AreAlike {X Y : Type 0} (s : Swaps X) (t : Swaps Y) (Alike : X → Y → Type 0)

@@ -1,9 +1,7 @@
 -- Two kinds of items with the same freeness, whose classes correspond, and whose items answer
 -- corresponding items.
 use Rattle.std.specs.Prelude.{◌≡◌, true, ◌⊎◌, List, ◌≢◌, []}
-use Rattle.dap_order.specs.Classes.{numbers}
-use Rattle.dap_order.specs.Answers.{Answers, answering}
-use Rattle.dap_order.specs.Answering.{answered}
+use Rattle.dap_order.specs.{Classes.numbers, Answers.{Answers, answering}, Answering.answered}
 
 -- `AlikeClass` relates classes so that equal ones correspond to equal ones. `InOrder` relates
 -- classes that have the same order. Both relate the class of an item that is answered, or that is

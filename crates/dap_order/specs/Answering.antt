@@ -1,9 +1,7 @@
 -- Labels of items that answer earlier items. They are computed from the labels of the answered
 -- items.
-use Rattle.std.specs.Prelude.{◌≡◌, Bool, true, false, ◌⊎◌, List, map}
-use Rattle.std.specs.List.{filter}
-use Rattle.dap_order.specs.Swaps.{NoneFree}
-use Rattle.dap_order.specs.Labels.{Labels, label}
+use Rattle.std.specs.{Prelude.{◌≡◌, Bool, true, false, ◌⊎◌, List, map}, List.filter}
+use Rattle.dap_order.specs.{Swaps.NoneFree, Labels.{Labels, label}}
 
 -- `answered_by x y`: y answers x. `key` computes the label of an item from the labels of the items
 -- that it answers and from its own label; `less` is the order of these labels.

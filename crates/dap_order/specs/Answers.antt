@@ -2,8 +2,7 @@
 -- that it answers. Answers precede all other items.
 use Rattle.std.specs.Prelude.{◌≡◌, ℕ, Bool, true, false, ◌⊎◌, List, [], ◌∷◌}
 use Rattle.std.proofs.Common.{inl, inr}
-use Rattle.dap_order.specs.Swaps.{NoneFree}
-use Rattle.dap_order.specs.Labels.{Labels}
+use Rattle.dap_order.specs.{Swaps.NoneFree, Labels.Labels}
 use Rattle.dap_order.specs.Classes.{Classes, AreClasses, less_number, numbers}
 use Rattle.dap_order.specs.Answering.{Answering, answering_labels}
 

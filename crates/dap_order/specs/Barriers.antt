@@ -1,7 +1,6 @@
 -- Items that divide a list.
 use Rattle.std.specs.Prelude.{◌≡◌, Bool, false, List}
-use Rattle.dap_order.specs.Order.{order}
-use Rattle.dap_order.specs.Labels.{Labels, label_after, by_label, items_of}
+use Rattle.dap_order.specs.{Order.order, Labels.{Labels, label_after, by_label, items_of}}
 
 -- No item is free with b.
 abbrev pub IsBarrier : {X : Type 0} → (X → X → Bool) → X → Type 0

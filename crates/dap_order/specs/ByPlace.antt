@@ -1,8 +1,7 @@
 -- The places of a list, ordered in the same way as its items.
-use Rattle.std.specs.Prelude.{ℕ, suc, Bool, true, false, cond, ◌&&◌, ◌||◌, List, [], ◌∷◌}
-use Rattle.std.specs.Prelude.{◌++◌, Option, Some, None, nat_lt, option_map, slice_get}
-use Rattle.dap_order.specs.Swaps.{Swaps}
-use Rattle.dap_order.specs.Answers.{Answers}
+use Rattle.std.specs.Prelude.{ℕ, suc, Bool, true, false, cond, ◌&&◌, ◌||◌, List, [], ◌∷◌, ◌++◌}
+use Rattle.std.specs.Prelude.{Option, Some, None, nat_lt, option_map, slice_get}
+use Rattle.dap_order.specs.{Swaps.Swaps, Answers.Answers}
 
 -- Both items exist and pass the test.
 abbrev pub passes_both : {X : Type 0} → (X → X → Bool) → Option X → Option X → Bool

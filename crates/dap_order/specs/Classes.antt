@@ -1,8 +1,7 @@
 -- Labels that count: the class of an item, and the number of earlier items of that class.
 use Rattle.std.specs.Prelude.{◌≡◌, ℕ, Bool, true, false, ◌&&◌, ◌||◌, ◌⊎◌, List, length, nat_lt}
 use Rattle.std.specs.List.{filter}
-use Rattle.dap_order.specs.Swaps.{BothWays}
-use Rattle.dap_order.specs.Labels.{Labels}
+use Rattle.dap_order.specs.{Swaps.BothWays, Labels.Labels}
 
 -- Which items are free with each other, and their classes: the test whether two are the same, and
 -- their order.

@@ -1,21 +1,17 @@
 -- Which messages may be swapped if they are neighbours: those that a user's rule names, and whose
 -- order is not fixed by their class or by a session rule. Source: own.
-use Rattle.std.specs.Prelude.{ℕ, ℤ, Bool, true, cond, not, ◌&&◌, ◌||◌, List, [], Option, Some}
-use Rattle.std.specs.Prelude.{None, codes}
-use Rattle.std.specs.List.{list_any}
-use Rattle.std.specs.Option.{option_cmp}
-use Rattle.std.specs.Cmp.Lexicographic.{slice_cmp}
+use Rattle.std.specs.Prelude.{ℕ, ℤ, Bool, true, cond, not, ◌&&◌, ◌||◌, List, [], Option, Some, None}
+use Rattle.std.specs.{Prelude.codes, List.list_any, Option.option_cmp, Cmp.Lexicographic.slice_cmp}
 use Rattle.std.specs.declared.cmp.Ordering.{Ordering}
 use Rattle.std.specs.Ordering.{nat_cmp, int_cmp, on, then_cmp, is_eq, is_lt}
 use Rattle.dap_tree.specs.declared.side.Side.TheVariants.{Client, Adapter}
 use Rattle.dap_profile.specs.declared.profile.Kind.{Kind}
 use Rattle.dap_profile.specs.declared.profile.Kind.TheVariants.{Request, Response, Event}
-use Rattle.dap_message.specs.Message.{Sent}
-use Rattle.dap_session.specs.Messages.{side_of, kind_of, name_of, seq_of, request_seq_of}
-use Rattle.dap_session.specs.Messages.{same_kind, is_request, is_response, is_from, is_named}
-use Rattle.dap_session.specs.Messages.{is_response_to, is_client_initialize, is_output}
-use Rattle.dap_session.specs.Messages.{is_configuration_done, is_initialized, is_disconnect_success}
-use Rattle.dap_message.specs.SwapRules.{Half, SwapRule}
+use Rattle.dap_message.specs.{Message.Sent, SwapRules.{Half, SwapRule}}
+use Rattle.dap_session.specs.Messages.{side_of, kind_of, name_of, seq_of, request_seq_of, same_kind}
+use Rattle.dap_session.specs.Messages.{is_request, is_response, is_from, is_named, is_response_to}
+use Rattle.dap_session.specs.Messages.{is_client_initialize, is_output, is_configuration_done}
+use Rattle.dap_session.specs.Messages.{is_initialized, is_disconnect_success}
 
 -- ---- messages that the rules name
 

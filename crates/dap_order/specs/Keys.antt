@@ -1,23 +1,19 @@
 -- Keys of messages (own). Messages with equal keys have the same class, the same conversation or
 -- the same look, depending on the kind of key.
 use Rattle.std.specs.Prelude.{◌≡◌, ℕ, ℤ, ◌+◌, ◌*◌, ◌<◌, Bool, false, cond, ◌&&◌, ◌||◌, List, []}
-use Rattle.std.specs.Prelude.{length}
-use Rattle.std.specs.Prelude.{Option, Some, None, is_some, slice_get}
-use Rattle.std.specs.List.{list_any}
+use Rattle.std.specs.{Prelude.{length, Option, Some, None, is_some, slice_get}, List.list_any}
 use Rattle.dap_tree.specs.declared.side.Side.{Side}
 use Rattle.dap_tree.specs.declared.side.Side.TheVariants.{Client, Adapter}
 use Rattle.dap_profile.specs.declared.profile.Kind.{Kind}
 use Rattle.dap_profile.specs.declared.profile.Kind.TheVariants.{Request, Response, Event}
-use Rattle.dap_message.specs.Message.{Sent}
+use Rattle.dap_message.specs.{Message.Sent, SwapRules.{SwapRule, swaps_of}}
 use Rattle.dap_session.specs.Messages.{side_of, kind_of, name_of, seq_of, request_seq_of, other}
 use Rattle.dap_session.specs.Messages.{is_request, is_response, is_named, is_output}
 use Rattle.dap_session.specs.Messages.{is_configuration_done, is_initialized, is_disconnect_success}
-use Rattle.dap_message.specs.SwapRules.{SwapRule, swaps_of}
 use Rattle.dap_order.specs.Free.{class_of, class_rank, class_number, class_name, begins}
 use Rattle.dap_order.specs.Free.{is_client_request}
 use Rattle.dap_order.specs.declared.keys.Key.{Key as ReadKey}
-use Rattle.dap_order.specs.declared.keys.By.{By}
-use Rattle.dap_order.specs.declared.keys.By.TheVariants.{Class, Conversation}
+use Rattle.dap_order.specs.{declared.keys.By.By, declared.keys.By.TheVariants.{Class, Conversation}}
 use Rattle.dap_order.specs.declared.keys.By.TheVariants.{Response as OfResponse}
 use Rattle.dap_order.specs.declared.keys.By.TheVariants.{Look}
 
@@ -28,6 +24,13 @@ pub record Key : Type 0 where
 
 abbrev pub key_of : ReadKey → Key
 key_of k = record { code = k.code; number = k.number; name = k.name.now }
+
+-- A key has a number or a name, but not both.
+abbrev pub numbered : ℕ → Option ℤ → Key
+numbered code number = record { code = code; number = number; name = [] }
+
+abbrev pub named : ℕ → List ℕ → Key
+named code name = record { code = code; number = None; name = name }
 
 -- ---- classes
 
@@ -53,17 +56,17 @@ is_numbered_response m = is_response m && is_some (request_seq_of m)
 abbrev pub conversation_key : Sent → Key
 conversation_key m =
     cond (is_request m)
-    (record { code = side_code (side_of m); number = Some (seq_of m); name = [] })
+    (numbered (side_code (side_of m)) (Some (seq_of m)))
     (cond (is_numbered_response m)
-    (record { code = side_code (other (side_of m)); number = request_seq_of m; name = [] })
-    (record { code = 2; number = None; name = [] }))
+    (numbered (side_code (other (side_of m))) (request_seq_of m))
+    (numbered 2 None))
 
 -- The key of a response is that of its conversation. All other messages have a key that is not the
 -- key of a conversation.
 abbrev pub response_key : Sent → Key
 response_key m =
     cond (is_numbered_response m) (conversation_key m)
-    (record { code = 3; number = None; name = [] })
+    (numbered 3 None)
 
 -- ---- looks
 

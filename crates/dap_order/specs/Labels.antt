@@ -1,8 +1,7 @@
 -- Labels: keys of items that depend on the items before them. No swap changes a label, so the order
 -- by labels is well defined for lists up to swaps.
 use Rattle.std.specs.Prelude.{◌≡◌, Bool, true, ◌&&◌, ◌||◌, ◌⊎◌, List, [], ◌∷◌, ◌++◌, map}
-use Rattle.dap_order.specs.Swaps.{BothWays, Swaps}
-use Rattle.dap_order.specs.Order.{order}
+use Rattle.dap_order.specs.{Swaps.{BothWays, Swaps}, Order.order}
 
 -- An item and its label.
 pub record Labelled (X L : Type 0) : Type 0 where

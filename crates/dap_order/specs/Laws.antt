@@ -1,11 +1,8 @@
 -- The statements of the functions in `laws`.
-use Rattle.std.specs.Prelude.{◌≡◌, ◌↔◌, Bool, true, List, ◌∷◌, ◌++◌, map}
-use Rattle.std.specs.List.{filter}
+use Rattle.std.specs.{Prelude.{◌≡◌, ◌↔◌, Bool, true, List, ◌∷◌, ◌++◌, map}, List.filter}
 use Rattle.std.specs.List.Sorted.{IsPermutation}
-use Rattle.dap_order.specs.Swaps.{Swaps, Reordered, NoneFree}
-use Rattle.dap_order.specs.Order.{all_free, IsOrdered, order}
-use Rattle.dap_order.specs.Least.{IsLeast}
-use Rattle.dap_order.specs.Barriers.{IsBarrier}
+use Rattle.dap_order.specs.{Swaps.{Swaps, Reordered, NoneFree}, Order.{all_free, IsOrdered, order}}
+use Rattle.dap_order.specs.{Least.IsLeast, Barriers.IsBarrier}
 
 module _ {X : Type 0} (s : Swaps X) where
   -- Swaps lead from a list to its order.

@@ -1,7 +1,6 @@
 -- Items that may come first, and the least of them.
 use Rattle.std.specs.Prelude.{◌≡◌, true, List, ◌∷◌, ◌++◌}
-use Rattle.dap_order.specs.Swaps.{Swaps}
-use Rattle.dap_order.specs.Order.{all_free}
+use Rattle.dap_order.specs.{Swaps.Swaps, Order.all_free}
 
 module _ {X : Type 0} (s : Swaps X) where
   -- The item is free with all items before it.

@@ -1,9 +1,7 @@
 -- The inverse lists of a plan, for private clauses.
 use Rattle.std.specs.Prelude.{◌≡◌, ℕ, ◌<◌, ◌⊎◌, List, [], length, map, slice_index}
-use Rattle.std.specs.List.{All, Contains, slice_index_or}
-use Rattle.std.specs.declared.vec.Vec.{Vec}
-use Rattle.dap_order.specs.Plan.{place_count, followed_by, place_at_rank}
-use Rattle.dap_order.specs.declared.plan.Plan.{Plan}
+use Rattle.std.specs.{List.{All, Contains, slice_index_or}, declared.vec.Vec.Vec}
+use Rattle.dap_order.specs.{Plan.{place_count, followed_by, place_at_rank}, declared.plan.Plan.Plan}
 use Rattle.dap_order.specs.declared.links.Links.{Links}
 
 -- The numbers are the ranks of the places: each place is in `by_key` at its rank.

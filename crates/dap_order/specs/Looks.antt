@@ -1,13 +1,8 @@
 -- The groups of messages by their looks, for private clauses.
 use Rattle.std.specs.Prelude.{◌≡◌, ℕ, ◌<◌, Bool, not, List, length, map, Some, slice_get}
-use Rattle.std.specs.List.{slice_index_or}
-use Rattle.std.specs.BTreeSet.{BTreeSet}
-use Rattle.dap_message.specs.Message.{Sent}
-use Rattle.dap_message.specs.SwapRules.{SwapRule}
-use Rattle.dap_order.specs.ByPlace.{passes_both}
-use Rattle.dap_order.specs.Free.{may_swap}
-use Rattle.dap_order.specs.Keys.{Key}
-use Rattle.dap_order.specs.Partners.{ArePartners}
+use Rattle.std.specs.{List.slice_index_or, BTreeSet.BTreeSet}
+use Rattle.dap_message.specs.{Message.Sent, SwapRules.SwapRule}
+use Rattle.dap_order.specs.{ByPlace.passes_both, Free.may_swap, Keys.Key, Partners.ArePartners}
 use Rattle.dap_order.specs.declared.keys.Key.{Key as ReadKey}
 
 -- The messages at the two places may not be swapped, because of their looks.

@@ -1,20 +1,14 @@
 -- The statements of the functions in `message_laws`.
-use Rattle.std.specs.Prelude.{◌≡◌, ◌↔◌, List, [], ◌∷◌, ◌++◌, false}
-use Rattle.std.specs.Bool.{Decides}
-use Rattle.std.specs.List.{All}
+use Rattle.std.specs.{Prelude.{◌≡◌, ◌↔◌, List, [], ◌∷◌, ◌++◌, false}, Bool.Decides, List.All}
 use Rattle.dap_tree.specs.declared.side.Side.{Side}
-use Rattle.dap_message.specs.Message.{Sent}
+use Rattle.dap_message.specs.{Message.Sent, SwapRules.SwapRule}
 use Rattle.dap_session.specs.Laws.{Renaming, Renames}
 use Rattle.dap_session.specs.RenamedLists.{IsNumbered, DifferInIds, IsOneToOne}
 use Rattle.dap_session.specs.Rules.{KeepsRules, open_requests}
-use Rattle.dap_order.specs.Swaps.{BothWays, Reordered}
-use Rattle.dap_order.specs.Barriers.{order_by_label_after}
-use Rattle.dap_message.specs.SwapRules.{SwapRule}
-use Rattle.dap_order.specs.Free.{free, names}
+use Rattle.dap_order.specs.{Swaps.{BothWays, Reordered}, Barriers.order_by_label_after}
+use Rattle.dap_order.specs.{Free.{free, names}, SameButOrder.{SameButOrder, AreSameButOrder}}
+use Rattle.dap_order.specs.{Words.IsFree, MessageOrder.{message_labels, ordered, AreOrdered}}
 use Rattle.dap_rename.specs.Messages.{AreSame, IsNormal, no_stop}
-use Rattle.dap_order.specs.SameButOrder.{SameButOrder, AreSameButOrder}
-use Rattle.dap_order.specs.Words.{IsFree}
-use Rattle.dap_order.specs.MessageOrder.{message_labels, ordered, AreOrdered}
 
 -- ---- free messages
 

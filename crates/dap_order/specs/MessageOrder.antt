@@ -4,13 +4,10 @@
 -- Therefore no key depends on the values of ids.
 use Rattle.std.specs.Prelude.{ℕ, Bool, ◌&&◌, ◌⊎◌, List}
 use Rattle.dap_tree.specs.declared.side.Side.TheVariants.{Client}
-use Rattle.dap_message.specs.Message.{Sent}
+use Rattle.dap_message.specs.{Message.Sent, SwapRules.SwapRule}
 use Rattle.dap_session.specs.Messages.{is_from}
-use Rattle.dap_order.specs.Classes.{Classes}
-use Rattle.dap_order.specs.Answers.{Answers, answer_labels}
-use Rattle.dap_order.specs.Labels.{Labels, label, by_label, order_by_label}
-use Rattle.dap_order.specs.Order.{IsOrdered}
-use Rattle.dap_message.specs.SwapRules.{SwapRule}
+use Rattle.dap_order.specs.{Classes.Classes, Answers.{Answers, answer_labels}}
+use Rattle.dap_order.specs.{Labels.{Labels, label, by_label, order_by_label}, Order.IsOrdered}
 use Rattle.dap_order.specs.Free.{Class, free, class_of, same_class, less_class, answers}
 
 abbrev pub message_classes : List SwapRule → Classes Sent Class

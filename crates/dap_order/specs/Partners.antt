@@ -1,18 +1,13 @@
 -- The messages that rules name together with one message, by the keys of halves, for private
 -- clauses.
-use Rattle.std.specs.Prelude.{◌≡◌, ℕ, Bool, ◌&&◌, ◌||◌, List, [], Option, None, is_some}
-use Rattle.std.specs.Prelude.{unwrap_or}
-use Rattle.std.specs.List.{list_any}
-use Rattle.std.specs.Option.{option_cmp}
-use Rattle.std.specs.Cmp.Lexicographic.{slice_cmp}
+use Rattle.std.specs.Prelude.{◌≡◌, ℕ, Bool, ◌&&◌, ◌||◌, List, [], Option, None, is_some, unwrap_or}
+use Rattle.std.specs.{List.list_any, Option.option_cmp, Cmp.Lexicographic.slice_cmp}
 use Rattle.std.specs.declared.cmp.Ordering.{Ordering}
 use Rattle.std.specs.Ordering.{nat_cmp, int_cmp, is_eq, ordering_then, on}
 use Rattle.std.specs.BTreeSet.{BTreeSet, contains}
 use Rattle.dap_profile.specs.declared.profile.Kind.{Kind}
-use Rattle.dap_message.specs.Message.{Sent}
-use Rattle.dap_message.specs.SwapRules.{Half, SwapRule}
-use Rattle.dap_order.specs.Free.{fits_half}
-use Rattle.dap_order.specs.Keys.{Key, key_of, kind_code, with_bit}
+use Rattle.dap_message.specs.{Message.Sent, SwapRules.{Half, SwapRule}}
+use Rattle.dap_order.specs.{Free.fits_half, Keys.{Key, key_of, kind_code, with_bit}}
 use Rattle.dap_order.specs.declared.keys.Key.{Key as ReadKey}
 
 -- The key of the messages with this kind and, if one is given, this name.

@@ -2,8 +2,7 @@
 use Rattle.std.specs.Prelude.{◌≡◌, ℕ, ◌<◌, Bool, true, false, ◌⊎◌, List, [], length, map}
 use Rattle.std.specs.List.{All, Contains, slice_index_or, range_with_len}
 use Rattle.std.specs.List.Sorted.{IsPermutation}
-use Rattle.dap_order.specs.Swaps.{Swaps}
-use Rattle.dap_order.specs.declared.plan.Plan.{Plan}
+use Rattle.dap_order.specs.{Swaps.Swaps, declared.plan.Plan.Plan}
 
 module _ (plan : Plan) where
   -- The number of places.

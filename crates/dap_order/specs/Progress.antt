@@ -1,15 +1,11 @@
 -- The state while the places of a plan are written one after the other, for private clauses.
 use Rattle.std.specs.Prelude.{◌≡◌, ◌≢◌, ℕ, ◌+◌, ◌<◌, ◌≤◌, Bool, true, false, ◌⊎◌, List, [], length}
 use Rattle.std.specs.Prelude.{slice_index, nat_lt, ◌-◌, ◌&&◌, not, replicate}
-use Rattle.std.specs.List.{All, AllWithin, slice_index_or, slice_set}
-use Rattle.std.specs.Ordering.{nat_cmp}
+use Rattle.std.specs.{List.{All, AllWithin, slice_index_or, slice_set}, Ordering.nat_cmp}
 use Rattle.std.specs.BTreeSet.{BTreeSet, contains}
-use Rattle.dap_order.specs.Plan.{place_count, group_of, block_rows}
-use Rattle.dap_order.specs.Plan.{followed_by, place_at_rank}
-use Rattle.dap_order.specs.Links.{entries_at, lists_of}
-use Rattle.dap_order.specs.declared.plan.Plan.{Plan}
-use Rattle.dap_order.specs.declared.links.Links.{Links}
-use Rattle.dap_order.specs.declared.progress.Progress.{Progress}
+use Rattle.dap_order.specs.Plan.{place_count, group_of, block_rows, followed_by, place_at_rank}
+use Rattle.dap_order.specs.{Links.{entries_at, lists_of}, declared.plan.Plan.Plan}
+use Rattle.dap_order.specs.{declared.links.Links.Links, declared.progress.Progress.Progress}
 
 -- The place has been written.
 abbrev pub is_written : List Bool → ℕ → Bool

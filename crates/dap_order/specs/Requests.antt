@@ -1,12 +1,9 @@
 -- The content of a map of the client's requests, for private clauses.
-use Rattle.std.specs.Prelude.{◌≡◌, ℕ, ℤ, List, Option}
-use Rattle.std.specs.Ordering.{int_cmp}
-use Rattle.std.specs.BTreeMap.{get}
+use Rattle.std.specs.{Prelude.{◌≡◌, ℕ, ℤ, List, Option}, Ordering.int_cmp, BTreeMap.get}
 use Rattle.dap_tree.specs.declared.side.Side.TheVariants.{Client}
 use Rattle.dap_message.specs.Message.{Sent}
 use Rattle.dap_session.specs.Messages.{is_request_of}
-use Rattle.dap_order.specs.ByPlace.{first_place}
-use Rattle.dap_order.specs.declared.requests.FirstRequests.{FirstRequests}
+use Rattle.dap_order.specs.{ByPlace.first_place, declared.requests.FirstRequests.FirstRequests}
 
 abbrev pub places_found : FirstRequests → ℤ → Option ℕ
 places_found f number = get int_cmp f.places number

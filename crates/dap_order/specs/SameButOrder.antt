@@ -1,12 +1,10 @@
 -- Lists of messages that are the same except for ids and for the order of free messages.
 use Rattle.std.specs.Prelude.{ℤ, List}
 use Rattle.dap_tree.specs.declared.sort.Sort.{Sort}
-use Rattle.dap_message.specs.Message.{Sent}
+use Rattle.dap_message.specs.{Message.Sent, SwapRules.SwapRule}
 use Rattle.dap_session.specs.RenamedLists.{DifferInIds}
 use Rattle.dap_rename.specs.Messages.{AreSame, no_stop}
-use Rattle.dap_order.specs.Swaps.{Reordered}
-use Rattle.dap_message.specs.SwapRules.{SwapRule}
-use Rattle.dap_order.specs.Free.{free}
+use Rattle.dap_order.specs.{Swaps.Reordered, Free.free}
 
 -- Swaps of free neighbours, followed by replacing ids by numbers related by R, turn ms into ns.
 pub record SameButOrder (R : Sort → ℤ → ℤ → Type 0) (rules : List SwapRule) (ms ns : List Sent)

@@ -1,7 +1,7 @@
 -- The keys by which places are sorted, for private clauses.
 use Rattle.std.specs.Prelude.{ℕ, Bool, is_none, unwrap_or}
-use Rattle.dap_order.specs.Keys.{Key, key_of, class_key}
-use Rattle.dap_order.specs.Entries.{sent_by, request_by}
+use Rattle.dap_message.specs.declared.any_message.AnyMessage.{Ghosts as Form}
+use Rattle.dap_order.specs.{Keys.{Key, key_of, class_key}, Entries.{sent_by, request_by}}
 use Rattle.dap_order.specs.declared.entries.Entry.{Entry}
 use Rattle.dap_order.specs.declared.by_key.SortKey.{SortKey as ReadSortKey}
 
@@ -20,7 +20,7 @@ sort_key_of k = record {
 }
 
 -- The sort key of the entry at this place.
-abbrev pub entry_key : Entry → ℕ → SortKey
+abbrev pub entry_key : {M : Type 0} {form : Form M} → Entry M form → ℕ → SortKey
 entry_key e place = record {
   answers_none = is_none (request_by e);
   request = unwrap_or (request_by e) 0;

@@ -3,11 +3,9 @@
 use Rattle.std.specs.Prelude.{◌≡◌, ℕ, ◌<◌, Bool, true, ◌||◌, ◌⊎◌, List, Some, map, slice_get}
 use Rattle.std.specs.Prelude.{Contains}
 use Rattle.dap_message.specs.Message.{Sent}
-use Rattle.dap_order.specs.ByPlace.{passes_both}
-use Rattle.dap_order.specs.Free.{of_one_class, answers}
+use Rattle.dap_order.specs.{ByPlace.passes_both, Free.{of_one_class, answers}}
 use Rattle.dap_order.specs.Keys.{Key, class_key, conversation_key, response_key, ArePrevious}
-use Rattle.dap_order.specs.Keys.{is_numbered_response, IsKeyAt}
-use Rattle.dap_order.specs.declared.waits.Earlier.{Earlier}
+use Rattle.dap_order.specs.{Keys.{is_numbered_response, IsKeyAt}, declared.waits.Earlier.Earlier}
 
 -- One message is a response to the other.
 abbrev pub talk : Sent → Sent → Bool

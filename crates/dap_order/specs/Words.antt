@@ -2,13 +2,11 @@
 -- `free` decides it.
 use Rattle.std.specs.Prelude.{◌≡◌, ◌⊎◌, ℕ, List, Option, Some, None, Contains, codes}
 use Rattle.dap_tree.specs.declared.side.Side.TheVariants.{Client, Adapter}
-use Rattle.dap_message.specs.Message.{Sent}
+use Rattle.dap_message.specs.{Message.Sent, SwapRules.{Half, SwapRule}}
 use Rattle.dap_session.specs.Messages.{side_of, kind_of, seq_of, other}
 use Rattle.dap_session.specs.Positions.{IsFrom, IsRequest, IsResponse, IsNamed, IsClientInitialize}
 use Rattle.dap_session.specs.Positions.{IsConfigurationDone, IsInitialized, IsDisconnectSuccess}
-use Rattle.dap_session.specs.Positions.{IsOutput}
-use Rattle.dap_session.specs.Positions.{IsResponseOf}
-use Rattle.dap_message.specs.SwapRules.{Half, SwapRule}
+use Rattle.dap_session.specs.Positions.{IsOutput, IsResponseOf}
 use Rattle.dap_order.specs.Free.{class_of}
 
 -- The half has no name, or its name is that of the message.

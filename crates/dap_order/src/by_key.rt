@@ -1,11 +1,10 @@
 //! Sorts the places of messages by their keys.
-ghost use Rattle.std.specs.Prelude.{◌≡◌, IfOk, length, IsPermutation};
-ghost use Rattle.std.specs.List.{range_with_len};
-ghost use Rattle.dap_order.specs.PlacesByKey.{AreByKey};
-ghost use Rattle.dap_order.specs.SortKeys.{sort_key_of, entry_key};
+ghost use Rattle.std.specs.{Prelude.{◌≡◌, IfOk, length, IsPermutation}, List.range_with_len};
+ghost use Rattle.dap_order.specs.{PlacesByKey.AreByKey, SortKeys.{sort_key_of, entry_key}};
 
 use crate::entries::Entry;
 use crate::keys::{Key, class_key};
+use dap_message::AnyMessage;
 use std::alloc::{AllocError, Global};
 
 /// The sort key of an entry. Responses to requests of the client come first, in the order of these
@@ -18,7 +17,7 @@ pub struct SortKey<'m> {
     place: usize,
 }
 
-fn sort_key<'m>(entry: &Entry<'m>, place: usize) -> SortKey<'m>
+fn sort_key<'m, M: AnyMessage>(entry: &Entry<'m, M>, place: usize) -> SortKey<'m>
     ensures { sort_key_of result ≡ entry_key entry.now place }
 {
     SortKey {
@@ -31,7 +30,10 @@ fn sort_key<'m>(entry: &Entry<'m>, place: usize) -> SortKey<'m>
 
 /// Returns the places of the entries in the order of their keys. Entries with equal keys may be in
 /// any order.
-pub fn places_by_key(alloc: Global, entries: &[Entry<'_>]) -> Result<Vec<usize>, AllocError>
+pub fn places_by_key<M: AnyMessage>(
+    alloc: Global,
+    entries: &[Entry<'_, M>],
+) -> Result<Vec<usize>, AllocError>
     ensures once { IfOk result
         (λ places. IsPermutation (range_with_len 0 (length entries.now)) places.items) }
     ensures by_key { IfOk result (λ places. AreByKey entries.now places.items) }

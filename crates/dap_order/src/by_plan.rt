@@ -1,10 +1,8 @@
 //! Puts places in order by a plan of their dependences.
 ghost use Rattle.std.specs.Prelude.{◌≡◌, ◌<◌, ℕ, false, length, replicate, IfOk, IsOk};
 ghost use Rattle.std.specs.List.{range_with_len};
-ghost use Rattle.dap_order.specs.Swaps.{Swaps, AreSwaps};
-ghost use Rattle.dap_order.specs.Order.{order};
-ghost use Rattle.dap_order.specs.Plan.{IsWellFormed, IsPlan, place_count};
-ghost use Rattle.dap_order.specs.Links.{AreLinks};
+ghost use Rattle.dap_order.specs.{Swaps.{Swaps, AreSwaps}, Order.order};
+ghost use Rattle.dap_order.specs.{Plan.{IsWellFormed, IsPlan, place_count}, Links.AreLinks};
 ghost use Rattle.dap_order.specs.Progress.{Stands, IsReleased, IsListed};
 
 use crate::links::{Links, links_of};

@@ -1,6 +1,5 @@
 //! Computes keys of messages. Messages with equal keys have the same class, conversation or look.
-ghost use Rattle.std.specs.Prelude.{◌≡◌, ◌+◌, ◌*◌, ◌<◌, ◌≤◌, Some, None};
-ghost use Rattle.std.specs.List.{list_any};
+ghost use Rattle.std.specs.{Prelude.{◌≡◌, ◌+◌, ◌*◌, ◌<◌, ◌≤◌, option_map}, List.list_any};
 ghost use Rattle.dap_message.specs.SwapRules.{swap_of, swaps_of, half_of};
 ghost use Rattle.dap_session.specs.EnvelopeView.{message_of};
 ghost use Rattle.dap_session.specs.Messages as tests;
@@ -9,12 +8,11 @@ ghost use Rattle.dap_order.specs.Keys as keys;
 ghost use Rattle.dap_order.specs.Partners.{half_key};
 
 use crate::dependence::{begins, is_client_request, other};
-use crate::message_classes::{class_name, class_number, class_rank};
-use dap_message::{Half, Kind, Side, SwapRule};
+use dap_message::{AnyMessage, Half, Kind, Side, SwapRule};
 use dap_session::envelope::Envelope;
 use dap_session::message::{
-    is_configuration_done, is_farewell, is_initialized, is_output, is_request, is_response,
-    kind_of, name_of, request_seq_of, seq_of, side_of,
+    is_configuration_done, is_farewell, is_from, is_initialized, is_output, is_request,
+    is_response, kind_of, name_of, request_seq_of, seq_of, side_of,
 };
 
 /// A key of messages.
@@ -39,13 +37,32 @@ pub enum By<'r> {
     Look(&'r [SwapRule]),
 }
 
-pub fn class_key<'m>(message: &Envelope<'m>) -> Key<'m>
+/// Returns the key with this number and no name.
+fn numbered<'m>(code: u16, number: Option<i64>) -> Key<'m>
+    ensures { keys.key_of result ≡ keys.numbered code number }
+{
+    let name = "";
+    Key { code, number, name }
+}
+
+/// Returns the key with this name and no number.
+fn named(code: u16, name: &str) -> Key<'_>
+    ensures { keys.key_of result ≡ keys.named code name.now }
+{
+    let number = None;
+    Key { code, number, name }
+}
+
+pub fn class_key<'m, M: AnyMessage>(message: &Envelope<'m, M>) -> Key<'m>
     ensures { keys.key_of result ≡ keys.class_key (message_of message.now) }
 {
-    Key {
-        code: class_rank(message),
-        number: class_number(message),
-        name: class_name(message),
+    if is_from(message, Side::Client) {
+        return numbered(4, None);
+    }
+    match kind_of(message) {
+        Kind::Response => numbered(0, request_seq_of(message)),
+        Kind::Event => named(1, name_of(message)),
+        Kind::Request => named(2, name_of(message)),
     }
 }
 
@@ -59,43 +76,34 @@ fn side_code(side: Side) -> u16
 }
 
 /// Returns whether the message is a response with a `request_seq`.
-pub fn is_numbered_response(message: &Envelope<'_>) -> bool
+pub fn is_numbered_response<M: AnyMessage>(message: &Envelope<'_, M>) -> bool
     ensures { result ≡ keys.is_numbered_response (message_of message.now) }
 {
     is_response(message) && request_seq_of(message).is_some()
 }
 
-fn conversation_key<'m>(message: &Envelope<'m>) -> Key<'m>
+fn conversation_key<'m, M: AnyMessage>(message: &Envelope<'m, M>) -> Key<'m>
     ensures { keys.key_of result ≡ keys.conversation_key (message_of message.now) }
 {
-    let (code, number) = if is_request(message) {
-        (side_code(side_of(message)), Some(seq_of(message)))
+    if is_request(message) {
+        numbered(side_code(side_of(message)), Some(seq_of(message)))
     } else if is_numbered_response(message) {
-        (side_code(other(side_of(message))), request_seq_of(message))
+        numbered(side_code(other(side_of(message))), request_seq_of(message))
     } else {
-        (2, None)
-    };
-    Key {
-        code,
-        number,
-        name: "",
+        numbered(2, None)
     }
 }
 
-fn response_key<'m>(message: &Envelope<'m>) -> Key<'m>
+fn response_key<'m, M: AnyMessage>(message: &Envelope<'m, M>) -> Key<'m>
     ensures { keys.key_of result ≡ keys.response_key (message_of message.now) }
 {
     if is_numbered_response(message) {
         return conversation_key(message);
     }
-    Key {
-        code: 3,
-        number: None,
-        name: "",
-    }
+    numbered(3, None)
 }
 
-fn has_name(half: &Half, message: &Envelope<'_>) -> bool
+fn has_name<M: AnyMessage>(half: &Half, message: &Envelope<'_, M>) -> bool
     ensures { result ≡ keys.has_name (half_of half.now).name (message_of message.now) }
 {
     match &half.name {
@@ -104,20 +112,20 @@ fn has_name(half: &Half, message: &Envelope<'_>) -> bool
     }
 }
 
-fn has_name_in(rule: &SwapRule, message: &Envelope<'_>) -> bool
+fn has_name_in<M: AnyMessage>(rule: &SwapRule, message: &Envelope<'_, M>) -> bool
     ensures { result ≡ keys.has_name_in (swap_of rule.now) (message_of message.now) }
 {
     has_name(&rule.one, message) || has_name(&rule.another, message)
 }
 
-fn some_has_name(rules: &[SwapRule], message: &Envelope<'_>) -> bool
+fn some_has_name<M: AnyMessage>(rules: &[SwapRule], message: &Envelope<'_, M>) -> bool
     ensures { result
         ≡ list_any (λ r. keys.has_name_in (swap_of r) (message_of message.now)) rules.now }
 {
     rules.iter().any(|rule| has_name_in(rule, message))
 }
 
-fn is_mentioned(rules: &[SwapRule], message: &Envelope<'_>) -> bool
+fn is_mentioned<M: AnyMessage>(rules: &[SwapRule], message: &Envelope<'_, M>) -> bool
     ensures { result ≡ keys.is_mentioned (swaps_of rules.now) (message_of message.now) }
 {
     some_has_name(rules, message)
@@ -143,7 +151,7 @@ fn with_bit(code: u16, bit: bool) -> u16
     2 * code + u16::from(bit)
 }
 
-fn session_code(message: &Envelope<'_>) -> u16
+fn session_code<M: AnyMessage>(message: &Envelope<'_, M>) -> u16
     ensures code { result ≡ keys.session_code (message_of message.now) }
     ensures bound { result < 192 }
 {
@@ -156,48 +164,28 @@ fn session_code(message: &Envelope<'_>) -> u16
     with_bit(code, is_client_request(message))
 }
 
-fn look_key<'m>(rules: &[SwapRule], message: &Envelope<'m>) -> Key<'m>
+fn look_key<'m, M: AnyMessage>(rules: &[SwapRule], message: &Envelope<'m, M>) -> Key<'m>
     ensures { keys.key_of result
         ≡ keys.look_key (swaps_of rules.now) (message_of message.now) }
 {
-    let number = None;
     if is_mentioned(rules, message) {
-        let code = with_bit(session_code(message), true);
-        let name = name_of(message);
-        return Key { code, number, name };
+        return named(with_bit(session_code(message), true), name_of(message));
     }
-    let code = with_bit(session_code(message), false);
-    Key {
-        code,
-        number,
-        name: "",
-    }
+    named(with_bit(session_code(message), false), "")
 }
 
-/// Returns the key of the messages of this kind.
-pub fn any_name_key<'m>(kind: Kind) -> Key<'m>
-    ensures { keys.key_of result ≡ half_key kind None }
+/// Returns the key of the messages of this kind that, if a name is given, have this name.
+pub fn half_key(kind: Kind, name: Option<&str>) -> Key<'_>
+    ensures { keys.key_of result ≡ half_key kind (option_map (λ text. text.now) name.entry) }
 {
-    Key {
-        code: with_bit(kind_code(kind), false),
-        number: None,
-        name: "",
-    }
-}
-
-/// Returns the key of the messages of this kind with this name.
-pub fn name_key(kind: Kind, name: &str) -> Key<'_>
-    ensures { keys.key_of result ≡ half_key kind (Some name.now) }
-{
-    Key {
-        code: with_bit(kind_code(kind), true),
-        number: None,
-        name,
+    match name {
+        None => named(with_bit(kind_code(kind), false), ""),
+        Some(name) => named(with_bit(kind_code(kind), true), name),
     }
 }
 
 /// Returns the key of the message itself.
-pub fn own_key<'m>(by: By<'_>, message: &Envelope<'m>) -> Key<'m>
+pub fn own_key<'m, M: AnyMessage>(by: By<'_>, message: &Envelope<'m, M>) -> Key<'m>
     ensures { keys.key_of result ≡ keys.own_key by.entry (message_of message.now) }
 {
     match by {
@@ -209,7 +197,7 @@ pub fn own_key<'m>(by: By<'_>, message: &Envelope<'m>) -> Key<'m>
 }
 
 /// Returns the key of the messages that the message searches for.
-pub fn sought_key<'m>(by: By<'_>, message: &Envelope<'m>) -> Key<'m>
+pub fn sought_key<'m, M: AnyMessage>(by: By<'_>, message: &Envelope<'m, M>) -> Key<'m>
     ensures { keys.key_of result ≡ keys.sought_key by.entry (message_of message.now) }
 {
     match by {

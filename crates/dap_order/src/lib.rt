@@ -21,7 +21,6 @@ pub mod laws;
 mod links;
 pub mod list_order;
 mod looks;
-mod message_classes;
 pub mod message_laws;
 mod message_ordering;
 mod message_plan;

@@ -1,6 +1,5 @@
 //! Computes two inverse lists of a plan.
-ghost use Rattle.std.specs.Prelude.{◌≡◌, ◌<◌, length, [], replicate, IfOk, OnOk};
-ghost use Rattle.std.specs.List.{All};
+ghost use Rattle.std.specs.{Prelude.{◌≡◌, ◌<◌, length, [], replicate, IfOk, OnOk}, List.All};
 ghost use Rattle.dap_order.specs.Plan.{IsWellFormed, place_count};
 ghost use Rattle.dap_order.specs.Links.{AreRanks, FollowBelow, AddsFollower, AreLinks, lists_of};
 ghost use Rattle.dap_order.specs.Links.{entries_at};

@@ -1,6 +1,5 @@
 //! Puts a list in order, in place.
-ghost use Rattle.std.specs.Prelude.{◌≡◌, ◌≤◌, ◌<◌, length};
-ghost use Rattle.std.specs.List.{insert};
+ghost use Rattle.std.specs.{Prelude.{◌≡◌, ◌≤◌, ◌<◌, length}, List.insert};
 ghost use Rattle.dap_order.specs.Swaps.{Swaps, AreSwaps, Reordered};
 ghost use Rattle.dap_order.specs.Order.{IsOrdered, put, put_at, order};
 

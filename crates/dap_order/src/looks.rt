@@ -1,8 +1,7 @@
 //! Groups messages by their looks, and computes which groups block each other.
 ghost use Rattle.std.specs.Prelude.{◌≡◌, List, IfOk, map, length};
 ghost use Rattle.dap_message.specs.SwapRules.{SwapRule as Swap, swaps_of};
-ghost use Rattle.dap_order.specs.Entries.{sent_by};
-ghost use Rattle.dap_order.specs.Keys.{look_key};
+ghost use Rattle.dap_order.specs.{Entries.sent_by, Keys.look_key};
 ghost use Rattle.dap_order.specs.Looks as words;
 
 use crate::entries::Entry;
@@ -10,7 +9,7 @@ use crate::keys::{By, Key};
 use crate::partners::partners_of;
 use crate::previous::previous_of;
 use crate::rules::may_swap;
-use dap_message::SwapRule;
+use dap_message::{AnyMessage, SwapRule};
 use std::alloc::{AllocError, Global};
 use std::collections::BTreeSet;
 
@@ -22,10 +21,10 @@ pub struct Groups {
 }
 
 /// Returns the groups of entries with the same look.
-pub fn groups_of(
+pub fn groups_of<M: AnyMessage>(
     alloc: Global,
     rules: &[SwapRule],
-    entries: &[Entry<'_>],
+    entries: &[Entry<'_, M>],
 ) -> Result<Groups, AllocError>
     ensures { IfOk result (λ g. words.AreGroups
         (map (look_key (swaps_of rules.now)) (map sent_by entries.now))
@@ -48,10 +47,10 @@ pub fn groups_of(
 }
 
 /// Returns the keys of the halves that rules name together with the message at the place.
-fn partners_at<'m>(
+fn partners_at<'m, M: AnyMessage>(
     alloc: Global,
     rules: &'m [SwapRule],
-    entries: &[Entry<'m>],
+    entries: &[Entry<'m, M>],
     place: usize,
 ) -> Result<BTreeSet<Key<'m>>, AllocError>
     ensures { IfOk result
@@ -65,9 +64,9 @@ fn partners_at<'m>(
 
 /// Returns whether the looks of the messages at the two places block each other. `partners` are
 /// those of the message at `place`.
-fn is_blocked<'m>(
+fn is_blocked<'m, M: AnyMessage>(
     partners: &BTreeSet<Key<'m>>,
-    entries: &[Entry<'m>],
+    entries: &[Entry<'m, M>],
     place: usize,
     other: usize,
 ) -> bool
@@ -84,10 +83,10 @@ fn is_blocked<'m>(
 }
 
 /// Returns for each of the places `firsts` whether its group blocks that of `place`.
-fn row_of<'m>(
+fn row_of<'m, M: AnyMessage>(
     alloc: Global,
     rules: &'m [SwapRule],
-    entries: &[Entry<'m>],
+    entries: &[Entry<'m, M>],
     firsts: &[usize],
     place: usize,
 ) -> Result<Vec<bool>, AllocError>
@@ -103,10 +102,10 @@ fn row_of<'m>(
 }
 
 /// Returns which groups block each other. `firsts` has one place of each group.
-pub fn blocks_of<'m>(
+pub fn blocks_of<'m, M: AnyMessage>(
     alloc: Global,
     rules: &'m [SwapRule],
-    entries: &[Entry<'m>],
+    entries: &[Entry<'m, M>],
     firsts: &[usize],
 ) -> Result<Vec<Vec<bool>>, AllocError>
     ensures { IfOk result (λ blocks. map (λ row. row.items) blocks.items

@@ -1,20 +1,18 @@
 //! Puts the messages of a recording in order.
 ghost use Rattle.std.specs.Prelude.{◌≡◌, [], IfOk, IsOk, Some, length, map, slice_get};
-ghost use Rattle.std.specs.Prelude.{IsPermutation};
-ghost use Rattle.std.specs.List.{range_with_len};
+ghost use Rattle.std.specs.{Prelude.IsPermutation, List.range_with_len};
 ghost use Rattle.dap_message.specs.SwapRules.{swaps_of};
-ghost use Rattle.dap_message.specs.Message.{sent};
 ghost use Rattle.dap_order.specs.MessageOrder.{ordered};
 
 use crate::by_plan::order_of_places;
 use crate::entries::entries_of;
 use crate::message_plan::plan_of;
 use crate::table::Table;
-use dap_message::{Message, SwapRule};
+use dap_message::{AnyMessage, SwapRule};
 use std::alloc::{AllocError, Global};
 
-/// Returns the places of the messages in the order that the rules determine: first the place of the
-/// message that comes first, and so on.
+/// Returns the places of the messages, however they are represented, in the order that the rules
+/// determine: first the place of the message that comes first, and so on.
 ///
 /// Two recordings have the same order if and only if the rules allow swaps of neighbours that turn
 /// one into the other. The order of a recording that obeys the session rules obeys them too.
@@ -26,16 +24,16 @@ use std::alloc::{AllocError, Global};
 /// # Errors
 ///
 /// `AllocError`: an allocation failed. There is a message.
-pub fn put_in_order(
+pub fn put_in_order<M: AnyMessage>(
     alloc: Global,
     rules: &[SwapRule],
-    messages: &[Message],
+    messages: &[M],
 ) -> Result<Vec<usize>, AllocError>
     // Each place occurs once.
     ensures once { IfOk result
         (λ places. IsPermutation (range_with_len 0 (length messages.now)) places.items) }
-    ensures order { IfOk result (λ places. map (slice_get (map sent messages.now)) places.items
-        ≡ map Some (ordered (swaps_of rules.now) (map sent messages.now))) }
+    ensures order { IfOk result (λ places. map (slice_get (map M.sent messages.now)) places.items
+        ≡ map Some (ordered (swaps_of rules.now) (map M.sent messages.now))) }
     ensures empty { messages.now ≡ [] → IsOk result }
 {
     if messages.is_empty() {

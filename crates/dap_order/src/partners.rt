@@ -1,38 +1,26 @@
 //! Finds the messages that rules name together with one message.
-ghost use Rattle.std.specs.Prelude.{◌≡◌, ◌&&◌, ◌||◌, List, IfOk, OnOk};
-ghost use Rattle.std.specs.List.{list_any};
-ghost use Rattle.std.specs.BTreeSet.{contains};
-ghost use Rattle.std.specs.Ordering.{on};
+ghost use Rattle.std.specs.{Prelude.{◌≡◌, ◌&&◌, ◌||◌, List, IfOk, OnOk}, List.list_any};
+ghost use Rattle.std.specs.{BTreeSet.contains, Ordering.on};
 ghost use Rattle.dap_message.specs.Message.{Sent};
 ghost use Rattle.dap_message.specs.SwapRules.{SwapRule as Swap, half_of, swap_of, swaps_of};
 ghost use Rattle.dap_session.specs.EnvelopeView.{message_of};
 ghost use Rattle.dap_order.specs.Free as words;
 ghost use Rattle.dap_order.specs.Keys as keys;
 ghost use Rattle.dap_order.specs.declared.keys.Key as read;
-ghost use Rattle.dap_order.specs.Partners.{half_key, key_cmp, is_half, ArePartners};
+ghost use Rattle.dap_order.specs.Partners.{key_cmp, is_half, ArePartners};
 
-use crate::keys::{Key, any_name_key, name_key};
+use crate::keys::{Key, half_key};
 use crate::rules::fits;
-use dap_message::{Half, SwapRule};
+use dap_message::{AnyMessage, Half, SwapRule};
 use dap_session::envelope::Envelope;
 use dap_session::message::{kind_of, name_of};
 use std::alloc::{AllocError, Global};
 use std::collections::BTreeSet;
 
-/// Returns the key of the messages that a half names.
-fn key_of_half(half: &Half) -> Key<'_>
-    ensures { keys.key_of result ≡ half_key (half_of half.now).kind (half_of half.now).name }
-{
-    match &half.name {
-        None => any_name_key(half.kind),
-        Some(name) => name_key(half.kind, name.as_str()),
-    }
-}
-
 /// Adds the key of `another` if `one` names the message.
-fn add_partner<'m>(
+fn add_partner<'m, M: AnyMessage>(
     partners: &mut BTreeSet<Key<'m>>,
-    message: &Envelope<'m>,
+    message: &Envelope<'m, M>,
     one: &'m Half,
     another: &'m Half,
 ) -> Result<(), AllocError>
@@ -45,15 +33,15 @@ fn add_partner<'m>(
     if !fits(one, message) {
         return Ok(());
     }
-    partners.insert(key_of_half(another))?;
+    partners.insert(half_key(another.kind, another.name.as_deref()))?;
     Ok(())
 }
 
 /// Returns the keys of the halves that rules name together with the message.
-pub fn partners_of<'m>(
+pub fn partners_of<'m, M: AnyMessage>(
     alloc: Global,
     rules: &'m [SwapRule],
-    message: &Envelope<'m>,
+    message: &Envelope<'m, M>,
 ) -> Result<BTreeSet<Key<'m>>, AllocError>
     ensures { IfOk result (ArePartners (swaps_of rules.now) (message_of message.now)) }
 {
@@ -66,10 +54,13 @@ pub fn partners_of<'m>(
 }
 
 /// Returns whether a rule names the message together with the one that has these partners.
-pub fn has_partner<'m>(partners: &BTreeSet<Key<'m>>, message: &Envelope<'m>) -> bool
+pub fn has_partner<'m, M: AnyMessage>(
+    partners: &BTreeSet<Key<'m>>,
+    message: &Envelope<'m, M>,
+) -> bool
     ensures { (rules : List Swap) (x : Sent) → ArePartners rules x partners.now → result
         ≡ list_any (λ r. words.names_both r x (message_of message.now)) rules }
 {
-    partners.contains(&any_name_key(kind_of(message)))
-        || partners.contains(&name_key(kind_of(message), name_of(message)))
+    partners.contains(&half_key(kind_of(message), None))
+        || partners.contains(&half_key(kind_of(message), Some(name_of(message))))
 }

@@ -5,13 +5,14 @@ ghost use Rattle.dap_order.specs.Keys as keys;
 
 use crate::entries::Entry;
 use crate::keys::{By, own_key, sought_key};
+use dap_message::AnyMessage;
 use std::alloc::{AllocError, Global};
 use std::collections::BTreeMap;
 
 /// Returns for each entry the place of the last earlier entry with the key that it searches for.
-pub fn previous_of(
+pub fn previous_of<M: AnyMessage>(
     alloc: Global,
-    entries: &[Entry<'_>],
+    entries: &[Entry<'_, M>],
     by: By<'_>,
 ) -> Result<Vec<Option<usize>>, AllocError>
     ensures { IfOk result (λ previous.

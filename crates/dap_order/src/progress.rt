@@ -1,13 +1,10 @@
 //! Tracks which places have been written, and which can be written next.
-ghost use Rattle.std.specs.Prelude.{◌≡◌, ◌≤◌, ◌<◌, true, false, length};
-ghost use Rattle.std.specs.Prelude.{IfOk, OnOk, MatchOption, slice_index};
-ghost use Rattle.std.specs.List.{All, AllWithin, HoldsAt};
-ghost use Rattle.dap_order.specs.Plan.{IsWellFormed, place_count, followed_by};
-ghost use Rattle.dap_order.specs.Links.{AreLinks};
-ghost use Rattle.dap_order.specs.Progress.{is_written, Stands, is_held};
-ghost use Rattle.dap_order.specs.Progress.{Considered, ConsideredFollowers, Released};
-ghost use Rattle.dap_order.specs.Progress.{ReleasedPlace, ReleasedBelow};
-ghost use Rattle.dap_order.specs.Progress.{Wrote, UpdatedAfter, StartsAt, HasNoRank};
+ghost use Rattle.std.specs.Prelude.{◌≡◌, ◌≤◌, ◌<◌, true, false, length, IfOk, OnOk, MatchOption};
+ghost use Rattle.std.specs.{Prelude.slice_index, List.{All, AllWithin, HoldsAt}};
+ghost use Rattle.dap_order.specs.{Plan.{IsWellFormed, place_count, followed_by}, Links.AreLinks};
+ghost use Rattle.dap_order.specs.Progress.{is_written, Stands, is_held, Considered};
+ghost use Rattle.dap_order.specs.Progress.{ConsideredFollowers, Released, ReleasedPlace};
+ghost use Rattle.dap_order.specs.Progress.{ReleasedBelow, Wrote, UpdatedAfter, StartsAt, HasNoRank};
 
 use crate::links::{Links, followers_at};
 use crate::plan::{Plan, blocks, followed_by};

@@ -3,13 +3,13 @@ ghost use Rattle.std.specs.Prelude.{◌≡◌, ◌&&◌, ◌++◌, ◌∷◌, []
 ghost use Rattle.dap_message.specs.Message.{Sent};
 ghost use Rattle.dap_session.specs.EnvelopeView.{message_of};
 ghost use Rattle.dap_session.specs.Messages as tests;
-ghost use Rattle.dap_order.specs.ByPlace.{place_answered};
-ghost use Rattle.dap_order.specs.MessageOrder.{message_answers};
+ghost use Rattle.dap_order.specs.{ByPlace.place_answered, MessageOrder.message_answers};
 ghost use Rattle.dap_order.specs.Requests.{places_found, Finds};
 
-use dap_message::Side;
+use crate::dependence::is_client_request;
+use dap_message::{AnyMessage, Side};
 use dap_session::envelope::Envelope;
-use dap_session::message::{is_from, is_request, is_response, request_seq_of, seq_of};
+use dap_session::message::{is_from, is_response, request_seq_of, seq_of};
 use std::alloc::{AllocError, Global};
 use std::collections::BTreeMap;
 
@@ -36,7 +36,7 @@ impl FirstRequests {
     }
 
     /// Returns the place of the request that the message answers, if any.
-    pub fn answered(&self, message: &Envelope<'_>) -> Option<usize>
+    pub fn answered<M: AnyMessage>(&self, message: &Envelope<'_, M>) -> Option<usize>
         ensures { (ms : List Sent) → Finds self.now ms
             → result ≡ place_answered (message_answers []) ms (message_of message.now) }
     {
@@ -50,7 +50,11 @@ impl FirstRequests {
     }
 
     /// Adds the message at `place`, which is the number of messages before it.
-    pub fn add(&mut self, message: &Envelope<'_>, place: usize) -> Result<(), AllocError>
+    pub fn add<M: AnyMessage>(
+        &mut self,
+        message: &Envelope<'_, M>,
+        place: usize,
+    ) -> Result<(), AllocError>
         ensures { OnOk result ((ms : List Sent) → Finds self.old ms → length ms ≡ place
             → Finds self.new (ms ++ message_of message.now ∷ [])) }
     {
@@ -64,14 +68,7 @@ impl FirstRequests {
     }
 }
 
-fn is_client_request(message: &Envelope<'_>) -> bool
-    ensures { result ≡ tests.is_request (message_of message.now)
-        && tests.is_from Side.Client (message_of message.now) }
-{
-    is_request(message) && is_from(message, Side::Client)
-}
-
-fn is_adapter_response(message: &Envelope<'_>) -> bool
+fn is_adapter_response<M: AnyMessage>(message: &Envelope<'_, M>) -> bool
     ensures { result ≡ tests.is_response (message_of message.now)
         && tests.is_from Side.Adapter (message_of message.now) }
 {

@@ -1,22 +1,20 @@
 //! Decides which messages are free with each other, by the rules that a user declares.
-ghost use Rattle.std.specs.Prelude.{◌≡◌, ◌↔◌, List, IsTrue};
-ghost use Rattle.std.specs.List.{list_any};
+ghost use Rattle.std.specs.{Prelude.{◌≡◌, ◌↔◌, List, IsTrue}, List.list_any};
 ghost use Rattle.dap_message.specs.SwapRules.{SwapRule as Swap, half_of, swap_of, swaps_of};
 ghost use Rattle.dap_message.specs.Message.{sent};
 ghost use Rattle.dap_session.specs.EnvelopeView.{message_of};
 ghost use Rattle.dap_order.specs.Free as words;
-ghost use Rattle.dap_order.specs.Partners.{ArePartners};
-ghost use Rattle.dap_order.specs.Words.{IsFree};
+ghost use Rattle.dap_order.specs.{Partners.ArePartners, Words.IsFree};
 
 use crate::dependence::{depends, is_fixed};
 use crate::keys::Key;
 use crate::partners::has_partner;
-use dap_message::{Half, Message, SwapRule};
+use dap_message::{AnyMessage, Half, Message, SwapRule};
 use dap_session::envelope::{Envelope, envelope_of};
 use dap_session::message::{kind_of, name_of};
 use std::collections::BTreeSet;
 
-pub(crate) fn fits(half: &Half, message: &Envelope<'_>) -> bool
+pub(crate) fn fits<M: AnyMessage>(half: &Half, message: &Envelope<'_, M>) -> bool
     ensures { result ≡ words.fits_half (half_of half.now) (message_of message.now) }
 {
     half.kind == kind_of(message)
@@ -26,14 +24,18 @@ pub(crate) fn fits(half: &Half, message: &Envelope<'_>) -> bool
         }
 }
 
-fn names_both(rule: &SwapRule, x: &Envelope<'_>, y: &Envelope<'_>) -> bool
+fn names_both<M: AnyMessage>(rule: &SwapRule, x: &Envelope<'_, M>, y: &Envelope<'_, M>) -> bool
     ensures { result
         ≡ words.names_both (swap_of rule.now) (message_of x.now) (message_of y.now) }
 {
     (fits(&rule.one, x) && fits(&rule.another, y)) || (fits(&rule.one, y) && fits(&rule.another, x))
 }
 
-fn some_names_both(rules: &[SwapRule], x: &Envelope<'_>, y: &Envelope<'_>) -> bool
+fn some_names_both<M: AnyMessage>(
+    rules: &[SwapRule],
+    x: &Envelope<'_, M>,
+    y: &Envelope<'_, M>,
+) -> bool
     ensures { result ≡ list_any
         (λ r. words.names_both (swap_of r) (message_of x.now) (message_of y.now)) rules.now }
 {
@@ -62,7 +64,11 @@ pub fn is_free(rules: &[SwapRule], x: &Message, y: &Message) -> bool
 
 /// Returns whether the two messages may be swapped if they are neighbours.
 #[tactic(auto, unfolding(crate::specs::Free::free))]
-pub(crate) fn frees(rules: &[SwapRule], x: &Envelope<'_>, y: &Envelope<'_>) -> bool
+pub(crate) fn frees<M: AnyMessage>(
+    rules: &[SwapRule],
+    x: &Envelope<'_, M>,
+    y: &Envelope<'_, M>,
+) -> bool
     ensures { result
         ≡ words.free (swaps_of rules.now) (message_of x.now) (message_of y.now) }
 {
@@ -71,7 +77,11 @@ pub(crate) fn frees(rules: &[SwapRule], x: &Envelope<'_>, y: &Envelope<'_>) -> b
 
 /// Returns whether a rule names both messages and no session rule fixes their order, whatever their
 /// ids are. `partners` are those of `x`.
-pub(crate) fn may_swap<'m>(partners: &BTreeSet<Key<'m>>, x: &Envelope<'m>, y: &Envelope<'m>) -> bool
+pub(crate) fn may_swap<'m, M: AnyMessage>(
+    partners: &BTreeSet<Key<'m>>,
+    x: &Envelope<'m, M>,
+    y: &Envelope<'m, M>,
+) -> bool
     ensures { (rules : List Swap) → ArePartners rules (message_of x.now) partners.now
         → result ≡ words.may_swap rules (message_of x.now) (message_of y.now) }
 {

@@ -9,6 +9,7 @@ ghost use Rattle.dap_order.specs.Waits as words;
 use crate::entries::Entry;
 use crate::keys::{By, is_numbered_response};
 use crate::previous::previous_of;
+use dap_message::AnyMessage;
 use std::alloc::{AllocError, Global};
 
 /// For each place, the last earlier places of several kinds.
@@ -24,7 +25,10 @@ pub struct Earlier {
     are_responses: Vec<bool>,
 }
 
-fn are_responses(alloc: Global, entries: &[Entry<'_>]) -> Result<Vec<bool>, AllocError>
+fn are_responses<M: AnyMessage>(
+    alloc: Global,
+    entries: &[Entry<'_, M>],
+) -> Result<Vec<bool>, AllocError>
     ensures { IfOk result (λ found. found.items
         ≡ map keys.is_numbered_response (map sent_by entries.now)) }
 {
@@ -36,7 +40,10 @@ fn are_responses(alloc: Global, entries: &[Entry<'_>]) -> Result<Vec<bool>, Allo
 }
 
 impl Earlier {
-    pub fn new(alloc: Global, entries: &[Entry<'_>]) -> Result<Earlier, AllocError>
+    pub fn new<M: AnyMessage>(
+        alloc: Global,
+        entries: &[Entry<'_, M>],
+    ) -> Result<Earlier, AllocError>
         ensures { IfOk result (words.IsEarlier (map sent_by entries.now)) }
     {
         Ok(Earlier {

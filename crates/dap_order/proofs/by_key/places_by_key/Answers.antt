@@ -18,7 +18,7 @@ abbrev place_of : ReadSortKey → ℕ
 place_of k = k.place
 
 pub loop-entry-preserved : goal.loop-entry-preserved
-loop-entry-preserved c =
+loop-entry-preserved g c =
     let i = c.loop-entry.entry-index in
     let all = c.args.entries.now in
     let e = c.entry-item.result in
@@ -44,7 +44,7 @@ loop-entry-preserved c =
     }
 
 pub returns-clause-once : goal.returns-clause-once
-returns-clause-once c =
+returns-clause-once g c =
     let keys = c.loop-entry.keys.items in
     let sorted = c.sort.new.self.items in
     let listed : c.loop-key.places.items ≡ map place_of sorted =
@@ -59,7 +59,7 @@ returns-clause-once c =
     (IsPermutation-map place_of keys sorted c.in_ok-sort.ensures.permutation))
 
 pub returns-clause-by_key : goal.returns-clause-by_key
-returns-clause-by_key c =
+returns-clause-by_key g c =
     let keys = c.loop-entry.keys.items in
     let sorted = c.sort.new.self.items in
     let listed : c.loop-key.places.items ≡ map place_of sorted =

@@ -1,7 +1,6 @@
 use Rattle.std.proofs.Common.{◌≡◌, List, [], ◌∷◌, ◌++◌, map, length, take, sym, ap, ◌∙◌, subst, ◌+◌}
 use Rattle.std.proofs.lemmas.List.{take_more, map-append, length-map}
-use Rattle.dap_message.specs.Message.{Sent, sent}
-use Rattle.dap_message.specs.declared.message.Message.{Message}
+use Rattle.dap_message.specs.Message.{Sent}
 use Rattle.dap_session.specs.EnvelopeView.{message_of}
 use Rattle.dap_order.specs.ByPlace.{places_answered}
 use Rattle.dap_order.proofs.PlaceLabels.{places_answered_push}
@@ -11,17 +10,18 @@ use Rattle.dap_order.specs.Requests.{Finds}
 use Rattle.dap_order.proofs.entries.entries_of.Goals as goal
 
 pub loop-message-preserved : goal.loop-message-preserved
-loop-message-preserved c =
+loop-message-preserved g c =
+    let sent = g.M.AnyMessage.sent in
     let i = c.loop-message.message-index in
     let all = c.args.messages.now in
     let ms = map sent (take i all) in
     let m = message_of c.envelope_of-message.result in
     let inv = c.loop-message.invariant in
     let item : m ≡ sent c.message-item.result =
-    ap (λ (z : Message). sent z) c.envelope_of-message.ensures in
+    ap sent c.envelope_of-message.ensures in
     let next : map sent (take (i + 1) all) ≡ ms ++ m ∷ [] =
     ap (map sent) (take_more all i c.message-item.result c.loop-message-test.true
-    ∙ ap (λ (z : Message). take i all ++ z ∷ []) (sym c.message-item.is))
+    ∙ ap (λ z. take i all ++ z ∷ []) (sym c.message-item.is))
     ∙ map-append sent (take i all) (c.message-item.result ∷ [])
     ∙ ap (λ (z : Sent). ms ++ z ∷ []) (sym item) in
     let entries = c.loop-message.entries in

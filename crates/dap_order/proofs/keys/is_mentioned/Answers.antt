@@ -5,6 +5,6 @@ use Rattle.dap_order.proofs.RuleLists.{any_swap}
 use Rattle.dap_order.proofs.keys.is_mentioned.Goals as goal
 
 pub returns : goal.returns
-returns c =
+returns g c =
     c.some_has_name.ensures
     ∙ any_swap (λ r. has_name_in r (message_of c.args.message.now)) c.args.rules.now

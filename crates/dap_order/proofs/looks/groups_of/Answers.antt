@@ -25,7 +25,7 @@ earlier_is f ms previous are j o p low read e =
     (last.0, last.1 ∙ sym k.1)
 
 pub index-requires-in-Some : goal.index-requires-in-Some
-index-requires-in-Some c =
+index-requires-in-Some g c =
     let ms = map sent_by c.args.entries.now in
     let before = (earlier_is (look_key (swaps_of c.args.rules.now)) ms
     c.in_ok-previous.previous.items c.in_ok-previous.ensures c.loop-place.place c.index.result.now
@@ -34,7 +34,7 @@ index-requires-in-Some c =
     omega (arith, before, c.loop-place.invariant.len, c.loop-place.groups.ok.0)
 
 pub loop-place-preserved : goal.loop-place-preserved
-loop-place-preserved c =
+loop-place-preserved g c =
     let ms = map sent_by c.args.entries.now in
     let ks = map (look_key (swaps_of c.args.rules.now)) ms in
     let n = c.loop-place.place in

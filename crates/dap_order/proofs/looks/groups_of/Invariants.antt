@@ -6,6 +6,6 @@ use Rattle.dap_order.specs.Looks.{AreGroups}
 use Rattle.dap_order.proofs.looks.groups_of.Given as goal
 
 abbrev pub invariant-loop-place : goal.invariant-loop-place
-invariant-loop-place l =
+invariant-loop-place g l =
     AreGroups (map (look_key (swaps_of l.rules)) (map sent_by l.entries)) l.place l.groups.items
     l.firsts.items

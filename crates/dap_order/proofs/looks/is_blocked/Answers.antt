@@ -24,7 +24,7 @@ blocks_there : (rules : List SwapRule) (ms : List Sent) (i j : ℕ) (x y : Sent)
 blocks_there rules ms i j x y e f = rw (e, f) refl
 
 pub returns-in_default : goal.returns-in_default
-returns-in_default c =
+returns-in_default g c =
     let entries = c.args.entries.now in
     let past : length entries ≤ c.args.place = c.in_default.ensures.lookup.3 in
     λ rules are. blocks_past rules (map sent_by entries) c.args.place c.args.other
@@ -32,7 +32,7 @@ returns-in_default c =
     (omega (arith, len_map sent_by entries)))
 
 pub returns-in_default-get : goal.returns-in_default-get
-returns-in_default-get c =
+returns-in_default-get g c =
     let entries = c.args.entries.now in
     let x = c.in-Some.x.now in
     let past : length entries ≤ c.args.other = c.in_default-get.ensures.lookup.3 in
@@ -44,7 +44,7 @@ returns-in_default-get c =
     (omega (arith, len_map sent_by entries)))
 
 pub returns : goal.returns
-returns c =
+returns g c =
     let entries = c.args.entries.now in
     let x = c.in-Some.x.now in
     let y = c.in-Some-get.y.now in

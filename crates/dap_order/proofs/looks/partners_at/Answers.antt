@@ -10,7 +10,7 @@ use Rattle.dap_order.proofs.Lists.{get_map, got, len_map, one_item}
 use Rattle.dap_order.proofs.looks.partners_at.Goals as goal
 
 pub returns-in-None : goal.returns-in-None
-returns-in-None c =
+returns-in-None g c =
     λ x at.
     let entries = c.args.entries.now in
     let past : length entries ≤ c.args.place = c.in-None.ensures.lookup.3 in
@@ -21,7 +21,7 @@ returns-in-None c =
     absurd cc
 
 pub returns-in-Some : goal.returns-in-Some
-returns-in-Some c =
+returns-in-Some g c =
     let entries = c.args.entries.now in
     let place = c.args.place in
     let rules = swaps_of c.args.rules.now in

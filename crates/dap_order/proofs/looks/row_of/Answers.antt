@@ -14,14 +14,14 @@ one_more f xs i row new b low pushed so_far is =
     ∙ sym (ap (map f) (take_more xs i 0 low) ∙ map-append f (take i xs) (get_or xs i 0 ∷ []))
 
 pub loop-other-preserved : goal.loop-other-preserved
-loop-other-preserved c =
+loop-other-preserved g c =
     one_more (blocks_at (swaps_of c.args.rules.now) (map sent_by c.args.entries.now) c.args.place)
     c.args.firsts.now c.loop-other.other-index c.loop-other.row.items c.push.new.self.items
     c.is_blocked.result c.loop-other-test.true c.in_ok-push.ensures.items c.loop-other.invariant
     (c.is_blocked.ensures (swaps_of c.args.rules.now) c.in_ok-partners.ensures)
 
 pub returns : goal.returns
-returns c =
+returns g c =
     c.loop-other.invariant
     ∙ ap (map (blocks_at (swaps_of c.args.rules.now) (map sent_by c.args.entries.now) c.args.place))
     (take_all c.loop-other.other-index c.args.firsts.now (omega (arith, c.loop-other-test.false)))

@@ -5,6 +5,6 @@ use Rattle.dap_order.specs.Looks.{blocks_at}
 use Rattle.dap_order.proofs.looks.row_of.Given as goal
 
 abbrev pub invariant-loop-other : goal.invariant-loop-other
-invariant-loop-other l =
+invariant-loop-other g l =
     l.row.items ≡ map (blocks_at (swaps_of l.rules) (map sent_by l.entries) l.place)
     (take l.other-index l.firsts)

@@ -6,7 +6,7 @@ use Rattle.std.proofs.lemmas.List.{length-map}
 use Rattle.std.proofs.lemmas.List.Sorted.{IsPermutation-refl}
 use Rattle.std.proofs.lemmas.Result.{IfOk-weaker}
 use Rattle.dap_message.specs.SwapRules.{SwapRule, swaps_of}
-use Rattle.dap_message.specs.Message.{Sent, sent}
+use Rattle.dap_message.specs.Message.{Sent}
 use Rattle.dap_order.specs.Swaps.{Swaps}
 use Rattle.dap_order.specs.Order.{order}
 use Rattle.dap_order.specs.Labels.{label, by_label}
@@ -27,13 +27,14 @@ no_item : {A : Type 0} (xs : List A) → true ≡ (length xs == 0) → length xs
 no_item xs h = grind arith
 
 pub returns-then-is_empty-clause-once : goal.returns-then-is_empty-clause-once
-returns-then-is_empty-clause-once c =
+returns-then-is_empty-clause-once g c =
     subst (λ (n : ℕ). IsPermutation (range_with_len 0 n) c.new.result.items)
     (sym (no_item c.args.messages.now c.if-is_empty.ensures))
     (subst (IsPermutation []) (sym c.new.ensures.items) (IsPermutation-refl []))
 
 pub returns-then-is_empty-clause-order : goal.returns-then-is_empty-clause-order
-returns-then-is_empty-clause-order c =
+returns-then-is_empty-clause-order g c =
+    let sent = g.M.AnyMessage.sent in
     let rules = swaps_of c.args.rules.now in
     let ns = map sent c.args.messages.now in
     let none : length ns ≡ 0 =
@@ -42,7 +43,8 @@ returns-then-is_empty-clause-order c =
     (c.new.ensures.items ∙ ap (λ n. order (order_of rules ns) (range_with_len 0 n)) (sym none))
 
 pub returns-clause-once : goal.returns-clause-once
-returns-clause-once c =
+returns-clause-once g c =
+    let sent = g.M.AnyMessage.sent in
     let rules = swaps_of c.args.rules.now in
     let ms = map sent_by c.in_ok-entries.entries.items in
     let are = are_swaps_of_places rules ms in
@@ -64,7 +66,8 @@ returns-clause-once c =
     (c.order_of_places.ensures.ordered (order_of rules ms) are c.in_ok-plan.ensures.plan)
 
 pub returns-clause-order : goal.returns-clause-order
-returns-clause-order c =
+returns-clause-order g c =
+    let sent = g.M.AnyMessage.sent in
     let rules = swaps_of c.args.rules.now in
     let ms = map sent_by c.in_ok-entries.entries.items in
     let ns = map sent c.args.messages.now in

@@ -12,7 +12,7 @@ abbrev row_of : Vec ℕ Global → List ℕ
 row_of v = v.items
 
 pub loop-place-preserved : goal.loop-place-preserved
-loop-place-preserved c =
+loop-place-preserved g c =
     let ms = map sent_by c.args.entries.now in
     let after = c.loop-place.after.items in
     let row = c.in_ok-waits_of.field-0 in

@@ -11,11 +11,11 @@ use Rattle.dap_order.proofs.PartnerKeys.{one_more_rule}
 use Rattle.dap_order.proofs.partners.partners_of.Goals as goal
 
 pub loop-rule-init : goal.loop-rule-init
-loop-rule-init c =
+loop-rule-init g c =
     λ k. ap (list_any (λ q. is_eq (key_cmp (key_of k) (key_of q)))) c.new-partners.ensures.empty
 
 pub loop-rule-preserved : goal.loop-rule-preserved
-loop-rule-preserved c =
+loop-rule-preserved g c =
     let i = c.loop-rule.rule-index in
     let rules = c.args.rules.now in
     let r = c.rule-item.result in
@@ -32,7 +32,7 @@ loop-rule-preserved c =
     ∙ ap (list_any (is_partner m (key_of k))) (sym next)
 
 pub returns : goal.returns
-returns c =
+returns g c =
     subst (λ zs. ArePartners (swaps_of zs) (message_of c.args.message.now) c.loop-rule.partners)
     (take_all c.loop-rule.rule-index c.args.rules.now (omega (arith, c.loop-rule-test.false)))
     c.loop-rule.invariant

@@ -5,5 +5,5 @@ use Rattle.dap_order.specs.Partners.{ArePartners}
 use Rattle.dap_order.proofs.partners.partners_of.Given as goal
 
 abbrev pub invariant-loop-rule : goal.invariant-loop-rule
-invariant-loop-rule l =
+invariant-loop-rule g l =
     ArePartners (swaps_of (take l.rule-index l.rules)) (message_of l.message) l.partners

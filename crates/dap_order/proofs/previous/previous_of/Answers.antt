@@ -5,14 +5,13 @@ use Rattle.std.proofs.lemmas.List.{take_more, map-append, length-take-le}
 use Rattle.dap_message.specs.Message.{Sent}
 use Rattle.dap_order.specs.Entries.{sent_by}
 use Rattle.dap_order.specs.Keys.{Key, own_key, sought_key, ArePrevious}
-use Rattle.dap_order.specs.declared.entries.Entry.{Entry}
 use Rattle.dap_order.proofs.KeyEquality.{key_cmp}
 use Rattle.dap_order.proofs.Lists.{len_map}
 use Rattle.dap_order.proofs.PreviousPlaces.{HasLast, one_more}
 use Rattle.dap_order.proofs.previous.previous_of.Goals as goal
 
 pub loop-entry-preserved : goal.loop-entry-preserved
-loop-entry-preserved c =
+loop-entry-preserved g c =
     let i = c.loop-entry.entry-index in
     let all = c.args.entries.now in
     let e = c.entry-item.result in
@@ -21,7 +20,7 @@ loop-entry-preserved c =
     let inv = c.loop-entry.invariant in
     let next : map sent_by (take (i + 1) all) ≡ ms ++ sent_by e ∷ [] =
     ap (map sent_by) (take_more all i e c.loop-entry-test.true
-    ∙ ap (λ (z : Entry). take i all ++ z ∷ []) (sym c.entry-item.is))
+    ∙ ap (λ z. take i all ++ z ∷ []) (sym c.entry-item.is))
     ∙ map-append sent_by (take i all) (e ∷ []) in
     let keys = λ (f : Sent → Key). ap (map f) next ∙ map-append f ms (sent_by e ∷ []) in
     let long = λ (f : Sent → Key). len_map f ms ∙ len_map sent_by (take i all)

@@ -7,7 +7,7 @@ use Rattle.dap_order.proofs.PreviousPlaces.{HasLast}
 use Rattle.dap_order.proofs.previous.previous_of.Given as goal
 
 abbrev pub invariant-loop-entry : goal.invariant-loop-entry
-invariant-loop-entry l =
+invariant-loop-entry g l =
     let ms = map sent_by (take l.entry-index l.entries) in
     let own = map (own_key l.by) ms in
     record {

@@ -9,7 +9,7 @@ use Rattle.dap_order.proofs.rules.frees.Goals as goal
 
 pub returns-else-some_names_both : goal.returns-else-some_names_both
 unfolding free
-returns-else-some_names_both c =
+returns-else-some_names_both g c =
     let x = message_of c.args.x.now in
     let y = message_of c.args.y.now in
     let rules = swaps_of c.args.rules.now in
@@ -22,7 +22,7 @@ returns-else-some_names_both c =
 
 pub returns-then-not-depends : goal.returns-then-not-depends
 unfolding free
-returns-then-not-depends c =
+returns-then-not-depends g c =
     let x = message_of c.args.x.now in
     let y = message_of c.args.y.now in
     let rules = swaps_of c.args.rules.now in

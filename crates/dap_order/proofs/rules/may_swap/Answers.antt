@@ -6,7 +6,7 @@ use Rattle.dap_order.specs.Free.{names_both, is_fixed}
 use Rattle.dap_order.proofs.rules.may_swap.Goals as goal
 
 pub returns-else-has_partner : goal.returns-else-has_partner
-returns-else-has_partner c =
+returns-else-has_partner g c =
     λ rules are.
     let x = message_of c.args.x.now in
     let y = message_of c.args.y.now in
@@ -17,7 +17,7 @@ returns-else-has_partner c =
     (not (is_fixed x y) && not (is_fixed y x)) none)
 
 pub returns-then-not-is_fixed : goal.returns-then-not-is_fixed
-returns-then-not-is_fixed c =
+returns-then-not-is_fixed g c =
     λ rules are.
     let x = message_of c.args.x.now in
     let y = message_of c.args.y.now in

@@ -1,9 +1,11 @@
 use Rattle.std.proofs.Common.{◌≡◌, ℕ, ℤ, true, false, cond, Option, Some, None, sym, ap, ◌∙◌}
 use Rattle.std.proofs.Common.{refl, is_some, w64, to_z, of_z, arith}
 use Rattle.std.specs.Ordering.{int_eq}
+use Rattle.std.proofs.Math.Bool.{and_comm}
 use Rattle.std.proofs.lemmas.Int.{to_z-of_z}
+use Rattle.dap_tree.specs.declared.side.Side.TheVariants.{Client}
 use Rattle.dap_session.specs.EnvelopeView.{message_of}
-use Rattle.dap_session.specs.Messages.{seq_of}
+use Rattle.dap_session.specs.Messages.{seq_of, is_request, is_from}
 use Rattle.dap_order.specs.Requests.{places_found}
 use Rattle.dap_order.proofs.RequestPlaces.{finds_no_request, finds_known, finds_new}
 use Rattle.dap_order.proofs.requests.FirstRequests.add.Goals as goal
@@ -17,14 +19,15 @@ none_found None h = refl
 none_found (Some a) h = absurd (cc)
 
 pub returns-in_ok-insert : goal.returns-in_ok-insert
-returns-in_ok-insert c = λ ms finds long.
+returns-in_ok-insert g c = λ ms finds long.
     let m = message_of c.args.message.now in
     let k = c.seq_of-number.result in
     let n : to_z w64 (of_z w64 k) ≡ k = grind (arith, to_z-of_z) in
     let number : to_z w64 (of_z w64 k) ≡ seq_of m = n ∙ c.seq_of-number.ensures in
     finds_new (places_found c.args.self.now)
     (places_found (record { places = c.insert.new.self })) ms m c.args.place
-    (sym c.is_client_request.ensures ∙ c.if-is_client_request.true)
+    (and_comm (is_request m) (is_from Client m) ∙ sym c.is_client_request.ensures
+    ∙ c.if-is_client_request.true)
     (ap (places_found c.args.self.now) (sym number) ∙ sym c.find.ensures
     ∙ none_found c.find.result c.if-is_none.ensures) long
     (λ q. c.in_ok-insert.ensures.updates.0 q
@@ -32,7 +35,7 @@ returns-in_ok-insert c = λ ms finds long.
     finds
 
 pub returns-else-is_none : goal.returns-else-is_none
-returns-else-is_none c = λ ms finds long.
+returns-else-is_none g c = λ ms finds long.
     let m = message_of c.args.message.now in
     let k = c.seq_of-number.result in
     let n : to_z w64 (of_z w64 k) ≡ k = grind (arith, to_z-of_z) in
@@ -42,6 +45,8 @@ returns-else-is_none c = λ ms finds long.
     ∙ sym c.find.ensures ∙ w.1) finds
 
 pub returns-else-is_client_request : goal.returns-else-is_client_request
-returns-else-is_client_request c = λ ms finds long.
-    finds_no_request (places_found c.args.self.now) ms (message_of c.args.message.now)
-    (sym c.is_client_request.ensures ∙ c.if-is_client_request.false) finds
+returns-else-is_client_request g c = λ ms finds long.
+    let m = message_of c.args.message.now in
+    finds_no_request (places_found c.args.self.now) ms m
+    (and_comm (is_request m) (is_from Client m) ∙ sym c.is_client_request.ensures
+    ∙ c.if-is_client_request.false) finds

@@ -9,14 +9,14 @@ use Rattle.dap_order.proofs.RequestPlaces.{no_request, request_found}
 use Rattle.dap_order.proofs.requests.FirstRequests.answered.Goals as goal
 
 pub returns-then-not-is_adapter_response : goal.returns-then-not-is_adapter_response
-returns-then-not-is_adapter_response c ms finds =
+returns-then-not-is_adapter_response g c ms finds =
     let m = message_of c.args.message.now in
     sym (no_request ms m (λ n.
     and_left (is_response m && is_from Adapter m) (is_number (request_seq_of m) n)
     (sym c.is_adapter_response.ensures ∙ c.if-not-is_adapter_response.true)))
 
 pub returns-in-Some : goal.returns-in-Some
-returns-in-Some c ms finds =
+returns-in-Some g c ms finds =
     let m = message_of c.args.message.now in
     let n : to_z w64 (of_z w64 c.in-Some.number) ≡ c.in-Some.number = grind (arith, to_z-of_z) in
     let both = and_parts (is_response m) (is_from Adapter m)
@@ -26,7 +26,7 @@ returns-in-Some c ms finds =
     (sym c.request_seq_of.ensures ∙ c.in-Some.is)
 
 pub returns-in-None : goal.returns-in-None
-returns-in-None c ms finds =
+returns-in-None g c ms finds =
     let m = message_of c.args.message.now in
     sym (no_request ms m (λ n.
     and_right (is_response m && is_from Adapter m) (is_number (request_seq_of m) n)
