@@ -10,3 +10,4 @@ pub mod NodeLengths
 pub mod DigitCounts
 pub mod SomeContents
 pub mod Marked
+pub mod TreeNodes

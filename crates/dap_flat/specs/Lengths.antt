@@ -1,12 +1,10 @@
 -- The length of the compact text of a flat document (own): what each node adds to it.
 use Rattle.std.specs.Prelude.{◌≡◌, ℕ, ℤ, ◌+◌, ◌<◌, ◌≤◌, Bool, true, false, List, [], ◌∷◌, length}
-use Rattle.std.specs.Prelude.{decimal, slice_index_or, Option, MatchOption}
-use Rattle.std.specs.Fmt.{signed_decimal}
+use Rattle.std.specs.{Prelude.{decimal, slice_index_or, Option, MatchOption}, Fmt.signed_decimal}
 use Rattle.json.specs.Print.{escape}
 use Rattle.dap_flat.specs.declared.node.Node.{Node}
 use Rattle.dap_flat.specs.declared.node.Node.TheVariants as node
-use Rattle.dap_flat.specs.Ids.{after_piece}
-use Rattle.dap_flat.specs.Pieces.{piece_of}
+use Rattle.dap_flat.specs.{Ids.after_piece, Pieces.piece_of}
 
 -- The result is the length of the text, or the text is longer than the limit.
 abbrev pub IsLengthWithin : ℕ → List ℕ → Option ℕ → Type 0

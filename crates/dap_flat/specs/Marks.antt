@@ -1,13 +1,8 @@
 -- The ids of a text by their places (own). Their numbers are replaced without reading the text.
 use Rattle.std.specs.Prelude.{◌≡◌, ℕ, ℤ, ◌+◌, ◌-◌, Bool, List, [], ◌∷◌, ◌++◌, map, take, drop}
-use Rattle.std.specs.Prelude.{length, slice_index_or}
-use Rattle.std.specs.Fmt.{signed_decimal}
-use Rattle.dap_tree.specs.declared.sort.Sort.{Sort}
-use Rattle.dap_tree.specs.Doc.{Doc}
-use Rattle.dap_tree.specs.Ids.{ids, with_ids}
-use Rattle.dap_tree.specs.Json.{text_of}
-use Rattle.dap_flat.specs.declared.marks.Mark.{Mark}
-use Rattle.dap_flat.specs.declared.node.Node.{Node}
+use Rattle.std.specs.{Prelude.{length, slice_index_or}, Fmt.signed_decimal}
+use Rattle.dap_tree.specs.{declared.sort.Sort.Sort, Doc.Doc, Ids.{ids, with_ids}, Json.text_of}
+use Rattle.dap_flat.specs.{declared.marks.Mark.Mark, declared.node.Node.Node}
 use Rattle.dap_flat.specs.declared.node.Node.TheVariants as node
 use Rattle.dap_flat.specs.Lengths.{comma_length, ends_value, node_length}
 

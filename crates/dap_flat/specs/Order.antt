@@ -1,7 +1,6 @@
 -- For private clauses: members that are read one after another (own).
 use Rattle.std.specs.Prelude.{◌≡◌, ℕ, List, Option, Some, None, true, false}
-use Rattle.std.specs.Ordering.{nat_cmp, is_lt}
-use Rattle.std.specs.Cmp.Lexicographic.{slice_cmp}
+use Rattle.std.specs.{Ordering.{nat_cmp, is_lt}, Cmp.Lexicographic.slice_cmp}
 use Rattle.dap_tree.specs.Doc.{Doc, Items, no_items, item, Members, no_members, member}
 
 -- The name is greater than the last one, if there is one.

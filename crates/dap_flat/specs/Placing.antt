@@ -1,8 +1,7 @@
 -- For private clauses: a member that is inserted among others (own).
 use Rattle.std.specs.Prelude.{◌≡◌, ℕ, ◌+◌, List, ◌∷◌, ◌++◌, map, length, Option}
 use Rattle.dap_tree.specs.Doc.{Doc, Members, put}
-use Rattle.dap_flat.specs.declared.node.Node.{Node}
-use Rattle.dap_flat.specs.Order.{AreBelow, EndsAt, joined}
+use Rattle.dap_flat.specs.{declared.node.Node.Node, Order.{AreBelow, EndsAt, joined}}
 use Rattle.dap_flat.specs.Pieces.{Piece, leaf, begin_list, end_list, begin_object, end_object, name}
 use Rattle.dap_flat.specs.Pieces.{piece_of, pieces, members_pieces, Appends}
 

@@ -2,8 +2,7 @@
 use Rattle.std.specs.Prelude.{◌≡◌, ℕ, ℤ, List, Option}
 use Rattle.json.specs.Token.{Token}
 use Rattle.serde_json.specs.Data as json
-use Rattle.dap_tree.specs.Doc.{Doc, whole, Items, Members}
-use Rattle.dap_tree.specs.Json.{IsRead}
+use Rattle.dap_tree.specs.{Doc.{Doc, whole, Items, Members}, Json.IsRead}
 use Rattle.dap_tree.specs.ReadTokens.{IsTextOf, IsNumberOf, IsParsed, AreItemsParsed}
 use Rattle.dap_tree.specs.ReadTokens.{AreMembersParsed}
 use Rattle.dap_flat.specs.declared.node.Node.{Node}

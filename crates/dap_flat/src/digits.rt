@@ -1,6 +1,5 @@
 //! Counts the digits of a number.
-ghost use Rattle.std.specs.Prelude.{◌≡◌, ◌≤◌, decimal, length};
-ghost use Rattle.std.specs.Fmt.{signed_decimal};
+ghost use Rattle.std.specs.{Prelude.{◌≡◌, ◌≤◌, decimal, length}, Fmt.signed_decimal};
 
 /// Returns the number of decimal digits of a number.
 pub fn digit_count(number: u64) -> usize

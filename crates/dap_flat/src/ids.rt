@@ -1,7 +1,6 @@
 //! Lists the ids of a flat document, and replaces their numbers.
 ghost use Rattle.std.specs.Prelude.{◌≡◌, ◌++◌, [], map, IsOk, OnOk, OnErr};
-ghost use Rattle.dap_tree.specs.Doc.{Doc};
-ghost use Rattle.dap_tree.specs.Ids.{ids, with_ids, Extends};
+ghost use Rattle.dap_tree.specs.{Doc.Doc, Ids.{ids, with_ids, Extends}};
 ghost use Rattle.dap_flat.specs.Pieces.{piece_of, Represents};
 ghost use Rattle.dap_flat.specs.Ids.{ids_in, numbered, with_number, after_piece};
 

@@ -1,9 +1,7 @@
 //! Counts the bytes of a flat document's compact text without writing it.
 ghost use Rattle.std.specs.Prelude.{◌≡◌, ◌≤◌, false, length, nat_lt, slice_index_or};
 ghost use Rattle.json.specs.Print.{escape, escape_byte, escape_letter};
-ghost use Rattle.dap_tree.specs.Doc.{Doc};
-ghost use Rattle.dap_tree.specs.Ids.{with_ids};
-ghost use Rattle.dap_tree.specs.Json.{text_of};
+ghost use Rattle.dap_tree.specs.{Doc.Doc, Ids.with_ids, Json.text_of};
 ghost use Rattle.dap_flat.specs.Ids.{after_piece};
 ghost use Rattle.dap_flat.specs.Lengths.{IsLengthWithin, Spends, comma_length, ends_value};
 ghost use Rattle.dap_flat.specs.Lengths.{node_length, nodes_length};

@@ -1,7 +1,8 @@
 //! JSON documents as flat lists of nodes, in the order of their text.
 //!
 //! A flat document borrows the content that it is read from. Reading it allocates one vector for
-//! all nodes, where a `Tree` allocates each text, list and object.
+//! all nodes, where a `Tree` allocates each text, list and object. The nodes of a tree borrow its
+//! strings.
 #![tactic(auto)]
 
 mod canonical;
@@ -16,6 +17,7 @@ mod parse;
 mod place;
 mod plain;
 mod splicing;
+mod trees;
 mod unread;
 mod write;
 
@@ -29,5 +31,6 @@ pub use node::Node;
 pub use parse::read_flat;
 pub use place::value_end;
 pub use splicing::splice;
+pub use trees::nodes_of;
 pub use unread::{Unclear, Unread};
 pub use write::write_flat;

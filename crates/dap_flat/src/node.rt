@@ -1,4 +1,6 @@
 //! The nodes of a flat document.
+ghost use Rattle.std.specs.Prelude.{◌≡◌, ◌<◌, length, slice_set};
+
 use dap_tree::Sort;
 
 /// One node of a document. A list and an object are a start, their parts and an end.
@@ -18,4 +20,12 @@ pub enum Node<'a> {
     /// The name of a member. The nodes of its value come next.
     Name(&'a str),
     Id(Sort, i64),
+}
+
+#[inline(always)]
+pub(crate) fn set_node<'a>(nodes: &mut Vec<Node<'a>>, at: usize, node: Node<'a>)
+    requires { at < length nodes.old.items }
+    ensures { nodes.new.items ≡ slice_set nodes.old.items at node.entry }
+{
+    nodes[at] = node;
 }

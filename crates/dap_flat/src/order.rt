@@ -1,7 +1,5 @@
 //! Compares names in the order of their bytes.
-ghost use Rattle.std.specs.Prelude.{◌≡◌};
-ghost use Rattle.std.specs.Ordering.{nat_cmp};
-ghost use Rattle.std.specs.Cmp.Lexicographic.{slice_cmp};
+ghost use Rattle.std.specs.{Prelude.{◌≡◌}, Ordering.nat_cmp, Cmp.Lexicographic.slice_cmp};
 
 use std::cmp::Ordering;
 

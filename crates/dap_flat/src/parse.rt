@@ -1,6 +1,6 @@
 //! Reads the nodes of a content in one pass over the tokens of its text.
 ghost use Rattle.std.specs.Prelude.{◌≡◌, ◌<◌, ◌==◌, true, false, length, slice_index, IsTrue, IfOk};
-ghost use Rattle.std.specs.Prelude.{OnOk, IsErrOf, IsUtf8, slice_set};
+ghost use Rattle.std.specs.Prelude.{OnOk, IsErrOf, IsUtf8};
 ghost use Rattle.json.specs.Json.{value, items, members};
 ghost use Rattle.serde_json.specs.Data.{no_members};
 ghost use Rattle.serde_json.specs.Read.{of_json, of_items, of_members, converted, number_of};
@@ -8,7 +8,7 @@ ghost use Rattle.serde_json.specs.Read.{number_from};
 ghost use Rattle.dap_flat.specs.Reading.{ReadsDocument, ReadsText, ReadsNumber, ReadsValue};
 ghost use Rattle.dap_flat.specs.Reading.{ReadsItems, ReadsMembers};
 
-use crate::node::Node;
+use crate::node::{Node, set_node};
 use crate::place::place_member;
 use crate::unread::{Unclear, Unread};
 use fast_float::Numeral;
@@ -163,14 +163,6 @@ fn parse_members<'a>(
         last = place_member(nodes, start, at, last, name, moves)?;
     }
     Ok(())
-}
-
-#[inline(always)]
-fn set_node<'a>(nodes: &mut Vec<Node<'a>>, at: usize, node: Node<'a>)
-    requires { at < length nodes.old.items }
-    ensures { nodes.new.items ≡ slice_set nodes.old.items at node.entry }
-{
-    nodes[at] = node;
 }
 
 /// Returns the node of a number, if it is an integer that fits 64 bits.

@@ -2,10 +2,8 @@
 ghost use Rattle.std.specs.Prelude.{◌≡◌, ◌++◌, ◌+◌, ◌-◌, ◌<◌, ◌≤◌, length, take, drop, OnOk, IfOk};
 ghost use Rattle.std.specs.Prelude.{◌↔◌, IfSome, IsErr, OnErr, slice_index_or, option_map, reverse};
 ghost use Rattle.std.specs.Bool.{MatchBool};
-ghost use Rattle.dap_flat.specs.Order.{IsAbove, IsNotAbove};
-ghost use Rattle.dap_flat.specs.declared.node.Node.{Node};
-ghost use Rattle.dap_flat.specs.Pieces.{piece_of};
-ghost use Rattle.dap_flat.specs.Placing.{InsertsAt, Places, PlacesMember, size};
+ghost use Rattle.dap_flat.specs.{Order.{IsAbove, IsNotAbove}, declared.node.Node.Node};
+ghost use Rattle.dap_flat.specs.{Pieces.piece_of, Placing.{InsertsAt, Places, PlacesMember, size}};
 
 use crate::node::Node;
 use crate::order::name_order;

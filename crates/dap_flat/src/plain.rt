@@ -1,8 +1,6 @@
 //! Decides whether a text is written without escapes. Two loads that overlap cover a short text.
-ghost use Rattle.std.specs.Prelude.{◌≡◌, ◌+◌, ◌≤◌, length};
-ghost use Rattle.std.specs.Bool.{OnTrue};
-ghost use Rattle.json.specs.Print.{escape};
-ghost use Rattle.json.specs.Written.{PlainBetween};
+ghost use Rattle.std.specs.{Prelude.{◌≡◌, ◌+◌, ◌≤◌, length}, Bool.OnTrue};
+ghost use Rattle.json.specs.{Print.escape, Written.PlainBetween};
 
 use std::simd::prelude::*;
 

@@ -1,7 +1,6 @@
 //! Copies a text with other numbers at its marks.
-ghost use Rattle.std.specs.Prelude.{◌≡◌, ◌+◌, ◌-◌, ◌++◌, take, drop, slice_index_or};
-ghost use Rattle.std.specs.Prelude.{IfOk, OnOk, OnErr};
-ghost use Rattle.std.specs.Fmt.{signed_decimal};
+ghost use Rattle.std.specs.Prelude.{◌≡◌, ◌+◌, ◌-◌, ◌++◌, take, drop, slice_index_or, IfOk, OnOk};
+ghost use Rattle.std.specs.{Prelude.OnErr, Fmt.signed_decimal};
 ghost use Rattle.dap_flat.specs.Marks.{Extends, digits_length, spliced};
 
 use crate::digits::signed_length;

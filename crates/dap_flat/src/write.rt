@@ -1,9 +1,7 @@
 //! Writes a flat document as compact JSON.
 ghost use Rattle.std.specs.Prelude.{◌≡◌, ◌++◌, OnOk, OnErr};
-ghost use Rattle.dap_tree.specs.Doc.{Doc};
-ghost use Rattle.dap_tree.specs.Json.{text_of};
-ghost use Rattle.dap_flat.specs.Pieces.{Represents};
-ghost use Rattle.dap_flat.specs.Writing.{node_tokens, tokens_of};
+ghost use Rattle.dap_tree.specs.{Doc.Doc, Json.text_of};
+ghost use Rattle.dap_flat.specs.{Pieces.Represents, Writing.{node_tokens, tokens_of}};
 
 use crate::node::Node;
 use json::Writer;

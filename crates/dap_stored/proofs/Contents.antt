@@ -6,11 +6,11 @@ use Rattle.serde_json.specs.Read.{read}
 use Rattle.serde_json.specs.Written.{compact_text}
 use Rattle.dap_tree.specs.Doc.{Doc, null, boolean, whole, text, list, object, id, Items, no_items}
 use Rattle.dap_tree.specs.Doc.{item, Members, no_members, member, has_id, items_have_id}
-use Rattle.dap_tree.specs.Doc.{members_have_id}
+use Rattle.dap_tree.specs.Doc.{members_have_id, all_in_range, is_sound}
 use Rattle.dap_tree.specs.Ids.{without_ids, ids_in_range, items_ids_in_range, members_ids_in_range}
 use Rattle.dap_tree.specs.Json.{data_of, items_data, members_data, text_of, IsRead}
 use Rattle.dap_tree.specs.declared.side.Side.{Side}
-use Rattle.dap_tree.proofs.Booleans.{and_both, or_left, or_right}
+use Rattle.dap_tree.proofs.Booleans.{and_both, and_right, or_left, or_right}
 use Rattle.dap_tree.proofs.MemberOrder.{read_is_ordered}
 use Rattle.dap_tree.proofs.Outcomes.{read_is_plain}
 use Rattle.dap_tree.proofs.Texts.{text_is_read}
@@ -99,7 +99,7 @@ filled_is_read side bytes d reads =
     (ordered-message [] side d (read_is_ordered bytes d reads))
     (utf8-message [] side d (read_is_utf8 bytes d reads)))
 
-own_content : (side : Side) (bytes : List ℕ) (m : Doc) → IsTypedContent side bytes m
+pub own_content : (side : Side) (bytes : List ℕ) (m : Doc) → IsTypedContent side bytes m
     → IsTypedContent side (text_of m) m
 own_content side bytes m (d, reads, typed) =
     let plain = read_is_plain bytes d reads in
@@ -111,6 +111,12 @@ own_content side bytes m (d, reads, typed) =
       subst (λ t. IsRead t (without_ids m)) (ap compact_text (data-without m)) read,
       own_again side d m plain typed,
     )
+
+pub in_range_of_content : (side : Side) (bytes : List ℕ) (m : Doc) → IsTypedContent side bytes m
+    → all_in_range m ≡ true
+in_range_of_content side bytes m (d, reads, typed) =
+    and_right _ (all_in_range m)
+    (ap is_sound typed.1 ∙ sound-message profile side d (read_is_plain bytes d reads))
 
 pub own_doc : (side : Side) (bytes : List ℕ) (m : Doc) → IsTypedContent side bytes m
     → doc_in side (text_of m) ≡ m

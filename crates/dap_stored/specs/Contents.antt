@@ -1,15 +1,11 @@
 -- The message that a stored content represents (own).
-use Rattle.std.specs.Prelude.{◌≡◌, ℕ, ℤ, pos, List}
-use Rattle.std.specs.Option.{option_map_or}
+use Rattle.std.specs.{Prelude.{ℕ, ℤ, pos, List}, Option.option_map_or}
 use Rattle.serde_json.specs.Data.{Num, unsigned, negative, float}
 use Rattle.serde_json.specs.Data as json
 use Rattle.serde_json.specs.Read.{read}
 use Rattle.dap_tree.specs.Doc.{Doc, null, boolean, whole, text, list, object, Items, no_items, item}
-use Rattle.dap_tree.specs.Doc.{Members, no_members, member}
-use Rattle.dap_tree.specs.declared.side.Side.{Side}
+use Rattle.dap_tree.specs.{Doc.{Members, no_members, member}, declared.side.Side.Side}
 use Rattle.dap_message.specs.Message.{Sent, message_of, IsTypedContent}
-use Rattle.dap_flat_message.specs.FlatMessages.{flat_side, flat_doc}
-use Rattle.dap_flat_message.specs.declared.message.FlatMessage.{FlatMessage}
 
 -- The integer that a number is. No float is an integer here: a document has none.
 abbrev pub integer_of : Num → ℤ
@@ -44,6 +40,7 @@ doc_in side content = message_of side (option_map_or document_from (read content
 abbrev pub message_in : Side → List ℕ → Sent
 message_in side content = record { side = side; doc = doc_in side content }
 
--- Some content is read and typed as the message. This holds for what `read_flat_message` returns.
-abbrev pub IsOfContent : FlatMessage → Type 0
-IsOfContent m = (bytes : List ℕ) × IsTypedContent (flat_side m) bytes (flat_doc m)
+-- Some content is read and typed as the message. This holds for what `read_flat_message` returns,
+-- and for a tree that is read from a content and typed.
+abbrev pub IsOfContent : Sent → Type 0
+IsOfContent m = (bytes : List ℕ) × IsTypedContent m.side bytes m.doc

@@ -3,14 +3,10 @@ use Rattle.std.specs.Prelude.{◌≡◌, ℕ, ◌≤◌, List, length, slice_ran
 use Rattle.dap_tree.specs.Doc.{Doc}
 use Rattle.dap_profile.specs.declared.profile.Kind.TheVariants.{Response}
 use Rattle.dap_message.specs.Envelope.{kind_of, name_of, seq_of, request_seq_of, success_of}
-use Rattle.dap_message.specs.Message.{Sent}
-use Rattle.dap_message.specs.Rows.{is_of_kind}
-use Rattle.dap_flat.specs.declared.marks.Mark.{Mark}
-use Rattle.dap_flat.specs.Marks.{Extends, IsMarkedText}
-use Rattle.dap_stored.specs.declared.head.Head.{Head}
-use Rattle.dap_stored.specs.declared.head.Span.{Span}
-use Rattle.dap_stored.specs.declared.parts.Parts.{Parts}
-use Rattle.dap_stored.specs.Contents.{doc_in, message_in}
+use Rattle.dap_message.specs.{Message.Sent, Rows.is_of_kind}
+use Rattle.dap_flat.specs.{declared.marks.Mark.Mark, Marks.{Extends, IsMarkedText}}
+use Rattle.dap_stored.specs.{declared.head.Head.Head, declared.head.Span.Span}
+use Rattle.dap_stored.specs.{declared.parts.Parts.Parts, Contents.{doc_in, message_in}}
 
 -- The items of a list in a span, and whether the list has these places.
 abbrev pub part : {X : Type 0} → List X → Span → List X

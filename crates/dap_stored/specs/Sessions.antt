@@ -1,8 +1,7 @@
 -- The messages that a stored session represents (own).
 use Rattle.std.specs.Prelude.{List, map}
 use Rattle.dap_message.specs.Message.{Sent}
-use Rattle.dap_stored.specs.Contents.{message_in}
-use Rattle.dap_stored.specs.Heads.{message_at}
+use Rattle.dap_stored.specs.{Contents.message_in, Heads.message_at}
 use Rattle.dap_stored.specs.declared.message.StoredMessage.{StoredMessage}
 use Rattle.dap_stored.specs.declared.session.StoredSession.{StoredSession}
 

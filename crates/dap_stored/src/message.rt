@@ -1,7 +1,6 @@
 //! Views of stored messages.
 ghost use Rattle.std.specs.Prelude.{◌≡◌, ◌++◌, map, true, Some, is_some, OnOk, OnErr};
-ghost use Rattle.dap_tree.specs.Ids.{ids};
-ghost use Rattle.dap_tree.specs.Json.{text_of};
+ghost use Rattle.dap_tree.specs.{Ids.ids, Json.text_of};
 ghost use Rattle.dap_profile.specs.declared.profile.Kind.{Kind};
 ghost use Rattle.dap_message.specs.Envelope.{kind_of, name_of, seq_of, request_seq_of, success_of};
 ghost use Rattle.dap_message.specs.Rows.{is_of_kind};
@@ -17,7 +16,7 @@ use std::alloc::{AllocError, Global};
 
 /// A message of a stored session: the members that every message of its kind has, its canonical
 /// content, and the marks of its ids.
-#[derive(Drop)]
+#[derive(Clone, Copy, Drop)]
 pub struct StoredMessage<'s> {
     side: Side,
     kind: Kind,
@@ -41,8 +40,7 @@ pub struct StoredMessage<'s> {
 }
 
 impl<'s> StoredMessage<'s> {
-    ghost use Rattle.dap_stored.specs.Heads.{AreOfMessage};
-    ghost use Rattle.dap_stored.specs.Sessions.{stored_sent};
+    ghost use Rattle.dap_stored.specs.{Heads.AreOfMessage, Sessions.stored_sent};
 
     /// Returns the message of a head, with its parts.
     pub(crate) fn new(

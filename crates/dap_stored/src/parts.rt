@@ -1,14 +1,12 @@
 //! The contents, names and marks of the messages of a session.
 ghost use Rattle.std.specs.Prelude.{◌≡◌, IfOk, IsUtf8, OnErr, Some};
 ghost use Rattle.dap_message.specs.Envelope.{name_of};
-ghost use Rattle.dap_flat_message.specs.FlatMessages.{flat_doc, flat_sent, flat_side};
-ghost use Rattle.dap_stored.specs.Contents.{IsOfContent};
-ghost use Rattle.dap_stored.specs.Heads.{IsHeadOf};
+ghost use Rattle.dap_flat.specs.Pieces.{Represents};
+ghost use Rattle.dap_stored.specs.{Contents.IsOfContent, Heads.IsHeadOf};
 
 use crate::head::{Head, Span};
 use crate::message::StoredMessage;
-use dap_flat::{Mark, write_marked};
-use dap_flat_message::FlatMessage;
+use dap_flat::{Mark, Node, write_marked};
 use dap_message::AnyMessage;
 use std::alloc::{AllocError, Global};
 use std::str;
@@ -34,21 +32,23 @@ impl Parts {
         }
     }
 
-    /// Appends the content, the name and the marks of a message. After an error, some bytes of the
-    /// message may have been appended.
-    pub(crate) fn store(
+    /// Appends the content, the name and the marks of a message, which the nodes represent. After
+    /// an error, some bytes of the message may have been appended.
+    pub(crate) fn store<M: AnyMessage>(
         &mut self,
         alloc: Global,
-        message: &FlatMessage<'_>,
+        message: &M,
+        nodes: &[Node<'_>],
     ) -> Result<Head, AllocError>
-        requires { IsOfContent message.now }
-        ensures ok { IfOk result (Stores self.old self.new (flat_sent message.now)) }
+        requires content { IsOfContent (M.sent message.now) }
+        requires nodes { ∥ Represents nodes.now (M.sent message.now).doc ∥₁ }
+        ensures ok { IfOk result (Stores self.old self.new (M.sent message.now)) }
         ensures err { OnErr result (Grows self.old self.new) }
     {
         let name = message.name();
         let (names, text, marks) = (self.names.len(), self.text.len(), self.marks.len());
         self.names.extend_from_slice(name.as_bytes())?;
-        write_marked(alloc, message.nodes(), &mut self.text, &mut self.marks)?;
+        write_marked(alloc, nodes, &mut self.text, &mut self.marks)?;
         let names = Span {
             start: names,
             end: self.names.len(),
@@ -77,10 +77,10 @@ impl Parts {
 }
 
 /// Returns the head of a message that has this name.
-fn head_of(message: &FlatMessage<'_>, named: &str, name: Span, content: Span, marks: Span) -> Head
-    requires { name_of (flat_doc message.now) ≡ Some named.now }
-    ensures head { IsHeadOf result named.now (flat_doc message.now) }
-    ensures side { result.side ≡ flat_side message.now }
+fn head_of<M: AnyMessage>(message: &M, named: &str, name: Span, content: Span, marks: Span) -> Head
+    requires { name_of (M.sent message.now).doc ≡ Some named.now }
+    ensures head { IsHeadOf result named.now (M.sent message.now).doc }
+    ensures side { result.side ≡ (M.sent message.now).side }
     ensures name { result.name ≡ name }
     ensures content { result.content ≡ content }
     ensures marks { result.marks ≡ marks }

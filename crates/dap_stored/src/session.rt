@@ -1,15 +1,17 @@
 //! Stored sessions.
-ghost use Rattle.std.specs.Prelude.{◌≡◌, ◌++◌, [], ◌∷◌, length, option_map, slice_get};
-ghost use Rattle.std.specs.Prelude.{◌==◌, OnOk, OnErr};
-ghost use Rattle.std.specs.List.{All};
+ghost use Rattle.std.specs.Prelude.{◌≡◌, ◌++◌, [], ◌∷◌, length, option_map, slice_get, ◌==◌, IfOk};
+ghost use Rattle.std.specs.{Prelude.{IsOk, OnOk, OnErr, map}, List.All};
+ghost use Rattle.dap_flat.specs.Pieces.{Represents};
 ghost use Rattle.dap_flat_message.specs.FlatMessages.{flat_sent};
-ghost use Rattle.dap_stored.specs.Contents.{IsOfContent};
-ghost use Rattle.dap_stored.specs.Heads.{IsStored};
+ghost use Rattle.dap_message.specs.Message.{sent};
+ghost use Rattle.dap_stored.specs.{Contents.IsOfContent, Heads.IsStored};
 
 use crate::head::Head;
 use crate::message::StoredMessage;
 use crate::parts::Parts;
+use dap_flat::{Node, nodes_of};
 use dap_flat_message::FlatMessage;
+use dap_message::{AnyMessage, Message};
 use std::alloc::{AllocError, Global};
 
 /// The messages of a session, with their canonical contents.
@@ -40,12 +42,44 @@ impl StoredSession {
     /// - `AllocError`: an allocation failed. The messages are unchanged; the memory for the message
     ///   may stay in use until the session is dropped.
     pub fn push(&mut self, alloc: Global, message: &FlatMessage<'_>) -> Result<(), AllocError>
-        requires { IsOfContent message.now }
+        requires { IsOfContent (flat_sent message.now) }
         ensures ok { OnOk result
             (messages_of self.new ≡ messages_of self.old ++ flat_sent message.now ∷ []) }
         ensures err { OnErr result (messages_of self.new ≡ messages_of self.old) }
     {
-        let head = self.parts.store(alloc, message)?;
+        self.add(alloc, message, message.nodes())
+    }
+
+    /// Appends a message that was read as a tree.
+    ///
+    /// # Errors
+    ///
+    /// Those of [`push`](StoredSession::push).
+    pub fn push_message(&mut self, alloc: Global, message: &Message) -> Result<(), AllocError>
+        requires { IsOfContent (sent message.now) }
+        ensures ok { OnOk result
+            (messages_of self.new ≡ messages_of self.old ++ sent message.now ∷ []) }
+        ensures err { OnErr result (messages_of self.new ≡ messages_of self.old) }
+    {
+        let mut nodes = Vec::new(alloc);
+        nodes_of(message.tree(), &mut nodes)?;
+        self.add(alloc, message, &nodes)
+    }
+
+    /// Appends a message that the nodes represent.
+    fn add<M: AnyMessage>(
+        &mut self,
+        alloc: Global,
+        message: &M,
+        nodes: &[Node<'_>],
+    ) -> Result<(), AllocError>
+        requires content { IsOfContent (M.sent message.now) }
+        requires nodes { ∥ Represents nodes.now (M.sent message.now).doc ∥₁ }
+        ensures ok { OnOk result
+            (messages_of self.new ≡ messages_of self.old ++ M.sent message.now ∷ []) }
+        ensures err { OnErr result (messages_of self.new ≡ messages_of self.old) }
+    {
+        let head = self.parts.store(alloc, message, nodes)?;
         self.heads.push(head)?;
         Ok(())
     }
@@ -70,5 +104,17 @@ impl StoredSession {
     {
         let head = *self.heads.get(place)?;
         Some(self.parts.message(head))
+    }
+
+    /// Returns all messages, in order. A session without messages does not allocate.
+    pub fn views(&self, alloc: Global) -> Result<Vec<StoredMessage<'_>>, AllocError>
+        ensures ok { IfOk result (λ views. map stored_sent views.items ≡ messages_of self.now) }
+        ensures empty { messages_of self.now ≡ [] → IsOk result }
+    {
+        let mut views = Vec::with_capacity(alloc, self.heads.len())?;
+        for head in &self.heads {
+            views.push(self.parts.message(*head))?;
+        }
+        Ok(views)
     }
 }

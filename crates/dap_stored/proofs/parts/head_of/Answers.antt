@@ -2,7 +2,7 @@ use Rattle.std.proofs.Common.{rules}
 use Rattle.dap_stored.proofs.parts.head_of.Goals as goal
 
 pub returns-clause-head : goal.returns-clause-head
-returns-clause-head c = record {
+returns-clause-head g c = record {
   kind = c.kind.ensures.same;
   kind_reported = c.kind.ensures.reported;
   name = c.requires;

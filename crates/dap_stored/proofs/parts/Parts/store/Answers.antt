@@ -1,17 +1,15 @@
 use Rattle.std.proofs.Common.{◌≡◌, ◌++◌, length, ap, ◌∙◌, arith}
 use Rattle.std.proofs.lemmas.Grind.{common_steps}
 use mathlib.Core.Logic.{∥∥₁_map}
-use Rattle.dap_flat_message.specs.FlatMessages.{flat_doc, flat_side}
 use Rattle.dap_stored.specs.declared.head.Span.{Span}
 use Rattle.dap_stored.proofs.Contents.{own_doc}
 use Rattle.dap_stored.proofs.Storing.{stores_new}
 use Rattle.dap_stored.proofs.parts.Parts.store.Goals as goal
 
 pub returns-clause-ok : goal.returns-clause-ok
-returns-clause-ok c =
+returns-clause-ok g c =
     let old = c.args.self.now in
-    let m = c.args.message.now in
-    let d = flat_doc m in
+    let m = g.M.AnyMessage.sent c.args.message.now in
     let h = c.head_of.result in
     let name-start : h.name.start ≡ c.len-names.result =
     ap (λ (s : Span). s.start) c.head_of.ensures.name in
@@ -33,14 +31,14 @@ returns-clause-ok c =
     let start-3 : h.marks.start ≡ length old.marks.items = grind (arith, common_steps) in
     let end-3 : h.marks.end ≡ length c.write_marked.new.marks.items =
     grind (arith, common_steps) in
-    stores_new old _ h (flat_side m) d c.name-name.result.now
+    stores_new old _ h m.side m.doc c.name-name.result.now
     (record {
       name = record { start = start-1; end = end-1 };
       content = record { start = start-2; end = end-2 };
       marks = record { start = start-3; end = end-3 };
     })
-    (∥∥₁_map c.nodes.ensures (λ shown. c.in_ok-write_marked.ensures.ok d shown))
+    (∥∥₁_map c.requires.nodes (λ shown. c.in_ok-write_marked.ensures.ok m.doc shown))
     (c.in_ok-extend_from_slice.ensures.items
     ∙ ap (λ xs. old.names.items ++ xs) c.as_bytes.ensures.value)
-    c.head_of.ensures.side (own_doc (flat_side m) c.requires.0 d c.requires.1)
+    c.head_of.ensures.side (own_doc m.side c.requires.content.0 m.doc c.requires.content.1)
     c.head_of.ensures.head

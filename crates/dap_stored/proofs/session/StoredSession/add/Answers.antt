@@ -2,10 +2,9 @@ use Rattle.std.proofs.Common.{◌≡◌, ◌++◌, ◌∷◌, [], List, Bool, tr
 use Rattle.std.proofs.Common.{Result, Ok, Err, OnErr, is_ok}
 use Rattle.std.specs.List.{All}
 use Rattle.std.specs.Prelude.{if◌then◌else◌}
-use Rattle.dap_flat_message.specs.FlatMessages.{flat_sent}
 use Rattle.dap_stored.specs.Heads.{IsStored, message_at}
 use Rattle.dap_stored.proofs.Growth.{heads_stay, heads_pushed, messages_stay, messages_pushed}
-use Rattle.dap_stored.proofs.session.StoredSession.push.Goals as goal
+use Rattle.dap_stored.proofs.session.StoredSession.add.Goals as goal
 
 on_err : {T E P : Type 0} (r : Result T E) → P → OnErr r P
 on_err (Ok x) p = tt
@@ -18,19 +17,19 @@ of_both P true xs ys new e p q = subst P (sym e) p
 of_both P false xs ys new e p q = subst P (sym e) q
 
 pub invariant_of-self : goal.invariant_of-self
-invariant_of-self c = record {
+invariant_of-self g c = record {
   stored = heads_stay c.args.self.now.parts c.store.new.self c.args.self.now.heads.items
       c.in_err-head.ensures.err c.args.self.now.stored;
 }
 
 pub returns-in_err-head-clause-err : goal.returns-in_err-head-clause-err
-returns-in_err-head-clause-err c =
+returns-in_err-head-clause-err g c =
     on_err c.from_residual.result
     (messages_stay c.args.self.now.parts c.store.new.self c.args.self.now.heads.items
     c.in_err-head.ensures.err c.args.self.now.stored)
 
 pub invariant_of-self-2 : goal.invariant_of-self-2
-invariant_of-self-2 c =
+invariant_of-self-2 g c =
     let old = c.args.self.now in
     let hs = old.heads.items in
     let new = c.store.new.self in
@@ -45,7 +44,7 @@ invariant_of-self-2 c =
     }
 
 pub returns-in_err-push-clause-err : goal.returns-in_err-push-clause-err
-returns-in_err-push-clause-err c =
+returns-in_err-push-clause-err g c =
     let old = c.args.self.now in
     let new = c.store.new.self in
     on_err c.from_residual-in_err-push.result
@@ -53,10 +52,10 @@ returns-in_err-push-clause-err c =
     ∙ messages_stay old.parts new old.heads.items c.in_ok-head.ensures.ok.grows old.stored)
 
 pub returns-clause-ok : goal.returns-clause-ok
-returns-clause-ok c =
+returns-clause-ok g c =
     let old = c.args.self.now in
     let new = c.store.new.self in
     let stores = c.in_ok-head.ensures.ok in
     ap (map (message_at new)) c.in_ok-push.ensures.items
     ∙ messages_pushed old.parts new old.heads.items c.in_ok-head.head
-    (flat_sent c.args.message.now) stores.grows old.stored stores.is
+    (g.M.AnyMessage.sent c.args.message.now) stores.grows old.stored stores.is
