@@ -11,3 +11,5 @@ pub mod StreamLoop
 pub mod StreamWriting
 pub mod WholeInput
 pub mod SomeContents
+pub mod StoredInput
+pub mod OwnTexts

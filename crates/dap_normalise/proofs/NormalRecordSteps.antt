@@ -1,6 +1,6 @@
 -- The possible results of reading the next record of an input.
 use Rattle.std.proofs.Common.{◌≡◌, ℕ, ℤ, ◌+◌, ◌≤◌, List, [], ◌∷◌, ◌++◌, Option, Some, None, Result}
-use Rattle.std.proofs.Common.{Ok, Err, refl, ◌∙◌, ap, subst, length, arith}
+use Rattle.std.proofs.Common.{Ok, Err, true, refl, ◌∙◌, ap, subst, length, arith}
 use Rattle.dap_device.specs.declared.device.Source.{Ghosts as Source}
 use Rattle.dap_device.specs.Pieces.{HasReadSoFar}
 use Rattle.dap_device.specs.declared.reading.Stop.TheVariants.{End}
@@ -24,14 +24,14 @@ use Rattle.dap_input.proofs.InputLoop as loop
 use Rattle.dap_input.proofs.InputSteps as steps
 use Rattle.dap_normalise.specs.declared.judging.Judge.{Judge}
 use Rattle.dap_normalise.specs.declared.normal_records.NormalRecords.{NormalRecords}
-use Rattle.dap_normalise.specs.Accepting.{Rejects, IsNext, accepting}
+use Rattle.dap_normalise.specs.Accepting.{Rejects, IsMessage, IsNext, accepting}
 use Rattle.dap_normalise.specs.JudgingSteps.{IsTaken, JudgesRecord, RepresentsMessages}
 use Rattle.dap_normalise.specs.JudgingSteps.{payload_of}
 use Rattle.dap_normalise.specs.JudgingSteps.{judge_limits}
 use Rattle.dap_normalise.specs.JudgingSteps.{judge_mode}
 use Rattle.dap_normalise.specs.NormalSteps.{HasEnded, HasAdvanced, HasStoppedAt, IsBuffered}
-use Rattle.dap_normalise.specs.NormalSteps.{RepresentsBefore}
-use Rattle.dap_normalise.proofs.AcceptingFacts.{accepted_facts, value_laws}
+use Rattle.dap_normalise.specs.NormalSteps.{RepresentsBefore, StoresNext}
+use Rattle.dap_normalise.proofs.AcceptingFacts.{accepted_facts, message_once, value_laws}
 
 -- A reader of records returns the records that are checked.
 pub reads_records : (limits : Limits) (mode : Mode) → ReadsAs (accepting limits mode) (record_items
@@ -252,3 +252,21 @@ module _ {T R : Type 0} {numbers : T → List ℤ} {table_limit : T → ℕ} (so
               old.records messages behind new before after whole read;
           appended = added.appended;
         }
+
+  -- The record is accepted, and its message is appended to those of a session.
+  pub stored_on : (whole : WholeRecord) (read : Reads (Ok (Some whole))) (judge : Judge T)
+      (left : NormalRecords T) (longer : List ℕ) → judge_limits judge ≡ judge_limits old.judge
+      → judge_mode judge ≡ judge_mode old.judge
+      → IsTaken numbers table_limit messages normal (payload_of whole) judge [] longer
+      → (message : Sent) → IsMessage (payload_of whole) message
+      → (stored more : List Sent) → more ≡ stored ++ message ∷ []
+      → StoresNext numbers table_limit source limits mode bytes messages normal old record
+      { records = new; judge = judge; scratch = left.scratch } before after stored more (Ok true)
+  unfolding gone_on
+  stored_on whole read judge left longer same_limits same_mode added message is stored more
+      appended = (
+        longer,
+        gone_on whole read judge left [] longer same_limits same_mode added,
+        appended ∙ ap (λ m. stored ++ m ∷ [])
+            (message_once (payload_of whole) message added.message is added.is_next.is_message),
+      )

@@ -46,6 +46,30 @@ holds_of limits mode bytes written is = (
   },
 )
 
+module _ {T : Type 0} {numbers : T → List ℤ} {table_limit : T → ℕ} {limits : Limits} {mode : Mode}
+    {bytes : List ℕ} {reader : GivenBytes} {records : NormalRecords T}
+    (was : Going numbers table_limit memory limits mode (start bytes) reader records)
+    {new : NormalRecords T} {after : GivenBytes} where
+  pub accepted_whole : {before longer : List ℕ}
+      → HasEnded numbers table_limit memory limits mode was.bytes was.messages was.normal
+      records new reader after before longer
+      → IsAccepted limits mode bytes was.messages
+  accepted_whole end =
+      subst (λ t. IsAccepted limits mode t was.messages)
+      (memory_inputs.all_came (start bytes) after limits.input (was.bytes ++ end.more)
+      (all_came was end)) end.accepted
+
+  pub refuses_bytes : (because : Refused)
+      → HasStoppedAt numbers table_limit memory limits mode was.bytes was.messages was.normal
+      records new reader after because
+      → RefusesBytes limits mode bytes because
+  refuses_bytes Memory stopped = tt
+  refuses_bytes because stopped =
+      memory_inputs.refused_whole (start bytes) after (accepting limits mode)
+      (readable limits.frame) (value_laws limits mode) (accepted_facts limits mode)
+      (Normalises limits mode) because (text was.normal)
+      (refuses_next was stopped stopped.says)
+
 -- The records before the next one are accepted, and this is the text of their normal form.
 pub record HasText {T : Type 0} (numbers : T → List ℤ) (table_limit : T → ℕ) (limits : Limits)
     (mode : Mode) (bytes : List ℕ) (reader : GivenBytes) (records : NormalRecords T)
@@ -83,9 +107,7 @@ module _ {T : Type 0} {numbers : T → List ℤ} {table_limit : T → ℕ} {limi
       pub normalised_whole : Normalises limits mode bytes longer
       normalised_whole = record {
         messages = has.going.messages;
-        accepts = subst (λ t. IsAccepted limits mode t has.going.messages)
-            (memory_inputs.all_came (start bytes) after limits.input (has.going.bytes ++ end.more)
-            (all_came has.going end)) end.accepted;
+        accepts = accepted_whole has.going end;
         normal = has.going.normal;
         is_normal = normal_before has.going.represents;
         text_is = end.kept ∙ has.text_is;
@@ -93,14 +115,3 @@ module _ {T : Type 0} {numbers : T → List ℤ} {table_limit : T → ℕ} {limi
 
       pub canonical_whole : AreSound limits → IsCanonical limits mode bytes longer
       canonical_whole sound = canonical limits mode sound bytes longer normalised_whole
-
-    pub refuses_bytes : (because : Refused)
-        → HasStoppedAt numbers table_limit memory limits mode has.going.bytes
-        has.going.messages has.going.normal records new reader after because
-        → RefusesBytes limits mode bytes because
-    refuses_bytes Memory stopped = tt
-    refuses_bytes because stopped =
-        memory_inputs.refused_whole (start bytes) after (accepting limits mode)
-        (readable limits.frame) (value_laws limits mode) (accepted_facts limits mode)
-        (Normalises limits mode) because (text has.going.normal)
-        (refuses_next has.going stopped stopped.says)

@@ -2,22 +2,16 @@
 -- Source: own, over the messages of the DAP specification, the session rules, and recordings.
 use Rattle.std.specs.Prelude.{◌≡◌, ℕ, ◌≤◌, List, [], ◌∷◌, ◌++◌, length, Some, None}
 use Rattle.std.specs.List.{flat_map, AllByRecursion}
-use Rattle.dap_tree.specs.Json.{text_of}
-use Rattle.dap_tree.specs.declared.side.Side.{Side}
-use Rattle.dap_tree.specs.declared.sort.Sort.{Sort}
-use Rattle.dap_profile.specs.Profile.{profile}
-use Rattle.dap_profile.specs.ProfileRows.{ProfileRow}
+use Rattle.dap_tree.specs.{Json.text_of, declared.side.Side.Side, declared.sort.Sort.Sort}
+use Rattle.dap_profile.specs.{Profile.profile, ProfileRows.ProfileRow}
 use Rattle.dap_message.specs.Message.{Sent, IsTypedContentByRows, HasRefusal}
 use Rattle.dap_recording.specs.Recording.{IsRecording, record_text, records}
-use Rattle.dap_rename.specs.Messages.{HasFewIds, HasTooManyIds, IsNormal}
-use Rattle.dap_rename.specs.Modes.{stop_in}
+use Rattle.dap_rename.specs.{Messages.{HasFewIds, HasTooManyIds, IsNormal}, Modes.stop_in}
 use Rattle.dap_rename.specs.declared.mode.Mode.{Mode}
 use Rattle.dap_session.specs.Rules.{KeepsRules, first_broken}
-use Rattle.dap_input.specs.declared.limits.Limits.{Limits}
-use Rattle.dap_input.specs.Limits.{AreSound}
+use Rattle.dap_input.specs.{declared.limits.Limits.Limits, Limits.AreSound}
 use Rattle.dap_input.specs.Validation.{Validation, ContentError, no_message, broken, too_many_ids}
-use Rattle.dap_input.specs.Validation.{grew}
-use Rattle.dap_input.specs.ReadTo.{IsBounded, IsReadTo}
+use Rattle.dap_input.specs.{Validation.grew, ReadTo.{IsBounded, IsReadTo}}
 use Rattle.dap_input.specs.Refusals.{HasOneOutcome, RefusalStays}
 
 -- the payload of a record: the side that sent it, and its content

@@ -5,13 +5,11 @@ use Rattle.dap_tree.specs.declared.side.Side.TheVariants.{Client, Adapter}
 use Rattle.dap_message.specs.Message.{Sent}
 use Rattle.dap_rename.specs.declared.mode.Mode.{Mode}
 use Rattle.dap_session.specs.Rules.{open_requests}
-use Rattle.dap_normalise.specs.declared.checked.Checked.{Checked}
-use Rattle.dap_input.specs.declared.limits.Limits.{Limits}
-use Rattle.dap_input.specs.declared.refused.Refused.{Refused}
-use Rattle.dap_input.specs.declared.refused.Refused.TheVariants.{Incomplete, WriteFault, Memory}
-use Rattle.dap_normalise.specs.Accepting.{IsAccepted}
-use Rattle.dap_input.specs.Engine.{Accepts}
+use Rattle.dap_normalise.specs.{declared.checked.Checked.Checked, Accepting.IsAccepted}
 use Rattle.dap_normalise.specs.Streaming.{HasComeTo, RefusesNext}
+use Rattle.dap_input.specs.{declared.limits.Limits.Limits, declared.refused.Refused.Refused}
+use Rattle.dap_input.specs.declared.refused.Refused.TheVariants.{Incomplete, WriteFault, Memory}
+use Rattle.dap_input.specs.Engine.{Accepts}
 
 -- The counts of accepted messages: their number, and the number of requests of each side that have
 -- no response.

@@ -1,8 +1,7 @@
 -- When two outputs represent messages that are the same. Source: own.
 use Rattle.std.specs.Prelude.{List}
 use Rattle.dap_message.specs.Message.{Sent}
-use Rattle.dap_rename.specs.Messages.{AreSame}
-use Rattle.dap_rename.specs.Modes.{stop_in}
+use Rattle.dap_rename.specs.{Messages.AreSame, Modes.stop_in}
 use Rattle.dap_normalise.specs.Normalised.{NormalText, Holds}
 
 -- Both outputs represent some messages, and a renaming in the mode of the first maps those of the

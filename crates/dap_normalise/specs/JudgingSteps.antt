@@ -1,22 +1,18 @@
 -- The effect of checking a record.
 use Rattle.std.specs.Prelude.{◌≡◌, ◌⊎◌, ℕ, ◌+◌, ◌<◌, ◌≤◌, ℤ, List, [], ◌∷◌, ◌++◌, length, Result}
 use Rattle.std.specs.Prelude.{Ok, Err}
-use Rattle.dap_tree.specs.Json.{text_of}
-use Rattle.dap_tree.specs.declared.sort.Sort.{Sort}
+use Rattle.dap_tree.specs.{Json.text_of, declared.sort.Sort.Sort}
 use Rattle.dap_message.specs.Message.{Sent}
 use Rattle.dap_recording.specs.Recording.{record_text}
 use Rattle.dap_recording.specs.declared.record.Record.{Record as WholeRecord}
-use Rattle.dap_rename.specs.Messages.{AreProper, IsNormal}
-use Rattle.dap_rename.specs.Modes.{stop_in}
-use Rattle.dap_rename.specs.Names.{Represents, limit_in, mode_of}
-use Rattle.dap_rename.specs.declared.mode.Mode.{Mode}
+use Rattle.dap_rename.specs.{Messages.{AreProper, IsNormal}, Modes.stop_in}
+use Rattle.dap_rename.specs.{Names.{Represents, limit_in, mode_of}, declared.mode.Mode.Mode}
 use Rattle.dap_session.specs.Representation.{Represents as SessionRepresents}
 use Rattle.dap_normalise.specs.declared.judging.Judge.{Judge}
-use Rattle.dap_input.specs.declared.limits.Limits.{Limits}
-use Rattle.dap_input.specs.declared.refused.Refused.{Refused}
+use Rattle.dap_normalise.specs.Accepting.{Payload, Fits, IsNext, Rejects, text}
+use Rattle.dap_input.specs.{declared.limits.Limits.Limits, declared.refused.Refused.Refused}
 use Rattle.dap_input.specs.declared.refused.Refused.TheVariants.{Grew, Memory}
 use Rattle.dap_input.specs.Refusals.{RejectsPayload}
-use Rattle.dap_normalise.specs.Accepting.{Payload, Fits, IsNext, Rejects, text}
 
 -- the payload of a record
 abbrev pub payload_of : WholeRecord → Payload
@@ -86,3 +82,7 @@ module _ {T : Type 0} (numbers : T → List ℤ) (table_limit : T → ℕ) where
       (text : List ℕ) × IsTaken messages normal held after [] text
   ChecksRecord messages normal held n before after (Err because) =
       RejectsPayload (Rejects before.limits (judge_mode before) messages held) n because
+
+-- The messages are the same, or there is one more.
+abbrev pub IsSameOrLonger : List Sent → List Sent → Type 0
+IsSameOrLonger old new = (new ≡ old) ⊎ ((message : Sent) × (new ≡ old ++ message ∷ []))

@@ -7,4 +7,5 @@ pub mod NormalSteps
 pub mod Normalised
 pub mod Normalising
 pub mod OldGoldenFiles
+pub mod OwnTexts
 pub mod Streaming

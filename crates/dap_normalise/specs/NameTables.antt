@@ -1,8 +1,6 @@
 -- The interning tables that are passed to a command function.
 use Rattle.std.specs.Prelude.{◌≡◌, ℕ, ℤ, List}
-use Rattle.dap_rename.specs.Names.{AreEmpty}
-use Rattle.dap_rename.specs.Tables.{table_of}
-use Rattle.dap_rename.specs.declared.tables.Tables.{Tables}
+use Rattle.dap_rename.specs.{Names.AreEmpty, Tables.table_of, declared.tables.Tables.Tables}
 use Rattle.dap_tree.specs.declared.sort.Sort.{Sort}
 use Rattle.dap_input.specs.declared.limits.Limits.{Limits}
 

@@ -2,23 +2,20 @@
 use Rattle.std.specs.Prelude.{◌≡◌, ℕ, ◌+◌, ◌-◌, ◌<◌, ◌≤◌, ℤ, Bool, true, false, List, [], ◌∷◌, ◌++◌}
 use Rattle.std.specs.Prelude.{length, Option, Some, None, Result, Ok, Err}
 use Rattle.dap_device.specs.declared.device.Source.{Ghosts as Source}
-use Rattle.dap_device.specs.Pieces.{HasReadSoFar}
-use Rattle.dap_device.specs.declared.reading.Stop.{Stop}
+use Rattle.dap_device.specs.{Pieces.HasReadSoFar, declared.reading.Stop.Stop}
 use Rattle.dap_device.specs.declared.reading.Stop.TheVariants.{End}
 use Rattle.dap_frame.specs.Grammar.{HasItem}
 use Rattle.dap_message.specs.Message.{Sent}
 use Rattle.dap_rename.specs.declared.mode.Mode.{Mode}
 use Rattle.dap_recording.specs.declared.record_fault.RecordCause.TheVariants.{Cut}
-use Rattle.dap_input.specs.declared.limits.Limits.{Limits}
-use Rattle.dap_normalise.specs.declared.normal_records.NormalRecords.{NormalRecords}
-use Rattle.dap_input.specs.declared.refused.Refused.{Refused}
+use Rattle.dap_input.specs.{declared.limits.Limits.Limits, declared.refused.Refused.Refused}
 use Rattle.dap_input.specs.declared.refused.Refused.TheVariants.{Memory, Record}
+use Rattle.dap_input.specs.{InputSteps.RefusalHolds, ItemReading.{RepresentsRecord, record_items}}
+use Rattle.dap_input.specs.{ReadTo.IsReadTo, RecordSteps.IsBetweenRecords}
+use Rattle.dap_normalise.specs.declared.normal_records.NormalRecords.{NormalRecords}
 use Rattle.dap_normalise.specs.Accepting.{IsAccepted, accepting}
-use Rattle.dap_normalise.specs.JudgingSteps.{RepresentsMessages, judge_limits, judge_mode, record_of}
-use Rattle.dap_input.specs.InputSteps.{RefusalHolds}
-use Rattle.dap_input.specs.ItemReading.{RepresentsRecord, record_items}
-use Rattle.dap_input.specs.ReadTo.{IsReadTo}
-use Rattle.dap_input.specs.RecordSteps.{IsBetweenRecords}
+use Rattle.dap_normalise.specs.JudgingSteps.{RepresentsMessages, judge_limits, judge_mode}
+use Rattle.dap_normalise.specs.JudgingSteps.{record_of}
 
 -- Abstraction relation: these bytes were read. They are accepted records with these messages,
 -- followed by the unread bytes, and the state represents the messages with this normal form.
@@ -96,3 +93,10 @@ module _ {T R : Type 0} (numbers : T → List ℤ) (table_limit : T → ℕ) (so
   -- The same if nothing is appended.
   abbrev pub ChecksNext : Result Bool Refused → Type 0
   ChecksNext outcome = (text : List ℕ) × HasNext [] text outcome
+
+  -- The same if the message of the record is appended to these messages of a session.
+  abbrev pub StoresNext : List Sent → List Sent → Result Bool Refused → Type 0
+  StoresNext stored more (Ok true) =
+      (text : List ℕ) × (gone : HasAdvanced [] text) × (more ≡ stored ++ gone.message ∷ [])
+  StoresNext stored more (Ok false) = (text : List ℕ) × HasEnded [] text × (more ≡ stored)
+  StoresNext stored more (Err refused) = HasStoppedAt refused

@@ -1,10 +1,7 @@
 -- The messages that an output represents. Source: own.
-use Rattle.std.specs.Prelude.{◌≡◌, ℕ, List}
-use Rattle.std.specs.List.{AllByRecursion}
+use Rattle.std.specs.{Prelude.{◌≡◌, ℕ, List}, List.AllByRecursion}
 use Rattle.dap_message.specs.Message.{Sent, IsTypedContent}
-use Rattle.dap_rename.specs.Messages.{IsNormal}
-use Rattle.dap_rename.specs.Modes.{stop_in}
-use Rattle.dap_rename.specs.declared.mode.Mode.{Mode}
+use Rattle.dap_rename.specs.{Messages.IsNormal, Modes.stop_in, declared.mode.Mode.Mode}
 use Rattle.dap_normalise.specs.Accepting.{text}
 
 -- Each message is that of some content.

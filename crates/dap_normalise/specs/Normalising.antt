@@ -1,14 +1,10 @@
 -- The output of normalising a recording, and its laws. Source: own.
 use Rattle.std.specs.Prelude.{◌≡◌, ◌↔◌, ℕ, List}
 use Rattle.dap_message.specs.Message.{Sent}
-use Rattle.dap_rename.specs.Messages.{AreSame, IsNormal}
-use Rattle.dap_rename.specs.Modes.{stop_in}
-use Rattle.dap_rename.specs.declared.mode.Mode.{Mode}
+use Rattle.dap_rename.specs.{Messages.{AreSame, IsNormal}, Modes.stop_in, declared.mode.Mode.Mode}
 use Rattle.dap_rename.specs.declared.mode.Mode.TheVariants.{Whole}
-use Rattle.dap_input.specs.declared.limits.Limits.{Limits}
-use Rattle.dap_input.specs.declared.refused.Refused.{Refused}
-use Rattle.dap_input.specs.declared.refused.Refused.TheVariants.{Memory}
-use Rattle.dap_input.specs.Limits.{AreSound}
+use Rattle.dap_input.specs.{declared.limits.Limits.Limits, declared.refused.Refused.Refused}
+use Rattle.dap_input.specs.{declared.refused.Refused.TheVariants.Memory, Limits.AreSound}
 use Rattle.dap_input.specs.Refusals.{IsRefused}
 use Rattle.dap_normalise.specs.Accepting.{IsAccepted, accepting, text}
 

@@ -3,12 +3,9 @@
 use Rattle.std.specs.Prelude.{◌≡◌, ℕ, List}
 use Rattle.dap_profile.specs.Profile.{first_rows}
 use Rattle.dap_message.specs.Message.{Sent}
-use Rattle.dap_rename.specs.Messages.{IsNormal, no_stop}
-use Rattle.dap_rename.specs.declared.mode.Mode.TheVariants.{Whole}
-use Rattle.dap_input.specs.declared.limits.Limits.{Limits}
-use Rattle.dap_input.specs.Limits.{AreSound}
-use Rattle.dap_normalise.specs.Accepting.{IsAcceptedByRows, text}
-use Rattle.dap_normalise.specs.Normalising.{Normalises}
+use Rattle.dap_rename.specs.{Messages.{IsNormal, no_stop}, declared.mode.Mode.TheVariants.Whole}
+use Rattle.dap_input.specs.{declared.limits.Limits.Limits, Limits.AreSound}
+use Rattle.dap_normalise.specs.{Accepting.{IsAcceptedByRows, text}, Normalising.Normalises}
 
 -- The old output is that of a recording by the first rows. Both the first rows and the entire
 -- profile accept the recording, and by the profile it normalises to the new output.

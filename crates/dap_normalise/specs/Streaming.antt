@@ -5,11 +5,9 @@ use Rattle.dap_device.specs.declared.device.Source.{Ghosts as Source}
 use Rattle.dap_device.specs.declared.device.Sink.{Ghosts as Sink}
 use Rattle.dap_device.specs.declared.reading.Stop.{Stop}
 use Rattle.dap_input.specs.Streaming as engine
-use Rattle.dap_input.specs.declared.limits.Limits.{Limits}
-use Rattle.dap_input.specs.declared.refused.Refused.{Refused}
+use Rattle.dap_input.specs.{declared.limits.Limits.Limits, declared.refused.Refused.Refused}
 use Rattle.dap_rename.specs.declared.mode.Mode.{Mode}
-use Rattle.dap_normalise.specs.Accepting.{accepting}
-use Rattle.dap_normalise.specs.Normalising.{IsCanonical, Normalises}
+use Rattle.dap_normalise.specs.{Accepting.accepting, Normalising.{IsCanonical, Normalises}}
 
 module _ {R : Type 0} (source : Source R) (limits : Limits) (mode : Mode) where
   abbrev pub HasComeTo : R → R → Option Stop → ℕ → List ℕ → Type 0

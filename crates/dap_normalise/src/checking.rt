@@ -1,9 +1,9 @@
 //! Checks recordings.
-ghost use Rattle.std.specs.Prelude.{◌+◌, ◌<◌, ◌≤◌, ◌^◌, [], false};
-ghost use Rattle.dap_normalise.specs.Checking.{Checks};
-ghost use Rattle.dap_input.specs.Limits.{AreSound};
-ghost use Rattle.dap_normalise.specs.NameTables.{AreReady};
+ghost use Rattle.std.specs.Prelude.{◌+◌, ◌≤◌, [], false};
+ghost use Rattle.dap_device.specs.Devices.{CanRead};
+ghost use Rattle.dap_normalise.specs.{Checking.Checks, NameTables.AreReady};
 ghost use Rattle.dap_normalise.specs.NormalSteps.{RepresentsBefore};
+ghost use Rattle.dap_input.specs.Limits.{AreSound};
 
 use crate::checked::Checked;
 use crate::normal_records::NormalRecords;
@@ -36,8 +36,7 @@ pub fn check<R: Source>(
     mode: Mode,
 ) -> Result<Checked, Refused>
     requires limits { AreSound limits }
-    requires given { R.given reader.old < 2 ^ 62 }
-    requires failures { R.failures reader.old < 2 ^ 62 }
+    requires reader { CanRead R.Source reader.old }
 
     // The result is the counts of an accepted recording, or its first error. `Incomplete` is
     // returned if and only if `complete` is true and a request has no response. `ReadFault` is
@@ -68,8 +67,7 @@ pub fn check_with<R: Source, T: NameTable + Drop>(
 ) -> Result<Checked, Refused>
     requires limits { AreSound limits }
     requires tables { AreReady T.numbers T.limit limits tables }
-    requires given { R.given reader.old < 2 ^ 62 }
-    requires failures { R.failures reader.old < 2 ^ 62 }
+    requires reader { CanRead R.Source reader.old }
 
     // The guarantees of `check`, for any tables.
     ensures outcome { Checks R.Source limits mode complete reader.old reader.new result }
@@ -92,8 +90,7 @@ fn count_records<R: Source, T: NameTable + Drop>(
 ) -> Result<Checked, Refused>
     requires limits { AreSound limits }
     requires tables { AreReady T.numbers T.limit limits tables }
-    requires given { R.given reader.old < 2 ^ 62 }
-    requires failures { R.failures reader.old < 2 ^ 62 }
+    requires reader { CanRead R.Source reader.old }
     ensures outcome { Checks R.Source limits mode false reader.old reader.new result }
     ensures taken { R.given reader.new ≤ R.given reader.old + limits.input + 1 }
 {
@@ -113,8 +110,7 @@ fn judge_records<R: Source, T: NameTable + Drop>(
 ) -> Result<Checked, Refused>
     requires limits { AreSound limits }
     requires represents { RepresentsBefore T.numbers T.limit limits mode [] records.old [] [] }
-    requires given { R.given reader.old < 2 ^ 62 }
-    requires failures { R.failures reader.old < 2 ^ 62 }
+    requires reader { CanRead R.Source reader.old }
     ensures outcome { Checks R.Source limits mode false reader.old reader.new result }
     ensures taken { R.given reader.new ≤ R.given reader.old + limits.input + 1 }
 {

@@ -1,8 +1,9 @@
 //! Checks the records of a recording one after another, for both `check` and `normalise`.
-ghost use Rattle.std.specs.Prelude.{◌≡◌, ◌≤◌, List, [], OnErr};
+ghost use Rattle.std.specs.Prelude.{◌≡◌, ◌≤◌, ◌++◌, List, [], ◌∷◌, OnErr, OnOk};
 ghost use Rattle.dap_flat_message.specs.FlatMessages.{flat_sent};
 ghost use Rattle.dap_message.specs.Message.{Sent};
 ghost use Rattle.dap_session.specs.Rules.{open_requests};
+ghost use Rattle.dap_stored.specs.Sessions.{messages_of};
 ghost use Rattle.dap_input.specs.Limits.{AreSound};
 ghost use Rattle.dap_normalise.specs.NameTables.{AreReady};
 
@@ -13,6 +14,7 @@ use dap_message::{AnyMessage, Side};
 use dap_recording::Record;
 use dap_rename::{Mode, NameFault, NameTable, Names, Tables};
 use dap_session::{Session, SessionFault};
+use dap_stored::StoredSession;
 use dap_tree::Scratch;
 use std::alloc::Global;
 
@@ -34,6 +36,7 @@ impl<T: NameTable + Drop> Judge<T> {
     ghost use Rattle.dap_normalise.specs.Accepting.{Payload, IsMessage};
     ghost use Rattle.dap_normalise.specs.JudgingSteps.{
       ChecksRecord,
+      IsSameOrLonger,
       JudgesRecord,
       RepresentsMessages,
       payload_of,
@@ -118,6 +121,47 @@ impl<T: NameTable + Drop> Judge<T> {
             return self.check_flat(number, &message);
         }
         let message = read_message(alloc, number, whole.side, content, scratch)?;
+        let mut text = Vec::new(alloc);
+        self.judge_message(alloc, number, message, &mut text)
+    }
+
+    /// Checks the record with this number as [`check`](Judge::check) does, and appends its message
+    /// to `session`.
+    ///
+    /// # Errors
+    ///
+    /// The same as those of [`judge`](Judge::judge). If it is an error of the session rules, the
+    /// ids or the length, the message was appended.
+    pub fn store(
+        &mut self,
+        alloc: Global,
+        number: u64,
+        whole: &Record,
+        scratch: &mut Scratch,
+        session: &mut StoredSession,
+    ) -> Result<(), Refused>
+        ensures checks { (messages normal : List Sent)
+            → RepresentsMessages T.numbers T.limit self.old messages normal
+            → ChecksRecord T.numbers T.limit messages normal (payload_of whole.now) number self.old
+            self.new result }
+        ensures stored { OnOk result ((message : Sent) × IsMessage (payload_of whole.now) message
+            × (messages_of session.new ≡ messages_of session.old ++ message ∷ [])) }
+        ensures kept { OnErr result
+            (IsSameOrLonger (messages_of session.old) (messages_of session.new)) }
+        ensures limits { judge_limits self.new ≡ judge_limits self.old }
+        ensures mode { judge_mode self.new ≡ judge_mode self.old }
+    {
+        let content = whole.content.as_slice();
+        if let Some(message) = read_flat(alloc, number, whole.side, content, scratch)? {
+            let Ok(()) = session.push(alloc, &message) else {
+                return Err(Refused::Memory);
+            };
+            return self.check_flat(number, &message);
+        }
+        let message = read_message(alloc, number, whole.side, content, scratch)?;
+        let Ok(()) = session.push_message(alloc, &message) else {
+            return Err(Refused::Memory);
+        };
         let mut text = Vec::new(alloc);
         self.judge_message(alloc, number, message, &mut text)
     }

@@ -7,8 +7,7 @@ ghost use Rattle.dap_message.specs.Message.{Sent, sent};
 ghost use Rattle.dap_normalise.specs.Accepting.{HoldsNoMessage, IsMessage, Rejects};
 ghost use Rattle.dap_normalise.specs.JudgingSteps.{Writes, record_of};
 ghost use Rattle.dap_recording.specs.Recording.{record_text};
-ghost use Rattle.dap_input.specs.Limits.{AreSound};
-ghost use Rattle.dap_input.specs.Refusals.{RejectsPayload};
+ghost use Rattle.dap_input.specs.{Limits.AreSound, Refusals.RejectsPayload};
 
 use dap_flat::digit_count;
 use dap_flat_message::{FlatFault, FlatMessage, read_flat_message};

@@ -2,12 +2,11 @@
 ghost use Rattle.std.specs.Prelude.{◌≡◌, ◌+◌, ◌-◌, ◌<◌, ◌^◌, ℕ, List, [], IfErr, IfOk, IsTrue};
 ghost use Rattle.std.specs.Prelude.{IsOk, OnErr};
 ghost use Rattle.dap_message.specs.Message.{Sent};
-ghost use Rattle.dap_rename.specs.Messages.{equal_places};
-ghost use Rattle.dap_rename.specs.Modes.{stop_in};
+ghost use Rattle.dap_rename.specs.{Messages.equal_places, Modes.stop_in};
 ghost use Rattle.dap_rename.specs.Names.{HaveEqualCounts, HaveNoNumbers, Represents, mode_of};
-ghost use Rattle.dap_rename.specs.Pairs.{entries};
-ghost use Rattle.dap_rename.specs.Renaming.{pairs_of};
+ghost use Rattle.dap_rename.specs.{Pairs.entries, Renaming.pairs_of};
 ghost use Rattle.dap_session.specs.Rules.{open_requests};
+ghost use Rattle.dap_stored.specs.Sessions.{messages_of};
 ghost use Rattle.dap_input.specs.Limits.{AreSound};
 ghost use Rattle.dap_normalise.specs.NameTables.{AreReady};
 
@@ -17,6 +16,7 @@ use dap_input::{Limits, Records, Refused};
 use dap_message::Side;
 use dap_recording::RecordReader;
 use dap_rename::{Mode, NameFault, NameTable, Renaming, Tables};
+use dap_stored::StoredSession;
 use dap_tree::Scratch;
 use std::alloc::{AllocError, Global};
 
@@ -32,7 +32,7 @@ pub struct NormalRecords<T> {
 impl<T: NameTable + Drop> NormalRecords<T> {
     ghost use Rattle.dap_normalise.specs.JudgingSteps.{RepresentsMessages as JudgeStandsFor};
     ghost use Rattle.dap_normalise.specs.NormalSteps.{ChecksNext, HasNext, IsBuffered};
-    ghost use Rattle.dap_normalise.specs.NormalSteps.{RepresentsBefore};
+    ghost use Rattle.dap_normalise.specs.NormalSteps.{RepresentsBefore, StoresNext};
 
     /// Returns the records of an input before the first one is read.
     ///
@@ -150,6 +150,39 @@ impl<T: NameTable + Drop> NormalRecords<T> {
             return Ok(false);
         };
         self.judge.check(alloc, number, &whole, &mut self.scratch)?;
+        self.records.recycle(whole);
+        Ok(true)
+    }
+
+    /// Reads and checks the next record as [`check_next`](NormalRecords::check_next) does, and
+    /// appends its message to `session`. Returns `false` if the input has ended and is accepted.
+    ///
+    /// # Errors
+    ///
+    /// The same as those of [`next`](NormalRecords::next). The message of the rejected record may
+    /// have been appended.
+    pub fn store_next<R: Source>(
+        &mut self,
+        alloc: Global,
+        reader: &mut R,
+        session: &mut StoredSession,
+    ) -> Result<bool, Refused>
+        requires number { self.old.records.number < 2 ^ 63 }
+        requires given { R.given
+            reader.old + (self.old.records.pieces.limit - self.old.records.pieces.taken) < 2 ^ 63 }
+        requires failures { R.failures reader.old < 2 ^ 63 }
+        ensures { (limits : Limits) (mode : Mode) (bytes : List ℕ) (messages normal : List Sent)
+            → RepresentsBefore T.numbers T.limit limits mode bytes self.old messages normal
+            → StoresNext T.numbers T.limit R.Source limits mode bytes messages normal
+            self.old self.new reader.old reader.new (messages_of session.old)
+            (messages_of session.new) result }
+    {
+        let number = self.records.number();
+        let Some(whole) = self.records.next(reader)? else {
+            return Ok(false);
+        };
+        self.judge
+            .store(alloc, number, &whole, &mut self.scratch, session)?;
         self.records.recycle(whole);
         Ok(true)
     }

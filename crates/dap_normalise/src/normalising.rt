@@ -1,8 +1,8 @@
 //! Normalises recordings.
 ghost use Rattle.std.specs.Prelude.{◌≡◌, ◌+◌, ◌<◌, ◌≤◌, ◌^◌, [], IfErr, IfOk, IsErrOf};
+ghost use Rattle.dap_device.specs.Devices.{CanRead, CanWrite};
 ghost use Rattle.dap_input.specs.Limits.{AreSound};
-ghost use Rattle.dap_normalise.specs.NameTables.{AreReady};
-ghost use Rattle.dap_normalise.specs.NormalSteps.{RepresentsBefore};
+ghost use Rattle.dap_normalise.specs.{NameTables.AreReady, NormalSteps.RepresentsBefore};
 ghost use Rattle.dap_normalise.specs.Normalising.{IsCanonical, RefusesBytes};
 ghost use Rattle.dap_normalise.specs.Streaming.{Ends, Flushes, HasGivenUpAt, Streams};
 
@@ -105,7 +105,7 @@ pub fn finish_output<W: Sink>(
     text: &[u8],
     outcome: Result<(), Refused>,
 ) -> Result<(), Refused>
-    requires { W.failures writer.old < 2 ^ 62 }
+    requires writer { CanWrite W.Sink writer.old }
     ensures { Ends W.Sink text.now writer.old writer.new outcome result }
 {
     if write_all(writer, text).is_err() {
@@ -140,9 +140,7 @@ pub fn normalise<R: Source, W: Sink>(
     mode: Mode,
 ) -> Result<(), Refused>
     requires limits { AreSound limits }
-    requires given { R.given reader.old < 2 ^ 62 }
-    requires read_failures { R.failures reader.old < 2 ^ 62 }
-    requires write_failures { W.failures writer.old < 2 ^ 62 }
+    requires devices { CanRead R.Source reader.old × CanWrite W.Sink writer.old }
 
     // On success, the normal form of the input was written and flushed. If a record is rejected,
     // that of the records before it was. If an allocation fails, no flush follows. If the writer
@@ -178,9 +176,7 @@ pub fn normalise_with<R: Source, W: Sink, T: NameTable + Drop>(
 ) -> Result<(), Refused>
     requires limits { AreSound limits }
     requires tables { AreReady T.numbers T.limit limits tables }
-    requires given { R.given reader.old < 2 ^ 62 }
-    requires read_failures { R.failures reader.old < 2 ^ 62 }
-    requires write_failures { W.failures writer.old < 2 ^ 62 }
+    requires devices { CanRead R.Source reader.old × CanWrite W.Sink writer.old }
 
     // The guarantees of `normalise`, for any tables.
     ensures outcome { Streams R.Source W.Sink limits mode reader.old reader.new
@@ -207,9 +203,7 @@ fn write_records<R: Source, W: Sink, T: NameTable + Drop>(
 ) -> Result<(), Refused>
     requires limits { AreSound limits }
     requires represents { RepresentsBefore T.numbers T.limit limits mode [] records.old [] [] }
-    requires given { R.given reader.old < 2 ^ 62 }
-    requires read_failures { R.failures reader.old < 2 ^ 62 }
-    requires write_failures { W.failures writer.old < 2 ^ 62 }
+    requires devices { CanRead R.Source reader.old × CanWrite W.Sink writer.old }
     ensures outcome { Streams R.Source W.Sink limits mode reader.old reader.new
         writer.old writer.new result }
 

@@ -1,10 +1,8 @@
 //! Whether two outputs are the normal forms of recordings that are the same.
 ghost use Rattle.std.specs.Prelude.{◌≡◌, ◌↔◌, List, ℕ, true};
-ghost use Rattle.dap_rename.specs.Messages.{AreSame};
-ghost use Rattle.dap_rename.specs.Modes.{stop_in};
+ghost use Rattle.dap_rename.specs.{Messages.AreSame, Modes.stop_in};
 ghost use Rattle.dap_input.specs.Limits.{AreSound};
-ghost use Rattle.dap_normalise.specs.HeldMessages.{HoldTheSame};
-ghost use Rattle.dap_normalise.specs.Normalising.{Normalises};
+ghost use Rattle.dap_normalise.specs.{HeldMessages.HoldTheSame, Normalising.Normalises};
 
 use crate::normalised::Normalised;
 use dap_input::Limits;

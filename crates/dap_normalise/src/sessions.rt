@@ -1,0 +1,114 @@
+//! Reads recordings into stored sessions, and checks the messages of sessions.
+ghost use Rattle.std.specs.Prelude.{◌≡◌, [], IfErr, IfOk, map};
+ghost use Rattle.dap_input.specs.Limits.{AreSound};
+ghost use Rattle.dap_stored.specs.Sessions.{messages_of, stored_sent};
+ghost use Rattle.dap_normalise.specs.Accepting.{IsAccepted, text};
+ghost use Rattle.dap_normalise.specs.JudgingSteps.{RepresentsMessages, judge_limits, judge_mode};
+ghost use Rattle.dap_normalise.specs.{NormalSteps.RepresentsBefore, Normalising.RefusesBytes};
+ghost use Rattle.dap_normalise.specs.OwnTexts.{HasOwnText};
+
+use crate::judging::Judge;
+use crate::normal_records::NormalRecords;
+use dap_device::MemorySource;
+use dap_input::{Limits, Refused};
+use dap_rename::{Mode, NameTable, index_tables};
+use dap_stored::{StoredMessage, StoredSession};
+use std::alloc::Global;
+
+/// Returns the messages of a recording, which is checked in the same way as by
+/// [`check`](crate::check). Reads each record once.
+///
+/// # Errors
+///
+/// - The first error of the recording.
+/// - `Memory`: an allocation failed.
+pub fn read_session(
+    alloc: Global,
+    recording: &[u8],
+    limits: Limits,
+    mode: Mode,
+) -> Result<StoredSession, Refused>
+    requires limits { AreSound limits }
+    ensures ok { IfOk result
+        (λ session. IsAccepted limits mode recording.now (messages_of session)) }
+    ensures err { IfErr result (RefusesBytes limits mode recording.now) }
+{
+    let tables = index_tables(alloc, limits.ids);
+    let Ok(mut records) = NormalRecords::new(alloc, limits, tables, mode) else {
+        return Err(Refused::Memory);
+    };
+    store_records(alloc, &mut records, recording, limits, mode)
+}
+
+/// Returns the messages of a recording of which nothing has been read.
+fn store_records<T: NameTable + Drop>(
+    alloc: Global,
+    records: &mut NormalRecords<T>,
+    recording: &[u8],
+    limits: Limits,
+    mode: Mode,
+) -> Result<StoredSession, Refused>
+    requires limits { AreSound limits }
+    requires represents { RepresentsBefore T.numbers T.limit limits mode [] records.old [] [] }
+    ensures ok { IfOk result
+        (λ session. IsAccepted limits mode recording.now (messages_of session)) }
+    ensures err { IfErr result (RefusesBytes limits mode recording.now) }
+{
+    let mut reader = MemorySource::new(recording);
+    let mut session = StoredSession::new(alloc);
+    while records.store_next(alloc, &mut reader, &mut session)? {}
+    Ok(session)
+}
+
+/// Checks the text of messages, which has the record of the canonical content of each message, in
+/// the same way as [`check`](crate::check) checks a recording. Does not read the text.
+///
+/// # Errors
+///
+/// - The first error of the text. Records are numbered from 1.
+/// - `Memory`: an allocation failed.
+pub fn check_messages(
+    alloc: Global,
+    messages: Vec<StoredMessage<'_>>,
+    limits: Limits,
+    mode: Mode,
+) -> Result<(), Refused>
+    requires limits { AreSound limits }
+    requires own { HasOwnText limits (map stored_sent messages.items) }
+    ensures ok { IfOk result (λ done. let all = map stored_sent messages.entry.items in
+        IsAccepted limits mode (text all) all) }
+    ensures err { IfErr result
+        (RefusesBytes limits mode (text (map stored_sent messages.entry.items))) }
+{
+    let tables = index_tables(alloc, limits.ids);
+    let mut judge = Judge::new(alloc, limits, tables, mode);
+    judge_messages(alloc, &mut judge, messages, limits, mode)
+}
+
+/// Checks the text of messages, by a state that represents no message.
+fn judge_messages<T: NameTable + Drop>(
+    alloc: Global,
+    judge: &mut Judge<T>,
+    messages: Vec<StoredMessage<'_>>,
+    limits: Limits,
+    mode: Mode,
+) -> Result<(), Refused>
+    requires limits { AreSound limits }
+    requires own { HasOwnText limits (map stored_sent messages.items) }
+    requires represents { RepresentsMessages T.numbers T.limit judge.old [] [] }
+    requires limits_are { judge_limits judge.old ≡ limits }
+    requires mode_is { judge_mode judge.old ≡ mode }
+    ensures ok { IfOk result (λ done. let all = map stored_sent messages.entry.items in
+        IsAccepted limits mode (text all) all) }
+    ensures err { IfErr result
+        (RefusesBytes limits mode (text (map stored_sent messages.entry.items))) }
+{
+    let mut record = Vec::new(alloc);
+    let mut number = 0;
+    for message in messages {
+        number += 1;
+        record.clear();
+        judge.judge_message(alloc, number, message, &mut record)?;
+    }
+    Ok(())
+}
