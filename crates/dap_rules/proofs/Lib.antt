@@ -8,12 +8,11 @@ pub mod MaskedTexts
 pub mod MaskedRecords
 pub mod MaskingLoop
 pub mod MaskedMachines
-pub mod MemoryInputs
 pub mod OrderedTexts
 pub mod WrittenTexts
 pub mod DistinctCounts
 pub mod TextErrors
-pub mod ReadMessages
 pub mod OrderAnswers
 pub mod OneOrderOutcome
 pub mod EmptyRecordings
+pub mod PlacedMessages

@@ -33,7 +33,7 @@ use Rattle.dap_input.specs.declared.refused.Refused.TheVariants.{TooManyIds, Gre
 use Rattle.dap_input.proofs.NextRecord.{refuses_some}
 use Rattle.dap_input.proofs.Runs.{Run}
 use Rattle.dap_normalise.specs.Accepting.{AreMessages, Payload, IsAccepted, IsMessage, Rejects}
-use Rattle.dap_normalise.specs.Accepting.{accepting, id_limit, text}
+use Rattle.dap_normalise.specs.Accepting.{Fits, accepting, id_limit, text}
 use Rattle.dap_normalise.proofs.AcceptingFacts.{accepted_facts, message_once}
 use Rattle.dap_normalise.proofs.NormalFormLaws.{contents_of, recording_of}
 use Rattle.dap_normalise.proofs.NormalTexts.{few_not_many}
@@ -42,7 +42,6 @@ use Rattle.dap_order.specs.MessageOrder.{ordered}
 use Rattle.dap_order.proofs.MessageOrder.{to_ordered}
 use Rattle.dap_order.proofs.SwapsKeepRules.{reordered_keeps}
 use Rattle.dap_rules.specs.Ordering.{IsTextError}
-use Rattle.dap_rules.specs.OrderingSteps.{IsTextOf}
 use Rattle.dap_rules.proofs.DistinctCounts.{reordered_few}
 use Rattle.dap_rules.proofs.WrittenTexts.{ordered_typed}
 
@@ -164,8 +163,7 @@ module _ (limits : Limits) (mode : Mode) where
   -- ---- the text in order
 
   module _ (sound : AreSound limits) (rules : List SwapRule) (bytes : List ℕ) (ms : List Sent)
-      (accepted : IsAccepted limits mode bytes ms) (written : List ℕ)
-      (is : IsTextOf limits (ordered rules ms) written) where
+      (accepted : IsAccepted limits mode bytes ms) (fits : Fits limits (ordered rules ms)) where
     abbrev ns : List Sent
     ns = ordered rules ms
 
@@ -180,10 +178,10 @@ module _ (limits : Limits) (mode : Mode) where
     allowed number why first =
         let run = (accepted_facts limits mode).run_of_accepted first.front first.values
         first.accepted in
-        let short = is.fits.whole in
+        let short = fits.whole in
         refused_so [] ns first.values 0 (text ns) first.front first.rest (contents_of ns)
-        (recording_of limits sound ns is.fits.each)
-        (ordered_typed rules ms accepted.records accepted.typed is.read_back)
+        (recording_of limits sound ns fits.each)
+        (ordered_typed rules ms accepted.records accepted.typed)
         (reordered_keeps rules ms ns (to_ordered rules ms) accepted.rules)
         (λ whole. few_ordered mode whole accepted.few) (omega (arith, short)) first.split run why
         (subst (λ n. Refuses judging first.values n first.rest why)

@@ -1,8 +1,6 @@
 -- What the steps of applying rules do, for private clauses.
-use Rattle.std.specs.Prelude.{ℕ, Result, Ok, Err, Vec}
-use Rattle.std.specs.declared.alloc.Global.{Global}
-use Rattle.dap_device.specs.declared.reading.Stop.{Stop}
-use Rattle.dap_device.specs.declared.reading.Stop.TheVariants.{Failed}
+use Rattle.std.specs.{Prelude.{ℕ, Result, Ok, Err, Vec}, declared.alloc.Global.Global}
+use Rattle.dap_device.specs.{declared.reading.Stop.Stop, declared.reading.Stop.TheVariants.Failed}
 use Rattle.dap_input.specs.declared.refused.Refused.{Refused}
 use Rattle.dap_input.specs.declared.refused.Refused.TheVariants.{Memory, Record}
 use Rattle.dap_recording.specs.declared.record_fault.RecordCause.TheVariants.{Cut}

@@ -1,16 +1,12 @@
 -- The result of `read_by_rules`. Source: own.
-use Rattle.std.specs.Prelude.{ℕ, List, Result, Ok, Err, Vec}
-use Rattle.std.specs.declared.alloc.Global.{Global}
+use Rattle.std.specs.{Prelude.{ℕ, List, Result, Ok, Err, Vec}, declared.alloc.Global.Global}
 use Rattle.dap_device.specs.declared.device.Source.{Ghosts as Source}
-use Rattle.dap_device.specs.declared.reading.Stop.{Stop}
-use Rattle.dap_device.specs.Reading.{HasReadInput}
+use Rattle.dap_device.specs.{declared.reading.Stop.Stop, Reading.HasReadInput}
 use Rattle.dap_mask.specs.Mask.{Mask}
 use Rattle.dap_rename.specs.declared.mode.Mode.{Mode}
-use Rattle.dap_input.specs.declared.limits.Limits.{Limits}
-use Rattle.dap_input.specs.declared.refused.Refused.{Refused}
+use Rattle.dap_input.specs.{declared.limits.Limits.Limits, declared.refused.Refused.Refused}
 use Rattle.dap_input.specs.Engine.{Accepts, FailsToRead, RefusesInput}
-use Rattle.dap_rules.specs.Ordering.{ReadsSomeOrAll}
-use Rattle.dap_rules.specs.Applying.{AppliesRules, IsRefusedByRules}
+use Rattle.dap_rules.specs.{Ordering.ReadsSomeOrAll, Applying.{AppliesRules, IsRefusedByRules}}
 use Rattle.dap_rules.specs.declared.fault.ApplyRefused.{ApplyRefused}
 use Rattle.dap_rules.specs.declared.fault.ApplyRefused.TheVariants as because
 

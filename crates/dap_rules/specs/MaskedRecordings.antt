@@ -1,16 +1,9 @@
 -- The result of masking a recording, and all guarantees about it. Source: own.
-use Rattle.std.specs.Prelude.{◌≡◌, ◌↔◌, ℕ, List, []}
-use Rattle.std.specs.List.{AllZip, AllByRecursion}
+use Rattle.std.specs.{Prelude.{◌≡◌, ◌↔◌, ℕ, List, []}, List.{AllZip, AllByRecursion}}
 use Rattle.dap_message.specs.Message.{Sent, IsTyped}
-use Rattle.dap_rename.specs.Messages.{AreSame}
-use Rattle.dap_rename.specs.Modes.{stop_in}
-use Rattle.dap_rename.specs.declared.mode.Mode.{Mode}
-use Rattle.dap_mask.specs.Mask.{Mask}
-use Rattle.dap_mask.specs.Masked.{AgreeBut}
-use Rattle.dap_mask.specs.Promises.{IsMaskedAs}
-use Rattle.dap_mask.specs.Rules.{Rule}
-use Rattle.dap_words.specs.Words.{Pair}
-use Rattle.dap_words.specs.Worded.{worded_message}
+use Rattle.dap_rename.specs.{Messages.AreSame, Modes.stop_in, declared.mode.Mode.Mode}
+use Rattle.dap_mask.specs.{Mask.Mask, Masked.AgreeBut, Promises.IsMaskedAs, Rules.Rule}
+use Rattle.dap_words.specs.{Words.Pair, Worded.worded_message}
 use Rattle.dap_input.specs.declared.limits.Limits.{Limits}
 use Rattle.dap_normalise.specs.Normalising.{Normalises}
 use Rattle.dap_rules.specs.Masking.{IsAccepted, kept, left_of, masked_text}

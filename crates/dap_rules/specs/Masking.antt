@@ -2,13 +2,10 @@
 -- Source: own, over recordings and the rules of a mask.
 use Rattle.std.specs.Prelude.{◌≡◌, ℕ, ◌≤◌, Bool, true, not, List, [], ◌∷◌, ◌++◌, length, map}
 use Rattle.std.specs.List.{filter, AllByRecursion}
-use Rattle.dap_tree.specs.Doc.{is_sound}
-use Rattle.dap_tree.specs.Json.{HasNoReading}
+use Rattle.dap_tree.specs.{Doc.is_sound, Json.HasNoReading}
 use Rattle.dap_message.specs.Message.{Sent, no_reading, fraction}
 use Rattle.dap_recording.specs.Recording.{IsRecording, records}
-use Rattle.dap_mask.specs.Loose.{IsReadWith}
-use Rattle.dap_mask.specs.Mask.{Mask, leaves_out}
-use Rattle.dap_mask.specs.Masked.{masked}
+use Rattle.dap_mask.specs.{Loose.IsReadWith, Mask.{Mask, leaves_out}, Masked.masked}
 use Rattle.dap_input.specs.declared.limits.Limits.{Limits}
 use Rattle.dap_input.specs.Validation.{Validation, ContentError, no_message, grew}
 use Rattle.dap_normalise.specs.Accepting.{Payload, Fits, text}

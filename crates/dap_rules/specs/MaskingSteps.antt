@@ -1,14 +1,11 @@
 -- What the steps of masking a recording do.
-use Rattle.std.specs.Prelude.{◌≡◌, ◌⊎◌, ℕ, ◌+◌, ◌<◌, ◌≤◌, List, [], ◌∷◌, ◌++◌, length, Result}
-use Rattle.std.specs.Prelude.{Ok, Err}
-use Rattle.dap_tree.specs.Doc.{Doc}
-use Rattle.dap_tree.specs.Json.{text_of}
-use Rattle.dap_tree.specs.declared.side.Side.{Side}
+use Rattle.std.specs.Prelude.{◌≡◌, ◌⊎◌, ℕ, ◌+◌, ◌<◌, ◌≤◌, List, [], ◌∷◌, ◌++◌, length, Result, Ok}
+use Rattle.std.specs.Prelude.{Err}
+use Rattle.dap_tree.specs.{Doc.Doc, Json.text_of, declared.side.Side.Side}
 use Rattle.dap_message.specs.Message.{Sent}
 use Rattle.dap_recording.specs.Recording.{record_text}
 use Rattle.dap_mask.specs.Mask.{Mask}
-use Rattle.dap_input.specs.Refusals.{RejectsPayload}
-use Rattle.dap_input.specs.declared.limits.Limits.{Limits}
+use Rattle.dap_input.specs.{Refusals.RejectsPayload, declared.limits.Limits.Limits}
 use Rattle.dap_input.specs.declared.refused.Refused.{Refused}
 use Rattle.dap_input.specs.declared.refused.Refused.TheVariants.{Grew, Memory}
 use Rattle.dap_normalise.specs.Accepting.{Payload}

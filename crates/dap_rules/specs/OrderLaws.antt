@@ -1,21 +1,14 @@
 -- The statements of the functions in `laws`.
 use Rattle.std.specs.Prelude.{◌≡◌, ◌↔◌, ℕ, List}
 use Rattle.dap_tree.specs.declared.side.Side.{Side}
-use Rattle.dap_message.specs.Message.{Sent}
-use Rattle.dap_message.specs.SwapRules.{SwapRule}
-use Rattle.dap_rename.specs.Messages.{AreSame}
-use Rattle.dap_rename.specs.Modes.{stop_in}
-use Rattle.dap_rename.specs.declared.mode.Mode.{Mode}
+use Rattle.dap_message.specs.{Message.Sent, SwapRules.SwapRule}
+use Rattle.dap_rename.specs.{Messages.AreSame, Modes.stop_in, declared.mode.Mode.Mode}
 use Rattle.dap_rename.specs.declared.mode.Mode.TheVariants.{Whole}
 use Rattle.dap_session.specs.Rules.{open_requests}
-use Rattle.dap_input.specs.declared.limits.Limits.{Limits}
-use Rattle.dap_input.specs.Limits.{AreSound}
+use Rattle.dap_input.specs.{declared.limits.Limits.Limits, Limits.AreSound}
 use Rattle.dap_input.specs.declared.refused.Refused.{Refused}
-use Rattle.dap_normalise.specs.Accepting.{IsAccepted}
-use Rattle.dap_normalise.specs.Normalising.{Normalises}
-use Rattle.dap_order.specs.Swaps.{Reordered}
-use Rattle.dap_order.specs.Free.{free}
-use Rattle.dap_order.specs.MessageOrder.{ordered}
+use Rattle.dap_normalise.specs.{Accepting.IsAccepted, Normalising.Normalises}
+use Rattle.dap_order.specs.{Swaps.Reordered, Free.free, MessageOrder.ordered}
 use Rattle.dap_order.specs.SameButOrder.{AreSameButOrder}
 use Rattle.dap_rules.specs.Ordering.{IsNotOrdered, Orders}
 

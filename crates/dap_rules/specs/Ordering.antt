@@ -6,12 +6,9 @@ use Rattle.std.specs.Prelude.{◌≡◌, ◌⊎◌, ℕ, ◌+◌, List, [], ◌�
 use Rattle.dap_device.specs.Reading.{HasReadInput, HasReadPartly}
 use Rattle.dap_device.specs.declared.device.Source.{Ghosts as Source}
 use Rattle.dap_device.specs.declared.reading.Stop.{Stop}
-use Rattle.dap_message.specs.Message.{Sent}
-use Rattle.dap_message.specs.SwapRules.{SwapRule}
-use Rattle.dap_rename.specs.declared.mode.Mode.{Mode}
-use Rattle.dap_rename.specs.declared.mode.Mode.TheVariants.{PerStop}
-use Rattle.dap_input.specs.declared.limits.Limits.{Limits}
-use Rattle.dap_input.specs.declared.refused.Refused.{Refused}
+use Rattle.dap_message.specs.{Message.Sent, SwapRules.SwapRule}
+use Rattle.dap_rename.specs.{declared.mode.Mode.Mode, declared.mode.Mode.TheVariants.PerStop}
+use Rattle.dap_input.specs.{declared.limits.Limits.Limits, declared.refused.Refused.Refused}
 use Rattle.dap_input.specs.declared.refused.Refused.TheVariants.{Grew, Memory, TooManyIds}
 use Rattle.dap_input.specs.Refusals.{IsRefused}
 use Rattle.dap_normalise.specs.Accepting.{Fits, IsAccepted, accepting, text}

@@ -1,18 +1,12 @@
 -- The statements of the functions in `laws`.
 use Rattle.std.specs.Prelude.{◌≡◌, ℕ, true, List, [], ◌∷◌}
 use Rattle.dap_tree.specs.Doc.{Doc}
-use Rattle.dap_words.specs.Machines.{words_of}
-use Rattle.dap_words.specs.Words.{Pair, have_own_texts}
-use Rattle.dap_words.specs.Worded.{AreAlike}
-use Rattle.dap_mask.specs.Loose.{IsReadLoosely}
+use Rattle.dap_words.specs.{Machines.words_of, Words.{Pair, have_own_texts}, Worded.AreAlike}
+use Rattle.dap_mask.specs.{Loose.IsReadLoosely, Mask.Mask}
 use Rattle.dap_normalise.specs.Accepting.{Payload}
-use Rattle.dap_rules.specs.MaskedRecordings.{Masks, with_words}
-use Rattle.dap_mask.specs.Mask.{Mask}
-use Rattle.dap_input.specs.Refusals.{HasOneOutcome, RefusalStays}
-use Rattle.dap_input.specs.Limits.{AreSound}
-use Rattle.dap_input.specs.ReadTo.{IsBounded, IsReadTo}
-use Rattle.dap_input.specs.declared.limits.Limits.{Limits}
-use Rattle.dap_rules.specs.Masking.{masking}
+use Rattle.dap_rules.specs.{MaskedRecordings.{Masks, with_words}, Masking.masking}
+use Rattle.dap_input.specs.{Refusals.{HasOneOutcome, RefusalStays}, Limits.AreSound}
+use Rattle.dap_input.specs.{ReadTo.{IsBounded, IsReadTo}, declared.limits.Limits.Limits}
 
 -- A recording is accepted as exactly one list of messages, or rejected for exactly one reason,
 -- never both.

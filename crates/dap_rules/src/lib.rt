@@ -8,7 +8,6 @@
 #![tactic(auto)]
 
 mod applying;
-mod checking;
 mod fault;
 pub mod laws;
 pub mod mask_laws;
@@ -16,7 +15,6 @@ mod mask_records;
 mod masking;
 mod modes;
 pub mod order_laws;
-mod order_reading;
 mod ordering;
 mod reading;
 mod text_sink;

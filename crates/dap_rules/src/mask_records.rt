@@ -1,15 +1,12 @@
 //! Masks recordings.
-ghost use Rattle.std.specs.Prelude.{◌≡◌, ◌+◌, ◌<◌, ◌≤◌, ◌^◌, IsErrOf, List, length, true, OnErr};
-ghost use Rattle.dap_tree.specs.Doc.{is_sound};
-ghost use Rattle.dap_tree.specs.View.{view};
+ghost use Rattle.std.specs.Prelude.{◌≡◌, ◌+◌, ◌≤◌, IsErrOf, List, length, true, OnErr};
+ghost use Rattle.dap_device.specs.Devices.{CanRead, CanWrite};
+ghost use Rattle.dap_tree.specs.{Doc.is_sound, View.view};
 ghost use Rattle.dap_message.specs.Message.{Sent};
 ghost use Rattle.dap_mask.specs.KeptRules.{mask_of};
-ghost use Rattle.dap_input.specs.ItemReading.{RepresentsRecord};
-ghost use Rattle.dap_input.specs.Limits.{AreSound};
-ghost use Rattle.dap_input.specs.RecordSteps.{IsAtStart};
-ghost use Rattle.dap_input.specs.Streaming.{HasGivenUpAt, Streams};
-ghost use Rattle.dap_normalise.specs.Accepting.{Fits};
-ghost use Rattle.dap_normalise.specs.JudgingSteps.{payload_of};
+ghost use Rattle.dap_input.specs.{ItemReading.RepresentsRecord, Limits.AreSound};
+ghost use Rattle.dap_input.specs.{RecordSteps.IsAtStart, Streaming.{HasGivenUpAt, Streams}};
+ghost use Rattle.dap_normalise.specs.{Accepting.Fits, JudgingSteps.payload_of};
 ghost use Rattle.dap_rules.specs.Masking.{left_of, masked_text, masking};
 ghost use Rattle.dap_rules.specs.MaskedRecordings.{IsMaskedTo, Masks};
 ghost use Rattle.dap_rules.specs.MaskingSteps.{Masked, Writes};
@@ -121,9 +118,7 @@ fn mask_records<R: Source, W: Sink>(
 ) -> Result<(), Refused>
     requires limits { AreSound limits }
     requires start { IsAtStart (RepresentsRecord limits.frame) limits.input records.old }
-    requires given { R.given reader.old < 2 ^ 62 }
-    requires read_failures { R.failures reader.old < 2 ^ 62 }
-    requires write_failures { W.failures writer.old < 2 ^ 62 }
+    requires devices { CanRead R.Source reader.old × CanWrite W.Sink writer.old }
     ensures outcome { Streams (masking limits (mask_of rules.now)) (Masks limits (mask_of
         rules.now))
         (IsMaskedTo limits (mask_of rules.now)) R.Source W.Sink reader.old reader.new
@@ -192,9 +187,7 @@ pub fn mask<R: Source, W: Sink>(
     limits: Limits,
 ) -> Result<(), Refused>
     requires limits { AreSound limits }
-    requires given { R.given reader.old < 2 ^ 62 }
-    requires read_failures { R.failures reader.old < 2 ^ 62 }
-    requires write_failures { W.failures writer.old < 2 ^ 62 }
+    requires devices { CanRead R.Source reader.old × CanWrite W.Sink writer.old }
 
     // The masked output of the input is written and flushed. If a record is rejected, the output of
     // the records before it is written and flushed. If an allocation fails, nothing is flushed

@@ -2,8 +2,7 @@
 ghost use Rattle.std.specs.Prelude.{◌≡◌, [], IfErr, IfOk, IsOk};
 ghost use Rattle.dap_input.specs.Limits.{AreSound};
 ghost use Rattle.dap_mask.specs.KeptRules.{mask_of};
-ghost use Rattle.dap_rules.specs.MaskedRecordings.{IsMaskedTo};
-ghost use Rattle.dap_rules.specs.Applying.{RefusesToMask};
+ghost use Rattle.dap_rules.specs.{MaskedRecordings.IsMaskedTo, Applying.RefusesToMask};
 
 use crate::mask;
 use crate::text_sink::{TextSink, is_out_of_memory};

@@ -1,22 +1,23 @@
 //! Puts the records of a recording in order.
-ghost use Rattle.std.specs.Prelude.{◌≡◌, ◌+◌, ◌<◌, ◌≤◌, ◌^◌, [], IfErr, IfOk, IsOk, IsErrOf};
-ghost use Rattle.dap_message.specs.SwapRules.{swaps_of};
-ghost use Rattle.dap_input.specs.Engine.{Answers};
-ghost use Rattle.dap_input.specs.Limits.{AreSound};
-ghost use Rattle.dap_rules.specs.Ordering.{IsNotOrdered, Orders, ReadsSomeOrAll};
-ghost use Rattle.dap_rules.specs.Ordering.{RefusesToOrder};
-ghost use Rattle.dap_rules.specs.OrderingSteps.{IsSession, WritesInOrder, result_of_input};
+ghost use Rattle.std.specs.Prelude.{◌≡◌, ◌+◌, ◌≤◌, [], IfErr, IfOk, IsOk, IsErrOf, List, map};
+ghost use Rattle.dap_device.specs.Devices.{CanRead, CanWrite};
+ghost use Rattle.dap_message.specs.{Message.Sent, SwapRules.swaps_of};
+ghost use Rattle.dap_input.specs.{Engine.Answers, Limits.AreSound};
+ghost use Rattle.dap_rules.specs.Ordering.{IsNotOrdered, Orders, ReadsSomeOrAll, RefusesToOrder};
+ghost use Rattle.dap_rules.specs.OrderingSteps.{AreAt, result_of_input};
+ghost use Rattle.dap_order.specs.MessageOrder.{ordered};
+ghost use Rattle.dap_stored.specs.Sessions.{messages_of, stored_sent};
 
-use crate::checking::check_bytes;
-use crate::order_reading::read_messages;
-use crate::writing::text_of_places;
+use crate::writing::text_of_messages;
 use dap_device::{Sink, Source, Stop, read_all, write_and_flush};
 use dap_input::{Limits, Refused};
 use dap_message::SwapRule;
+use dap_normalise::{check_messages, read_session};
 use dap_order::put_in_order;
 use dap_recording::RecordCause;
 use dap_rename::Mode;
-use std::alloc::Global;
+use dap_stored::{StoredMessage, StoredSession};
+use std::alloc::{AllocError, Global};
 
 /// Returns the text of the records of a recording in order.
 ///
@@ -24,8 +25,9 @@ use std::alloc::Global;
 /// message; ids are unchanged. The recording and the returned text are both checked in the same way
 /// as by [`check`](dap_normalise::check) in this mode.
 ///
-/// Buffers the messages of the recording, and the text. Reads the recording twice, once to check it
-/// and once for its messages, and the text once. An empty recording does not allocate.
+/// Reads the recording once. Buffers the canonical contents and the ids of its messages, and the
+/// text. The text is checked without being read, because its messages are known. An empty recording
+/// does not allocate.
 ///
 /// # Errors
 ///
@@ -53,30 +55,47 @@ pub fn order_bytes(
     if recording.is_empty() {
         return Ok(Vec::new(alloc));
     }
-    check_bytes(alloc, recording, limits, mode)?;
-    let text = text_in_order(alloc, rules, recording, limits, mode)?;
-    check_bytes(alloc, text.as_slice(), limits, mode)?;
+    let session = read_session(alloc, recording, limits, mode)?;
+    let Ok(messages) = messages_in_order(alloc, rules, &session) else {
+        return Err(Refused::Memory);
+    };
+    let text = text_of_messages(alloc, messages.as_slice(), limits)?;
+    check_messages(alloc, messages, limits, mode)?;
     Ok(text)
 }
 
-/// Returns the text of the records of a recording in order. The recording must be accepted within
-/// these limits.
-fn text_in_order(
+/// Returns the messages of a session in order.
+fn messages_in_order<'s>(
     alloc: Global,
     rules: &[SwapRule],
-    recording: &[u8],
-    limits: Limits,
-    mode: Mode,
-) -> Result<Vec<u8>, Refused>
-    requires limits { AreSound limits }
-    requires session { IsSession limits mode recording.now }
-    ensures { WritesInOrder limits mode (swaps_of rules.now) recording.now result }
+    session: &'s StoredSession,
+) -> Result<Vec<StoredMessage<'s>>, AllocError>
+    ensures { IfOk result (λ messages. map stored_sent messages.items
+        ≡ ordered (swaps_of rules.now) (messages_of session.now)) }
 {
-    let messages = read_messages(alloc, recording, limits, mode)?;
-    let Ok(places) = put_in_order(alloc, rules, messages.as_slice()) else {
-        return Err(Refused::Memory);
-    };
-    text_of_places(alloc, messages.as_slice(), places.as_slice(), limits)
+    let messages = session.views(alloc)?;
+    let places = put_in_order(alloc, rules, messages.as_slice())?;
+    messages_at(alloc, session, places.as_slice())
+}
+
+/// Returns the messages at these places of a session, in the order of the places.
+fn messages_at<'s>(
+    alloc: Global,
+    session: &'s StoredSession,
+    places: &[usize],
+) -> Result<Vec<StoredMessage<'s>>, AllocError>
+    requires { (those : List Sent) × AreAt (messages_of session.now) places.now those }
+    ensures { IfOk result
+        (λ messages. AreAt (messages_of session.now) places.now (map stored_sent messages.items)) }
+{
+    let mut messages = Vec::with_capacity(alloc, places.len())?;
+    for place in places {
+        let Some(message) = session.message(*place) else {
+            unreachable!()
+        };
+        messages.push(message)?;
+    }
+    Ok(messages)
 }
 
 /// Reads a recording and writes its records in order, as [`order_bytes`] returns them.
@@ -100,9 +119,7 @@ pub fn order<R: Source, W: Sink>(
     mode: Mode,
 ) -> Result<(), Refused>
     requires limits { AreSound limits }
-    requires given { R.given reader.old < 2 ^ 62 }
-    requires read_failures { R.failures reader.old < 2 ^ 62 }
-    requires write_failures { W.failures writer.old < 2 ^ 62 }
+    requires devices { CanRead R.Source reader.old × CanWrite W.Sink writer.old }
 
     // The text of the input in order is written and flushed. If the writer fails, a prefix of the
     // text is written and `WriteFault` is returned. With any other error, nothing is written.

@@ -1,9 +1,9 @@
 //! Applies the rules of a file to a complete input.
-ghost use Rattle.std.specs.Prelude.{◌≡◌, ◌+◌, ◌<◌, ◌≤◌, ◌^◌};
+ghost use Rattle.std.specs.Prelude.{◌≡◌, ◌+◌, ◌≤◌};
+ghost use Rattle.dap_device.specs.Devices.{CanRead};
 ghost use Rattle.dap_input.specs.Limits.{AreSound};
 ghost use Rattle.dap_mask.specs.KeptRules.{mask_of};
-ghost use Rattle.dap_rules.specs.ApplyingSteps.{result_of_input};
-ghost use Rattle.dap_rules.specs.Inputs.{ReadsByRules};
+ghost use Rattle.dap_rules.specs.{ApplyingSteps.result_of_input, Inputs.ReadsByRules};
 
 use crate::applying::apply_rules;
 use crate::fault::ApplyRefused;
@@ -33,8 +33,7 @@ pub fn read_by_rules<R: Source>(
     mode: Mode,
 ) -> Result<Vec<u8>, ApplyRefused>
     requires limits { AreSound limits }
-    requires given { R.given reader.old < 2 ^ 62 }
-    requires failures { R.failures reader.old < 2 ^ 62 }
+    requires reader { CanRead R.Source reader.old }
 
     // The text is that of the whole input and the rules, or an error is returned. `ReadFault` is
     // returned only if the reader failed. If an allocation failed, a prefix of the input was read,

@@ -1,68 +1,31 @@
 //! Writes messages as records.
-ghost use Rattle.std.specs.Prelude.{List, map};
-ghost use Rattle.dap_message.specs.Message.{Sent, sent};
+ghost use Rattle.std.specs.Prelude.{map};
+ghost use Rattle.dap_stored.specs.Sessions.{stored_sent};
 ghost use Rattle.dap_input.specs.Limits.{AreSound};
-ghost use Rattle.dap_rules.specs.OrderingSteps.{Appends, AreAt, Writes};
+ghost use Rattle.dap_rules.specs.OrderingSteps.{Writes};
 
-use dap_frame::FrameFault;
 use dap_input::{Limits, Refused};
-use dap_message::Message;
-use dap_recording::write_record;
+use dap_message::AnyMessage;
+use dap_normalise::append_record;
+use dap_stored::StoredMessage;
 use std::alloc::Global;
 
-/// Appends the record of a message, which is record `number` of the text. `content` is a buffer for
-/// its content.
-fn append_record(
+/// Returns the text of messages: for each one the record of its canonical content.
+pub fn text_of_messages(
     alloc: Global,
-    number: u64,
-    message: &Message,
-    limits: Limits,
-    content: &mut Vec<u8>,
-    text: &mut Vec<u8>,
-) -> Result<(), Refused>
-    requires { AreSound limits }
-    ensures { Appends limits (sent message.now) number text.old.items text.new.items result }
-{
-    content.clear();
-    let Ok(()) = message.write_content_to(alloc, content) else {
-        return Err(Refused::Memory);
-    };
-    match write_record(text, message.side(), content.as_slice(), limits.frame) {
-        Ok(()) => {}
-        Err(FrameFault::ContentTooLong) => return Err(Refused::Grew(number)),
-        Err(_) => return Err(Refused::Memory),
-    }
-    if limits.input < text.len() as u64 {
-        return Err(Refused::Grew(number));
-    }
-    Ok(())
-}
-
-/// Returns the text of the messages at these positions, in the order of the positions.
-pub fn text_of_places(
-    alloc: Global,
-    messages: &[Message],
-    places: &[usize],
+    messages: &[StoredMessage<'_>],
     limits: Limits,
 ) -> Result<Vec<u8>, Refused>
-    requires sound { AreSound limits }
-    requires there { (those : List Sent) × AreAt (map sent messages.now) places.now those }
-    ensures { (those : List Sent) → AreAt (map sent messages.now) places.now those
-        → Writes limits those result }
+    requires { AreSound limits }
+    ensures { Writes limits (map stored_sent messages.now) result }
 {
-    let mut content = Vec::new(alloc);
     let mut text = Vec::new(alloc);
+    let mut written = 0;
     let mut number = 0;
-    for place in places {
+    for message in messages {
         number += 1;
-        append_record(
-            alloc,
-            number,
-            &messages[*place],
-            limits,
-            &mut content,
-            &mut text,
-        )?;
+        let (side, content) = (message.side(), message.content());
+        written = append_record(number, side, content, written, limits, &mut text)?;
     }
     Ok(text)
 }

@@ -1,11 +1,16 @@
-use Rattle.std.proofs.Common.{◌∙◌, sym, subst}
+use Rattle.std.proofs.Common.{◌≡◌, ◌∙◌, Err, ap, map, sym, subst}
 use Rattle.std.proofs.lemmas.Result.{err_from_is_err_and}
 use Rattle.dap_message.specs.SwapRules.{swaps_of}
-use Rattle.dap_normalise.specs.Accepting.{IsAccepted}
+use Rattle.dap_stored.specs.Sessions.{messages_of, stored_sent}
+use Rattle.dap_normalise.specs.Accepting.{IsAccepted, text}
+use Rattle.dap_normalise.specs.Normalising.{RefusesBytes}
+use Rattle.dap_normalise.specs.OwnTexts.{HasOwnText}
+use Rattle.dap_order.specs.MessageOrder.{ordered}
+use Rattle.dap_rules.specs.OrderingSteps.{IsTextOf, Writes}
 use Rattle.dap_rules.proofs.EmptyRecordings.{no_bytes, none_ordered}
 use Rattle.dap_rules.proofs.OrderAnswers.{not_written, text_refused}
 use Rattle.dap_rules.proofs.TextErrors.{text_error}
-use Rattle.dap_rules.proofs.WrittenTexts.{ordered_only}
+use Rattle.dap_rules.proofs.WrittenTexts.{ordered_own}
 use Rattle.dap_rules.proofs.ordering.order_bytes.Goals as goal
 
 pub returns-then-is_empty-clause-ok : goal.returns-then-is_empty-clause-ok
@@ -18,39 +23,56 @@ pub returns-in_err-text-clause-err : goal.returns-in_err-text-clause-err
 returns-in_err-text-clause-err c =
     let because = err_from_is_err_and c.from_residual-in_err-text.result
     c.from_residual-in_err-text.ensures.1 in
-    let first = c.in_ok-check_bytes.ensures.ok in
+    let rules = swaps_of c.args.rules.now in
+    let ms = messages_of c.in_ok-session.session in
     rw (because.1, because.2)
-    (not_written c.args.limits c.args.mode (swaps_of c.args.rules.now) c.args.recording.now first.0
-    first.1 _ (c.in_err-text.ensures first.0 first.1))
+    (not_written c.args.limits c.args.mode rules c.args.recording.now ms
+    c.in_ok-session.ensures.ok _
+    (subst (λ all. Writes c.args.limits all (Err c.in_err-text.field-0.0))
+    (ap (map stored_sent) c.as_slice.ensures.value ∙ c.in-Ok.ensures) c.in_err-text.ensures))
 
-pub returns-in_err-check_bytes-2-clause-err : goal.returns-in_err-check_bytes-2-clause-err
-returns-in_err-check_bytes-2-clause-err c =
-    let because = err_from_is_err_and c.from_residual-in_err-check_bytes-2.result
-    c.from_residual-in_err-check_bytes-2.ensures.1 in
-    let first = c.in_ok-check_bytes.ensures.ok in
-    let is = c.in_ok-text.ensures first.0 first.1 in
+pub check_messages-requires-clause-own : goal.check_messages-requires-clause-own
+check_messages-requires-clause-own c =
+    let rules = swaps_of c.args.rules.now in
+    let ms = messages_of c.in_ok-session.session in
+    let accepted = c.in_ok-session.ensures.ok in
+    let is : IsTextOf c.args.limits (ordered rules ms) c.in_ok-text.text.items =
+    subst (λ all. IsTextOf c.args.limits all c.in_ok-text.text.items)
+    (ap (map stored_sent) c.as_slice.ensures.value ∙ c.in-Ok.ensures) c.in_ok-text.ensures in
+    subst (HasOwnText c.args.limits) (sym c.in-Ok.ensures)
+    (record { fits = is.fits; own = ordered_own rules ms accepted.records accepted.typed })
+
+pub returns-in_err-check_messages-clause-err : goal.returns-in_err-check_messages-clause-err
+returns-in_err-check_messages-clause-err c =
+    let because = err_from_is_err_and c.from_residual-in_err-check_messages.result
+    c.from_residual-in_err-check_messages.ensures.1 in
+    let rules = swaps_of c.args.rules.now in
+    let ms = messages_of c.in_ok-session.session in
+    let accepted = c.in_ok-session.ensures.ok in
+    let is : IsTextOf c.args.limits (ordered rules ms) c.in_ok-text.text.items =
+    subst (λ all. IsTextOf c.args.limits all c.in_ok-text.text.items)
+    (ap (map stored_sent) c.as_slice.ensures.value ∙ c.in-Ok.ensures) c.in_ok-text.ensures in
     rw (because.1, because.2)
-    (text_refused c.args.limits c.args.mode (swaps_of c.args.rules.now) c.args.recording.now
-    first.0 first.1 is.fits _
-    (rw (c.as_slice.ensures.value, is.text_is) at c.in_err-check_bytes-2.ensures.err)
-    (text_error c.args.limits c.args.mode c.requires.limits (swaps_of c.args.rules.now)
-    c.args.recording.now first.0 first.1 c.in_ok-text.text.items is))
+    (text_refused c.args.limits c.args.mode rules c.args.recording.now ms accepted is.fits _
+    (subst (λ all. RefusesBytes c.args.limits c.args.mode (text all)
+    c.in_err-check_messages.field-0.0) c.in-Ok.ensures c.in_err-check_messages.ensures.err)
+    (text_error c.args.limits c.args.mode c.requires.limits rules c.args.recording.now ms accepted
+    is.fits))
 
 pub returns-clause-ok : goal.returns-clause-ok
 returns-clause-ok c =
     let rules = swaps_of c.args.rules.now in
-    let mode = c.args.mode in
-    let first = c.in_ok-check_bytes.ensures.ok in
-    let is = c.in_ok-text.ensures first.0 first.1 in
-    let again = c.in_ok-check_bytes-2.ensures.ok in
-    let accepted : IsAccepted c.args.limits mode c.in_ok-text.text.items again.0 =
-    subst (λ t. IsAccepted c.args.limits mode t again.0) c.as_slice.ensures.value again.1 in
-    let only = ordered_only rules c.args.limits mode c.requires.limits c.args.recording.now
-    c.in_ok-text.text.items first.0 again.0 first.1 is accepted in
+    let ms = messages_of c.in_ok-session.session in
+    let is : IsTextOf c.args.limits (ordered rules ms) c.in_ok-text.text.items =
+    subst (λ all. IsTextOf c.args.limits all c.in_ok-text.text.items)
+    (ap (map stored_sent) c.as_slice.ensures.value ∙ c.in-Ok.ensures) c.in_ok-text.ensures in
     record {
-      messages = first.0;
-      accepts = first.1;
+      messages = ms;
+      accepts = c.in_ok-session.ensures.ok;
       text_is = is.text_is;
       fits = is.fits;
-      accepted = subst (IsAccepted c.args.limits mode c.in_ok-text.text.items) only accepted;
+      accepted = subst (λ t. IsAccepted c.args.limits c.args.mode t (ordered rules ms))
+          (sym is.text_is)
+          (subst (λ all. IsAccepted c.args.limits c.args.mode (text all) all) c.in-Ok.ensures
+          c.in_ok-check_messages.ensures.ok);
     }
