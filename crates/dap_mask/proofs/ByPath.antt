@@ -6,6 +6,7 @@ use Rattle.std.proofs.Common.{Ordering, Less, Equal, Greater, nat_cmp}
 use Rattle.std.proofs.lemmas.Slice.Eq.{bytes_eq-Decides}
 use Rattle.std.specs.Cmp.Lexicographic.{slice_cmp}
 use Rattle.std.specs.Ordering.{match_ordering, is_lt}
+use Rattle.std.proofs.lemmas.Bool.{not-true}
 use Rattle.dap_tree.specs.Doc.{Doc, null, boolean, whole, text, list, object, id, Items, no_items}
 use Rattle.dap_tree.specs.Doc.{item, Members, no_members, member, get, change_member, change_child}
 use Rattle.dap_tree.specs.Doc.{map_items, change_items, is_below_all, is_ordered, items_ordered}
@@ -16,8 +17,7 @@ use Rattle.dap_profile.specs.PlaceSteps.{PlaceStep}
 use Rattle.dap_message.specs.Places.{fits_place}
 use Rattle.dap_message.specs.Marks.{top}
 use Rattle.dap_message.specs.Rows.{is_text, is_of_kind, name_key, type_name}
-use Rattle.dap_profile.specs.declared.profile.Kind.{Kind}
-use Rattle.dap_profile.specs.declared.profile.Kind.TheVariants.{Request, Response, Event}
+use Rattle.dap_profile.specs.declared.profile.Kind.{Kind, TheVariants.{Request, Response, Event}}
 use Rattle.dap_message.proofs.Edits.{Alike, by_bool}
 use Rattle.dap_message.proofs.RowMarks.{text-top, one_step}
 use Rattle.dap_message.proofs.OneMarking.{reported}
@@ -32,17 +32,12 @@ use Rattle.dap_mask.specs.Masked.{mask_by, masked}
 use Rattle.dap_mask.specs.Texts.{digits, hex}
 use Rattle.dap_words.specs.Long.{long}
 use Rattle.dap_words.specs.Uuids.{uuid}
-use Rattle.dap_mask.specs.declared.rules.Verb.{Verb}
-use Rattle.dap_mask.specs.declared.rules.Verb.TheVariants.{Blank, Digits, Hex, Long, Uuid}
+use Rattle.dap_mask.specs.declared.rules.Verb.{Verb, TheVariants.{Blank, Digits, Hex, Long, Uuid}}
 use Rattle.dap_mask.proofs.Edited.{top-verb, at-edit, left-none}
 use Rattle.dap_mask.proofs.ElementNames.{same_names}
 use Rattle.dap_mask.proofs.Matches.{both_apply}
 
 -- ---- a rule applies to a masked document if and only if it applies to the original document
-
-not_true : (b : Bool) → not b ≡ true → b ≡ false
-not_true true h = cc
-not_true false h = refl
 
 -- a place that rules may have neither matches the path of `type`, `command`, `event` or `success`
 -- nor a prefix of it
@@ -128,7 +123,7 @@ dropped-mask_by r ns d h = go (rule_applies r d)
 
 pub first_safe : (r : Rule) (rs : List Rule) → are_safe (r ∷ rs) ≡ true → is_telling_place r.place
     ≡ false
-first_safe r rs h = not_true (is_telling_place r.place) (and_left (not (is_telling_place r.place))
+first_safe r rs h = not-true (is_telling_place r.place) (and_left (not (is_telling_place r.place))
     (not (renames r r || renames_among r rs) && are_safe rs) h)
 
 -- the rules leave the names of elements, and the rest is safe
@@ -144,7 +139,7 @@ rest_safe r rs h =
 pub first_renames : (r : Rule) (rs : List Rule) → are_safe (r ∷ rs) ≡ true
     → (renames r r ≡ false) × (renames_among r rs ≡ false)
 first_renames r rs h =
-    let none = not_true (renames r r || renames_among r rs)
+    let none = not-true (renames r r || renames_among r rs)
     (and_left (not (renames r r || renames_among r rs)) (are_safe rs) (later_safe r rs h)) in (
       or_left (renames r r) (renames_among r rs) none,
       or_right (renames r r) (renames_among r rs) none,
@@ -251,17 +246,17 @@ text_blank f h (list ds) = refl
 text_blank f h (object ms) = refl
 text_blank f h (id s z) = refl
 
-blank_again : (x : Doc) → Some (blank (blank x)) ≡ Some (blank x)
-blank_again null = refl
-blank_again (boolean b) = refl
-blank_again (whole z) = refl
-blank_again (text s) = refl
-blank_again (list ds) = refl
-blank_again (object ms) = refl
-blank_again (id s z) = refl
+pub blank_twice : (d : Doc) → blank (blank d) ≡ blank d
+blank_twice null = refl
+blank_twice (boolean b) = refl
+blank_twice (whole z) = refl
+blank_twice (text s) = refl
+blank_twice (list ds) = refl
+blank_twice (object ms) = refl
+blank_twice (id s z) = refl
 
 pub blank_fixed : (x : Doc) → Fixed (Some (blank x))
-blank_fixed x Blank = blank_again x
+blank_fixed x Blank = ap Some (blank_twice x)
 blank_fixed x Digits = text_blank digits refl x
 blank_fixed x Hex = text_blank hex refl x
 blank_fixed x Long = text_blank long refl x
@@ -328,7 +323,7 @@ abbrev pub is_renamed_by : List Rule → Rule → Bool
 is_renamed_by [] q = false
 is_renamed_by (r ∷ rs) q = renames r q || is_renamed_by rs q
 
-and_first : (a b : Bool) → b ≡ true → (a && b) ≡ false → a ≡ false
+pub and_first : (a b : Bool) → b ≡ true → (a && b) ≡ false → a ≡ false
 and_first true b e h = absurd (true≢false (sym e ∙ h))
 and_first false b e h = refl
 

@@ -2,6 +2,8 @@
 use Rattle.std.proofs.Common.{◌≡◌, ℕ, Bool, true, false, cond, not, ◌&&◌, ◌||◌, List, [], ◌∷◌}
 use Rattle.std.proofs.Common.{Option, Some, None, option_map, option_and_then, codes, refl, sym}
 use Rattle.std.proofs.Common.{◌∙◌, ap, subst, true≢false}
+use Rattle.std.proofs.lemmas.Bool.{not-true, and_right as and_none}
+use Rattle.dap_mask.proofs.ElementNames.{and_other}
 use Rattle.dap_tree.specs.Doc.{Doc, get}
 use Rattle.dap_tree.specs.Path.{name, at}
 use Rattle.dap_tree.proofs.Booleans.{and_left, and_right, and_both, or_left, or_right, or_both}
@@ -23,18 +25,6 @@ use Rattle.dap_mask.specs.declared.rules.Verb.TheVariants.{Blank}
 use Rattle.dap_mask.proofs.ByPath.{at-mask_by, first_safe, rest_safe, spoken-mask_by}
 use Rattle.dap_mask.proofs.ByPath.{spoken-masked, dropped-masked}
 use Rattle.dap_mask.proofs.Matches.{kind_alike, name_alike}
-
-not_true : (b : Bool) → not b ≡ true → b ≡ false
-not_true true h = cc
-not_true false h = refl
-
-and_other : (a b : Bool) → a ≡ true → (a && b) ≡ false → b ≡ false
-and_other true b e h = h
-and_other false b e h = cc
-
-and_none : (a b : Bool) → b ≡ false → (a && b) ≡ false
-and_none true b h = h
-and_none false b h = refl
 
 -- ---- the category in the body
 
@@ -139,7 +129,7 @@ none_dropped : (rs : List Rule) (cs : List CategoryRule) (d : Doc) → are_safe 
     → is_dropped_by cs d ≡ false → is_dropped_by cs (masked rs d) ≡ false
 none_dropped rs [] d safe keep event none = refl
 none_dropped rs (c ∷ cs) d safe keep event none =
-    let free = not_true (is_moved_by rs c)
+    let free = not-true (is_moved_by rs c)
     (and_left (not (is_moved_by rs c)) (keep_categories rs cs) keep) in
     or_both _ _
     (by_bool (drops c (masked rs d))

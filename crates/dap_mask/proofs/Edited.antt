@@ -3,8 +3,7 @@ use Rattle.std.proofs.Common.{◌≡◌, ℕ, Bool, true, false, cond, ◌&&◌,
 use Rattle.std.proofs.Common.{Some, None, option_map, option_and_then, refl, sym, ◌∙◌, ap, bytes_eq}
 use Rattle.std.proofs.Common.{true≢false}
 use Rattle.std.proofs.lemmas.Slice.Eq.{bytes_eq-Decides}
-use Rattle.dap_tree.specs.Doc.{Doc, null, boolean, whole, text, list, object, id}
-use Rattle.dap_tree.specs.Doc.{get, change_child}
+use Rattle.dap_tree.specs.Doc.{Doc, null, boolean, whole, text, list, object, id, get, change_child}
 use Rattle.dap_tree.specs.Path.{Step, name, place, at, step}
 use Rattle.dap_tree.proofs.Paths.{get-change, get-change_other, item-change, get-change_items}
 use Rattle.dap_profile.specs.PlaceSteps.{PlaceStep}
@@ -15,8 +14,7 @@ use Rattle.dap_mask.specs.RuleSteps.{RuleStep, named, elements, plain_place, is_
 use Rattle.dap_mask.specs.RuleSteps.{change_called, change_at_place}
 use Rattle.dap_mask.specs.Rules.{of_verb, blank, change_text, takes_parts}
 use Rattle.dap_mask.specs.Masked.{is_below, left_at}
-use Rattle.dap_mask.specs.declared.rules.Verb.{Verb}
-use Rattle.dap_mask.specs.declared.rules.Verb.TheVariants.{Blank, Digits, Hex, Long, Uuid}
+use Rattle.dap_mask.specs.declared.rules.Verb.{Verb, TheVariants.{Blank, Digits, Hex, Long, Uuid}}
 
 -- ---- one value
 

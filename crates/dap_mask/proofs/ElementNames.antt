@@ -4,6 +4,7 @@ use Rattle.std.proofs.Common.{◌∷◌, Option, Some, None, option_map, option_
 use Rattle.std.proofs.Common.{sym, ap, ap₂, ◌∙◌, bytes_eq, true≢false}
 use Rattle.std.proofs.lemmas.Option.{none-some}
 use Rattle.std.proofs.lemmas.Slice.Eq.{bytes_eq-Decides}
+use Rattle.std.proofs.lemmas.Bool.{and_right as and_none}
 use Rattle.dap_tree.specs.Doc.{Doc, get, change_child, change_items}
 use Rattle.dap_tree.specs.Path.{Step, name, place, at, step}
 use Rattle.dap_tree.proofs.Booleans.{or_left, or_right}
@@ -16,8 +17,7 @@ use Rattle.dap_mask.specs.Masked.{is_below}
 use Rattle.dap_mask.specs.RuleSteps.{RuleStep, named, elements, plain_place, is_called, has_names}
 use Rattle.dap_mask.specs.RuleSteps.{change_called, change_at_place}
 use Rattle.dap_mask.specs.Rules.{blank, of_verb, takes_parts, share_name, is_name_of, is_name_in}
-use Rattle.dap_mask.specs.declared.rules.Verb.{Verb}
-use Rattle.dap_mask.specs.declared.rules.Verb.TheVariants.{Blank, Digits, Hex, Long, Uuid}
+use Rattle.dap_mask.specs.declared.rules.Verb.{Verb, TheVariants.{Blank, Digits, Hex, Long, Uuid}}
 use Rattle.dap_mask.proofs.Edited.{step-verb, place-change}
 use Rattle.dap_mask.proofs.Matches.{called_alike}
 
@@ -35,13 +35,9 @@ abbrev pub SameNames : Verb → List RuleStep → List RuleStep → Option Doc �
 SameNames v rs qs o p =
     (has_names qs (edited v rs o) p ≡ has_names qs o p) ⊎ IsBlankAt qs (edited v rs o) p
 
-and_other : (a b : Bool) → a ≡ true → (a && b) ≡ false → b ≡ false
+pub and_other : (a b : Bool) → a ≡ true → (a && b) ≡ false → b ≡ false
 and_other true b e h = h
 and_other false b e h = cc
-
-and_none : (a b : Bool) → b ≡ false → (a && b) ≡ false
-and_none true b h = h
-and_none false b h = refl
 
 -- ---- the name of one element
 

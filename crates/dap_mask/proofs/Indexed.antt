@@ -10,10 +10,10 @@ use Rattle.std.specs.List.{AllByRecursion, filter, slice_get, slice_index_or}
 use Rattle.std.specs.Map.{lookup}
 use Rattle.std.specs.Option.{option_to_list}
 use Rattle.std.specs.Ordering.{nat_cmp}
+use Rattle.std.proofs.lemmas.Bool.{and_left as not_both}
 use Rattle.dap_tree.specs.Doc.{Doc, null, boolean, whole, text, list, object, id, get}
 use Rattle.dap_message.specs.Rows.{is_of_kind, name_key, is_text}
-use Rattle.dap_profile.specs.declared.profile.Kind.{Kind}
-use Rattle.dap_profile.specs.declared.profile.Kind.TheVariants.{Request, Response, Event}
+use Rattle.dap_profile.specs.declared.profile.Kind.{Kind, TheVariants.{Request, Response, Event}}
 use Rattle.dap_message.proofs.Edits.{by_bool}
 use Rattle.dap_mask.specs.Index.{asks_for, may_speak, told_kind, text_told, told_name}
 use Rattle.dap_mask.specs.Index.{positions_from, positions, rules_at, masked_by, masked_at}
@@ -21,8 +21,7 @@ use Rattle.dap_mask.specs.Index.{NamePlaces, kept_for, AreRight, AsksNot, HasAsk
 use Rattle.dap_mask.specs.Index.{IsIndex}
 use Rattle.dap_mask.specs.Masked.{mask_by, masked}
 use Rattle.dap_mask.specs.Rules.{Rule, rule_of, rules_of, has_name, rule_applies, same_kind}
-use Rattle.dap_mask.specs.Rules.{are_safe}
-use Rattle.dap_mask.specs.Rules.{is_telling_place}
+use Rattle.dap_mask.specs.Rules.{are_safe, is_telling_place}
 use Rattle.dap_mask.specs.declared.index.KindRules.{KindRules}
 use Rattle.dap_mask.specs.declared.rules.MaskRule.{MaskRule}
 use Rattle.dap_mask.proofs.ByPath.{first_safe, rest_safe, spoken-mask_by}
@@ -182,9 +181,6 @@ name_asked : (k : Kind) (m : Option (List ℕ)) (d : Doc)
     → has_name k m d ≡ asks_for m (told_name k d)
 name_asked k None d = refl
 name_asked k (Some m) d = text_asked m (get (name_key k) d)
-
-not_both : (a b : Bool) → a ≡ false → (a && b) ≡ false
-not_both a b h = rw h refl
 
 spoken-may : (d : Doc) (k : Kind) (r : Rule) → told_kind d ≡ Some k
     → rule_applies r d ≡ may_speak k (told_name k d) r

@@ -2,7 +2,7 @@
 use Rattle.std.proofs.Common.{◌≡◌, ℕ, ◌≤◌, max, Bool, true, false, cond, not, ◌&&◌, ◌||◌, List, []}
 use Rattle.std.proofs.Common.{◌∷◌, leb, Ordering, Less, Equal, Greater, nat_cmp}
 use Rattle.std.proofs.Common.{Option, Some, IsUtf8, refl, sym, ap, ◌∙◌, arith}
-use Rattle.std.proofs.lemmas.Bool.{leb-true, le-leb}
+use Rattle.std.proofs.lemmas.Bool.{leb-true, le-leb, not-true}
 use Rattle.std.proofs.lemmas.Str.{IsUtf8-from_is_utf8, is_utf8-from_IsUtf8, IsUtf8-nil}
 use Rattle.std.specs.Cmp.Lexicographic.{slice_cmp}
 use Rattle.std.specs.Ordering.{match_ordering}
@@ -21,8 +21,7 @@ use Rattle.dap_mask.specs.Texts.{digits, hex}
 use Rattle.dap_words.specs.Long.{long}
 use Rattle.dap_words.specs.Uuids.{uuid}
 use Rattle.dap_words.proofs.Utf8.{long_utf8, uuid_utf8}
-use Rattle.dap_mask.specs.declared.rules.Verb.{Verb}
-use Rattle.dap_mask.specs.declared.rules.Verb.TheVariants.{Blank, Digits, Hex, Long, Uuid}
+use Rattle.dap_mask.specs.declared.rules.Verb.{Verb, TheVariants.{Blank, Digits, Hex, Long, Uuid}}
 use Rattle.dap_mask.proofs.Utf8.{digits_utf8, hex_utf8}
 
 -- ---- depth
@@ -231,14 +230,15 @@ utf8_test = record {
   of_object = λ ms. refl;
 }
 
-range_text : (f : List ℕ → List ℕ) → Keeps all_in_range (change_text f)
-range_text f (text s) g = g
-range_text f null g = g
-range_text f (boolean b) g = g
-range_text f (whole z) g = g
-range_text f (list ds) g = g
-range_text f (object ms) g = g
-range_text f (id s z) g = g
+text_keeps : (T : Doc → Bool) (f : List ℕ → List ℕ)
+    → ((s : List ℕ) → T (text s) ≡ true → T (text (f s)) ≡ true) → Keeps T (change_text f)
+text_keeps T f k (text s) g = k s g
+text_keeps T f k null g = g
+text_keeps T f k (boolean b) g = g
+text_keeps T f k (whole z) g = g
+text_keeps T f k (list ds) g = g
+text_keeps T f k (object ms) g = g
+text_keeps T f k (id s z) g = g
 
 range_verb : (v : Verb) → Keeps all_in_range (of_verb v)
 range_verb Blank null g = g
@@ -248,20 +248,14 @@ range_verb Blank (text s) g = g
 range_verb Blank (list ds) g = refl
 range_verb Blank (object ms) g = refl
 range_verb Blank (id s z) g = g
-range_verb Digits d g = range_text _ d g
-range_verb Hex d g = range_text _ d g
-range_verb Long d g = range_text _ d g
-range_verb Uuid d g = range_text _ d g
+range_verb Digits d g = text_keeps all_in_range digits (λ s h. h) d g
+range_verb Hex d g = text_keeps all_in_range hex (λ s h. h) d g
+range_verb Long d g = text_keeps all_in_range long (λ s h. h) d g
+range_verb Uuid d g = text_keeps all_in_range uuid (λ s h. h) d g
 
-utf8_text : (f : List ℕ → List ℕ) → ((s : List ℕ) → IsUtf8 s → IsUtf8 (f s))
-    → Keeps all_utf8 (change_text f)
-utf8_text f k (text s) g = is_utf8-from_IsUtf8 (f s) (k s (IsUtf8-from_is_utf8 s g))
-utf8_text f k null g = g
-utf8_text f k (boolean b) g = g
-utf8_text f k (whole z) g = g
-utf8_text f k (list ds) g = g
-utf8_text f k (object ms) g = g
-utf8_text f k (id s z) g = g
+utf8_kept : (f : List ℕ → List ℕ) → ((s : List ℕ) → IsUtf8 s → IsUtf8 (f s)) → (s : List ℕ)
+    → is_utf8 s ≡ true → is_utf8 (f s) ≡ true
+utf8_kept f k s g = is_utf8-from_IsUtf8 (f s) (k s (IsUtf8-from_is_utf8 s g))
 
 utf8_verb : (v : Verb) → Keeps all_utf8 (of_verb v)
 utf8_verb Blank null g = g
@@ -271,10 +265,10 @@ utf8_verb Blank (text s) g = is_utf8-from_IsUtf8 [] IsUtf8-nil
 utf8_verb Blank (list ds) g = refl
 utf8_verb Blank (object ms) g = refl
 utf8_verb Blank (id s z) g = g
-utf8_verb Digits d g = utf8_text digits digits_utf8 d g
-utf8_verb Hex d g = utf8_text hex hex_utf8 d g
-utf8_verb Long d g = utf8_text long long_utf8 d g
-utf8_verb Uuid d g = utf8_text uuid uuid_utf8 d g
+utf8_verb Digits d g = text_keeps all_utf8 digits (utf8_kept digits digits_utf8) d g
+utf8_verb Hex d g = text_keeps all_utf8 hex (utf8_kept hex hex_utf8) d g
+utf8_verb Long d g = text_keeps all_utf8 long (utf8_kept long long_utf8) d g
+utf8_verb Uuid d g = text_keeps all_utf8 uuid (utf8_kept uuid uuid_utf8) d g
 
 masked_shallow : (rs : List Rule) → Shallow (masked rs)
 masked_shallow [] d = omega arith
@@ -314,15 +308,6 @@ no_id_test = record {
   of_object = λ ms. refl;
 }
 
-no_id_text : (f : List ℕ → List ℕ) → Keeps (λ d. not (has_id d)) (change_text f)
-no_id_text f (text s) g = g
-no_id_text f null g = g
-no_id_text f (boolean b) g = g
-no_id_text f (whole z) g = g
-no_id_text f (list ds) g = g
-no_id_text f (object ms) g = g
-no_id_text f (id s z) g = g
-
 no_id_verb : (v : Verb) → Keeps (λ d. not (has_id d)) (of_verb v)
 no_id_verb Blank null g = g
 no_id_verb Blank (boolean b) g = g
@@ -331,15 +316,11 @@ no_id_verb Blank (text s) g = g
 no_id_verb Blank (list ds) g = refl
 no_id_verb Blank (object ms) g = refl
 no_id_verb Blank (id s z) g = g
-no_id_verb Digits d g = no_id_text _ d g
-no_id_verb Hex d g = no_id_text _ d g
-no_id_verb Long d g = no_id_text _ d g
-no_id_verb Uuid d g = no_id_text _ d g
+no_id_verb Digits d g = text_keeps no_id_test.doc digits (λ s h. h) d g
+no_id_verb Hex d g = text_keeps no_id_test.doc hex (λ s h. h) d g
+no_id_verb Long d g = text_keeps no_id_test.doc long (λ s h. h) d g
+no_id_verb Uuid d g = text_keeps no_id_test.doc uuid (λ s h. h) d g
 
 pub no_id_masked : (rs : List Rule) (d : Doc) → has_id d ≡ false → has_id (masked rs d) ≡ false
-no_id_masked rs d h = false_from (has_id (masked rs d))
+no_id_masked rs d h = not-true (has_id (masked rs d))
     (masked_keeps no_id_test no_id_verb rs d (ap not h))
-  where
-    false_from : (b : Bool) → not b ≡ true → b ≡ false
-    false_from true g = cc
-    false_from false g = refl

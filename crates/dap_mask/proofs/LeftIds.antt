@@ -1,14 +1,14 @@
 -- Rules that do not change ids.
-use Rattle.std.proofs.Common.{◌≡◌, ◌⊎◌, inl, inr, ℕ, Bool, true, false, cond, not, ◌&&◌, List}
-use Rattle.std.proofs.Common.{[], ◌∷◌, Option, Some, None, option_map, refl, sym, ◌∙◌, ap}
-use Rattle.std.proofs.Common.{subst, true≢false}
+use Rattle.std.proofs.Common.{◌≡◌, ◌⊎◌, inl, inr, ℕ, Bool, true, false, cond, not, ◌&&◌, List, []}
+use Rattle.std.proofs.Common.{◌∷◌, Option, Some, None, option_map, refl, sym, ◌∙◌, ap, subst}
+use Rattle.std.proofs.Common.{true≢false, zero, suc, ◌<◌, length, arith}
+use Rattle.std.proofs.lemmas.Bool.{not-true}
 use Rattle.dap_tree.specs.Doc.{Doc, get}
 use Rattle.dap_tree.specs.Path.{Step, at}
 use Rattle.dap_tree.proofs.Booleans.{and_left, and_right, and_both, or_left, or_right}
 use Rattle.dap_message.specs.Places.{fits_place}
 use Rattle.dap_profile.specs.ProfileRows.{ProfileRow}
-use Rattle.dap_message.specs.Rows.{row_applies, is_text, is_of_kind, name_key}
-use Rattle.dap_message.specs.Rows.{may_have_body}
+use Rattle.dap_message.specs.Rows.{row_applies, is_text, is_of_kind, name_key, may_have_body}
 use Rattle.dap_profile.specs.declared.profile.Kind.{Kind}
 use Rattle.dap_mask.specs.Rules.{Rule, of_verb, takes_parts, has_name, rule_applies}
 use Rattle.dap_mask.specs.RuleSteps.{has_names}
@@ -18,7 +18,6 @@ use Rattle.dap_mask.specs.Ids.{meets, takes_id, leave_row, takes_id_of}
 use Rattle.dap_mask.specs.Ids.{takes_profile_id, leave_ids, KeepsIds}
 use Rattle.dap_message.specs.Marks.{top}
 use Rattle.dap_profile.specs.Profile.{profile, wants_id}
-use Rattle.std.proofs.Common.{zero, suc, ◌<◌, length, arith}
 use Rattle.std.specs.Prelude.{Contains}
 use Rattle.std.specs.List.{slice_index_or}
 use Rattle.dap_mask.proofs.ByPath.{left_nothing, at-masked, none_from}
@@ -67,17 +66,13 @@ one_left r row d p o free wants asked fits =
     go true false true not_both s f = inr refl
     go true false false not_both s f = inl refl
 
-not_true : (b : Bool) → not b ≡ true → b ≡ false
-not_true true h = cc
-not_true false h = refl
-
 leaves_row : (rules : List Rule) (d : Doc) (p : List Step) (o : Option Doc) (row : ProfileRow)
     → leave_row rules row ≡ true → wants_id row.want ≡ true → row_applies row.kind row.name d ≡ true
     → fits_place row.place p ≡ true
     → (left rules d p o ≡ o) ⊎ (left rules d p o ≡ None)
 leaves_row [] d p o row h wants asked fits = inl refl
 leaves_row (r ∷ rs) d p o row h wants asked fits =
-    elim (one_left r row d p o (not_true (takes_id r row) (and_left (not (takes_id r row))
+    elim (one_left r row d p o (not-true (takes_id r row) (and_left (not (takes_id r row))
     (leave_row rs row) h)) wants asked fits) [
       | inl e ↦ (rw e (leaves_row rs d p o row (and_right (not (takes_id r row)) (leave_row rs row)
           h) wants asked fits))
@@ -105,7 +100,7 @@ leave_row_of [] row h among = refl
 leave_row_of (r ∷ rs) row h among =
     and_both _ _
     (ap not (takes_none_of r row
-    (not_true (takes_profile_id r) (and_left (not (takes_profile_id r)) (leave_ids rs) h)) among))
+    (not-true (takes_profile_id r) (and_left (not (takes_profile_id r)) (leave_ids rs) h)) among))
     (leave_row_of rs row (and_right (not (takes_profile_id r)) (leave_ids rs) h) among)
 
 pub leaves_ids : (rules : List Rule) (d : Doc) (p : List Step) (o : Option Doc) (row : ProfileRow)

@@ -15,6 +15,7 @@ pub mod PlainPlaces
 pub mod LeftIds
 pub mod RulesBehind
 pub mod Lines
+pub mod Lists
 pub mod Growths
 pub mod Indexed
 pub mod Options

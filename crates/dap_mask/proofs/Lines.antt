@@ -1,12 +1,11 @@
 -- Lines, names and steps, as the reader of a rules file processes them.
-use Rattle.std.proofs.Common.{◌≡◌, ℕ, suc, ◌+◌, ◌<◌, ◌≤◌, Bool, true, false, cond, not, ◌==◌}
-use Rattle.std.proofs.Common.{List, [], ◌∷◌, ◌++◌, length, refl, sym, ap, ap₂, ◌∙◌, arith, IsUtf8}
+use Rattle.std.proofs.Common.{◌≡◌, ℕ, suc, ◌+◌, ◌<◌, ◌≤◌, Bool, true, false, cond, not, ◌==◌, List}
+use Rattle.std.proofs.Common.{[], ◌∷◌, ◌++◌, length, refl, sym, ap, ap₂, ◌∙◌, arith, IsUtf8, take}
+use Rattle.std.proofs.Common.{drop, Option, Some, None, option_map, append-nil, ◌-◌, Result, Ok}
+use Rattle.std.proofs.Common.{Err, true≢false, length-drop}
 use Rattle.std.proofs.lemmas.Str.{IsUtf8-nil, IsUtf8-append}
-use Rattle.std.proofs.Common.{take, drop, Option, Some, None, option_map, append-nil}
-use Rattle.std.proofs.Common.{◌-◌, ◌<◌, ◌≤◌, Result, Ok, Err, true≢false}
 use Rattle.std.proofs.Math.Seq.{take-length}
 use Rattle.std.proofs.lemmas.List.{length-take}
-use Rattle.std.proofs.Common.{length-drop}
 use Rattle.std.proofs.lemmas.Str.{IsUtf8-from_is_utf8, is_utf8-from_IsUtf8}
 use Rattle.std.specs.Result.{OnOk}
 use Rattle.std.specs.Str.{is_utf8}

@@ -1,8 +1,7 @@
 -- Without rules, the result is the document that the content represents.
-use Rattle.std.proofs.Common.{◌≡◌, ◌∙◌, ℕ, ℤ, pos, negsuc, true, false, not}
-use Rattle.std.proofs.Common.{Bool, List, [], ◌&&◌, Some, nat_le, refl, sym, ap, ap₂, subst}
-use Rattle.std.proofs.Common.{◌∷◌, ◌++◌, string_bytes, string_cmp, nat_cmp}
-use Rattle.std.proofs.Common.{Ordering, Less, Equal, Greater}
+use Rattle.std.proofs.Common.{◌≡◌, ◌∙◌, ℕ, ℤ, pos, negsuc, true, false, not, List, [], Some, nat_le}
+use Rattle.std.proofs.Common.{refl, sym, ap, ap₂, subst, ◌∷◌, ◌++◌, string_bytes, string_cmp}
+use Rattle.std.proofs.Common.{nat_cmp, Ordering, Less, Equal, Greater}
 use Rattle.std.specs.BTreeMap.{insert_entry}
 use Rattle.std.specs.Cmp.Lexicographic.{slice_cmp}
 use Rattle.std.specs.List.Sorted.{IsStrictlySortedBy}
@@ -12,6 +11,7 @@ use Rattle.serde_json.specs.View.{view as value_view, items_view as values_view}
 use Rattle.serde_json.specs.View.{members_view as pairs_view}
 use Rattle.serde_json.specs.declared.value.Value.{Value}
 use Rattle.serde_json.proofs.Views.{Entry as Pair, put_last as pair_last}
+use Rattle.std.proofs.lemmas.Bool.{and_right as and_none}
 use Rattle.dap_tree.specs.View.{view, items_view, members_view}
 use Rattle.dap_tree.specs.declared.tree.Tree.{Tree}
 use Rattle.dap_tree.proofs.Views.{Entry, members_view-insert_entry}
@@ -112,11 +112,7 @@ mutual
   members_no_id_loose (json.member k v ms) = or_both _ _ (no_id_loose v) (members_no_id_loose ms)
 
 none_dropped : (d : Doc) → leaves_out no_rules d ≡ false
-none_dropped d = nothing_of (is_of_kind Event d)
-  where
-    nothing_of : (b : Bool) → (b && false) ≡ false
-    nothing_of true = refl
-    nothing_of false = refl
+none_dropped d = and_none (is_of_kind Event d) false refl
 
 pub unmasked_is_read : (bytes : List ℕ) (d : Doc) → (IsLeftOf no_rules bytes (Some d)
     → IsRead bytes d) × (IsRead bytes d → IsLeftOf no_rules bytes (Some d))

@@ -8,8 +8,7 @@ use Rattle.dap_tree.proofs.Booleans.{and_left, and_right, and_both}
 use Rattle.dap_profile.specs.PlaceSteps.{PlaceStep, named as member, each}
 use Rattle.dap_message.specs.Places.{fits_place}
 use Rattle.dap_message.specs.Rows.{is_text, is_of_kind, name_key, type_name}
-use Rattle.dap_profile.specs.declared.profile.Kind.{Kind}
-use Rattle.dap_profile.specs.declared.profile.Kind.TheVariants.{Request, Response, Event}
+use Rattle.dap_profile.specs.declared.profile.Kind.{Kind, TheVariants.{Request, Response, Event}}
 use Rattle.dap_mask.specs.RuleSteps.{RuleStep, named, elements, plain_place, is_called, has_names}
 use Rattle.dap_mask.specs.Rules.{Rule, has_name, rule_applies, same_place, same_kind, share_name}
 use Rattle.dap_mask.specs.Rules.{share_place}

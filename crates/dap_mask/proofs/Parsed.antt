@@ -7,32 +7,27 @@ use Rattle.std.proofs.lemmas.Bool.{eqb-true}
 use Rattle.std.proofs.lemmas.Option.{none-some, same_Some}
 use Rattle.std.proofs.lemmas.Slice.Eq.{bytes_eq-Decides}
 use Rattle.std.specs.Prelude.{zero, codes}
-use Rattle.dap_profile.specs.declared.profile.Kind.{Kind}
-use Rattle.dap_profile.specs.declared.profile.Kind.TheVariants.{Request, Response, Event}
+use Rattle.dap_profile.specs.declared.profile.Kind.{Kind, TheVariants.{Request, Response, Event}}
 use Rattle.dap_mask.specs.Grammar.{IsGap, GoesOn, HasWords, IsName, bare, quoted}
 use Rattle.dap_mask.specs.Grammar.{IsNameOrAny, AreSteps, IsPlace, verb_word, kind_word}
 use Rattle.dap_mask.specs.Grammar.{AreWordsOf, SaysRule, Says}
 use Rattle.dap_mask.specs.Categories.{CategoryRule}
 use Rattle.dap_mask.specs.Mask.{Statement, change, leave_out, leave_out_category, swap, restart}
-use Rattle.dap_mask.specs.Mask.{put}
-use Rattle.dap_mask.specs.Mask.{Line, nothing, rule, bad}
+use Rattle.dap_mask.specs.Mask.{put, Line, nothing, rule, bad}
 use Rattle.dap_mask.specs.RuleSteps.{RuleStep, named, elements}
-use Rattle.dap_mask.specs.RuleText.{bracket_behind, called_step}
-use Rattle.dap_mask.specs.RuleText.{quoted_at, plain_at, name_at, this_name, any_name, each_step}
-use Rattle.dap_mask.specs.RuleText.{member_step, next_step, step_then, steps_from, place_at}
-use Rattle.dap_mask.specs.RuleText.{verb_named, kind_named, Head, name_behind, kind_then, head_at}
-use Rattle.dap_mask.specs.RuleText.{placed, place_behind, change_at, text_behind, category_at}
-use Rattle.dap_mask.specs.RuleText.{with_category, category_behind, dropped_at, leave_out_at}
-use Rattle.dap_mask.specs.RuleText.{half_at}
-use Rattle.dap_mask.specs.RuleText.{swap_with, swap_at, restart_at, part_at, word_with, put_at}
-use Rattle.dap_mask.specs.RuleText.{statement_at, reported}
+use Rattle.dap_mask.specs.RuleText.{bracket_behind, called_step, quoted_at, plain_at, name_at}
+use Rattle.dap_mask.specs.RuleText.{this_name, any_name, each_step, member_step, next_step}
+use Rattle.dap_mask.specs.RuleText.{step_then, steps_from, place_at, verb_named, kind_named, Head}
+use Rattle.dap_mask.specs.RuleText.{name_behind, kind_then, head_at, placed, place_behind}
+use Rattle.dap_mask.specs.RuleText.{change_at, text_behind, category_at, with_category}
+use Rattle.dap_mask.specs.RuleText.{category_behind, dropped_at, leave_out_at, half_at, swap_with}
+use Rattle.dap_mask.specs.RuleText.{swap_at, restart_at, part_at, word_with, put_at, statement_at}
+use Rattle.dap_mask.specs.RuleText.{reported, line_said}
 use Rattle.dap_words.specs.Words.{Pair}
-use Rattle.dap_mask.specs.RuleText.{line_said}
 use Rattle.dap_mask.specs.Rules.{Rule, same_kind}
 use Rattle.dap_mask.specs.Runs.{is_blank, is_plain, front, behind, gap, is_end}
 use Rattle.dap_message.specs.SwapRules.{Half, SwapRule}
-use Rattle.dap_mask.specs.declared.rules.Verb.{Verb}
-use Rattle.dap_mask.specs.declared.rules.Verb.TheVariants.{Blank, Digits, Hex, Long, Uuid}
+use Rattle.dap_mask.specs.declared.rules.Verb.{Verb, TheVariants.{Blank, Digits, Hex, Long, Uuid}}
 use Rattle.dap_mask.proofs.Blanks.{run_split, run_all, run_begins, gap_found, end_read, end_found}
 use Rattle.dap_mask.proofs.Lines.{Steps}
 use Rattle.dap_mask.proofs.Options.{mapped, bound, if_true, if_false}

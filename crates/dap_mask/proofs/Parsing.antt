@@ -8,30 +8,26 @@ use Rattle.serde_json.specs.Data as json
 use Rattle.dap_tree.specs.Json.{Reads}
 use Rattle.dap_tree.proofs.Booleans.{or_left, or_right}
 use Rattle.dap_message.proofs.Edits.{by_bool}
-use Rattle.dap_profile.specs.declared.profile.Kind.{Kind}
-use Rattle.dap_profile.specs.declared.profile.Kind.TheVariants.{Request, Response, Event}
-use Rattle.dap_mask.specs.Grammar.{IsGap, GoesOn, HasWords, IsName, bare, quoted}
-use Rattle.dap_mask.specs.Grammar.{IsNameOrAny, AreSteps, IsPlace, verb_word, kind_word}
-use Rattle.dap_mask.specs.Grammar.{AreWordsOf, SaysRule}
+use Rattle.dap_profile.specs.declared.profile.Kind.{Kind, TheVariants.{Request, Response, Event}}
+use Rattle.dap_mask.specs.Grammar.{IsGap, GoesOn, HasWords, IsName, bare, quoted, IsNameOrAny}
+use Rattle.dap_mask.specs.Grammar.{AreSteps, IsPlace, verb_word, kind_word, AreWordsOf, SaysRule}
 use Rattle.dap_mask.specs.Categories.{CategoryRule}
 use Rattle.dap_mask.specs.Mask.{Statement, change, leave_out, leave_out_category, swap, restart}
 use Rattle.dap_mask.specs.Mask.{put, Line, nothing, rule}
 use Rattle.dap_mask.specs.RuleSteps.{RuleStep, named, elements}
-use Rattle.dap_mask.specs.RuleText.{quoted_at, plain_at, name_at, this_name, any_name}
-use Rattle.dap_mask.specs.RuleText.{called_step, member_step, next_step, step_then, steps_from, place_at}
-use Rattle.dap_mask.specs.RuleText.{verb_named, kind_named, Head}
-use Rattle.dap_mask.specs.RuleText.{name_behind, kind_then, head_at, placed, place_behind}
-use Rattle.dap_mask.specs.RuleText.{change_at, category_at, with_category, category_behind}
-use Rattle.dap_mask.specs.RuleText.{dropped_at, leave_out_at, half_at, swap_with, swap_at}
-use Rattle.dap_mask.specs.RuleText.{restart_at, part_at, word_with, put_at, statement_at}
+use Rattle.dap_mask.specs.RuleText.{quoted_at, plain_at, name_at, this_name, any_name, called_step}
+use Rattle.dap_mask.specs.RuleText.{member_step, next_step, step_then, steps_from, place_at}
+use Rattle.dap_mask.specs.RuleText.{verb_named, kind_named, Head, name_behind, kind_then, head_at}
+use Rattle.dap_mask.specs.RuleText.{placed, place_behind, change_at, category_at, with_category}
+use Rattle.dap_mask.specs.RuleText.{category_behind, dropped_at, leave_out_at, half_at, swap_with}
+use Rattle.dap_mask.specs.RuleText.{swap_at, restart_at, part_at, word_with, put_at, statement_at}
 use Rattle.dap_mask.specs.RuleText.{reported, line_said}
 use Rattle.dap_words.specs.Words.{Pair}
 use Rattle.dap_mask.specs.Rules.{Rule, same_kind}
 use Rattle.dap_mask.specs.Runs.{is_blank, is_plain, behind, gap, is_over, is_end}
 use Rattle.dap_message.specs.SwapRules.{Half, SwapRule}
 use Rattle.dap_mask.specs.Texts.{all_of, begins_with}
-use Rattle.dap_mask.specs.declared.rules.Verb.{Verb}
-use Rattle.dap_mask.specs.declared.rules.Verb.TheVariants.{Blank, Digits, Hex, Long, Uuid}
+use Rattle.dap_mask.specs.declared.rules.Verb.{Verb, TheVariants.{Blank, Digits, Hex, Long, Uuid}}
 use Rattle.dap_mask.proofs.Blanks.{front_run, behind_run, not_zero, differs, NoBlank, blank_fails}
 use Rattle.dap_mask.proofs.Blanks.{gap_stops, gap_read, end_read, NoEnd, end_stops, words_stop}
 use Rattle.dap_mask.proofs.Lines.{Steps}

@@ -1,5 +1,5 @@
 -- The relations for `digits` and `hex` agree with the functions.
-use Rattle.std.proofs.Common.{◌≡◌, ℕ, ◌==◌, true, false, List, [], ◌∷◌, ◌++◌}
+use Rattle.std.proofs.Common.{◌≡◌, ℕ, ◌==◌, Bool, true, false, List, [], ◌∷◌, ◌++◌}
 use Rattle.std.proofs.Common.{refl, sym, ap, ap₂, ◌∙◌, subst, true≢false}
 use Rattle.std.specs.Char.{is_ascii_digit, is_ascii_hexdigit}
 use Rattle.dap_message.proofs.Edits.{by_bool}
@@ -8,6 +8,41 @@ use Rattle.dap_mask.specs.Texts.{all_of, begins_with, IsRun, AreDigitsOf, at_end
 use Rattle.dap_mask.specs.Texts.{IsHexOf, number, is_x, goes_on_as_hex, begins_hex, digits_from}
 use Rattle.dap_mask.specs.Texts.{digits, hex, behind_zero, in_number}
 use Rattle.dap_mask.proofs.Squeezed.{begins_zero}
+
+-- ---- runs
+
+-- the end of the current run of bytes of a class, and the relation for the rest
+pub record RunEnd (class : ℕ → Bool) (Said : List ℕ → List ℕ → Type 0) (s t : List ℕ)
+    : Type 0 where
+  pub digits : List ℕ
+  pub rest : List ℕ
+  pub whole : s ≡ digits ++ rest
+  pub all : all_of class digits ≡ true
+  pub ends : begins_with class rest ≡ false
+  pub said : Said rest t
+
+-- the run is empty
+no_more : {class : ℕ → Bool} {Said : List ℕ → List ℕ → Type 0} {t : List ℕ} (s : List ℕ)
+    → begins_with class s ≡ false → Said s t → RunEnd class Said s t
+no_more s h said =
+    record { digits = []; rest = s; whole = refl; all = refl; ends = h; said = said }
+
+-- one more byte precedes the run
+one_more : {class : ℕ → Bool} {Said : List ℕ → List ℕ → Type 0} {s t : List ℕ} (b : ℕ)
+    → class b ≡ true → RunEnd class Said s t → RunEnd class Said (b ∷ s) t
+one_more b h e = record {
+  digits = b ∷ e.digits;
+  rest = e.rest;
+  whole = ap (λ u. b ∷ u) e.whole;
+  all = and_both _ _ h e.all;
+  ends = e.ends;
+  said = e.said;
+}
+
+-- the run with the byte before it
+whole_run : {class : ℕ → Bool} {Said : List ℕ → List ℕ → Type 0} {s t : List ℕ} {b : ℕ}
+    → class b ≡ true → (e : RunEnd class Said s t) → IsRun class (b ∷ e.digits) e.rest
+whole_run h e = record { some = h; all = and_both _ _ h e.all; ends = e.ends }
 
 -- ---- digits
 
@@ -36,58 +71,18 @@ digits_from_said (other {b} {s} {t} h r) = rw h (ap (λ u. b ∷ u) (digits_from
 digits_from_said (run {u} {s} {t} ds e h r) = ap (λ x. 48 ∷ x) (digits_from_said r)
     ∙ sym (run_squeezed ds s h) ∙ ap digits (sym e)
 
--- the end of the current run, and the relation for the rest
-pub record DigitsEnd (s t : List ℕ) : Type 0 where
-  pub digits : List ℕ
-  pub rest : List ℕ
-  pub whole : s ≡ digits ++ rest
-  pub all : all_of is_ascii_digit digits ≡ true
-  pub ends : begins_with is_ascii_digit rest ≡ false
-  pub said : AreDigitsOf rest t
-
 mutual
   digits_said : (s : List ℕ) → AreDigitsOf s (digits_from false s)
   digits_said [] = at_end
   digits_said (b ∷ s) = by_bool (is_ascii_digit b)
       (λ h. let e = digits_end s in
-      rw h (run (b ∷ e.digits) (ap (λ u. b ∷ u) e.whole) (record {
-        some = h;
-        all =
-            and_both _ _ h e.all;
-        ends = e.ends;
-      }) e.said))
+      rw h (run (b ∷ e.digits) (ap (λ u. b ∷ u) e.whole) (whole_run h e) e.said))
       (λ h. rw h (other h (digits_said s)))
 
-  digits_end : (s : List ℕ) → DigitsEnd s (digits_from true s)
-  digits_end [] = record {
-    digits = [];
-    rest = [];
-    whole = refl;
-    all = refl;
-    ends = refl;
-    said =
-        at_end;
-  }
-  digits_end (b ∷ s) = by_bool (is_ascii_digit b)
-      (λ h. let e = digits_end s in
-      rw h (record {
-        digits = b ∷ e.digits;
-        rest = e.rest;
-        whole = ap (λ u. b ∷ u) e.whole;
-        all =
-            and_both _ _ h e.all;
-        ends = e.ends;
-        said = e.said;
-      }))
-      (λ h. rw h (record {
-        digits = [];
-        rest = b ∷ s;
-        whole = refl;
-        all = refl;
-        ends = h;
-        said =
-            other h (digits_said s);
-      }))
+  digits_end : (s : List ℕ) → RunEnd is_ascii_digit AreDigitsOf s (digits_from true s)
+  digits_end [] = no_more [] refl at_end
+  digits_end (b ∷ s) = by_bool (is_ascii_digit b) (λ h. rw h (one_more b h (digits_end s)))
+      (λ h. rw h (no_more (b ∷ s) h (other h (digits_said s))))
 
 pub digits_are : (s t : List ℕ) → (AreDigitsOf s t → t ≡ digits s)
     × (t ≡ digits s → AreDigitsOf s t)
@@ -124,15 +119,6 @@ hex_from_said (other {b} {s} {t} h r) = rw h (ap (λ u. b ∷ u) (hex_from_said 
 hex_from_said (number {u} {s} {t} x ds e k h r) = ap (λ y. 48 ∷ 120 ∷ 48 ∷ y) (hex_from_said r)
     ∙ sym (hex_squeezed x ds s k h) ∙ ap hex (sym e)
 
--- the end of the current number, and the relation for the rest
-pub record NumberEnd (s t : List ℕ) : Type 0 where
-  pub digits : List ℕ
-  pub rest : List ℕ
-  pub whole : s ≡ digits ++ rest
-  pub all : all_of is_ascii_hexdigit digits ≡ true
-  pub ends : begins_with is_ascii_hexdigit rest ≡ false
-  pub said : IsHexOf rest t
-
 mutual
   hex_said : (s : List ℕ) → IsHexOf s (hex s)
   hex_said [] = at_end
@@ -146,45 +132,14 @@ mutual
   number_said b (x ∷ []) e h = cc
   number_said b (x ∷ d ∷ s) e h =
       let n = number_end s in
-      let k = and_right (is_x x) (is_ascii_hexdigit d) h in
       number x (d ∷ n.digits) (ap₂ (λ y u. y ∷ x ∷ d ∷ u) e n.whole)
-      (and_left (is_x x) (is_ascii_hexdigit d) h) (record {
-        some = k;
-        all =
-            and_both _ _ k n.all;
-        ends = n.ends;
-      }) n.said
+      (and_left (is_x x) (is_ascii_hexdigit d) h)
+      (whole_run (and_right (is_x x) (is_ascii_hexdigit d) h) n) n.said
 
-  number_end : (s : List ℕ) → NumberEnd s (in_number s)
-  number_end [] = record {
-    digits = [];
-    rest = [];
-    whole = refl;
-    all = refl;
-    ends = refl;
-    said =
-        at_end;
-  }
-  number_end (b ∷ s) = by_bool (is_ascii_hexdigit b)
-      (λ h. let n = number_end s in
-      rw h (record {
-        digits = b ∷ n.digits;
-        rest = n.rest;
-        whole = ap (λ u. b ∷ u) n.whole;
-        all =
-            and_both _ _ h n.all;
-        ends = n.ends;
-        said = n.said;
-      }))
-      (λ h. rw h (record {
-        digits = [];
-        rest = b ∷ s;
-        whole = refl;
-        all = refl;
-        ends = h;
-        said =
-            other (begins_no b s h) (hex_said s);
-      }))
+  number_end : (s : List ℕ) → RunEnd is_ascii_hexdigit IsHexOf s (in_number s)
+  number_end [] = no_more [] refl at_end
+  number_end (b ∷ s) = by_bool (is_ascii_hexdigit b) (λ h. rw h (one_more b h (number_end s)))
+      (λ h. rw h (no_more (b ∷ s) h (other (begins_no b s h) (hex_said s))))
 
 pub hex_is : (s t : List ℕ) → (IsHexOf s t → t ≡ hex s) × (t ≡ hex s → IsHexOf s t)
 hex_is s t = (hex_from_said, λ e. subst (IsHexOf s) (sym e) (hex_said s))

@@ -1,14 +1,13 @@
 -- Rules followed by one more rule.
 use Rattle.std.proofs.Common.{◌≡◌, Bool, true, false, cond, not, ◌&&◌, ◌||◌, List, [], ◌∷◌, ◌++◌}
-use Rattle.std.proofs.Common.{Option, Some, None, map, option_map, string_bytes, refl, ap}
-use Rattle.std.proofs.Common.{nat_le, String}
-use Rattle.std.proofs.Common.{◌∙◌}
+use Rattle.std.proofs.Common.{Option, Some, None, map, option_map, string_bytes, refl, ap, nat_le}
+use Rattle.std.proofs.Common.{String, ◌∙◌}
 use Rattle.std.specs.declared.alloc.Global.{Global}
+use Rattle.std.proofs.lemmas.Bool.{not-true}
 use Rattle.dap_tree.proofs.Booleans.{and_left, and_right, and_both, or_left, or_right, or_both}
 use Rattle.dap_mask.specs.Ids.{takes_profile_id, leave_ids}
-use Rattle.dap_mask.specs.Categories.{CategoryRule, category_of, categories_of, moves}
-use Rattle.dap_mask.specs.Categories.{moves_one_of, is_moved_by, keep_categories}
-use Rattle.dap_mask.specs.Categories.{is_category_among}
+use Rattle.dap_mask.specs.Categories.{CategoryRule, category_of, categories_of, moves, moves_one_of}
+use Rattle.dap_mask.specs.Categories.{is_moved_by, keep_categories, is_category_among}
 use Rattle.dap_mask.specs.Mask.{Mask, change, leave_out_category, rule_count}
 use Rattle.dap_mask.specs.Rules.{Rule, rule_of, rules_of, is_telling_place, are_safe}
 use Rattle.dap_mask.specs.Rules.{are_idempotent, renames, renames_among}
@@ -17,13 +16,8 @@ use Rattle.dap_mask.specs.RulesFile.{clash_cause, cause_of_pair, change_cause, o
 use Rattle.dap_mask.specs.RulesFile.{cause_against}
 use Rattle.dap_mask.specs.declared.rules.MaskRule.{MaskRule}
 use Rattle.dap_mask.specs.declared.categories.CategoryRule.{CategoryRule as ReadCategoryRule}
-use Rattle.dap_mask.specs.declared.fault.RulesCause.TheVariants.{TooMany, BadPlace, Repeated}
-use Rattle.dap_mask.specs.declared.fault.RulesCause.TheVariants.{Clash}
+use Rattle.dap_mask.specs.declared.fault.RulesCause.TheVariants.{TooMany, BadPlace, Repeated, Clash}
 use Rattle.dap_mask.specs.declared.fault.RulesCause.{RulesCause}
-
-not_true : (b : Bool) → not b ≡ true → b ≡ false
-not_true true h = cc
-not_true false h = refl
 
 -- ---- lists of the program's rules
 
@@ -75,7 +69,7 @@ safe_more [] r h t own among = and_both _ _ (ap not t) (and_both _ _
 safe_more (q ∷ rs) r h t own among =
     let later = and_right (not (is_telling_place q.place))
     (not (renames q q || renames_among q rs) && are_safe rs) h in
-    let none = not_true (renames q q || renames_among q rs)
+    let none = not-true (renames q q || renames_among q rs)
     (and_left (not (renames q q || renames_among q rs)) (are_safe rs) later) in
     let both = or_left (renames r q || renames q r) (renames_among r rs) among in
     and_both _ _ (and_left (not (is_telling_place q.place))
@@ -105,7 +99,7 @@ pub settled_more : (rs : List Rule) (r : Rule) → are_idempotent rs ≡ true
     → is_clashed_with rs r ≡ false → are_idempotent (rs ++ r ∷ []) ≡ true
 settled_more [] r h g = refl
 settled_more (q ∷ rs) r h g =
-    let earlier = not_true (clashes_with q rs)
+    let earlier = not-true (clashes_with q rs)
     (and_left (not (clashes_with q rs)) (are_idempotent rs) h) in
     let apart = or_left (clash q r) (is_clashed_with rs r) g in
     and_both _ _ (ap not (clash_more q r rs earlier apart))
@@ -124,7 +118,7 @@ pub kept_more : (rs : List Rule) (r : Rule) (cs : List CategoryRule)
     → keep_categories (rs ++ r ∷ []) cs ≡ true
 kept_more rs r [] h g = refl
 kept_more rs r (c ∷ cs) h g =
-    let free = not_true (is_moved_by rs c)
+    let free = not-true (is_moved_by rs c)
     (and_left (not (is_moved_by rs c)) (keep_categories rs cs) h) in
     and_both _ _
     (ap not (moved_more rs r c free (or_left (moves r c) (moves_one_of r cs) g)))

@@ -1,8 +1,8 @@
 -- Masking a masked document again does not change it.
-use Rattle.std.proofs.Common.{◌≡◌, ℕ, Bool, true, false, cond, not, ◌&&◌, List, [], ◌∷◌}
-use Rattle.std.proofs.Common.{Option, Some, None, option_map, refl, sym, ◌∙◌, ap}
-use Rattle.std.proofs.Common.{◌⊎◌, inl, inr, ◌||◌, true≢false}
+use Rattle.std.proofs.Common.{◌≡◌, ℕ, Bool, true, false, cond, not, ◌&&◌, List, [], ◌∷◌, Option}
+use Rattle.std.proofs.Common.{Some, None, option_map, refl, sym, ◌∙◌, ap, ◌⊎◌, inl, inr, ◌||◌}
 use Rattle.std.proofs.lemmas.Option.{none-some}
+use Rattle.std.proofs.lemmas.Bool.{not-true}
 use Rattle.dap_tree.specs.Doc.{Doc, null, boolean, whole, text, list, object, id, is_ordered}
 use Rattle.dap_tree.specs.Path.{Step, at}
 use Rattle.dap_tree.proofs.Booleans.{and_left, and_right, and_both, or_left, or_right, or_both}
@@ -21,25 +21,15 @@ use Rattle.dap_words.proofs.HexPairs.{long_after_hex, uuid_after_hex}
 use Rattle.dap_words.proofs.LongPairs.{uuid_after_long}
 use Rattle.dap_words.proofs.LongRuns.{long_twice}
 use Rattle.dap_words.proofs.Settled.{digits_after_long, long_after_digits}
-use Rattle.dap_mask.specs.declared.rules.Verb.{Verb}
-use Rattle.dap_mask.specs.declared.rules.Verb.TheVariants.{Blank, Digits, Hex, Long, Uuid}
+use Rattle.dap_mask.specs.declared.rules.Verb.{Verb, TheVariants.{Blank, Digits, Hex, Long, Uuid}}
 use Rattle.dap_mask.proofs.Squeezed.{digits_twice, hex_twice, digits_behind_hex}
 use Rattle.dap_mask.proofs.ByPath.{at-masked, top-left, left-same, left-alike, left_nothing}
 use Rattle.dap_mask.proofs.ByPath.{ordered-masked, same_paths, none_new, first_safe, rest_safe}
 use Rattle.dap_mask.proofs.ByPath.{first_renames, is_renamed_by, Same, AreSame, same_by}
-use Rattle.dap_mask.proofs.ByPath.{blank_fixed}
+use Rattle.dap_mask.proofs.ByPath.{blank_fixed, blank_twice, and_first}
 use Rattle.dap_mask.proofs.Matches.{fits_share, both_apply}
 
 -- ---- one value
-
-blank_twice : (d : Doc) → blank (blank d) ≡ blank d
-blank_twice null = refl
-blank_twice (boolean b) = refl
-blank_twice (whole z) = refl
-blank_twice (text s) = refl
-blank_twice (list ds) = refl
-blank_twice (object ms) = refl
-blank_twice (id s z) = refl
 
 text_twice : (f : List ℕ → List ℕ) → ((s : List ℕ) → f (f s) ≡ f s) → (d : Doc)
     → change_text f (change_text f d) ≡ change_text f d
@@ -139,16 +129,12 @@ does_not_unsettle : (r t : Rule) (d : Doc) (p : List Step) → clash r t ≡ fal
     ≡ true → applies_at t d p ≡ true → fits_place (plain_place_of r) p ≡ true
     → fits_place (plain_place_of t) p ≡ true → unsettles r.verb t.verb ≡ false
 does_not_unsettle r t d p h rs ts rp tp =
-    left_false (unsettles r.verb t.verb) _ (and_both _ _
+    and_first (unsettles r.verb t.verb) _ (and_both _ _
     (fits_share r.place t.place (Some d) p rp tp
     (and_right (rule_applies r d) (has_names r.place (Some d) p) rs)
     (and_right (rule_applies t d) (has_names t.place (Some d) p) ts))
     (both_apply r t d (and_left (rule_applies r d) (has_names r.place (Some d) p) rs)
     (and_left (rule_applies t d) (has_names t.place (Some d) p) ts))) h
-  where
-    left_false : (a b : Bool) → b ≡ true → (a && b) ≡ false → a ≡ false
-    left_false true b e f = absurd (true≢false (sym e ∙ f))
-    left_false false b e f = refl
 
 -- ---- the values after rules
 
@@ -200,15 +186,11 @@ left_stays r (t ∷ ts) d p o h k =
     left_stays r ts d p (left_by t d p o) (or_right (clash r t) (clashes_with r ts) h)
     (by_stays r t d p o (or_left (clash r t) (clashes_with r ts) h) k)
 
-not_true : (b : Bool) → not b ≡ true → b ≡ false
-not_true true h = cc
-not_true false h = refl
-
 left_twice : (rs : List Rule) (d : Doc) (p : List Step) (o : Option Doc) → are_idempotent rs ≡ true
     → left rs d p (left rs d p o) ≡ left rs d p o
 left_twice [] d p o h = refl
 left_twice (r ∷ rs) d p o h =
-    ap (left rs d p) (left_stays r rs d p (left_by r d p o) (not_true (clashes_with r rs)
+    ap (left rs d p) (left_stays r rs d p (left_by r d p o) (not-true (clashes_with r rs)
     (and_left (not (clashes_with r rs)) (are_idempotent rs) h)) (by_twice r d p o))
     ∙ left_twice rs d p (left_by r d p o)
     (and_right (not (clashes_with r rs)) (are_idempotent rs) h)

@@ -1,6 +1,5 @@
 -- If a text is UTF-8, it remains UTF-8 when only its ASCII bytes are changed or removed.
-use Rattle.std.proofs.Common.{◌≡◌, inl, inr, ℕ, ◌<◌, true}
-use Rattle.std.proofs.Common.{false, leb, ◌==◌, List, [], ◌∷◌, IsUtf8}
+use Rattle.std.proofs.Common.{◌≡◌, inl, inr, ℕ, ◌<◌, true, false, leb, ◌==◌, List, [], ◌∷◌, IsUtf8}
 use Rattle.std.proofs.Common.{refl, sym, ap, arith, lit<}
 use Rattle.std.proofs.lemmas.Bool.{leb-true, eqb-true}
 use Rattle.std.proofs.lemmas.Str.{IsUtf8-nil}

@@ -3,7 +3,7 @@ use Rattle.std.proofs.Common.{◌≡◌, ◌≢◌, ℕ, ◌+◌, ◌/◌, ◌%�
 use Rattle.std.proofs.Common.{◌||◌, List, [], ◌∷◌, ◌++◌, nat_lt, refl, sym, ap, ◌∙◌}
 use Rattle.std.proofs.Common.{subst, true≢false, arith, append-nil, IsUtf8, Result, Ok, Err, OnOk}
 use lib.Utf8.{encode}
-use Rattle.std.proofs.lemmas.Bool.{eqb-true, ne_eqb, ltb-true, ltb-false}
+use Rattle.std.proofs.lemmas.Bool.{eqb-true, ne_eqb, ltb-true, ltb-false, not-true}
 use Rattle.std.proofs.lemmas.Str.{IsUtf8-append, is_utf8-from_IsUtf8}
 use Rattle.std.specs.Char.{digit_char}
 use Rattle.std.specs.Prelude.{codes}
@@ -215,12 +215,8 @@ onto_append b (c ∷ s) ls = by_bool (c == 10) (λ yes. rw yes refl)
 only_line : (l : List ℕ) → in_line l ≡ true → lines_of l ≡ l ∷ []
 only_line [] h = refl
 only_line (b ∷ l) h =
-    let here = not_true (b == 10) (and_left (has_class InLine b) (in_line l) h) in
+    let here = not-true (b == 10) (and_left (has_class InLine b) (in_line l) h) in
     rw here (ap (onto b) (only_line l (and_right (has_class InLine b) (in_line l) h)))
-  where
-    not_true : (c : Bool) → not c ≡ true → c ≡ false
-    not_true true k = cc
-    not_true false k = refl
 
 pub one_more_line : (s l : List ℕ) → in_line l ≡ true
     → lines_of (s ++ 10 ∷ l) ≡ lines_of s ++ l ∷ []

@@ -10,11 +10,9 @@ use Rattle.dap_mask.specs.RuleSteps.{named, elements}
 use Rattle.dap_profile.specs.declared.profile.Kind.TheVariants.{Response, Event}
 use Rattle.dap_tree.proofs.Booleans.{and_left, and_right}
 use Rattle.dap_tree.specs.Json.{Reads}
-use Rattle.dap_mask.specs.Grammar.{IsInside, at_end, escaped, other, bare, quoted}
-use Rattle.dap_mask.specs.Grammar.{GoesOn, Says}
+use Rattle.dap_mask.specs.Grammar.{IsInside, at_end, escaped, other, bare, quoted, GoesOn, Says}
 use Rattle.dap_mask.specs.Mask.{Statement, change, leave_out, leave_out_category, swap, restart}
-use Rattle.dap_mask.specs.Mask.{put}
-use Rattle.dap_mask.specs.Mask.{nothing, rule, bad}
+use Rattle.dap_mask.specs.Mask.{put, nothing, rule, bad}
 use Rattle.dap_mask.specs.RuleText.{line_said, string_of}
 use Rattle.dap_mask.specs.declared.rules.Verb.TheVariants.{Digits, Hex}
 use Rattle.dap_mask.proofs.Lines.{string_is}

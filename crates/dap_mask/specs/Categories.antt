@@ -1,6 +1,6 @@
 -- Rules that drop the events of one category, and the changes that they exclude.
-use Rattle.std.specs.Prelude.{ℕ, Bool, true, false, not, ◌&&◌, ◌||◌, List, [], ◌∷◌, map, Option}
-use Rattle.std.specs.Prelude.{option_map, codes, bytes_eq, string_bytes}
+use Rattle.std.specs.Prelude.{ℕ, Bool, true, not, ◌&&◌, List, [], ◌∷◌, map, Option, option_map}
+use Rattle.std.specs.{Prelude.{codes, bytes_eq, string_bytes}, List.list_any}
 use Rattle.dap_tree.specs.Doc.{Doc}
 use Rattle.dap_tree.specs.Path.{Step, name as member, at}
 use Rattle.dap_profile.specs.PlaceSteps.{PlaceStep, named}
@@ -31,8 +31,7 @@ drops c d = has_name Event c.name d && is_text c.category (at category_path d)
 
 -- The event has the name and the category of one of these rules.
 abbrev pub is_dropped_by : List CategoryRule → Doc → Bool
-is_dropped_by [] d = false
-is_dropped_by (c ∷ cs) d = drops c d || is_dropped_by cs d
+is_dropped_by cs d = list_any (λ c. drops c d) cs
 
 -- ---- the rules that a mask may contain
 
@@ -42,8 +41,7 @@ same_category c e = same_name c.name e.name && bytes_eq c.category e.category
 
 -- The rule is one of these.
 abbrev pub is_category_among : CategoryRule → List CategoryRule → Bool
-is_category_among c [] = false
-is_category_among c (e ∷ es) = same_category c e || is_category_among c es
+is_category_among c cs = list_any (same_category c) cs
 
 -- The change may give an event the category by which the other rule drops it (own). If both were
 -- rules of one mask, masking twice could drop an event that masking once keeps.
@@ -53,13 +51,11 @@ moves r c = same_place (plain_place_of r) category_place
 
 -- The change may give an event a category by which one of these rules drops it.
 abbrev pub moves_one_of : Rule → List CategoryRule → Bool
-moves_one_of r [] = false
-moves_one_of r (c ∷ cs) = moves r c || moves_one_of r cs
+moves_one_of r cs = list_any (moves r) cs
 
 -- One of these changes may give an event the category by which the rule drops it.
 abbrev pub is_moved_by : List Rule → CategoryRule → Bool
-is_moved_by [] c = false
-is_moved_by (r ∷ rs) c = moves r c || is_moved_by rs c
+is_moved_by rs c = list_any (λ r. moves r c) rs
 
 -- No change may give an event a category by which a rule drops it.
 abbrev pub keep_categories : List Rule → List CategoryRule → Bool

@@ -2,17 +2,13 @@
 use Rattle.std.specs.Prelude.{◌≡◌, ◌≢◌, ◌↔◌, ℕ, true, List, [], ◌∷◌, ◌++◌, Option, Some, None}
 use Rattle.std.specs.Prelude.{codes}
 use Rattle.serde_json.specs.Data as json
-use Rattle.dap_profile.specs.declared.profile.Kind.{Kind}
-use Rattle.dap_profile.specs.declared.profile.Kind.TheVariants.{Request, Response, Event}
+use Rattle.dap_profile.specs.declared.profile.Kind.{Kind, TheVariants.{Request, Response, Event}}
 use Rattle.dap_tree.specs.Json.{Reads}
 use Rattle.dap_mask.specs.Mask.{Statement, change, leave_out, leave_out_category, swap, restart}
 use Rattle.dap_mask.specs.Mask.{put, Line, nothing, rule, bad}
-use Rattle.dap_mask.specs.RuleSteps.{RuleStep, named, elements}
-use Rattle.dap_mask.specs.RuleText.{line_said}
-use Rattle.dap_mask.specs.Runs.{is_blank, is_plain}
-use Rattle.dap_mask.specs.Texts.{all_of, begins_with}
-use Rattle.dap_mask.specs.declared.rules.Verb.{Verb}
-use Rattle.dap_mask.specs.declared.rules.Verb.TheVariants.{Blank, Digits, Hex, Long, Uuid}
+use Rattle.dap_mask.specs.{RuleSteps.{RuleStep, named, elements}, RuleText.line_said}
+use Rattle.dap_mask.specs.{Runs.{is_blank, is_plain}, Texts.{all_of, begins_with}}
+use Rattle.dap_mask.specs.declared.rules.Verb.{Verb, TheVariants.{Blank, Digits, Hex, Long, Uuid}}
 
 -- ---- a line of words
 

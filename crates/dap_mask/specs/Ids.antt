@@ -1,13 +1,9 @@
 -- Rules and the places of the ids in the rows of a profile.
-use Rattle.std.specs.Prelude.{◌≡◌, ◌⊎◌, ℕ, Bool, true, false, not, ◌&&◌, List, [], ◌∷◌, Option}
-use Rattle.std.specs.Prelude.{Some, None, option_map, ◌||◌, Contains}
-use Rattle.dap_tree.specs.Doc.{Doc}
-use Rattle.dap_tree.specs.Path.{Step, at}
-use Rattle.dap_message.specs.Marks.{top}
-use Rattle.dap_message.specs.Places.{fits_place}
-use Rattle.dap_profile.specs.Profile.{profile, wants_id}
-use Rattle.dap_profile.specs.ProfileRows.{ProfileRow}
-use Rattle.dap_message.specs.Rows.{row_applies}
+use Rattle.std.specs.Prelude.{◌≡◌, ◌⊎◌, ℕ, Bool, true, not, ◌&&◌, List, [], ◌∷◌, Option, Some, None}
+use Rattle.std.specs.{Prelude.{option_map, Contains}, List.list_any}
+use Rattle.dap_tree.specs.{Doc.Doc, Path.{Step, at}}
+use Rattle.dap_message.specs.{Marks.top, Places.fits_place, Rows.row_applies}
+use Rattle.dap_profile.specs.{Profile.{profile, wants_id}, ProfileRows.ProfileRow}
 use Rattle.dap_profile.specs.declared.profile.Kind.{Kind}
 use Rattle.dap_mask.specs.Rules.{Rule, same_place, same_kind, share_name, plain_place_of}
 use Rattle.dap_mask.specs.Masked.{left}
@@ -29,8 +25,7 @@ leave_row (r ∷ rs) row = not (takes_id r row) && leave_row rs row
 
 -- The place of the rule is that of an id of one of the rows.
 abbrev pub takes_id_of : Rule → List ProfileRow → Bool
-takes_id_of r [] = false
-takes_id_of r (row ∷ rows) = takes_id r row || takes_id_of r rows
+takes_id_of r rows = list_any (takes_id r) rows
 
 -- The place of the rule is that of an id of the profile.
 unfoldable pub takes_profile_id : Rule → Bool

@@ -2,17 +2,12 @@
 -- rules.
 use Rattle.std.specs.Prelude.{◌≡◌, ℕ, suc, Bool, true, false, cond, ◌&&◌, List, [], ◌∷◌, ◌++◌}
 use Rattle.std.specs.Prelude.{Option, Some, None, option_map, unwrap_or, bytes_eq, String}
-use Rattle.std.specs.BTreeMap.{BTreeMap, get_by_text}
-use Rattle.std.specs.List.{AllByRecursion, slice_get}
-use Rattle.std.specs.Option.{option_to_list}
-use Rattle.std.specs.declared.alloc.Global.{Global}
-use Rattle.std.specs.declared.vec.Vec.{Vec}
+use Rattle.std.specs.{BTreeMap.{BTreeMap, get_by_text}, List.{AllByRecursion, slice_get}}
+use Rattle.std.specs.{Option.option_to_list, declared.alloc.Global.Global, declared.vec.Vec.Vec}
 use Rattle.dap_tree.specs.Doc.{Doc, text, get}
 use Rattle.dap_message.specs.Rows.{is_of_kind, name_key}
-use Rattle.dap_profile.specs.declared.profile.Kind.{Kind}
-use Rattle.dap_profile.specs.declared.profile.Kind.TheVariants.{Request, Response, Event}
-use Rattle.dap_mask.specs.Masked.{mask_by}
-use Rattle.dap_mask.specs.Rules.{Rule, same_kind}
+use Rattle.dap_profile.specs.declared.profile.Kind.{Kind, TheVariants.{Request, Response, Event}}
+use Rattle.dap_mask.specs.{Masked.mask_by, Rules.{Rule, same_kind}}
 use Rattle.dap_mask.specs.declared.index.KindRules.{KindRules}
 
 -- ---- rules and messages

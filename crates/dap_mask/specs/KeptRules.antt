@@ -3,10 +3,8 @@ use Rattle.std.specs.Prelude.{Bool, List, ℕ, Option}
 use Rattle.dap_mask.specs.Categories.{CategoryRule}
 use Rattle.dap_mask.specs.ListedRules.{listed_changes, listed_dropped, listed_swaps, listed_mask}
 use Rattle.dap_mask.specs.ListedRules.{listed_categories, listed_per_stop, listed_words}
-use Rattle.dap_mask.specs.Mask.{Mask}
-use Rattle.dap_mask.specs.Rules.{Rule}
+use Rattle.dap_mask.specs.{Mask.Mask, Rules.Rule, declared.mask_rules.MaskRules.MaskRules}
 use Rattle.dap_message.specs.SwapRules.{SwapRule}
-use Rattle.dap_mask.specs.declared.mask_rules.MaskRules.{MaskRules}
 use Rattle.dap_words.specs.Words.{Pair}
 
 abbrev pub changes_of : MaskRules → List Rule

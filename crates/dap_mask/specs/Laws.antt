@@ -1,12 +1,10 @@
 -- The theorems that the functions of `laws` state.
 use Rattle.std.specs.Prelude.{◌≡◌, ◌↔◌, ℕ, true, false, List, Option, Some, None, option_map}
-use Rattle.dap_tree.specs.Doc.{Doc, is_ordered, is_sound, all_utf8}
-use Rattle.dap_tree.specs.Path.{Step, at}
+use Rattle.dap_tree.specs.{Doc.{Doc, is_ordered, is_sound, all_utf8}, Path.{Step, at}}
 use Rattle.dap_message.specs.Marks.{top, edit}
 use Rattle.dap_mask.specs.RuleSteps.{RuleStep, plain_place, is_unnamed, has_names, change_at_place}
 use Rattle.dap_mask.specs.Rules.{Rule, are_safe, are_idempotent, is_dropped}
-use Rattle.dap_mask.specs.Categories.{keep_categories}
-use Rattle.dap_mask.specs.Mask.{Mask, leaves_out}
+use Rattle.dap_mask.specs.{Categories.keep_categories, Mask.{Mask, leaves_out}}
 use Rattle.dap_mask.specs.Masked.{IsMasked, AgreeBut, is_apart, masked}
 use Rattle.dap_mask.specs.Texts.{AreDigitsOf, IsHexOf, digits, hex}
 

@@ -1,12 +1,9 @@
 -- The mask that a `RuleList` represents.
 use Rattle.std.specs.Prelude.{Bool, List, map, ℕ, Option, option_map, string_bytes}
-use Rattle.dap_mask.specs.Categories.{CategoryRule, categories_of}
-use Rattle.dap_mask.specs.Mask.{Mask}
-use Rattle.dap_mask.specs.Rules.{Rule, rules_of}
+use Rattle.dap_mask.specs.{Categories.{CategoryRule, categories_of}, Mask.Mask}
+use Rattle.dap_mask.specs.{Rules.{Rule, rules_of}, declared.rule_list.RuleList.RuleList}
 use Rattle.dap_message.specs.SwapRules.{SwapRule, swaps_of}
-use Rattle.dap_mask.specs.declared.rule_list.RuleList.{RuleList}
-use Rattle.dap_words.specs.Words.{Pair}
-use Rattle.dap_words.specs.Kept.{pairs_in}
+use Rattle.dap_words.specs.{Words.Pair, Kept.pairs_in}
 
 abbrev pub listed_changes : RuleList → List Rule
 listed_changes r = rules_of r.changes.items

@@ -5,12 +5,9 @@ use Rattle.serde_json.specs.Data.{Num, unsigned, negative, float}
 use Rattle.dap_tree.specs.Doc.{Doc, null, boolean, whole, text, list, object, Items, no_items, item}
 use Rattle.dap_tree.specs.Doc.{Members, no_members, member, is_sound, is_ordered}
 use Rattle.dap_tree.specs.Json.{Reads, IsRead, HasNoReading, text_of}
-use Rattle.dap_tree.specs.declared.fault.TreeFault.{TreeFault}
-use Rattle.dap_tree.specs.declared.fault.TreeFault.TheVariants.{Json, Fraction, Memory}
-use Rattle.dap_mask.specs.Mask.{Mask, no_rules, leaves_out}
-use Rattle.dap_mask.specs.Masked.{masked}
-use Rattle.dap_words.specs.Words.{Pair, AreUtf8}
-use Rattle.dap_words.specs.Worded.{worded_message}
+use Rattle.dap_tree.specs.declared.fault.TreeFault.{TreeFault, TheVariants.{Json, Fraction, Memory}}
+use Rattle.dap_mask.specs.{Mask.{Mask, no_rules, leaves_out}, Masked.masked}
+use Rattle.dap_words.specs.{Words.{Pair, AreUtf8}, Worded.worded_message}
 
 -- An integer that is out of range and represents each number that is not an integer of 64 bits.
 abbrev pub no_whole : ℤ

@@ -3,11 +3,10 @@ use Rattle.std.specs.Prelude.{ℕ, ◌+◌, Bool, true, false, cond, ◌&&◌, �
 use Rattle.std.specs.Prelude.{Option, length, option_map, string_bytes}
 use Rattle.dap_tree.specs.Doc.{Doc}
 use Rattle.dap_words.specs.Words.{Pair, pair_of}
-use Rattle.dap_message.specs.Rows.{is_of_kind}
+use Rattle.dap_message.specs.{Rows.is_of_kind, SwapRules.{SwapRule, swap_of}}
 use Rattle.dap_profile.specs.declared.profile.Kind.TheVariants.{Event}
 use Rattle.dap_mask.specs.Categories.{CategoryRule, category_of, is_dropped_by}
 use Rattle.dap_mask.specs.Rules.{Rule, rule_of, is_event_of}
-use Rattle.dap_message.specs.SwapRules.{SwapRule, swap_of}
 use Rattle.dap_mask.specs.declared.statement.Line.{Line as ReadLine}
 use Rattle.dap_mask.specs.declared.statement.Line.TheVariants.{Nothing, Rule as ReadRule, Bad}
 use Rattle.dap_mask.specs.declared.statement.Statement.{Statement as ReadStatement}

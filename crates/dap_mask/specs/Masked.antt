@@ -1,15 +1,12 @@
 -- Masked documents: the effect of rules on a document, path by path and as a function on documents.
 use Rattle.std.specs.Prelude.{◌≡◌, Bool, true, false, cond, ◌&&◌, List, [], ◌∷◌, Option, None}
 use Rattle.std.specs.Prelude.{option_map, bytes_eq}
-use Rattle.dap_tree.specs.Doc.{Doc}
-use Rattle.dap_tree.specs.Path.{Step, name, place, at}
+use Rattle.dap_tree.specs.{Doc.Doc, Path.{Step, name, place, at}}
 use Rattle.dap_profile.specs.PlaceSteps.{PlaceStep, named, each}
-use Rattle.dap_message.specs.Places.{fits_place}
-use Rattle.dap_message.specs.Marks.{top}
+use Rattle.dap_message.specs.{Places.fits_place, Marks.top}
 use Rattle.dap_mask.specs.RuleSteps.{change_at_place}
 use Rattle.dap_mask.specs.Rules.{Rule, of_verb, takes_parts, rule_applies, applies_at}
-use Rattle.dap_mask.specs.Rules.{plain_place_of}
-use Rattle.dap_mask.specs.declared.rules.Verb.{Verb}
+use Rattle.dap_mask.specs.{Rules.plain_place_of, declared.rules.Verb.Verb}
 
 -- ---- path by path
 

@@ -1,9 +1,7 @@
 -- The guarantees for a masked content.
 use Rattle.std.specs.Prelude.{◌≡◌, ◌↔◌, ℕ, List}
 use Rattle.dap_tree.specs.Doc.{Doc}
-use Rattle.dap_mask.specs.Ids.{KeepsIds}
-use Rattle.dap_mask.specs.Loose.{IsReadWith}
-use Rattle.dap_mask.specs.Mask.{Mask}
+use Rattle.dap_mask.specs.{Ids.KeepsIds, Loose.IsReadWith, Mask.Mask}
 use Rattle.dap_mask.specs.Masked.{IsMasked, AgreeBut, KeepsElsewhere, HasNoNewPath, masked}
 use Rattle.dap_mask.specs.Rules.{Rule}
 use Rattle.dap_words.specs.Words.{Pair}

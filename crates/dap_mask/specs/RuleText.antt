@@ -1,22 +1,16 @@
 -- The meaning of a line of a rules file, parsed from its start.
-use Rattle.std.specs.Prelude.{ℕ, zero, suc, ◌==◌, false, cond, List, [], ◌∷◌}
-use Rattle.std.specs.Prelude.{length, take, drop, Option, Some, None, option_map, option_and_then}
-use Rattle.std.specs.Prelude.{codes, bytes_eq}
+use Rattle.std.specs.Prelude.{ℕ, zero, suc, ◌==◌, false, cond, List, [], ◌∷◌, length, take, drop}
+use Rattle.std.specs.Prelude.{Option, Some, None, option_map, option_and_then, codes, bytes_eq}
 use Rattle.std.specs.Str.{is_utf8}
 use Rattle.serde_json.specs.Data as json
 use Rattle.serde_json.specs.Read.{read}
-use Rattle.dap_profile.specs.declared.profile.Kind.{Kind}
-use Rattle.dap_profile.specs.declared.profile.Kind.TheVariants.{Request, Response, Event}
+use Rattle.dap_profile.specs.declared.profile.Kind.{Kind, TheVariants.{Request, Response, Event}}
 use Rattle.dap_mask.specs.Mask.{Statement, change, leave_out, leave_out_category, swap, restart}
-use Rattle.dap_mask.specs.Mask.{put}
-use Rattle.dap_mask.specs.Mask.{Line, nothing, rule, bad}
-use Rattle.dap_mask.specs.RuleSteps.{RuleStep, named, elements}
-use Rattle.dap_mask.specs.Rules.{same_kind}
-use Rattle.dap_mask.specs.Runs.{is_plain, front, behind, closing, is_closed, gap, is_end}
-use Rattle.dap_mask.specs.Runs.{is_blank}
+use Rattle.dap_mask.specs.Mask.{put, Line, nothing, rule, bad}
+use Rattle.dap_mask.specs.{RuleSteps.{RuleStep, named, elements}, Rules.same_kind}
+use Rattle.dap_mask.specs.Runs.{is_plain, front, behind, closing, is_closed, gap, is_end, is_blank}
 use Rattle.dap_message.specs.SwapRules.{Half}
-use Rattle.dap_mask.specs.declared.rules.Verb.{Verb}
-use Rattle.dap_mask.specs.declared.rules.Verb.TheVariants.{Blank, Digits, Hex, Long, Uuid}
+use Rattle.dap_mask.specs.declared.rules.Verb.{Verb, TheVariants.{Blank, Digits, Hex, Long, Uuid}}
 
 -- ---- names
 

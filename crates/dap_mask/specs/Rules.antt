@@ -2,20 +2,16 @@
 -- value.
 use Rattle.std.specs.Prelude.{ℕ, Bool, true, false, not, ◌&&◌, ◌||◌, pos, List, [], ◌∷◌, map}
 use Rattle.std.specs.Prelude.{Option, Some, None, option_map, codes, bytes_eq, string_bytes}
+use Rattle.std.specs.List.{list_any}
 use Rattle.dap_tree.specs.Doc.{Doc, null, boolean, whole, text, list, object, id, no_items}
-use Rattle.dap_tree.specs.Doc.{no_members, get}
-use Rattle.dap_tree.specs.Path.{Step}
+use Rattle.dap_tree.specs.{Doc.{no_members, get}, Path.Step}
 use Rattle.dap_profile.specs.PlaceSteps.{PlaceStep, named as member, each}
 use Rattle.dap_message.specs.Rows.{is_text, is_of_kind, name_key}
-use Rattle.dap_profile.specs.declared.profile.Kind.{Kind}
-use Rattle.dap_profile.specs.declared.profile.Kind.TheVariants.{Request, Response, Event}
-use Rattle.dap_words.specs.Long.{long}
-use Rattle.dap_words.specs.Uuids.{uuid}
-use Rattle.dap_mask.specs.RuleSteps.{RuleStep, named, elements, plain_place}
-use Rattle.dap_mask.specs.RuleSteps.{has_names}
+use Rattle.dap_profile.specs.declared.profile.Kind.{Kind, TheVariants.{Request, Response, Event}}
+use Rattle.dap_words.specs.{Long.long, Uuids.uuid}
+use Rattle.dap_mask.specs.RuleSteps.{RuleStep, named, elements, plain_place, has_names}
 use Rattle.dap_mask.specs.Texts.{digits, hex}
-use Rattle.dap_mask.specs.declared.rules.Verb.{Verb}
-use Rattle.dap_mask.specs.declared.rules.Verb.TheVariants.{Blank, Digits, Hex, Long, Uuid}
+use Rattle.dap_mask.specs.declared.rules.Verb.{Verb, TheVariants.{Blank, Digits, Hex, Long, Uuid}}
 use Rattle.dap_mask.specs.declared.rules.Step.{Step as ReadStep}
 use Rattle.dap_mask.specs.declared.rules.Step.TheVariants.{Member, Each, Element}
 use Rattle.dap_mask.specs.declared.rules.MaskRule.{MaskRule}
@@ -104,8 +100,7 @@ applies_at r d p = rule_applies r d && has_names r.place (Some d) p
 
 -- The event has one of these names. `None` is any name.
 abbrev pub is_event_of : List (Option (List ℕ)) → Doc → Bool
-is_event_of [] d = false
-is_event_of (n ∷ ns) d = has_name Event n d || is_event_of ns d
+is_event_of ns d = list_any (λ n. has_name Event n d) ns
 
 -- The message is dropped: an event of one of these names.
 abbrev pub is_dropped : List (Option (List ℕ)) → Doc → Bool
@@ -190,8 +185,7 @@ same_rule r t =
 
 -- The rule is one of these.
 abbrev pub is_among : Rule → List Rule → Bool
-is_among r [] = false
-is_among r (t ∷ ts) = same_rule r t || is_among r ts
+is_among r rs = list_any (same_rule r) rs
 
 -- After the later verb, applying the earlier verb again may change the text (own). For example,
 -- `digits` after `hex` can create a hexadecimal number. For the other pairs, see the laws of the
@@ -251,8 +245,7 @@ renames r t = is_name_in r.place t.place && (same_kind r.kind t.kind
 -- The rule may change a name by which one of these selects, or one of these a name by which the
 -- rule selects.
 abbrev pub renames_among : Rule → List Rule → Bool
-renames_among r [] = false
-renames_among r (t ∷ ts) = (renames r t || renames t r) || renames_among r ts
+renames_among r rs = list_any (λ t. renames r t || renames t r) rs
 
 -- The place of no rule is the message itself, or its `type`, `command`, `event` or `success`, and
 -- no rule changes a name by which a rule selects elements.

@@ -1,33 +1,28 @@
 -- The meaning of a rules file, line by line, and the errors of its lines.
-use Rattle.std.specs.Prelude.{ℕ, suc, ◌==◌, Bool, false, cond, ◌||◌, nat_le, nat_lt, List, [], ◌∷◌}
-use Rattle.std.specs.Prelude.{length, take, Option, Some, None, Result, Ok, Err, count_by}
-use Rattle.std.specs.Prelude.{option_map}
-use Rattle.std.specs.Str.{is_utf8}
+use Rattle.std.specs.Prelude.{ℕ, suc, ◌==◌, Bool, cond, ◌||◌, nat_le, nat_lt, List, [], ◌∷◌, length}
+use Rattle.std.specs.Prelude.{take, Option, Some, None, Result, Ok, Err, count_by, option_map}
+use Rattle.std.specs.{Str.is_utf8, List.list_any}
 use Rattle.dap_mask.specs.Categories.{is_category_among, is_moved_by, moves_one_of}
 use Rattle.dap_mask.specs.Ids.{takes_profile_id}
 use Rattle.dap_mask.specs.Mask.{Mask, no_rules, rule_count, with_rule, Statement, change, leave_out}
 use Rattle.dap_mask.specs.Mask.{leave_out_category, swap, restart, put, Line, nothing, rule, bad}
 use Rattle.dap_mask.specs.RuleText.{line_said}
 use Rattle.dap_mask.specs.Rules.{Rule, clash, is_among, is_telling_place, same_name, renames}
-use Rattle.dap_mask.specs.Rules.{renames_among}
-use Rattle.dap_mask.specs.Runs.{lines_of}
-use Rattle.dap_mask.specs.Swaps.{is_swap_among}
+use Rattle.dap_mask.specs.{Rules.renames_among, Runs.lines_of, Swaps.is_swap_among}
 use Rattle.dap_mask.specs.declared.fault.RulesCause.{RulesCause}
 use Rattle.dap_mask.specs.declared.fault.RulesCause.TheVariants.{TooLong, NotUtf8, BadRule, TooMany}
 use Rattle.dap_mask.specs.declared.fault.RulesCause.TheVariants.{BadPlace, Repeated}
-use Rattle.dap_mask.specs.declared.fault.RulesCause.TheVariants.{DigitsBehindHex, Clash}
-use Rattle.dap_mask.specs.declared.fault.RulesCause.TheVariants.{BadWord, Memory}
+use Rattle.dap_mask.specs.declared.fault.RulesCause.TheVariants.{DigitsBehindHex, Clash, BadWord}
+use Rattle.dap_mask.specs.declared.fault.RulesCause.TheVariants.{Memory}
 use Rattle.dap_mask.specs.declared.fault.RulesFault.{RulesFault}
-use Rattle.dap_mask.specs.declared.rules.Verb.{Verb}
-use Rattle.dap_mask.specs.declared.rules.Verb.TheVariants.{Digits, Hex}
+use Rattle.dap_mask.specs.declared.rules.Verb.{Verb, TheVariants.{Digits, Hex}}
 use Rattle.dap_words.specs.Kept.{cause_against as word_cause}
 use Rattle.dap_words.specs.declared.word_list.WordCause.{WordCause}
 use Rattle.dap_words.specs.declared.word_list.WordCause.TheVariants as of_word
 
 -- The name, or `None` for any name, is one of these.
 abbrev pub is_name_among : Option (List ℕ) → List (Option (List ℕ)) → Bool
-is_name_among n [] = false
-is_name_among n (m ∷ ms) = same_name n m || is_name_among n ms
+is_name_among n ms = list_any (same_name n) ms
 
 -- Why the second action may not follow the first one at one place, if it unsettles it.
 abbrev pub cause_of_pair : Verb → Verb → RulesCause

@@ -1,8 +1,7 @@
 -- The parts of a line of a rules file: runs of bytes of one class, strings, blanks, and the end of
 -- the line.
-use Rattle.std.specs.Prelude.{ℕ, suc, ◌==◌, Bool, true, false, cond, not, ◌&&◌, ◌||◌, List, []}
-use Rattle.std.specs.Prelude.{◌∷◌, length, Option, Some, None}
-use Rattle.std.specs.Char.{is_ascii_alphanumeric}
+use Rattle.std.specs.Prelude.{ℕ, suc, ◌==◌, Bool, true, false, cond, not, ◌&&◌, ◌||◌, List, [], ◌∷◌}
+use Rattle.std.specs.{Prelude.{length, Option, Some, None}, Char.is_ascii_alphanumeric}
 use Rattle.dap_mask.specs.declared.runs.ByteClass.{ByteClass}
 use Rattle.dap_mask.specs.declared.runs.ByteClass.TheVariants.{Blank, Plain, Word, InLine}
 

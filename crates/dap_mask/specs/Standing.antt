@@ -1,8 +1,6 @@
 -- For private clauses: `hex` byte by byte, as a state machine.
-use Rattle.std.specs.Prelude.{ℕ, Bool, cond, List, Option, Some, None}
-use Rattle.std.specs.Char.{is_ascii_hexdigit}
-use Rattle.dap_mask.specs.Texts.{hex, behind_zero, behind_x, in_number}
-use Rattle.dap_mask.specs.declared.texts.At.{At}
+use Rattle.std.specs.{Prelude.{ℕ, Bool, cond, List, Option, Some, None}, Char.is_ascii_hexdigit}
+use Rattle.dap_mask.specs.{Texts.{hex, behind_zero, behind_x, in_number}, declared.texts.At.At}
 use Rattle.dap_mask.specs.declared.texts.At.TheVariants.{Outside, BehindZero, BehindX, InNumber}
 
 -- The result for the rest of the text in this state.

@@ -1,5 +1,5 @@
 -- When two rules for the order of messages are the same.
-use Rattle.std.specs.Prelude.{Bool, false, ◌&&◌, ◌||◌, List, [], ◌∷◌}
+use Rattle.std.specs.{Prelude.{Bool, ◌&&◌, ◌||◌, List}, List.list_any}
 use Rattle.dap_message.specs.SwapRules.{Half, SwapRule}
 use Rattle.dap_mask.specs.Rules.{same_kind, same_name}
 
@@ -14,5 +14,4 @@ same_swap s t =
 
 -- One of these rules is the same.
 abbrev pub is_swap_among : SwapRule → List SwapRule → Bool
-is_swap_among s [] = false
-is_swap_among s (t ∷ ts) = same_swap s t || is_swap_among s ts
+is_swap_among s ts = list_any (same_swap s) ts

@@ -1,14 +1,10 @@
 -- Lines that put words in the place of texts, as a program writes them.
-use Rattle.std.specs.Prelude.{◌≡◌, ℕ, true, List, [], ◌∷◌, ◌++◌, codes}
-use Rattle.std.specs.Str.{is_utf8}
+use Rattle.std.specs.{Prelude.{◌≡◌, ℕ, true, List, [], ◌∷◌, ◌++◌, codes}, Str.is_utf8}
 use Rattle.dap_tree.specs.Doc.{text as text_doc}
 use Rattle.dap_tree.specs.Json.{text_of}
 use Rattle.dap_words.specs.Words.{Pair}
-use Rattle.dap_mask.specs.Mask.{put, rule}
-use Rattle.dap_mask.specs.RuleText.{line_said}
-use Rattle.dap_mask.specs.Runs.{has_class, lines_of}
-use Rattle.dap_mask.specs.Texts.{all_of}
-use Rattle.dap_mask.specs.declared.runs.ByteClass.TheVariants.{InLine}
+use Rattle.dap_mask.specs.{Mask.{put, rule}, RuleText.line_said, Runs.{has_class, lines_of}}
+use Rattle.dap_mask.specs.{Texts.all_of, declared.runs.ByteClass.TheVariants.InLine}
 
 -- The line `word TEXT WORD` (own). TEXT and WORD are JSON strings.
 abbrev pub word_line : Pair → List ℕ

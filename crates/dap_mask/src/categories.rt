@@ -1,8 +1,6 @@
 //! Rules that drop the events of one category.
-ghost use Rattle.std.specs.Prelude.{◌≡◌};
-ghost use Rattle.dap_mask.specs.Categories.{category_of, categories_of, same_category};
-ghost use Rattle.dap_mask.specs.Categories.{is_category_among, moves, moves_one_of, is_moved_by};
-ghost use Rattle.dap_mask.specs.Rules.{rule_of, rules_of};
+ghost use Rattle.std.specs.{Prelude.{◌≡◌}, List.list_any};
+ghost use Rattle.dap_mask.specs.{Categories.{category_of, same_category, moves}, Rules.rule_of};
 
 use crate::meets::{same_kind, same_name, share_name, text_of};
 use crate::profile_ids::is_at;
@@ -27,14 +25,10 @@ fn same_category(rule: &CategoryRule, other: &CategoryRule) -> bool
 }
 
 pub(crate) fn is_category_among(rule: &CategoryRule, rules: &[CategoryRule]) -> bool
-    ensures { result ≡ is_category_among (category_of rule.now) (categories_of rules.now) }
+    ensures { result
+        ≡ list_any (λ c. same_category (category_of rule.now) (category_of c)) rules.now }
 {
-    for other in rules {
-        if same_category(rule, other) {
-            return true;
-        }
-    }
-    false
+    rules.iter().any(|other| same_category(rule, other))
 }
 
 fn moves(change: &MaskRule, rule: &CategoryRule) -> bool
@@ -47,24 +41,14 @@ fn moves(change: &MaskRule, rule: &CategoryRule) -> bool
 
 /// Returns whether the change may give an event a category by which one of the rules drops it.
 pub(crate) fn moves_one_of(change: &MaskRule, rules: &[CategoryRule]) -> bool
-    ensures { result ≡ moves_one_of (rule_of change.now) (categories_of rules.now) }
+    ensures { result ≡ list_any (λ c. moves (rule_of change.now) (category_of c)) rules.now }
 {
-    for rule in rules {
-        if moves(change, rule) {
-            return true;
-        }
-    }
-    false
+    rules.iter().any(|rule| moves(change, rule))
 }
 
 /// Returns whether one of the changes may give an event the category by which the rule drops it.
 pub(crate) fn is_moved_by(changes: &[MaskRule], rule: &CategoryRule) -> bool
-    ensures { result ≡ is_moved_by (rules_of changes.now) (category_of rule.now) }
+    ensures { result ≡ list_any (λ r. moves (rule_of r) (category_of rule.now)) changes.now }
 {
-    for change in changes {
-        if moves(change, rule) {
-            return true;
-        }
-    }
-    false
+    changes.iter().any(|change| moves(change, rule))
 }

@@ -1,7 +1,6 @@
 //! Finds rules that change the names by which rules select elements.
-ghost use Rattle.std.specs.Prelude.{◌≡◌};
-ghost use Rattle.dap_mask.specs.Rules.{rule_of, rules_of, step_of, place_of};
-ghost use Rattle.dap_mask.specs.Rules.{is_name_of, is_name_in, renames, renames_among};
+ghost use Rattle.std.specs.{Prelude.{◌≡◌, ◌||◌}, List.list_any};
+ghost use Rattle.dap_mask.specs.Rules.{rule_of, step_of, place_of, is_name_of, is_name_in, renames};
 
 use crate::meets::{same_kind, share_name, share_step, text_of};
 use crate::rules::{MaskRule, Step};
@@ -54,12 +53,11 @@ pub(crate) fn renames(rule: &MaskRule, other: &MaskRule) -> bool
 /// Returns whether the rule may change a name by which one of the others selects, or one of them a
 /// name by which the rule selects.
 pub(crate) fn renames_among(rule: &MaskRule, rules: &[MaskRule]) -> bool
-    ensures { result ≡ renames_among (rule_of rule.now) (rules_of rules.now) }
+    ensures { result ≡ list_any
+        (λ r. renames (rule_of rule.now) (rule_of r) || renames (rule_of r) (rule_of rule.now))
+        rules.now }
 {
-    for other in rules {
-        if renames(rule, other) || renames(other, rule) {
-            return true;
-        }
-    }
-    false
+    rules
+        .iter()
+        .any(|other| renames(rule, other) || renames(other, rule))
 }

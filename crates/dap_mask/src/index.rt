@@ -1,8 +1,7 @@
 //! Finds the rules that may apply to a message, by its kind and its name.
 ghost use Rattle.std.specs.Prelude.{◌≡◌, ◌<◌, length, option_map, IfOk, IfErr, OnOk};
-ghost use Rattle.dap_mask.specs.Index.{may_speak, positions, AreRight, AddsName, HasAsked};
-ghost use Rattle.dap_mask.specs.Index.{IsIndex, places_in};
-ghost use Rattle.dap_mask.specs.Rules.{rule_of, rules_of};
+ghost use Rattle.dap_mask.specs.Index.{may_speak, positions, AreRight, AddsName, HasAsked, IsIndex};
+ghost use Rattle.dap_mask.specs.{Index.places_in, Rules.{rule_of, rules_of}};
 
 use crate::meets::{same_kind, text_of};
 use crate::rule_list::RuleList;

@@ -4,10 +4,8 @@ ghost use Rattle.dap_mask.specs.Grammar.{ParserFindsLine, LineSaysOne};
 ghost use Rattle.dap_mask.specs.Laws.{MaskedByPath, OneMasked, KeepsOthers, NoneNew, DropsAlike};
 ghost use Rattle.dap_mask.specs.Laws.{MaskedOnce, EqualWhereAgree, KeepsOrder, KeepsSound};
 ghost use Rattle.dap_mask.specs.Laws.{KeepsUtf8, StaysIn, DigitsAre, HexIs, PlainPlaces};
-ghost use Rattle.dap_mask.specs.Loose.{UnmaskedIsRead, OneLooseReading, LooseIsOrdered};
-ghost use Rattle.dap_mask.specs.Loose.{LeftIsRead};
-ghost use Rattle.dap_mask.specs.Ids.{LeavesIds};
-ghost use Rattle.dap_mask.specs.WordLines.{OneMoreLine};
+ghost use Rattle.dap_mask.specs.Loose.{UnmaskedIsRead, OneLooseReading, LooseIsOrdered, LeftIsRead};
+ghost use Rattle.dap_mask.specs.{Ids.LeavesIds, WordLines.OneMoreLine};
 
 /// The value at each path determines a masked document. Only the places of the rules change.
 pub fn exactly_those_places()

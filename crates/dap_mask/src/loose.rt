@@ -6,8 +6,7 @@ ghost use Rattle.dap_tree.specs.View.{view, items_view, members_view};
 ghost use Rattle.dap_mask.specs.KeptRules.{mask_of, words_of_mask};
 ghost use Rattle.dap_mask.specs.Loose.{loose, loose_items, loose_members, loose_number};
 ghost use Rattle.dap_mask.specs.Loose.{IsReadLoosely, IsReadWith, IsLeftOf, ExplainsLoosely};
-ghost use Rattle.dap_mask.specs.Loose.{ExplainsMasked};
-ghost use Rattle.dap_mask.specs.Promises.{IsContentMasked};
+ghost use Rattle.dap_mask.specs.{Loose.ExplainsMasked, Promises.IsContentMasked};
 
 use crate::mask_rules::MaskRules;
 use crate::masking::{is_dropped, mask};

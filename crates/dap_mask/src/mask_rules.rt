@@ -1,9 +1,8 @@
 //! The rules of a mask and an index of them.
-ghost use Rattle.std.specs.Prelude.{◌≡◌, ◌≢◌, ◌≤◌, Ok, Err, map, option_map, string_bytes};
-ghost use Rattle.std.specs.Prelude.{◌<◌, IfOk, IfErr, length};
+ghost use Rattle.std.specs.Prelude.{◌≡◌, ◌≢◌, ◌≤◌, Ok, Err, map, option_map, string_bytes, ◌<◌};
+ghost use Rattle.std.specs.Prelude.{IfOk, IfErr, length};
 ghost use Rattle.dap_profile.specs.declared.profile.Kind.TheVariants.{Request, Response, Event};
-ghost use Rattle.dap_mask.specs.Index.{IsIndex};
-ghost use Rattle.dap_mask.specs.ListedRules.{listed_changes};
+ghost use Rattle.dap_mask.specs.{Index.IsIndex, ListedRules.listed_changes};
 
 use crate::categories::CategoryRule;
 use crate::fault::{RulesCause, RulesFault};
@@ -32,15 +31,11 @@ pub struct MaskRules {
 
 impl MaskRules {
     ghost use Rattle.dap_mask.specs.Index.{positions};
-    ghost use Rattle.dap_mask.specs.KeptRules.{mask_of, changes_of, dropped_of};
-    ghost use Rattle.dap_mask.specs.Categories.{categories_of};
-    ghost use Rattle.dap_mask.specs.KeptRules.{categories_of_mask, swaps_of_mask, per_stop_of};
-    ghost use Rattle.dap_mask.specs.KeptRules.{words_of_mask};
+    ghost use Rattle.dap_mask.specs.KeptRules.{mask_of, changes_of, dropped_of, categories_of_mask};
+    ghost use Rattle.dap_mask.specs.KeptRules.{swaps_of_mask, per_stop_of, words_of_mask};
+    ghost use Rattle.dap_mask.specs.{Categories.categories_of, ListedRules.listed_mask};
+    ghost use Rattle.dap_mask.specs.{Mask.no_rules, Rules.rules_of, RulesFile.rules_said};
     ghost use Rattle.dap_words.specs.Kept.{pairs_in};
-    ghost use Rattle.dap_mask.specs.ListedRules.{listed_mask};
-    ghost use Rattle.dap_mask.specs.Mask.{no_rules};
-    ghost use Rattle.dap_mask.specs.Rules.{rules_of};
-    ghost use Rattle.dap_mask.specs.RulesFile.{rules_said};
     ghost use Rattle.dap_message.specs.SwapRules.{swaps_of};
 
     /// Reads the rules of a file.
@@ -93,14 +88,14 @@ impl MaskRules {
     pub fn dropped(&self) -> &[Option<String>]
         ensures { map (option_map string_bytes) result.now ≡ dropped_of self.now }
     {
-        self.list.dropped()
+        self.list.dropped.as_slice()
     }
 
     /// Returns the rules that drop the events of one category.
     pub fn categories(&self) -> &[CategoryRule]
         ensures { categories_of result.now ≡ categories_of_mask self.now }
     {
-        self.list.categories()
+        self.list.categories.as_slice()
     }
 
     /// Returns the rules for the order of messages, in the order of the file. Masking does not use
@@ -108,7 +103,7 @@ impl MaskRules {
     pub fn swaps(&self) -> &[SwapRule]
         ensures { swaps_of result.now ≡ swaps_of_mask self.now }
     {
-        self.list.swaps()
+        self.list.swaps.as_slice()
     }
 
     /// Returns whether the file has the line `per-stop`: ids are numbered again from each stop.
@@ -116,14 +111,14 @@ impl MaskRules {
     pub fn per_stop(&self) -> bool
         ensures { result ≡ per_stop_of self.now }
     {
-        self.list.per_stop()
+        self.list.per_stop
     }
 
     /// Returns the words that are put in the place of texts before the changes apply.
     pub fn words(&self) -> &Words
         ensures { pairs_in result.now ≡ words_of_mask self.now }
     {
-        self.list.words()
+        &self.list.words
     }
 
     /// Returns the positions of the changes that may apply to messages of this kind and name, in

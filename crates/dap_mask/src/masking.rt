@@ -1,23 +1,17 @@
 //! Masks the values of a message in place.
-ghost use Rattle.std.specs.Prelude.{◌≡◌, ◌↔◌, true, false, Some, map, option_map, string_bytes};
-ghost use Rattle.std.specs.Prelude.{◌∷◌, slice_get};
+ghost use Rattle.std.specs.Prelude.{◌≡◌, ◌↔◌, true, false, Some, option_map, string_bytes, ◌∷◌};
+ghost use Rattle.std.specs.{Prelude.slice_get, List.list_any};
 ghost use Rattle.dap_tree.specs.Doc.{Doc, is_sound, is_ordered, get, change_child, change_items};
-ghost use Rattle.dap_tree.specs.Doc.{map_items};
-ghost use Rattle.dap_tree.specs.Path.{at};
-ghost use Rattle.dap_tree.specs.View.{view, items_view};
+ghost use Rattle.dap_tree.specs.{Doc.map_items, Path.at, View.{view, items_view}};
 ghost use Rattle.dap_message.specs.Rows.{is_text, is_of_kind, name_key};
-ghost use Rattle.dap_mask.specs.Ids.{KeepsIds};
-ghost use Rattle.dap_mask.specs.Index.{told_kind, told_name, masked_by, masked_at};
-ghost use Rattle.dap_mask.specs.Categories.{category_path, category_of, categories_of, drops};
-ghost use Rattle.dap_mask.specs.Categories.{is_dropped_by};
-ghost use Rattle.dap_mask.specs.KeptRules.{changes_of, dropped_of, mask_of};
-ghost use Rattle.dap_mask.specs.Mask.{leaves_out};
+ghost use Rattle.dap_mask.specs.{Ids.KeepsIds, Index.{told_kind, told_name, masked_by, masked_at}};
+ghost use Rattle.dap_mask.specs.Categories.{category_path, category_of, drops};
+ghost use Rattle.dap_mask.specs.{KeptRules.{changes_of, dropped_of, mask_of}, Mask.leaves_out};
 ghost use Rattle.dap_mask.specs.Masked.{mask_by, masked, IsMasked, AgreeBut, KeepsElsewhere};
 ghost use Rattle.dap_mask.specs.Masked.{HasNoNewPath};
 ghost use Rattle.dap_mask.specs.RuleSteps.{change_at_place, change_called, is_called};
 ghost use Rattle.dap_mask.specs.Rules.{rule_of, rules_of, step_of, place_of, of_verb, blank};
-ghost use Rattle.dap_mask.specs.Rules.{has_name};
-ghost use Rattle.dap_mask.specs.Rules.{rule_applies, is_event_of, is_dropped};
+ghost use Rattle.dap_mask.specs.Rules.{has_name, rule_applies, is_dropped};
 
 use crate::categories::CategoryRule;
 use crate::mask_rules::MaskRules;
@@ -121,6 +115,7 @@ fn told_name(tree: &Tree, kind: Kind) -> Option<&str>
 }
 
 /// Returns whether a message is an event that the rules drop. Does not allocate.
+#[tactic(auto, using(crate::proofs::Lists::any_mapped))]
 pub fn is_dropped(tree: &Tree, rules: &MaskRules) -> bool
     ensures { result ≡ leaves_out (mask_of rules.now) (view tree.now) }
 {
@@ -129,14 +124,9 @@ pub fn is_dropped(tree: &Tree, rules: &MaskRules) -> bool
 }
 
 fn is_dropped_by(tree: &Tree, rules: &[CategoryRule]) -> bool
-    ensures { result ≡ is_dropped_by (categories_of rules.now) (view tree.now) }
+    ensures { result ≡ list_any (λ c. drops (category_of c) (view tree.now)) rules.now }
 {
-    for rule in rules {
-        if drops(tree, rule) {
-            return true;
-        }
-    }
-    false
+    rules.iter().any(|rule| drops(tree, rule))
 }
 
 fn drops(tree: &Tree, rule: &CategoryRule) -> bool
@@ -156,14 +146,12 @@ fn has_category(tree: &Tree, category: &str) -> bool
 }
 
 fn is_event_of(tree: &Tree, names: &[Option<String>]) -> bool
-    ensures { result ≡ is_event_of (map (option_map string_bytes) names.now) (view tree.now) }
+    ensures { result ≡ list_any
+        (λ n. has_name Kind.Event (option_map string_bytes n) (view tree.now)) names.now }
 {
-    for name in names {
-        if has_name(tree, Kind::Event, text_of(name)) {
-            return true;
-        }
-    }
-    false
+    names
+        .iter()
+        .any(|name| has_name(tree, Kind::Event, text_of(name)))
 }
 
 fn mask_by(tree: &mut Tree, rule: &MaskRule)
@@ -186,11 +174,7 @@ fn has_text(tree: &Tree, name: &str, word: &str) -> bool
 fn is_of_kind(tree: &Tree, kind: Kind) -> bool
     ensures { result ≡ is_of_kind kind (view tree.now) }
 {
-    match kind {
-        Kind::Request => has_text(tree, "type", "request"),
-        Kind::Response => has_text(tree, "type", "response"),
-        Kind::Event => has_text(tree, "type", "event"),
-    }
+    has_text(tree, "type", kind.word())
 }
 
 fn has_name(tree: &Tree, kind: Kind, name: Option<&str>) -> bool

@@ -1,10 +1,9 @@
 //! Compares rules: by messages, by places, and by clashes between actions.
-ghost use Rattle.std.specs.Prelude.{◌≡◌, option_map, string_bytes};
+ghost use Rattle.std.specs.{Prelude.{◌≡◌, option_map, string_bytes}, List.list_any};
 ghost use Rattle.dap_mask.specs.Rules.{rule_of, rules_of, step_of, place_of, same_rule_step};
-ghost use Rattle.dap_mask.specs.Rules.{same_rule_place, share_step, share_place};
-ghost use Rattle.dap_mask.specs.Rules.{same_kind, share_name, same_name, same_verb, same_rule};
-ghost use Rattle.dap_mask.specs.Rules.{is_among, unsettles, clash};
-ghost use Rattle.dap_mask.specs.Rules.{is_naming, is_telling, is_telling_place};
+ghost use Rattle.dap_mask.specs.Rules.{same_rule_place, share_step, share_place, same_kind};
+ghost use Rattle.dap_mask.specs.Rules.{share_name, same_name, same_verb, same_rule, unsettles};
+ghost use Rattle.dap_mask.specs.Rules.{clash, is_naming, is_telling, is_telling_place};
 ghost use Rattle.dap_mask.specs.RulesFile.{cause_of_pair, clash_cause};
 
 use crate::fault::RulesCause;
@@ -14,11 +13,7 @@ use dap_message::Kind;
 pub(crate) fn same_kind(kind: Kind, other: Kind) -> bool
     ensures { result ≡ same_kind kind other }
 {
-    match kind {
-        Kind::Request => matches!(other, Kind::Request),
-        Kind::Response => matches!(other, Kind::Response),
-        Kind::Event => matches!(other, Kind::Event),
-    }
+    kind == other
 }
 
 /// Returns a name as a borrowed string. `None` is any name.
@@ -56,13 +51,7 @@ pub(crate) fn same_name(name: Option<&str>, other: Option<&str>) -> bool
 fn same_verb(verb: Verb, other: Verb) -> bool
     ensures { result ≡ same_verb verb other }
 {
-    match verb {
-        Verb::Blank => matches!(other, Verb::Blank),
-        Verb::Digits => matches!(other, Verb::Digits),
-        Verb::Hex => matches!(other, Verb::Hex),
-        Verb::Long => matches!(other, Verb::Long),
-        Verb::Uuid => matches!(other, Verb::Uuid),
-    }
+    verb == other
 }
 
 fn same_rule_step(step: &Step, other: &Step) -> bool
@@ -135,14 +124,9 @@ fn same_rule(rule: &MaskRule, other: &MaskRule) -> bool
 }
 
 pub(crate) fn is_among(rule: &MaskRule, rules: &[MaskRule]) -> bool
-    ensures { result ≡ is_among (rule_of rule.now) (rules_of rules.now) }
+    ensures { result ≡ list_any (λ r. same_rule (rule_of rule.now) (rule_of r)) rules.now }
 {
-    for other in rules {
-        if same_rule(rule, other) {
-            return true;
-        }
-    }
-    false
+    rules.iter().any(|other| same_rule(rule, other))
 }
 
 fn unsettles(verb: Verb, later: Verb) -> bool

@@ -4,7 +4,7 @@ ghost use Rattle.serde_json.specs.View.{view as value_view};
 ghost use Rattle.dap_mask.specs.RuleText.{text_in, string_of, quoted_at, plain_at, name_at};
 ghost use Rattle.dap_mask.specs.RuleText.{any_name};
 
-use crate::runs::{ByteClass, closing, is_closed, split_run};
+use crate::runs::{ByteClass, closing, split_run};
 use serde_json::Value;
 use std::alloc::{AllocError, Global};
 
@@ -20,14 +20,8 @@ pub fn name_at(alloc: Global, text: &[u8]) -> Result<Option<(String, &[u8])>, Al
         (λ o. option_map (λ n. (string_bytes n.0, n.1.now)) o ≡ name_at text.now) }
 {
     match text {
-        [first, ..] => {
-            if *first == b'"' {
-                quoted_at(alloc, text)
-            } else {
-                plain_at(alloc, text)
-            }
-        }
-        [] => Ok(None),
+        [b'"', ..] => quoted_at(alloc, text),
+        _ => plain_at(alloc, text),
     }
 }
 
@@ -43,16 +37,11 @@ pub fn any_name(alloc: Global, text: &[u8]) -> Result<Option<(Option<String>, &[
         (λ o. option_map (λ n. (option_map string_bytes n.0, n.1.now)) o ≡ any_name text.now) }
 {
     match text {
-        [first, rest @ ..] => {
-            if *first == b'*' {
-                return Ok(Some((None, rest)));
-            }
-            match name_at(alloc, text)? {
-                Some((name, rest)) => Ok(Some((Some(name), rest))),
-                None => Ok(None),
-            }
-        }
-        [] => Ok(None),
+        [b'*', rest @ ..] => Ok(Some((None, rest))),
+        _ => match name_at(alloc, text)? {
+            Some((name, rest)) => Ok(Some((Some(name), rest))),
+            None => Ok(None),
+        },
     }
 }
 
@@ -77,10 +66,10 @@ pub(crate) fn quoted_at(alloc: Global, text: &[u8]) -> Result<Option<(String, &[
     let [_, inside @ ..] = text else {
         return Ok(None);
     };
-    if !is_closed(inside) {
+    let Some(end) = closing(inside) else {
         return Ok(None);
-    }
-    let (token, rest) = text.split_at(closing(inside) + 1);
+    };
+    let (token, rest) = text.split_at(end + 1);
     match string_of(alloc, token)? {
         Some(name) => Ok(Some((name, rest))),
         None => Ok(None),
@@ -103,10 +92,6 @@ fn text_in(value: Value) -> Option<String>
 {
     match value {
         Value::String(text) => Some(text),
-        Value::Null => None,
-        Value::Bool(_) => None,
-        Value::Number(_number) => None,
-        Value::Array(_values) => None,
-        Value::Object(_members) => None,
+        _ => None,
     }
 }

@@ -1,7 +1,6 @@
 //! Parses the places of a rules file.
-ghost use Rattle.std.specs.Prelude.{◌≡◌, IfOk, option_map, option_and_then, string_bytes};
-ghost use Rattle.dap_mask.specs.RuleText.{bracket_behind, called_step, each_step, next_step};
-ghost use Rattle.dap_mask.specs.RuleText.{quoted_at, place_at};
+ghost use Rattle.std.specs.Prelude.{◌≡◌, IfOk, option_map, string_bytes};
+ghost use Rattle.dap_mask.specs.RuleText.{bracket_behind, each_step, next_step, place_at};
 ghost use Rattle.dap_mask.specs.Rules.{step_of, place_of};
 
 use crate::names::{name_at, quoted_at};
@@ -45,19 +44,12 @@ fn next_step(alloc: Global, text: &[u8]) -> Result<Option<(Step, &[u8])>, AllocE
     ensures { IfOk result (λ o. option_map (λ p. (step_of p.0, p.1.now)) o ≡ next_step text.now) }
 {
     match text {
-        [first, behind @ ..] => {
-            if *first == b'.' {
-                match name_at(alloc, behind)? {
-                    Some((name, rest)) => Ok(Some((Step::Member(name), rest))),
-                    None => Ok(None),
-                }
-            } else if *first == b'[' {
-                each_step(alloc, behind)
-            } else {
-                Ok(None)
-            }
-        }
-        [] => Ok(None),
+        [b'.', behind @ ..] => match name_at(alloc, behind)? {
+            Some((name, rest)) => Ok(Some((Step::Member(name), rest))),
+            None => Ok(None),
+        },
+        [b'[', behind @ ..] => each_step(alloc, behind),
+        _ => Ok(None),
     }
 }
 
@@ -66,27 +58,12 @@ fn each_step(alloc: Global, text: &[u8]) -> Result<Option<(Step, &[u8])>, AllocE
     ensures { IfOk result (λ o. option_map (λ p. (step_of p.0, p.1.now)) o ≡ each_step text.now) }
 {
     match text {
-        [first, rest @ ..] => {
-            if *first == b']' {
-                Ok(Some((Step::Each, rest)))
-            } else if *first == b'"' {
-                called_step(alloc, text)
-            } else {
-                Ok(None)
-            }
-        }
-        [] => Ok(None),
-    }
-}
-
-// Parses a name in quotes and the bracket after it. The caller has checked the opening quote.
-fn called_step(alloc: Global, text: &[u8]) -> Result<Option<(Step, &[u8])>, AllocError>
-    ensures { IfOk result (λ o. option_map (λ p. (step_of p.0, p.1.now)) o
-        ≡ option_and_then called_step (quoted_at text.now)) }
-{
-    match quoted_at(alloc, text)? {
-        Some((name, behind)) => Ok(bracket_behind(name, behind)),
-        None => Ok(None),
+        [b']', rest @ ..] => Ok(Some((Step::Each, rest))),
+        [b'"', ..] => match quoted_at(alloc, text)? {
+            Some((name, behind)) => Ok(bracket_behind(name, behind)),
+            None => Ok(None),
+        },
+        _ => Ok(None),
     }
 }
 
@@ -96,13 +73,7 @@ fn bracket_behind(name: String, text: &[u8]) -> Option<(Step, &[u8])>
         ≡ bracket_behind (string_bytes name) text.now }
 {
     match text {
-        [first, rest @ ..] => {
-            if *first == b']' {
-                Some((Step::Element(name), rest))
-            } else {
-                None
-            }
-        }
-        [] => None,
+        [b']', rest @ ..] => Some((Step::Element(name), rest)),
+        _ => None,
     }
 }

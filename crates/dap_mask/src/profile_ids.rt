@@ -1,10 +1,9 @@
 //! Finds rules whose place is that of an id in the profile.
-ghost use Rattle.std.specs.Prelude.{◌≡◌, map};
-ghost use Rattle.dap_profile.specs.ProfileRows.{row_of};
-ghost use Rattle.dap_profile.specs.PlaceSteps.{steps_of};
+ghost use Rattle.std.specs.{Prelude.{◌≡◌}, List.list_any};
+ghost use Rattle.dap_profile.specs.{ProfileRows.row_of, PlaceSteps.steps_of};
 ghost use Rattle.dap_mask.specs.RuleSteps.{plain_step, plain_place};
 ghost use Rattle.dap_mask.specs.Rules.{rule_of, step_of, place_of, same_step, same_place};
-ghost use Rattle.dap_mask.specs.Ids.{meets, takes_id, takes_id_of, takes_profile_id};
+ghost use Rattle.dap_mask.specs.Ids.{meets, takes_id, takes_profile_id};
 ghost use Rattle.dap_mask.specs.RowSteps.{row_step_of, row_place_of};
 
 use crate::meets::{same_kind, share_name, text_of};
@@ -27,14 +26,9 @@ pub(crate) fn takes_profile_id(rule: &MaskRule) -> bool
 }
 
 fn takes_id_of(rule: &MaskRule, rows: &[Row]) -> bool
-    ensures { result ≡ takes_id_of (rule_of rule.now) (map row_of rows.now) }
+    ensures { result ≡ list_any (λ r. takes_id (rule_of rule.now) (row_of r)) rows.now }
 {
-    for row in rows {
-        if takes_id(rule, row) {
-            return true;
-        }
-    }
-    false
+    rows.iter().any(|row| takes_id(rule, row))
 }
 
 fn takes_id(rule: &MaskRule, row: &Row) -> bool

@@ -1,14 +1,12 @@
 //! Reads the rules of a mask from a file and stores them in the order of the file.
-ghost use Rattle.std.specs.Prelude.{◌≡◌, ◌≢◌, ◌≤◌, true, None, Ok, Err, map, option_map};
-ghost use Rattle.std.specs.Prelude.{IfOk, IfErr, OnOk, length, string_bytes, ◌+◌, vec_len};
-ghost use Rattle.std.specs.Str.{is_utf8};
+ghost use Rattle.std.specs.Prelude.{◌≡◌, ◌≢◌, ◌≤◌, true, cond, None, Some, Ok, Err, option_map};
+ghost use Rattle.std.specs.Prelude.{IfOk, IfErr, OnOk, length, string_bytes, ◌+◌, vec_len, ◌||◌};
+ghost use Rattle.std.specs.{Str.is_utf8, List.list_any};
 ghost use Rattle.dap_mask.specs.Categories.{category_of, categories_of, keep_categories};
 ghost use Rattle.dap_mask.specs.Ids.{leave_ids};
-ghost use Rattle.dap_mask.specs.Rules.{rule_of, rules_of, are_safe, are_idempotent};
-ghost use Rattle.dap_mask.specs.RulesFile.{is_name_among, change_cause, or_clash, last_line};
-ghost use Rattle.dap_mask.specs.RulesFile.{cause_of_word};
-ghost use Rattle.dap_words.specs.Words.{pair_of};
-ghost use Rattle.dap_words.specs.Kept.{pairs_in};
+ghost use Rattle.dap_mask.specs.Rules.{rule_of, rules_of, are_safe, are_idempotent, same_name};
+ghost use Rattle.dap_mask.specs.RulesFile.{change_cause, or_clash, last_line, cause_of_word};
+ghost use Rattle.dap_words.specs.{Words.pair_of, Kept.pairs_in};
 
 use crate::categories::{CategoryRule, is_category_among, is_moved_by, moves_one_of};
 use crate::element_names::{renames, renames_among};
@@ -38,11 +36,11 @@ const MAX_RULES: usize = 1_000;
 #[derive(Drop)]
 pub(crate) struct RuleList {
     changes: Vec<MaskRule>,
-    dropped: Vec<Option<String>>,
-    categories: Vec<CategoryRule>,
-    swaps: Vec<SwapRule>,
-    per_stop: bool,
-    words: Words,
+    pub(crate) dropped: Vec<Option<String>>,
+    pub(crate) categories: Vec<CategoryRule>,
+    pub(crate) swaps: Vec<SwapRule>,
+    pub(crate) per_stop: bool,
+    pub(crate) words: Words,
     ghost few: { vec_len changes + vec_len dropped + vec_len categories + vec_len swaps
         + length (pairs_in words) ≤ 1000 },
     ghost safe: { are_safe (rules_of changes.items) ≡ true },
@@ -53,15 +51,13 @@ pub(crate) struct RuleList {
 }
 
 impl RuleList {
-    ghost use Rattle.dap_mask.specs.ListedRules.{listed_mask, listed_changes, listed_dropped};
-    ghost use Rattle.dap_mask.specs.ListedRules.{listed_categories, listed_swaps, listed_per_stop};
-    ghost use Rattle.dap_mask.specs.ListedRules.{listed_words};
+    ghost use Rattle.dap_mask.specs.Categories.{moves_one_of};
+    ghost use Rattle.dap_mask.specs.ListedRules.{listed_mask, listed_changes, listed_categories};
+    ghost use Rattle.dap_mask.specs.Rules.{renames_among};
     ghost use Rattle.dap_mask.specs.Mask.{no_rules, rule_count, with_rule, statement_of, nothing};
-    ghost use Rattle.dap_mask.specs.Mask.{leave_out_category, put};
-    ghost use Rattle.dap_mask.specs.RuleText.{line_said};
+    ghost use Rattle.dap_mask.specs.{Mask.{leave_out_category, put}, RuleText.line_said};
     ghost use Rattle.dap_mask.specs.RulesFile.{cause_against, line_outcome, rules_from, rules_said};
     ghost use Rattle.dap_mask.specs.Runs.{lines_of};
-    ghost use Rattle.dap_message.specs.SwapRules.{swaps_of};
 
     /// Reads the rules of a file.
     ///
@@ -108,41 +104,6 @@ impl RuleList {
         ensures { rules_of result.now ≡ listed_changes self.now }
     {
         self.changes.as_slice()
-    }
-
-    /// Returns the names of the events that are dropped. `None` is any name.
-    pub(crate) fn dropped(&self) -> &[Option<String>]
-        ensures { map (option_map string_bytes) result.now ≡ listed_dropped self.now }
-    {
-        self.dropped.as_slice()
-    }
-
-    /// Returns the rules that drop the events of one category.
-    pub(crate) fn categories(&self) -> &[CategoryRule]
-        ensures { categories_of result.now ≡ listed_categories self.now }
-    {
-        self.categories.as_slice()
-    }
-
-    /// Returns the rules for the order of messages, in the order of the file.
-    pub(crate) fn swaps(&self) -> &[SwapRule]
-        ensures { swaps_of result.now ≡ listed_swaps self.now }
-    {
-        self.swaps.as_slice()
-    }
-
-    /// Returns whether ids are numbered again from each stop.
-    pub(crate) fn per_stop(&self) -> bool
-        ensures { result ≡ listed_per_stop self.now }
-    {
-        self.per_stop
-    }
-
-    /// Returns the texts and their words.
-    pub(crate) fn words(&self) -> &Words
-        ensures { pairs_in result.now ≡ listed_words self.now }
-    {
-        &self.words
     }
 
     /// Returns the number of rules.
@@ -207,7 +168,18 @@ impl RuleList {
         }
     }
 
+    /// Returns whether the change may give an event the category by which a rule drops it, or an
+    /// element the name by which a rule selects it.
+    #[tactic(auto, using(crate::proofs::Lists::any_mapped))]
+    fn clashes(&self, rule: &MaskRule) -> bool
+        ensures { result ≡ (moves_one_of (rule_of rule.now) (listed_categories self.now)
+            || renames_among (rule_of rule.now) (listed_changes self.now)) }
+    {
+        moves_one_of(rule, &self.categories) || renames_among(rule, &self.changes)
+    }
+
     /// Returns why the rule may not follow the rules read so far; `None` if it may.
+    #[tactic(auto, using(crate::proofs::Lists::any_mapped))]
     fn cause_against(&self, statement: &Statement) -> Option<RulesCause>
         ensures { result ≡ cause_against (listed_mask self.now) (statement_of statement.now) }
     {
@@ -216,41 +188,22 @@ impl RuleList {
         }
         match statement {
             Statement::Change(rule) => {
-                or_clash(
-                    change_cause(&self.changes, rule),
-                    moves_one_of(rule, &self.categories) || renames_among(rule, &self.changes),
-                )
+                or_clash(change_cause(&self.changes, rule), self.clashes(rule))
             }
             Statement::LeaveOut(name) => {
-                if is_name_among(name, &self.dropped) {
-                    Some(RulesCause::Repeated)
-                } else {
-                    None
-                }
+                cause_if(is_name_among(name, &self.dropped), RulesCause::Repeated)
             }
             Statement::LeaveOutCategory(rule) => {
                 if is_category_among(rule, &self.categories) {
                     Some(RulesCause::Repeated)
-                } else if is_moved_by(&self.changes, rule) {
-                    Some(RulesCause::Clash)
                 } else {
-                    None
+                    cause_if(is_moved_by(&self.changes, rule), RulesCause::Clash)
                 }
             }
             Statement::Swap(swap) => {
-                if is_swap_among(swap, &self.swaps) {
-                    Some(RulesCause::Repeated)
-                } else {
-                    None
-                }
+                cause_if(is_swap_among(swap, &self.swaps), RulesCause::Repeated)
             }
-            Statement::PerStop => {
-                if self.per_stop {
-                    Some(RulesCause::Repeated)
-                } else {
-                    None
-                }
-            }
+            Statement::PerStop => cause_if(self.per_stop, RulesCause::Repeated),
             Statement::Put(word) => {
                 match self.words.cause_against(word) {
                     Some(cause) => Some(cause_of_word(cause)),
@@ -313,6 +266,7 @@ fn last_line(text: &[u8]) -> usize
     text.iter().filter(|byte| **byte == b'\n').count() + 1
 }
 
+#[tactic(auto, using(crate::proofs::Lists::any_mapped))]
 fn change_cause(changes: &[MaskRule], rule: &MaskRule) -> Option<RulesCause>
     ensures { result ≡ change_cause (rules_of changes.now) (rule_of rule.now) }
 {
@@ -341,24 +295,22 @@ fn or_clash(cause: Option<RulesCause>, clashes: bool) -> Option<RulesCause>
 {
     match cause {
         Some(cause) => Some(cause),
-        None => {
-            if clashes {
-                Some(RulesCause::Clash)
-            } else {
-                None
-            }
-        }
+        None => cause_if(clashes, RulesCause::Clash),
     }
 }
 
-fn is_name_among(name: &Option<String>, names: &[Option<String>]) -> bool
-    ensures { result ≡ is_name_among (option_map string_bytes name.now)
-        (map (option_map string_bytes) names.now) }
+// Returns the cause if the rule is rejected for it.
+fn cause_if(is_rejected: bool, cause: RulesCause) -> Option<RulesCause>
+    ensures { result ≡ cond is_rejected (Some cause) None }
 {
-    for other in names {
-        if same_name(text_of(name), text_of(other)) {
-            return true;
-        }
-    }
-    false
+    if is_rejected { Some(cause) } else { None }
+}
+
+fn is_name_among(name: &Option<String>, names: &[Option<String>]) -> bool
+    ensures { result ≡ list_any
+        (λ n. same_name (option_map string_bytes name.now) (option_map string_bytes n)) names.now }
+{
+    names
+        .iter()
+        .any(|other| same_name(text_of(name), text_of(other)))
 }

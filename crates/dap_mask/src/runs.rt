@@ -1,5 +1,5 @@
 //! Runs of bytes at the start of a text.
-ghost use Rattle.std.specs.Prelude.{◌≡◌, ◌==◌, ◌≤◌, false, length, option_map};
+ghost use Rattle.std.specs.{Prelude.{◌≡◌, ◌≤◌, false, length, option_map, IfSome}, Option.is_some};
 ghost use Rattle.dap_mask.specs.Runs.{is_blank, has_class, front, behind, closing, is_closed, gap};
 ghost use Rattle.dap_mask.specs.Runs.{is_end};
 
@@ -49,35 +49,21 @@ pub fn split_run(text: &[u8], class: ByteClass) -> (&[u8], &[u8])
     (text, &[])
 }
 
-/// Returns the number of bytes up to and including the quote that closes a string, or the length of
-/// the text if no quote closes it. The text starts after the opening quote of the string.
-pub(crate) fn closing(text: &[u8]) -> usize
-    ensures end { result ≡ closing false text.now }
-    ensures within { result ≤ length text.now }
+/// Returns the number of bytes up to and including the quote that closes a string; `None` if no
+/// quote closes it. The text starts after the opening quote of the string.
+pub(crate) fn closing(text: &[u8]) -> Option<usize>
+    ensures closed { is_some result ≡ is_closed false text.now }
+    ensures value { IfSome result (λ n. n ≡ closing false text.now) }
+    ensures within { IfSome result (λ n. n ≤ length text.now) }
 {
     let mut escaped = false;
     for (i, byte) in text.iter().enumerate() {
         if *byte == b'"' && !escaped {
-            return i + 1;
+            return Some(i + 1);
         }
         escaped = *byte == b'\\' && !escaped;
     }
-    text.len()
-}
-
-/// Returns whether a quote that no backslash escapes closes a string. The text starts after the
-/// opening quote of the string.
-pub(crate) fn is_closed(text: &[u8]) -> bool
-    ensures { result ≡ is_closed false text.now }
-{
-    let mut escaped = false;
-    for byte in text {
-        if *byte == b'"' && !escaped {
-            return true;
-        }
-        escaped = *byte == b'\\' && !escaped;
-    }
-    false
+    None
 }
 
 /// Returns the rest after the blanks at the start of a text; `None` if the text does not start with
@@ -95,8 +81,5 @@ pub fn is_end(text: &[u8]) -> bool
     ensures { result ≡ is_end text.now }
 {
     let (_, rest) = split_run(text, ByteClass::Blank);
-    match rest {
-        [] => true,
-        [first, ..] => *first == b'#',
-    }
+    matches!(rest, [] | [b'#', ..])
 }

@@ -2,13 +2,11 @@
 ghost use Rattle.std.specs.Prelude.{◌≡◌, ◌≢◌, IfOk, IfErr, option_map, string_bytes};
 ghost use Rattle.dap_mask.specs.Mask.{statement_of, line_of, nothing};
 ghost use Rattle.dap_mask.specs.RuleText.{verb_named, kind_named, head_at, change_at, category_at};
-ghost use Rattle.dap_mask.specs.RuleText.{text_behind, category_behind, leave_out_at};
-ghost use Rattle.dap_mask.specs.RuleText.{half_at, swap_at, restart_at, part_at, put_at};
-ghost use Rattle.dap_mask.specs.RuleText.{statement_at, line_said};
+ghost use Rattle.dap_mask.specs.RuleText.{category_behind, leave_out_at, half_at, swap_at};
+ghost use Rattle.dap_mask.specs.RuleText.{restart_at, part_at, put_at, statement_at, line_said};
 ghost use Rattle.dap_message.specs.SwapRules.{half_of};
 
 use crate::categories::CategoryRule;
-use crate::meets::same_kind;
 use crate::names::{any_name, name_at};
 use crate::places::place_at;
 use crate::rules::{MaskRule, Verb};
@@ -122,54 +120,46 @@ fn head_at(alloc: Global, text: &[u8]) -> Result<Option<(Kind, Option<String>, &
         return Ok(None);
     };
     let (word, text) = split_run(text, ByteClass::Plain);
-    let Some(kind) = kind_named(word) else {
-        return Ok(None);
-    };
-    let Some(text) = gap(text) else {
-        return Ok(None);
-    };
-    match any_name(alloc, text)? {
-        Some((name, rest)) => Ok(Some((kind, name, rest))),
-        None => Ok(None),
+    if let Some(kind) = kind_named(word)
+        && let Some(text) = gap(text)
+        && let Some((name, rest)) = any_name(alloc, text)?
+    {
+        return Ok(Some((kind, name, rest)));
     }
+    Ok(None)
 }
 
 fn change_at(alloc: Global, verb: Verb, text: &[u8]) -> Result<Option<Statement>, AllocError>
     ensures { IfOk result (λ o. option_map statement_of o ≡ change_at verb text.now) }
 {
-    let Some((kind, name, text)) = head_at(alloc, text)? else {
-        return Ok(None);
-    };
-    let Some(text) = gap(text) else {
-        return Ok(None);
-    };
-    let Some((place, text)) = place_at(alloc, text)? else {
-        return Ok(None);
-    };
-    if !is_end(text) {
-        return Ok(None);
+    if let Some((kind, name, text)) = head_at(alloc, text)?
+        && let Some(text) = gap(text)
+        && let Some((place, text)) = place_at(alloc, text)?
+        && is_end(text)
+    {
+        return Ok(Some(Statement::Change(MaskRule {
+            verb,
+            kind,
+            name,
+            place,
+        })));
     }
-    Ok(Some(Statement::Change(MaskRule {
-        verb,
-        kind,
-        name,
-        place,
-    })))
+    Ok(None)
 }
 
 fn leave_out_at(alloc: Global, text: &[u8]) -> Result<Option<Statement>, AllocError>
     ensures { IfOk result (λ o. option_map statement_of o ≡ leave_out_at text.now) }
 {
-    let Some((kind, name, text)) = head_at(alloc, text)? else {
-        return Ok(None);
-    };
-    if !same_kind(kind, Kind::Event) {
-        return Ok(None);
+    match head_at(alloc, text)? {
+        Some((Kind::Event, name, text)) => {
+            if is_end(text) {
+                Ok(Some(Statement::LeaveOut(name)))
+            } else {
+                category_behind(alloc, name, text)
+            }
+        }
+        _ => Ok(None),
     }
-    if is_end(text) {
-        return Ok(Some(Statement::LeaveOut(name)));
-    }
-    category_behind(alloc, name, text)
 }
 
 // Returns the rule that drops the events of this name and of the category in the text.
@@ -181,17 +171,13 @@ fn category_behind(
     ensures { IfOk result (λ o. option_map statement_of o
         ≡ category_behind (option_map string_bytes name) text.now) }
 {
-    let Some(text) = gap(text) else {
-        return Ok(None);
-    };
-    let Some((category, rest)) = category_at(alloc, text)? else {
-        return Ok(None);
-    };
-    if is_end(rest) {
-        Ok(Some(Statement::LeaveOutCategory(CategoryRule { name, category })))
-    } else {
-        Ok(None)
+    if let Some(text) = gap(text)
+        && let Some((category, rest)) = category_at(alloc, text)?
+        && is_end(rest)
+    {
+        return Ok(Some(Statement::LeaveOutCategory(CategoryRule { name, category })));
     }
+    Ok(None)
 }
 
 // Returns the text of `category=TEXT`, with which the text starts, and the rest.
@@ -199,28 +185,13 @@ fn category_at(alloc: Global, text: &[u8]) -> Result<Option<(String, &[u8])>, Al
     ensures { IfOk result
         (λ o. option_map (λ n. (string_bytes n.0, n.1.now)) o ≡ category_at text.now) }
 {
-    let (word, rest) = split_run(text, ByteClass::Plain);
-    if word == b"category".as_slice() {
-        text_behind(alloc, rest)
-    } else {
-        Ok(None)
+    let (word, behind) = split_run(text, ByteClass::Plain);
+    if word != b"category".as_slice() {
+        return Ok(None);
     }
-}
-
-// Returns the text after `=`, with which the text starts, and the rest.
-fn text_behind(alloc: Global, text: &[u8]) -> Result<Option<(String, &[u8])>, AllocError>
-    ensures { IfOk result
-        (λ o. option_map (λ n. (string_bytes n.0, n.1.now)) o ≡ text_behind text.now) }
-{
-    match text {
-        [first, rest @ ..] => {
-            if *first == b'=' {
-                name_at(alloc, rest)
-            } else {
-                Ok(None)
-            }
-        }
-        [] => Ok(None),
+    match behind {
+        [b'=', rest @ ..] => name_at(alloc, rest),
+        _ => Ok(None),
     }
 }
 
@@ -238,17 +209,13 @@ fn half_at(alloc: Global, text: &[u8]) -> Result<Option<(Half, &[u8])>, AllocErr
 fn swap_at(alloc: Global, text: &[u8]) -> Result<Option<Statement>, AllocError>
     ensures { IfOk result (λ o. option_map statement_of o ≡ swap_at text.now) }
 {
-    let Some((one, text)) = half_at(alloc, text)? else {
-        return Ok(None);
-    };
-    let Some((another, text)) = half_at(alloc, text)? else {
-        return Ok(None);
-    };
-    if is_end(text) {
-        Ok(Some(Statement::Swap(SwapRule { one, another })))
-    } else {
-        Ok(None)
+    if let Some((one, text)) = half_at(alloc, text)?
+        && let Some((another, text)) = half_at(alloc, text)?
+        && is_end(text)
+    {
+        return Ok(Some(Statement::Swap(SwapRule { one, another })));
     }
+    Ok(None)
 }
 
 fn restart_at(text: &[u8]) -> Option<Statement>
@@ -275,18 +242,14 @@ fn part_at(alloc: Global, text: &[u8]) -> Result<Option<(String, &[u8])>, AllocE
 fn put_at(alloc: Global, text: &[u8]) -> Result<Option<Statement>, AllocError>
     ensures { IfOk result (λ o. option_map statement_of o ≡ put_at text.now) }
 {
-    let Some((replaced, text)) = part_at(alloc, text)? else {
-        return Ok(None);
-    };
-    let Some((word, text)) = part_at(alloc, text)? else {
-        return Ok(None);
-    };
-    if is_end(text) {
-        Ok(Some(Statement::Put(Word {
+    if let Some((replaced, text)) = part_at(alloc, text)?
+        && let Some((word, text)) = part_at(alloc, text)?
+        && is_end(text)
+    {
+        return Ok(Some(Statement::Put(Word {
             text: replaced,
             word,
-        })))
-    } else {
-        Ok(None)
+        })));
     }
+    Ok(None)
 }

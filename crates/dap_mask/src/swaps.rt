@@ -1,8 +1,7 @@
 //! When two rules for the order of messages are the same.
-ghost use Rattle.std.specs.Prelude.{◌≡◌};
+ghost use Rattle.std.specs.{Prelude.{◌≡◌}, List.list_any};
 ghost use Rattle.dap_mask.specs.Swaps.{same_half, same_swap};
-ghost use Rattle.dap_message.specs.SwapRules.{half_of, swap_of, swaps_of};
-ghost use Rattle.dap_mask.specs.Swaps.{is_swap_among};
+ghost use Rattle.dap_message.specs.SwapRules.{half_of, swap_of};
 
 use crate::meets::{same_kind, same_name, text_of};
 use dap_message::{Half, SwapRule};
@@ -22,12 +21,7 @@ fn same_swap(swap: &SwapRule, other: &SwapRule) -> bool
 
 /// Returns whether one of the rules is the same as this rule, perhaps with its halves exchanged.
 pub(crate) fn is_swap_among(swap: &SwapRule, swaps: &[SwapRule]) -> bool
-    ensures { result ≡ is_swap_among (swap_of swap.now) (swaps_of swaps.now) }
+    ensures { result ≡ list_any (λ s. same_swap (swap_of swap.now) (swap_of s)) swaps.now }
 {
-    for other in swaps {
-        if same_swap(swap, other) {
-            return true;
-        }
-    }
-    false
+    swaps.iter().any(|other| same_swap(swap, other))
 }

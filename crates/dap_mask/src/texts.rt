@@ -1,6 +1,6 @@
 //! Redacts numbers in strings, in place.
 ghost use Rattle.std.specs.Prelude.{◌≡◌, ◌≤◌, length, take, string_bytes};
-ghost use Rattle.dap_mask.specs.Texts.{digits, hex, begins_hex, slice_begins_hex};
+ghost use Rattle.dap_mask.specs.Texts.{digits, hex, slice_begins_hex};
 ghost use Rattle.dap_mask.specs.Standing.{left_of, next_at};
 
 /// Replaces each run of digits by `0`. Does not allocate.

@@ -1,5 +1,4 @@
-use Rattle.std.proofs.Common.{◌≡◌, ℕ, suc, ◌-◌, List, Some, option_map, sym, ap, ◌∙◌, refl}
-use Rattle.std.proofs.Common.{arith}
+use Rattle.std.proofs.Common.{◌≡◌, ℕ, suc, ◌-◌, List, Some, option_map, sym, ap, ◌∙◌, refl, arith}
 use Rattle.dap_mask.specs.RuleSteps.{RuleStep}
 use Rattle.dap_mask.specs.RuleText.{next_step, steps_from}
 use Rattle.dap_mask.specs.Rules.{step_of, place_of}
