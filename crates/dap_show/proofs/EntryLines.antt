@@ -1,6 +1,6 @@
 -- The lines of entries, the messages that obey the rules among them, and their first rejection,
 -- after one more entry.
-use Rattle.std.proofs.Common.{◌≡◌, ◌≢◌, ℕ, ◌+◌, ◌<◌, ◌≤◌, Bool, true, false, List, [], ◌∷◌, ◌++◌}
+use Rattle.std.proofs.Common.{◌≡◌, ◌≢◌, ℕ, ◌+◌, ◌<◌, ◌≤◌, true, false, List, [], ◌∷◌, ◌++◌}
 use Rattle.std.proofs.Common.{length, Option, Some, None, refl, sym, ◌∙◌, ap, subst}
 use Rattle.std.proofs.Common.{arith, append_assoc, append-nil, length-append}
 use Rattle.std.proofs.lemmas.Bool.Decides.{nat_tests}
@@ -10,7 +10,6 @@ use Rattle.dap_message.specs.Message.{Refusal, no_reading, fraction, faulty}
 use Rattle.dap_recording.specs.declared.record_fault.RecordCause.TheVariants as cause
 use Rattle.dap_input.specs.Refusals.{RejectsPayload}
 use Rattle.dap_input.specs.Validation.{ContentError, broken, grew, no_message, too_many_ids}
-use Rattle.dap_input.specs.declared.limits.Limits.{Limits}
 use Rattle.dap_input.specs.declared.refused.Refused.{Refused}
 use Rattle.dap_input.specs.declared.refused.Refused.TheVariants as because
 use Rattle.dap_message.specs.Message.{HasRefusal, Sent}
@@ -27,6 +26,7 @@ use Rattle.dap_show.specs.Viewing.{rule_refusal, typed, untyped}
 use Rattle.dap_show.specs.ViewingSteps.{IsEntered, IsJudged, StandsIf}
 use Rattle.dap_show.specs.declared.detail.Detail.{Detail}
 use Rattle.dap_show.specs.declared.detail.Detail.TheVariants.{Lists, Leaves}
+use Rattle.dap_show.specs.declared.detail.View.{View}
 
 pub lines_push : (detail : Detail) (n k : ℕ) (entries : List Entry) (e : Entry)
     → k ≡ length entries + n
@@ -122,36 +122,36 @@ rejects_as P Q so n (because.InputTooLong m) h = h
 rejects_as P Q so n refused h = h
 
 -- If errors are not marked, a record without a message is rejected.
-pub rejects_strictly : (detail : Detail) (limits : Limits) (before : List Entry) (held : Payload)
-    (why : ContentError) → HoldsNoMessage held why → Rejects false detail limits before held why
-rejects_strictly detail limits before held (no_message why) has = (refl, has)
-rejects_strictly detail limits before held why has = absurd has
+pub rejects_strictly : (view : View) → view.marks_faults ≡ false → (before : List Entry)
+    (held : Payload) (why : ContentError) → HoldsNoMessage held why → Rejects view before held why
+rejects_strictly view strict before held (no_message why) has = (strict, has)
+rejects_strictly view strict before held why has = absurd has
 
 -- ---- one more entry
 
-module _ (detail : Detail) (limits : Limits) (before : List Entry) (number : ℕ)
+module _ (view : View) (before : List Entry) (number : ℕ)
     (number_is : number ≡ length before + 1) (old : List ℕ)
-    (old_is : old ≡ lines_of detail 1 before) where
-  entered_lines : (e : Entry) (new : List ℕ) → new ≡ old ++ entry_lines detail number e
-      → new ≡ lines_of detail 1 (before ++ e ∷ [])
+    (old_is : old ≡ lines_of view.detail 1 before) where
+  entered_lines : (e : Entry) (new : List ℕ) → new ≡ old ++ entry_lines view.detail number e
+      → new ≡ lines_of view.detail 1 (before ++ e ∷ [])
   entered_lines e new is =
-      is ∙ ap (λ t. t ++ entry_lines detail number e) old_is
-      ∙ sym (lines_push detail 1 number before e number_is)
+      is ∙ ap (λ t. t ++ entry_lines view.detail number e) old_is
+      ∙ sym (lines_push view.detail 1 number before e number_is)
 
-  not_fitting : (marks_faults : Bool) (e : Entry) (new : List ℕ)
-      → new ≡ old ++ entry_lines detail number e
-      → fits_in detail limits.input (length new) ≡ false
-      → Fits marks_faults detail limits (before ++ e ∷ []) → ⊥
-  not_fitting marks_faults e new is past fits =
-      let same = ap (λ t. fits_in detail limits.input (length t)) (entered_lines e new is) in
+  not_fitting : (e : Entry) (new : List ℕ) → new ≡ old ++ entry_lines view.detail number e
+      → fits_in view.detail view.limits.input (length new) ≡ false
+      → Fits view (before ++ e ∷ []) → ⊥
+  not_fitting e new is past fits =
+      let same =
+      ap (λ t. fits_in view.detail view.limits.input (length t)) (entered_lines e new is) in
       (let clash : false ≡ true = sym past ∙ same ∙ fits in cc)
 
-  fitting : (marks_faults : Bool) (e : Entry) (new : List ℕ)
-      → new ≡ old ++ entry_lines detail number e
-      → fits_in detail limits.input (length new) ≡ true
-      → Fits marks_faults detail limits (before ++ e ∷ [])
-  fitting marks_faults e new is fits =
-      sym (ap (λ t. fits_in detail limits.input (length t)) (entered_lines e new is)) ∙ fits
+  fitting : (e : Entry) (new : List ℕ) → new ≡ old ++ entry_lines view.detail number e
+      → fits_in view.detail view.limits.input (length new) ≡ true
+      → Fits view (before ++ e ∷ [])
+  fitting e new is fits =
+      sym (ap (λ t. fits_in view.detail view.limits.input (length t)) (entered_lines e new is))
+      ∙ fits
 
   -- A record that does not contain a message.
   module _ (held : Payload) (refused : Refused)
@@ -159,6 +159,7 @@ module _ (detail : Detail) (limits : Limits) (before : List Entry) (number : ℕ
       (other : refused ≢ because.Memory)
       (new : List ℕ)
       (new_is : new ≡ old ++ (start_words number held.0 ++ fault_words refused))
+      (marked : view.marks_faults ≡ true)
     where
       abbrev here : Untyped held number refused
       here = untyped_for held number refused reported other
@@ -166,75 +167,77 @@ module _ (detail : Detail) (limits : Limits) (before : List Entry) (number : ℕ
       abbrev entry : Entry
       entry = untyped held.0 here.why
 
-      lines_are : new ≡ old ++ entry_lines detail number entry
+      lines_are : new ≡ old ++ entry_lines view.detail number entry
       lines_are =
           new_is ∙ ap (λ r. old ++ (start_words number held.0 ++ fault_words r))
           here.refused_is
 
-      pub entered_untyped : (session : SessionState) → StandsIf true session (kept before)
-          → fits_in detail limits.input (length new) ≡ true
-          → IsEntered true detail limits before number held session new (Some refused)
+      pub entered_untyped : (session : SessionState)
+          → StandsIf view.marks_faults session (kept before)
+          → fits_in view.detail view.limits.input (length new) ≡ true
+          → IsEntered view before number held session new (Some refused)
       entered_untyped session represents fits = record {
         entry = entry;
-        is_next = ((refl, refl, here.has), fitting true entry new lines_are fits);
-        session_is = subst (StandsIf true session)
+        is_next = ((marked, refl, here.has), fitting entry new lines_are fits);
+        session_is = subst (StandsIf view.marks_faults session)
             (sym (kept_push before entry ∙ append-nil (kept before))) represents;
         lines_are = entered_lines entry new lines_are;
         refusal_is = ap Some here.refused_is;
       }
 
-      pub grown_untyped : fits_in detail limits.input (length new) ≡ false
-          → (number ≡ number) × ((e : Entry) × IsEntry true detail limits before held e
-          × (Fits true detail limits (before ++ e ∷ []) → ⊥))
+      pub grown_untyped : fits_in view.detail view.limits.input (length new) ≡ false
+          → (number ≡ number) × ((e : Entry) × IsEntry view before held e
+          × (Fits view (before ++ e ∷ []) → ⊥))
       grown_untyped past = (
         refl,
-        (entry, (refl, refl, here.has), not_fitting true entry new lines_are past),
+        (entry, (marked, refl, here.has), not_fitting entry new lines_are past),
       )
 
   -- A record that contains a message.
-  module _ (marks_faults : Bool) (held : Payload) (message : Sent) (d : Doc) (rule : Option Rule)
+  module _ (held : Payload) (message : Sent) (d : Doc) (rule : Option Rule)
       (session : SessionState) (is : IsMessage held message) (reads : IsRead held.1 d)
-      (judged : IsJudged marks_faults (kept before) message rule session) (mid : List ℕ)
+      (judged : IsJudged view.marks_faults (kept before) message rule session) (mid : List ℕ)
       (mid_is : mid ≡ old ++ head_lines number message rule) where
-    is_entry : IsEntry marks_faults detail limits before held (typed message d rule)
+    is_entry : IsEntry view before held (typed message d rule)
     is_entry = (is, reads, judged.0)
 
     abbrev this : Entry
     this = typed message d rule
 
-    message_lines_are : (new : List ℕ) → new ≡ mid ++ detail_lines detail message d
-        → new ≡ old ++ entry_lines detail number this
+    message_lines_are : (new : List ℕ) → new ≡ mid ++ detail_lines view.detail message d
+        → new ≡ old ++ entry_lines view.detail number this
     message_lines_are new new_is =
-        new_is ∙ ap (λ t. t ++ detail_lines detail message d) mid_is
-        ∙ append_assoc old (head_lines number message rule) (detail_lines detail message d)
+        new_is ∙ ap (λ t. t ++ detail_lines view.detail message d) mid_is
+        ∙ append_assoc old (head_lines number message rule) (detail_lines view.detail message d)
 
-    pub entered_typed : (new : List ℕ) → new ≡ mid ++ detail_lines detail message d
-        → fits_in detail limits.input (length new) ≡ true
-        → IsEntered marks_faults detail limits before number held session new
+    pub entered_typed : (new : List ℕ) → new ≡ mid ++ detail_lines view.detail message d
+        → fits_in view.detail view.limits.input (length new) ≡ true
+        → IsEntered view before number held session new
         (rule_refusal number rule)
     entered_typed new new_is fits = record {
       entry = this;
-      is_next = (is_entry, fitting marks_faults this new (message_lines_are new new_is) fits);
-      session_is = subst (StandsIf marks_faults session) (sym (kept_push before this)) judged.1;
+      is_next = (is_entry, fitting this new (message_lines_are new new_is) fits);
+      session_is =
+          subst (StandsIf view.marks_faults session) (sym (kept_push before this)) judged.1;
       lines_are = entered_lines this new (message_lines_are new new_is);
       refusal_is = refl;
     }
 
-    pub grown_typed : (new : List ℕ) → new ≡ mid ++ detail_lines detail message d
-        → fits_in detail limits.input (length new) ≡ false
-        → (number ≡ number) × ((e : Entry) × IsEntry marks_faults detail limits before held e
-        × (Fits marks_faults detail limits (before ++ e ∷ []) → ⊥))
+    pub grown_typed : (new : List ℕ) → new ≡ mid ++ detail_lines view.detail message d
+        → fits_in view.detail view.limits.input (length new) ≡ false
+        → (number ≡ number) × ((e : Entry) × IsEntry view before held e
+        × (Fits view (before ++ e ∷ []) → ⊥))
     grown_typed new new_is past = (
       refl,
-      (this, is_entry, not_fitting marks_faults this new (message_lines_are new new_is) past),
+      (this, is_entry, not_fitting this new (message_lines_are new new_is) past),
     )
 
     -- The detail lines were not appended completely.
-    pub grown_detail : fits_in detail limits.input
-        (length mid + length (detail_lines detail message d)) ≡ false
-        → (number ≡ number) × ((e : Entry) × IsEntry marks_faults detail limits before held e
-        × (Fits marks_faults detail limits (before ++ e ∷ []) → ⊥))
+    pub grown_detail : fits_in view.detail view.limits.input
+        (length mid + length (detail_lines view.detail message d)) ≡ false
+        → (number ≡ number) × ((e : Entry) × IsEntry view before held e
+        × (Fits view (before ++ e ∷ []) → ⊥))
     grown_detail past =
-        grown_typed (mid ++ detail_lines detail message d) refl
-        (ap (fits_in detail limits.input) (length-append mid (detail_lines detail message d))
-        ∙ past)
+        grown_typed (mid ++ detail_lines view.detail message d) refl
+        (ap (fits_in view.detail view.limits.input)
+        (length-append mid (detail_lines view.detail message d)) ∙ past)

@@ -3,8 +3,6 @@ pub mod EntryLines
 pub mod FlatElements
 pub mod Framing
 pub mod RecordAnswers
-pub mod ShowingFacts
-pub mod ShowingLoop
 pub mod ShownInputs
 pub mod Stopping
 pub mod TreeLines

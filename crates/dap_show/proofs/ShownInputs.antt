@@ -8,7 +8,6 @@ use Rattle.dap_device.specs.Written.{AllSent, PrefixWritten}
 use Rattle.dap_device.specs.Pieces.{HasReadSoFar}
 use Rattle.dap_device.specs.declared.reading.Stop.{Stop}
 use Rattle.dap_device.specs.declared.reading.Stop.TheVariants.{End, Full, Failed}
-use Rattle.dap_message.specs.Message.{Sent}
 use Rattle.dap_input.proofs.RecordLoop.{nothing}
 use Rattle.dap_input.proofs.WholeInputs.{RefusesRead}
 use Rattle.dap_input.specs.Engine.{Accepts, HasFinished, HasNotWritten}
@@ -18,15 +17,16 @@ use Rattle.dap_input.specs.Refusals.{IsRefused}
 use Rattle.dap_input.specs.declared.limits.Limits.{Limits}
 use Rattle.dap_input.specs.declared.records.Records.{Records}
 use Rattle.dap_input.specs.declared.refused.Refused.{Refused}
-use Rattle.dap_show.specs.Showing.{IsShownBy, lines_from, showing}
+use Rattle.dap_show.specs.Viewing.{Entry, IsShownBy, lines_of, showing}
+use Rattle.dap_show.specs.declared.detail.Detail.TheVariants.{Lists}
 
 module _ {R : Type 0} (limits : Limits) (source : Source R)
     (old : R) where
   -- ---- the input is accepted
 
-  module _ (new : R) (messages : List Sent)
-      (all : AcceptsAll (showing limits) source old new messages) where
-    accepts : Accepts source limits.input (IsShownBy limits) old new (lines_from 1 messages)
+  module _ (new : R) (entries : List Entry)
+      (all : AcceptsAll (showing limits) source old new entries) where
+    accepts : Accepts source limits.input (IsShownBy limits) old new (lines_of Lists 1 entries)
     accepts = record {
       whole = all.whole;
       came = record {
@@ -35,7 +35,7 @@ module _ {R : Type 0} (limits : Limits) (source : Source R)
         has_length = all.within;
         stopped = all.came.paused;
       };
-      gives = (messages, all.accepted, refl);
+      gives = (entries, all.accepted, refl);
     }
 
     pub accepted_taken : source.given new ≤ source.given old + limits.input + 1
@@ -43,12 +43,12 @@ module _ {R : Type 0} (limits : Limits) (source : Source R)
         let counted = all.came.counted in let within = all.within in omega (arith, counted, within)
 
     module _ {W : Type 0} (sink : Sink W)
-        (before after : W) (written : List ℕ) (text_is : written ≡ lines_from 1 messages) where
+        (before after : W) (written : List ℕ) (text_is : written ≡ lines_of Lists 1 entries) where
       pub finished : AllSent sink before after written
           → HasFinished source sink limits.input (IsShownBy limits)
           (IsRefused (showing limits)) old new before after
       finished done = record {
-        text = lines_from 1 messages;
+        text = lines_of Lists 1 entries;
         accepts = accepts;
         written = subst (AllSent sink before after) text_is done;
       }
@@ -57,7 +57,7 @@ module _ {R : Type 0} (limits : Limits) (source : Source R)
           → HasNotWritten source sink limits.input (IsShownBy limits)
           (IsRefused (showing limits)) old new before after
       not_written front = record {
-        text = lines_from 1 messages;
+        text = lines_of Lists 1 entries;
         accepts = accepts;
         written = subst (PrefixWritten sink before after) text_is front;
       }

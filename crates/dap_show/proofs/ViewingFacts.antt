@@ -11,17 +11,16 @@ use Rattle.dap_input.proofs.InputLoop.{ReadsAs}
 use Rattle.dap_input.proofs.Runs.{AcceptedFacts, Run, ValueFacts, ValueLaws, run_within}
 use Rattle.dap_input.specs.ItemReading.{record_items}
 use Rattle.dap_input.specs.Validation.{ContentError, grew, no_message}
-use Rattle.dap_input.specs.declared.limits.Limits.{Limits}
 use Rattle.dap_normalise.proofs.AcceptingFacts.{message_once}
 use Rattle.dap_normalise.specs.Accepting.{Payload}
 use Rattle.dap_normalise.specs.JudgingSteps.{payload_of}
 use Rattle.dap_show.specs.Viewing.{AreEntries, Entry, Fits, IsEntry, IsNext, Rejects, kept}
 use Rattle.dap_show.specs.Viewing.{fits_in, lines_of, broken_rule, typed, untyped, viewing}
-use Rattle.dap_show.specs.declared.detail.Detail.{Detail}
+use Rattle.dap_show.specs.declared.detail.View.{View}
 
-module _ (marks_faults : Bool) (detail : Detail) (limits : Limits) where
+module _ (view : View) where
   abbrev Holds : List Entry → Payload → Entry → Type 0
-  Holds = IsEntry marks_faults detail limits
+  Holds = IsEntry view
 
   -- ---- a record has at most one entry, or one rejection
 
@@ -32,7 +31,7 @@ module _ (marks_faults : Bool) (detail : Detail) (limits : Limits) where
       ap (λ x. typed x d rule) same
       ∙ ap (λ x. typed n x rule) (read_once held.1 d e one.1 two.1)
       ∙ ap (λ x. typed n e x)
-      (one.2 ∙ ap (broken_rule marks_faults (kept before)) same ∙ sym two.2)
+      (one.2 ∙ ap (broken_rule view.marks_faults (kept before)) same ∙ sym two.2)
   entry_once before held (typed m d rule) (untyped side why) one two =
       absurd (typed_not_refused held.0 held.1 m.doc why one.0.1 two.2)
   entry_once before held (untyped side why) (typed m d rule) one two =
@@ -42,15 +41,15 @@ module _ (marks_faults : Bool) (detail : Detail) (limits : Limits) where
       ∙ ap (untyped other) (one_refusal held.1 why because one.2 two.2)
 
   entry_not_refused : (before : List Entry) (held : Payload) (e : Entry) (why : Refusal)
-      → (marks_faults ≡ false) × HasRefusal held.1 why → Holds before held e → ⊥
+      → (view.marks_faults ≡ false) × HasRefusal held.1 why → Holds before held e → ⊥
   entry_not_refused before held (typed m d rule) why refused is =
       typed_not_refused held.0 held.1 m.doc why is.0.1 refused.1
   entry_not_refused before held (untyped side because) why refused is =
       (let clash : true ≡ false = sym is.0 ∙ refused.0 in cc)
 
   one_objection : (before : List Entry) (held : Payload) (why because : ContentError)
-      → Rejects marks_faults detail limits before held why
-      → Rejects marks_faults detail limits before held because → why ≡ because
+      → Rejects view before held why
+      → Rejects view before held because → why ≡ because
   one_objection before held (no_message why) (no_message because) one two =
       ap no_message (one_refusal held.1 why because one.1 two.1)
   one_objection before held (no_message why) grew one two =
@@ -63,16 +62,16 @@ module _ (marks_faults : Bool) (detail : Detail) (limits : Limits) where
   one_objection before held why because one two = absurd one
 
   next_not_objected : (before : List Entry) (held : Payload) (e : Entry) (why : ContentError)
-      → IsNext marks_faults detail limits before held e
-      → Rejects marks_faults detail limits before held why → ⊥
+      → IsNext view before held e
+      → Rejects view before held why → ⊥
   next_not_objected before held e (no_message why) next objects =
       entry_not_refused before held e why objects next.0
   next_not_objected before held e grew next objects =
       let same = entry_once before held e objects.0 next.0 objects.1 in
-      objects.2 (subst (λ x. Fits marks_faults detail limits (before ++ x ∷ [])) same next.1)
+      objects.2 (subst (λ x. Fits view (before ++ x ∷ [])) same next.1)
   next_not_objected before held e why next objects = absurd objects
 
-  pub value_laws : ValueLaws (viewing marks_faults detail limits)
+  pub value_laws : ValueLaws (viewing view)
   value_laws = record {
     one_value = λ before held e f one two. entry_once before held e f one.0 two.0;
     one_objection = one_objection;
@@ -82,10 +81,10 @@ module _ (marks_faults : Bool) (detail : Detail) (limits : Limits) where
   -- ---- accepted recordings are runs
 
   run_of : (before entries : List Entry) (used : ℕ) (bytes : List ℕ) (records : List Payload)
-      → IsRecording limits.frame bytes records
-      → AreEntries marks_faults detail limits before records entries
-      → used + length bytes ≤ limits.input
-      → Run (viewing marks_faults detail limits) before used bytes entries
+      → IsRecording view.limits.frame bytes records
+      → AreEntries view before records entries
+      → used + length bytes ≤ view.limits.input
+      → Run (viewing view) before used bytes entries
   unfolding Run
   run_of before [] used bytes [] recording entered short = recording
   run_of before (e ∷ entries) used bytes [] recording entered short = absurd entered
@@ -107,9 +106,9 @@ module _ (marks_faults : Bool) (detail : Detail) (limits : Limits) where
 
   -- The records of a run have its entries.
   records_of : (before entries : List Entry) (used : ℕ) (bytes : List ℕ)
-      → Run (viewing marks_faults detail limits) before used bytes entries
-      → (records : List Payload) × IsRecording limits.frame bytes records
-      × AreEntries marks_faults detail limits before records entries
+      → Run (viewing view) before used bytes entries
+      → (records : List Payload) × IsRecording view.limits.frame bytes records
+      × AreEntries view before records entries
   unfolding Run
   records_of before [] used bytes run = ([], run, tt)
   records_of before (e ∷ entries) used bytes (front, more, split, passes, run) =
@@ -119,7 +118,7 @@ module _ (marks_faults : Bool) (detail : Detail) (limits : Limits) where
         (passes.is_next, rest.2),
       )
 
-  pub accepted_facts : AcceptedFacts (viewing marks_faults detail limits)
+  pub accepted_facts : AcceptedFacts (viewing view)
   accepted_facts = record {
     run_of_accepted =
         λ bytes entries accepted. run_of [] entries 0 bytes accepted.records accepted.recording
@@ -127,7 +126,7 @@ module _ (marks_faults : Bool) (detail : Detail) (limits : Limits) where
     accepted_of_run = λ bytes entries run.
         let records = records_of [] entries 0 bytes run in
         record {
-          short = run_within (viewing marks_faults detail limits) bytes entries run;
+          short = run_within (viewing view) bytes entries run;
           records = records.0;
           recording = records.1;
           entered = records.2;
@@ -135,10 +134,10 @@ module _ (marks_faults : Bool) (detail : Detail) (limits : Limits) where
   }
 
   -- A reader of records returns the records that are checked.
-  pub reads_entries : ReadsAs (viewing marks_faults detail limits) (record_items limits.frame)
+  pub reads_entries : ReadsAs (viewing view) (record_items view.limits.frame)
       payload_of
   reads_entries = record {
-    records = readable limits.frame;
+    records = readable view.limits.frame;
     judged = value_laws;
     accepted = accepted_facts;
     item_of = λ bytes whole is. is;
@@ -150,31 +149,33 @@ module _ (marks_faults : Bool) (detail : Detail) (limits : Limits) where
 
   abbrev Judgement : List Entry → Payload → Type 0
   Judgement before held =
-      ((e : Entry) × IsNext marks_faults detail limits before held e)
-      ⊎ ((why : ContentError) × Rejects marks_faults detail limits before held why)
+      ((e : Entry) × IsNext view before held e)
+      ⊎ ((why : ContentError) × Rejects view before held why)
 
   by_fit : (before : List Entry) (held : Payload) (e : Entry) → Holds before held e → (b : Bool)
-      → fits_in detail limits.input (length (lines_of detail 1 (before ++ e ∷ []))) ≡ b
+      → fits_in view.detail view.limits.input (length (lines_of view.detail 1 (before ++ e ∷ [])))
+      ≡ b
       → Judgement before held
   by_fit before held e is true fits = inl (e, (is, fits))
   by_fit before held e is false past =
       inr (grew, (e, is, λ fits. (let clash : false ≡ true = sym past ∙ fits in cc)))
 
   by_marks : (before : List Entry) (held : Payload) (why : Refusal) → HasRefusal held.1 why
-      → (b : Bool) → marks_faults ≡ b → Judgement before held
+      → (b : Bool) → view.marks_faults ≡ b → Judgement before held
   by_marks before held why refused true marked =
       by_fit before held (untyped held.0 why) (marked, refl, refused) _ refl
   by_marks before held why refused false strict = inr (no_message why, (strict, refused))
 
-  pub value_facts : ValueFacts (viewing marks_faults detail limits)
+  pub value_facts : ValueFacts (viewing view)
   value_facts = record {
     laws = value_laws;
     some_judgement = λ bytes before run held.
         elim (some_message held.0 held.1) [
           | inl message ↦
               let m : Sent = record { side = held.0; doc = message.0 } in
-              by_fit before held (typed m message.1.0 (broken_rule marks_faults (kept before) m))
+              by_fit before held
+              (typed m message.1.0 (broken_rule view.marks_faults (kept before) m))
               ((refl, message.1), message.1.1, refl) _ refl
-          | inr refused ↦ by_marks before held refused.0 refused.1 marks_faults refl
+          | inr refused ↦ by_marks before held refused.0 refused.1 view.marks_faults refl
         ];
   }

@@ -1,6 +1,6 @@
--- The invariant of the loop of `show_with` and `show_faulty` over the records of their input, and
--- its possible results.
-use Rattle.std.proofs.Common.{◌≡◌, ℕ, ◌+◌, ◌-◌, ◌<◌, ◌≤◌, ◌^◌, Bool, List, [], ◌∷◌, ◌++◌, length}
+-- The invariant of the loop over the records of an input that is printed as lines, and its possible
+-- results.
+use Rattle.std.proofs.Common.{◌≡◌, ℕ, ◌+◌, ◌-◌, ◌<◌, ◌≤◌, ◌^◌, List, [], ◌∷◌, ◌++◌, length}
 use Rattle.std.proofs.Common.{Option, Some, None, Result, Ok, Err, sym, ◌∙◌, ap₂}
 use Rattle.std.specs.Option.{option_or}
 use Rattle.dap_device.specs.declared.device.Source.{Ghosts as Source}
@@ -13,32 +13,29 @@ use Rattle.dap_input.specs.RecordSteps.{IsAtStart, ReadsNextRecord}
 use Rattle.dap_input.specs.Validation.{ContentError}
 use Rattle.dap_input.specs.Refusals.{RejectsPayload}
 use Rattle.dap_recording.specs.declared.record_fault.RecordCause.TheVariants as cause
-use Rattle.dap_input.specs.declared.limits.Limits.{Limits}
 use Rattle.dap_input.specs.declared.records.Records.{Records}
 use Rattle.dap_input.specs.declared.refused.Refused.{Refused}
 use Rattle.dap_input.specs.declared.refused.Refused.TheVariants as because
 use Rattle.dap_input.proofs.WholeInputs.{Going, accepts_all, at_start, few_failures, fewer_left}
-use Rattle.dap_input.proofs.WholeInputs.{on, small_count, small_number}
+use Rattle.dap_input.proofs.WholeInputs.{on, refuses_held, refuses_read, small_count, small_number}
 use Rattle.dap_normalise.specs.JudgingSteps.{payload_of}
 use Rattle.dap_show.specs.Viewing.{Entry, IsFraming, kept}
 use Rattle.dap_show.specs.Viewing.{viewing, Rejects}
 use Rattle.dap_show.specs.ViewingSteps.{AreShown, IsEntered, ShowsRecords, StandsIf}
-use Rattle.dap_show.specs.declared.detail.Detail.{Detail}
+use Rattle.dap_show.specs.declared.detail.View.{View}
 use Rattle.dap_show.proofs.EntryLines.{refusal_push}
 use Rattle.dap_show.proofs.Stopping.{stops_held, stops_read}
 use Rattle.dap_show.proofs.ViewingFacts.{reads_entries}
 
 -- The records before the next one have entries, and their lines have been appended.
-pub record Viewed {R : Type 0} (marks_faults : Bool) (detail : Detail) (limits : Limits)
-    (source : Source R) (start reader : R) (records : Records RecordReading)
-    (session : SessionState)
-    (lines : List ℕ) (first : Option Refused) : Type 0 where
+pub record Viewed {R : Type 0} (view : View) (source : Source R) (start reader : R)
+    (records : Records RecordReading) (session : SessionState) (lines : List ℕ)
+    (first : Option Refused) : Type 0 where
   pub entries : List Entry
-  pub going : Going (viewing marks_faults detail limits) (RepresentsRecord limits.frame) source
-      start
-      reader records entries
-  pub session_is : StandsIf marks_faults session (kept entries)
-  pub shown : AreShown marks_faults detail limits entries lines first
+  pub going : Going (viewing view) (RepresentsRecord view.limits.frame) source start reader records
+      entries
+  pub session_is : StandsIf view.marks_faults session (kept entries)
+  pub shown : AreShown view entries lines first
 
 -- The rejection of a record for its content is not an error of the framing.
 held_not_framing : (Rejects : ContentError → Type 0) (n : ℕ) (refused : Refused)
@@ -49,19 +46,17 @@ held_not_framing Rejects n (because.Record m why) h framing = h.1
 held_not_framing Rejects n (because.InputTooLong m) h framing = h.1
 held_not_framing Rejects n refused h framing = absurd framing
 
-module _ {R : Type 0} (marks_faults : Bool) (detail : Detail) (limits : Limits) (source : Source R)
+module _ {R : Type 0} (view : View) (source : Source R)
   where
     pub none_viewed : (reader : R) (records : Records RecordReading) (session : SessionState)
         (lines : List ℕ) (first : Option Refused)
-        → IsAtStart (RepresentsRecord limits.frame) limits.input records → Represents session []
-        → lines ≡ [] → first ≡ None
-        → Viewed marks_faults detail limits source reader reader records session lines first
+        → IsAtStart (RepresentsRecord view.limits.frame) view.limits.input records
+        → Represents session [] → lines ≡ [] → first ≡ None
+        → Viewed view source reader reader records session lines first
     none_viewed reader records session lines first start represents no_lines no_first = record {
       entries = [];
-      going = at_start (viewing marks_faults detail limits) (record_items limits.frame) payload_of
-          (reads_entries marks_faults detail limits) (RepresentsRecord limits.frame) source reader
-          records
-          start;
+      going = at_start (viewing view) (record_items view.limits.frame) payload_of
+          (reads_entries view) (RepresentsRecord view.limits.frame) source reader records start;
       session_is = λ faulty. represents;
       shown = record { lines_are = no_lines; first_is = no_first };
     }
@@ -69,89 +64,79 @@ module _ {R : Type 0} (marks_faults : Bool) (detail : Detail) (limits : Limits) 
     module _ (start reader : R) (records : Records RecordReading) (session : SessionState)
         (lines : List ℕ)
         (first : Option Refused)
-        (was : Viewed marks_faults detail limits source start reader records session lines first)
+        (was : Viewed view source start reader records session lines first)
       where
-        pub few_records : limits.input ≤ 2 ^ 62 → records.number < 2 ^ 63
+        pub few_records : view.limits.input ≤ 2 ^ 62 → records.number < 2 ^ 63
         few_records =
-            small_number (viewing marks_faults detail limits) (record_items limits.frame) payload_of
-            (reads_entries marks_faults detail limits) (RepresentsRecord limits.frame) source start
-            reader
-            records was.entries was.going
+            small_number (viewing view) (record_items view.limits.frame) payload_of
+            (reads_entries view) (RepresentsRecord view.limits.frame) source start reader records
+            was.entries was.going
 
-        pub few_given : limits.input ≤ 2 ^ 62 → source.given start < 2 ^ 62
+        pub few_given : view.limits.input ≤ 2 ^ 62 → source.given start < 2 ^ 62
             → source.given reader + (records.pieces.limit - records.pieces.taken) < 2 ^ 63
         few_given =
-            small_count (viewing marks_faults detail limits) (record_items limits.frame) payload_of
-            (reads_entries marks_faults detail limits) (RepresentsRecord limits.frame) source start
-            reader
-            records was.entries was.going
+            small_count (viewing view) (record_items view.limits.frame) payload_of
+            (reads_entries view) (RepresentsRecord view.limits.frame) source start reader records
+            was.entries was.going
 
         pub few_failed : source.failures start < 2 ^ 62 → source.failures reader < 2 ^ 63
         few_failed =
-            few_failures (viewing marks_faults detail limits) (record_items limits.frame) payload_of
-            (reads_entries marks_faults detail limits) (RepresentsRecord limits.frame) source start
-            reader
-            records was.entries was.going
+            few_failures (viewing view) (record_items view.limits.frame) payload_of
+            (reads_entries view) (RepresentsRecord view.limits.frame) source start reader records
+            was.entries was.going
 
         module _ (new : Records RecordReading) (after : R) where
           abbrev Reads : Result (Option WholeRecord) Refused → Type 0
-          Reads outcome = ReadsNextRecord limits.frame
-              source
-              records new reader after outcome
+          Reads outcome =
+              ReadsNextRecord view.limits.frame source records new reader after outcome
 
           pub not_read : (refused : Refused) → Reads (Err refused)
-              → ShowsRecords marks_faults detail limits source {U = Unit {0}} start after lines first
-              (Err refused)
+              → ShowsRecords view source {U = Unit {0}} start after new lines first (Err refused)
           not_read refused read = (
-            stops_read (viewing marks_faults detail limits) (record_items limits.frame) payload_of
-                (reads_entries marks_faults detail limits) (RepresentsRecord limits.frame) source
-                start
-                reader records was.entries was.going new after refused read,
+            stops_read (viewing view) (record_items view.limits.frame) payload_of
+                (reads_entries view) (RepresentsRecord view.limits.frame) source start reader
+                records was.entries was.going new after refused read,
+            refuses_read (viewing view) (record_items view.limits.frame) payload_of
+                (reads_entries view) (RepresentsRecord view.limits.frame) source start reader
+                records was.entries was.going new after refused read,
             λ framing. was.shown,
           )
 
           pub all_viewed : {U : Type 0} (done : U) → Reads (Ok None)
-              → ShowsRecords marks_faults detail limits source start after lines first (Ok done)
+              → ShowsRecords view source start after new lines first (Ok done)
           all_viewed done read = (
             was.entries,
-            accepts_all (viewing marks_faults detail limits) (record_items limits.frame) payload_of
-                (reads_entries marks_faults detail limits) (RepresentsRecord limits.frame) source
-                start
-                reader records was.entries was.going new after read,
+            accepts_all (viewing view) (record_items view.limits.frame) payload_of
+                (reads_entries view) (RepresentsRecord view.limits.frame) source start reader
+                records was.entries was.going new after read,
             was.shown,
           )
 
           pub not_entered : (whole : WholeRecord) (longer : List ℕ) (refused : Refused)
               → Reads (Ok (Some whole))
-              → RejectsPayload (Rejects marks_faults detail limits was.entries (payload_of whole))
-              records.number refused
-              → ShowsRecords marks_faults detail limits source {U = Unit {0}} start after longer first
-              (Err refused)
+              → RejectsPayload (Rejects view was.entries (payload_of whole)) records.number refused
+              → ShowsRecords view source {U = Unit {0}} start after new longer first (Err refused)
           not_entered whole longer refused read refuses = (
-            stops_held (viewing marks_faults detail limits) (record_items limits.frame) payload_of
-                (reads_entries marks_faults detail limits) (RepresentsRecord limits.frame) source
-                start
-                reader records was.entries was.going new after whole read refused refuses,
-            λ framing. absurd (held_not_framing
-                (Rejects marks_faults detail limits was.entries (payload_of whole)) records.number
-                refused
-                refuses framing),
+            stops_held (viewing view) (record_items view.limits.frame) payload_of
+                (reads_entries view) (RepresentsRecord view.limits.frame) source start reader
+                records was.entries was.going new after whole read refused refuses,
+            refuses_held (viewing view) (record_items view.limits.frame) payload_of
+                (reads_entries view) (RepresentsRecord view.limits.frame) source start reader
+                records was.entries was.going new after whole read refused refuses,
+            λ framing. absurd (held_not_framing (Rejects view was.entries (payload_of whole))
+                records.number refused refuses framing),
           )
 
           pub one_more : (whole : WholeRecord) (kept_now : SessionState) (longer : List ℕ)
               (refusal last : Option Refused) → Reads (Ok (Some whole))
-              → IsEntered marks_faults detail limits was.entries records.number (payload_of whole)
-              kept_now
-              longer refusal
+              → IsEntered view was.entries records.number (payload_of whole) kept_now longer refusal
               → last ≡ option_or first refusal
-              → Viewed marks_faults detail limits source start after new kept_now longer last
+              → Viewed view source start after new kept_now longer last
           one_more whole kept_now longer refusal last read entered noted = record {
             entries = was.entries ++ entered.entry ∷ [];
-            going = on (viewing marks_faults detail limits) (record_items limits.frame) payload_of
-                (reads_entries marks_faults detail limits) (RepresentsRecord limits.frame) source
-                start
-                reader records was.entries was.going new after whole read entered.entry
-                entered.is_next;
+            going = on (viewing view) (record_items view.limits.frame) payload_of
+                (reads_entries view) (RepresentsRecord view.limits.frame) source start reader
+                records was.entries was.going new after whole read entered.entry entered.is_next;
             session_is = entered.session_is;
             shown = record {
               lines_are = entered.lines_are;
@@ -165,8 +150,6 @@ module _ {R : Type 0} (marks_faults : Bool) (detail : Detail) (limits : Limits) 
               → (new.pieces.limit - new.pieces.taken) + length new.pieces.unread
               < (records.pieces.limit - records.pieces.taken) + length records.pieces.unread
           fewer =
-              fewer_left (viewing marks_faults detail limits) (record_items limits.frame) payload_of
-              (reads_entries marks_faults detail limits) (RepresentsRecord limits.frame) source
-              start
-              reader
-              records was.entries was.going new after
+              fewer_left (viewing view) (record_items view.limits.frame) payload_of
+              (reads_entries view) (RepresentsRecord view.limits.frame) source start reader records
+              was.entries was.going new after

@@ -1,13 +1,10 @@
 -- The elements that a message lists, as nodes of a flat document. Source: own, over the views of
 -- `dap_message`.
 use Rattle.std.specs.Prelude.{◌≡◌, ℕ, List, [], ◌∷◌, ◌++◌, filter_map, Option, Some, unwrap_or}
-use Rattle.std.specs.Prelude.{option_and_then, codes}
-use Rattle.std.specs.List.{flat_map}
+use Rattle.std.specs.{Prelude.{option_and_then, codes}, List.flat_map}
 use Rattle.dap_tree.specs.Doc.{Doc, Items, get}
-use Rattle.dap_message.specs.Places.{elements, list_of}
-use Rattle.dap_message.specs.Views.{frame_of, scope_of, variable_of}
-use Rattle.dap_flat.specs.Finding.{Holds, Stand}
-use Rattle.dap_flat.specs.Pieces.{end_list, items_pieces, leaf, piece_of}
+use Rattle.dap_message.specs.{Places.{elements, list_of}, Views.{frame_of, scope_of, variable_of}}
+use Rattle.dap_flat.specs.{Finding.{Holds, Stand}, Pieces.{end_list, items_pieces, leaf, piece_of}}
 use Rattle.dap_flat.specs.declared.node.Node.{Node}
 use Rattle.dap_show.specs.Showing.{frame_line, scope_line, variable_line}
 use Rattle.dap_show.specs.declared.flat_lines.Element.{Element}

@@ -2,8 +2,7 @@
 -- own.
 use Rattle.std.specs.Prelude.{ℕ, cond, List, [], ◌++◌, codes}
 use Rattle.dap_tree.specs.Doc.{Doc, text, list, object, Items, no_items, item, Members, no_members}
-use Rattle.dap_tree.specs.Doc.{member}
-use Rattle.dap_tree.specs.Json.{text_of}
+use Rattle.dap_tree.specs.{Doc.member, Json.text_of}
 use Rattle.dap_show.specs.Leaves.{has_items, has_members}
 
 -- The margin of the parts of an array or object with this margin: two more spaces.

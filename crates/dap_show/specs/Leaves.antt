@@ -1,9 +1,7 @@
 -- The lines of the leaves of a document. Source: own; a path is written as `diff` writes it.
 use Rattle.std.specs.Prelude.{ℕ, suc, Bool, true, false, cond, List, [], ◌∷◌, ◌++◌, codes}
 use Rattle.dap_tree.specs.Doc.{Doc, list, object, Items, no_items, item, Members, no_members}
-use Rattle.dap_tree.specs.Doc.{member}
-use Rattle.dap_tree.specs.Json.{text_of}
-use Rattle.dap_tree.specs.Path.{Step, name, place}
+use Rattle.dap_tree.specs.{Doc.member, Json.text_of, Path.{Step, name, place}}
 use Rattle.dap_difference.specs.Lines.{path_text}
 
 abbrev pub has_items : Items → Bool

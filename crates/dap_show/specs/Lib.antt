@@ -4,7 +4,6 @@ pub mod Leaves
 pub mod OneRecord
 pub mod OneRecordSteps
 pub mod Showing
-pub mod ShowingSteps
 pub mod Stopping
 pub mod Viewing
 pub mod ViewingSteps

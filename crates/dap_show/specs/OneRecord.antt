@@ -1,24 +1,18 @@
 -- What `show_record` prints of a recording. Source: own.
 use Rattle.std.specs.Prelude.{◌≡◌, ◌⊎◌, ℕ, ◌<◌, ◌≤◌, List, [], ◌++◌, length, None, Result, Ok, Err}
 use Rattle.std.specs.Prelude.{codes}
-use Rattle.dap_device.specs.Pieces.{HasReadSoFar}
-use Rattle.dap_device.specs.Written.{AllSent, PrefixWritten}
+use Rattle.dap_device.specs.{Pieces.HasReadSoFar, Written.{AllSent, PrefixWritten}}
 use Rattle.dap_device.specs.declared.device.Sink.{Ghosts as Sink}
 use Rattle.dap_device.specs.declared.device.Source.{Ghosts as Source}
-use Rattle.dap_tree.specs.Doc.{Doc}
-use Rattle.dap_tree.specs.Json.{HasFraction, HasNoReading, IsRead}
+use Rattle.dap_tree.specs.{Doc.Doc, Json.{HasFraction, HasNoReading, IsRead}}
 use Rattle.dap_tree.specs.declared.side.Side.{Side}
 use Rattle.dap_recording.specs.Recording.{IsRecord, IsRecording, records}
-use Rattle.dap_input.specs.InputSteps.{AcceptsAll}
-use Rattle.dap_input.specs.Inputs.{AcceptedBefore}
-use Rattle.dap_input.specs.Validation.{Validation}
-use Rattle.dap_input.specs.ReadTo.{IsReadTo, so_far}
-use Rattle.dap_input.specs.declared.limits.Limits.{Limits}
+use Rattle.dap_input.specs.{InputSteps.AcceptsAll, Inputs.AcceptedBefore, Validation.Validation}
+use Rattle.dap_input.specs.{ReadTo.{IsReadTo, so_far}, declared.limits.Limits.Limits}
 use Rattle.dap_input.specs.declared.refused.Refused.{Refused}
 use Rattle.dap_input.specs.declared.refused.Refused.TheVariants.{WriteFault}
 use Rattle.dap_normalise.specs.Accepting.{Payload}
-use Rattle.dap_show.specs.Indented.{indented}
-use Rattle.dap_show.specs.Stopping.{StopsAt}
+use Rattle.dap_show.specs.{Indented.indented, Stopping.StopsAt}
 use Rattle.dap_show.specs.declared.one_record.RecordShown.{RecordShown}
 use Rattle.dap_show.specs.declared.one_record.RecordShown.TheVariants.{Shown, Missing}
 

@@ -1,8 +1,7 @@
 -- What the steps of `show_record` do.
 use Rattle.std.specs.Prelude.{ℕ, Result, Ok, Err}
 use Rattle.dap_device.specs.declared.device.Source.{Ghosts as Source}
-use Rattle.dap_input.specs.declared.limits.Limits.{Limits}
-use Rattle.dap_input.specs.declared.refused.Refused.{Refused}
+use Rattle.dap_input.specs.{declared.limits.Limits.Limits, declared.refused.Refused.Refused}
 use Rattle.dap_show.specs.OneRecord.{HasNoRecord, HasRecord, StopsBefore}
 use Rattle.dap_show.specs.declared.one_record.Found.{Found}
 use Rattle.dap_show.specs.declared.one_record.Found.TheVariants.{Whole, Missing}

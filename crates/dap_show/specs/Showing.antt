@@ -1,26 +1,13 @@
--- What `show` prints of a recording, and which inputs it rejects. Source: own, over recordings and
+-- The lines of a message, and of the frames, scopes and variables that it lists. Source: own, over
 -- the messages of the DAP specification.
-use Rattle.std.specs.Prelude.{◌≡◌, ℕ, ◌+◌, ◌≤◌, ℤ, Bool, cond, List, [], ◌∷◌, ◌++◌, length, Option}
-use Rattle.std.specs.Prelude.{codes, decimal}
-use Rattle.std.specs.Fmt.{signed_decimal}
-use Rattle.std.specs.List.{flat_map}
-use Rattle.std.specs.Option.{option_map_or}
-use Rattle.dap_tree.specs.Doc.{Doc, text}
-use Rattle.dap_tree.specs.Json.{text_of}
-use Rattle.dap_tree.specs.declared.side.Side.{Side}
+use Rattle.std.specs.Prelude.{ℕ, ℤ, Bool, cond, List, [], ◌++◌, Option, codes, decimal}
+use Rattle.std.specs.{Fmt.signed_decimal, List.flat_map, Option.option_map_or}
+use Rattle.dap_tree.specs.{Doc.{Doc, text}, Json.text_of, declared.side.Side.Side}
 use Rattle.dap_tree.specs.declared.side.Side.TheVariants.{Client, Adapter}
 use Rattle.dap_profile.specs.Profile.{kind_name}
 use Rattle.dap_message.specs.Envelope.{kind_of, name_of, seq_of, request_seq_of, success_of}
 use Rattle.dap_message.specs.Message.{Sent}
 use Rattle.dap_message.specs.Views.{StackFrame, Scope, Variable, frames_of, scopes_of, variables_of}
-use Rattle.dap_recording.specs.Recording.{IsRecording, records}
-use Rattle.dap_input.specs.declared.limits.Limits.{Limits}
-use Rattle.dap_normalise.specs.Accepting.{Payload, IsMessage, HoldsNoMessage, AreMessages}
-use Rattle.dap_input.specs.Limits.{AreSound}
-use Rattle.dap_input.specs.Validation.{Validation}
-use Rattle.dap_input.specs.Refusals.{HasOneOutcome, RefusalStays}
-
--- ---- the lines
 
 -- A string as JSON, in quotes.
 abbrev pub in_quotes : List ℕ → List ℕ
@@ -80,46 +67,3 @@ abbrev pub listed_lines : Doc → List ℕ
 listed_lines d =
     flat_map frame_line (frames_of d) ++ flat_map scope_line (scopes_of d)
     ++ flat_map variable_line (variables_of d)
-
-abbrev pub message_lines : ℕ → Sent → List ℕ
-message_lines n message = message_line n message ++ listed_lines message.doc
-
--- The lines of messages whose records are numbered from n.
-abbrev pub lines_from : ℕ → List Sent → List ℕ
-lines_from n [] = []
-lines_from n (message ∷ messages) = message_lines n message ++ lines_from (n + 1) messages
-
--- ---- accepted recordings
-
--- The bytes are a recording of these messages, within the input limit.
-pub record IsShowable (limits : Limits) (bytes : List ℕ) (messages : List Sent) : Type 0 where
-  pub short : length bytes ≤ limits.input
-  pub records : List Payload
-  pub recording : IsRecording limits.frame bytes records
-  pub typed : AreMessages records messages
-
--- Recordings of messages, without the session rules.
-abbrev pub showing : Limits → Validation
-showing limits = record {
-  Payload = Payload;
-  Value = Sent;
-  input = limits.input;
-  records = records limits.frame;
-  IsNext = λ before held message. IsMessage held message;
-  Rejects = λ before. HoldsNoMessage;
-  IsAccepted = IsShowable limits;
-}
-
--- These are the lines of the input.
-abbrev pub IsShownBy : Limits → List ℕ → List ℕ → Type 0
-IsShownBy limits whole written = (messages : List Sent) × IsShowable limits whole messages
-    × (written ≡ lines_from 1 messages)
-
--- An input is accepted as exactly one list of messages, or rejected for exactly one reason, never
--- both.
-abbrev pub ShowHasOneOutcome : Type 0
-ShowHasOneOutcome = (limits : Limits) → AreSound limits → HasOneOutcome (showing limits)
-
--- A rejection remains when more bytes follow, unless the record was only incomplete.
-abbrev pub ShowRefusalStays : Type 0
-ShowRefusalStays = (limits : Limits) → AreSound limits → RefusalStays (showing limits)

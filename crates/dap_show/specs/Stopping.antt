@@ -3,14 +3,10 @@
 use Rattle.std.specs.Prelude.{◌≡◌, ℕ, List, length, Option, Some}
 use Rattle.dap_device.specs.Pieces.{HasReadSoFar}
 use Rattle.dap_device.specs.declared.device.Source.{Ghosts as Source}
-use Rattle.dap_device.specs.declared.reading.Stop.{Stop}
-use Rattle.dap_device.specs.declared.reading.Stop.TheVariants.{End}
+use Rattle.dap_device.specs.{declared.reading.Stop.Stop, declared.reading.Stop.TheVariants.End}
 use Rattle.dap_recording.specs.declared.record_fault.RecordCause.TheVariants.{Cut}
-use Rattle.dap_input.specs.InputSteps.{RefusalHolds}
-use Rattle.dap_input.specs.Inputs.{AcceptedBefore}
-use Rattle.dap_input.specs.Validation.{Validation}
-use Rattle.dap_input.specs.ReadTo.{IsReadTo, so_far}
-use Rattle.dap_input.specs.RecordSteps.{IsWithin}
+use Rattle.dap_input.specs.{InputSteps.RefusalHolds, Inputs.AcceptedBefore, Validation.Validation}
+use Rattle.dap_input.specs.{ReadTo.{IsReadTo, so_far}, RecordSteps.IsWithin}
 use Rattle.dap_input.specs.declared.refused.Refused.{Refused}
 use Rattle.dap_input.specs.declared.refused.Refused.TheVariants.{Record}
 

@@ -1,33 +1,26 @@
--- What `show_with` and `show_faulty` print of a recording, and where they stop. Source: own, over
--- recordings, the messages of the DAP specification, and its session rules.
-use Rattle.std.specs.Prelude.{◌≡◌, ◌⊎◌, ℕ, ◌+◌, ◌≤◌, Bool, true, false, nat_le, List, [], ◌∷◌}
-use Rattle.std.specs.Prelude.{◌++◌, length, Option, Some, None, Result, Ok, Err, codes, decimal}
-use Rattle.std.specs.List.{flat_map}
-use Rattle.std.specs.Option.{option_or}
+-- The lines that are printed of a recording, and where printing stops. Source: own, over recordings,
+-- the messages of the DAP specification, and its session rules.
+use Rattle.std.specs.Prelude.{◌≡◌, ◌⊎◌, ℕ, ◌+◌, ◌≤◌, Bool, true, false, nat_le, List, [], ◌∷◌, ◌++◌}
+use Rattle.std.specs.Prelude.{length, Option, Some, None, Result, Ok, Err, codes, decimal}
+use Rattle.std.specs.{List.flat_map, Option.option_or}
 use Rattle.dap_device.specs.Written.{AllSent, PrefixWritten}
 use Rattle.dap_device.specs.declared.device.Sink.{Ghosts as Sink}
 use Rattle.dap_device.specs.declared.device.Source.{Ghosts as Source}
-use Rattle.dap_tree.specs.Doc.{Doc}
-use Rattle.dap_tree.specs.Json.{IsRead}
-use Rattle.dap_tree.specs.declared.side.Side.{Side}
+use Rattle.dap_tree.specs.{Doc.Doc, Json.IsRead, declared.side.Side.Side}
 use Rattle.dap_message.specs.Message.{HasRefusal, Refusal, Sent, faulty, fraction, no_reading}
 use Rattle.dap_recording.specs.Recording.{IsRecording, records}
-use Rattle.dap_session.specs.Rules.{first_broken}
-use Rattle.dap_session.specs.declared.rule.Rule.{Rule}
-use Rattle.dap_input.specs.InputSteps.{AcceptsAll}
+use Rattle.dap_session.specs.{Rules.first_broken, declared.rule.Rule.Rule}
+use Rattle.dap_input.specs.{Engine.Answers, InputSteps.AcceptsAll}
 use Rattle.dap_input.specs.Validation.{Validation, ContentError, grew, no_message}
-use Rattle.dap_input.specs.Limits.{AreSound}
-use Rattle.dap_input.specs.RefusedText.{reason_text}
-use Rattle.dap_input.specs.Refusals.{HasOneOutcome, RefusalStays}
-use Rattle.dap_input.specs.declared.limits.Limits.{Limits}
-use Rattle.dap_input.specs.declared.refused.Refused.{Refused}
+use Rattle.dap_input.specs.{Limits.AreSound, RefusedText.reason_text}
+use Rattle.dap_input.specs.Refusals.{HasOneOutcome, IsRefused, RefusalStays}
+use Rattle.dap_input.specs.{declared.limits.Limits.Limits, declared.refused.Refused.Refused}
 use Rattle.dap_input.specs.declared.refused.Refused.TheVariants as because
 use Rattle.dap_normalise.specs.Accepting.{Payload, IsMessage}
-use Rattle.dap_show.specs.Leaves.{leaf_lines}
-use Rattle.dap_show.specs.Showing.{listed_lines, message_line, start_words}
-use Rattle.dap_show.specs.Stopping.{StopsAt}
-use Rattle.dap_show.specs.declared.detail.Detail.{Detail}
+use Rattle.dap_show.specs.{Leaves.leaf_lines, Showing.{listed_lines, message_line, start_words}}
+use Rattle.dap_show.specs.{Stopping.StopsAt, declared.detail.Detail.Detail}
 use Rattle.dap_show.specs.declared.detail.Detail.TheVariants.{Lists, Leaves}
+use Rattle.dap_show.specs.declared.detail.View.{View}
 
 -- ---- entries
 
@@ -125,17 +118,25 @@ abbrev pub broken_rule : Bool → List Sent → Sent → Option Rule
 broken_rule false before message = None
 broken_rule true before message = first_broken before message
 
-module _ (marks_faults : Bool) (detail : Detail) (limits : Limits) where
+-- This level of detail, without marks of errors and with them.
+abbrev pub without_marks : Detail → Limits → View
+without_marks detail limits = record { detail = detail; limits = limits; marks_faults = false }
+
+abbrev pub with_marks : Detail → Limits → View
+with_marks detail limits = record { detail = detail; limits = limits; marks_faults = true }
+
+module _ (view : View) where
   -- A record has this entry after these entries. Records that do not contain a message are entries
   -- only if errors are marked.
   abbrev pub IsEntry : List Entry → Payload → Entry → Type 0
   IsEntry before held (typed message d rule) = IsMessage held message × IsRead held.1 d
-      × (rule ≡ broken_rule marks_faults (kept before) message)
-  IsEntry before held (untyped side why) = (marks_faults ≡ true) × (side ≡ held.0)
+      × (rule ≡ broken_rule view.marks_faults (kept before) message)
+  IsEntry before held (untyped side why) = (view.marks_faults ≡ true) × (side ≡ held.0)
       × HasRefusal held.1 why
 
   abbrev pub Fits : List Entry → Type 0
-  Fits entries = fits_in detail limits.input (length (lines_of detail 1 entries)) ≡ true
+  Fits entries =
+      fits_in view.detail view.limits.input (length (lines_of view.detail 1 entries)) ≡ true
 
   abbrev pub IsNext : List Entry → Payload → Entry → Type 0
   IsNext before held entry = IsEntry before held entry × Fits (before ++ entry ∷ [])
@@ -143,7 +144,7 @@ module _ (marks_faults : Bool) (detail : Detail) (limits : Limits) where
   -- A record is rejected because it does not contain a message and errors are not marked, or
   -- because the output including its lines exceeds the limit.
   abbrev pub Rejects : List Entry → Payload → ContentError → Type 0
-  Rejects before held (no_message why) = (marks_faults ≡ false) × HasRefusal held.1 why
+  Rejects before held (no_message why) = (view.marks_faults ≡ false) × HasRefusal held.1 why
   Rejects before held grew =
       (entry : Entry) × IsEntry before held entry × (Fits (before ++ entry ∷ []) → ⊥)
   Rejects before held why = ⊥
@@ -158,17 +159,17 @@ module _ (marks_faults : Bool) (detail : Detail) (limits : Limits) where
 
   -- The bytes are a recording of records with these entries.
   pub record IsViewable (bytes : List ℕ) (entries : List Entry) : Type 0 where
-    pub short : length bytes ≤ limits.input
+    pub short : length bytes ≤ view.limits.input
     pub records : List Payload
-    pub recording : IsRecording limits.frame bytes records
+    pub recording : IsRecording view.limits.frame bytes records
     pub entered : AreEntries [] records entries
 
   abbrev pub viewing : Validation
   viewing = record {
     Payload = Payload;
     Value = Entry;
-    input = limits.input;
-    records = records limits.frame;
+    input = view.limits.input;
+    records = records view.limits.frame;
     IsNext = IsNext;
     Rejects = Rejects;
     IsAccepted = IsViewable;
@@ -180,17 +181,17 @@ module _ (marks_faults : Bool) (detail : Detail) (limits : Limits) where
     pub record ShowsAll (old new : R) (text : List ℕ) (first : Option Refused) : Type 0 where
       pub entries : List Entry
       pub all : AcceptsAll viewing source old new entries
-      pub text_is : text ≡ lines_of detail 1 entries
+      pub text_is : text ≡ lines_of view.detail 1 entries
       pub first_is : first ≡ first_refusal 1 entries
 
     -- Errors are marked, and the framing of a record is invalid. `text` is the lines of the records
     -- before it, and its own line.
     pub record ShowsFront (old new : R) (text : List ℕ) (first : Option Refused) : Type 0 where
-      pub marked : marks_faults ≡ true
+      pub marked : view.marks_faults ≡ true
       pub refused : Refused
       pub framing : IsFraming refused
       pub stops : StopsAt viewing source old new refused
-      pub text_is : text ≡ lines_of detail 1 stops.before.values ++ stop_line refused
+      pub text_is : text ≡ lines_of view.detail 1 stops.before.values ++ stop_line refused
       pub first_is : first ≡ option_or (first_refusal 1 stops.before.values) (Some refused)
 
     abbrev pub Shows : R → R → List ℕ → Option Refused → Type 0
@@ -206,7 +207,27 @@ module _ (marks_faults : Bool) (detail : Detail) (limits : Limits) where
           (text : List ℕ) × (first : Option Refused) × Shows old new text first
           × PrefixWritten sink before after text
       ViewsInput old new before after (Err refused) = StopsAt viewing source old new refused
-          × (marks_faults ≡ true → IsFraming refused → ⊥) × (after ≡ before)
+          × (view.marks_faults ≡ true → IsFraming refused → ⊥) × (after ≡ before)
+
+-- ---- the outcomes of the functions
+
+-- Recordings as `show` reads them: with the lists of each message.
+abbrev pub showing : Limits → Validation
+showing limits = viewing (without_marks Lists limits)
+
+-- These are the lines of the input.
+abbrev pub IsShownBy : Limits → List ℕ → List ℕ → Type 0
+IsShownBy limits whole written = (entries : List Entry)
+    × IsViewable (without_marks Lists limits) whole entries × (written ≡ lines_of Lists 1 entries)
+
+-- Outcome of `show`: the lines of the input were written and flushed, or a prefix of them was
+-- written and the writer failed, or the first error of the input is returned and nothing was
+-- written. Unless an allocation failed, the input was read to its end, to a byte beyond the limit,
+-- or to a failure of the reader.
+abbrev pub ShowsLists : {U R W : Type 0} → Limits → Source R → Sink W → R → R → W → W
+    → Result U Refused → Type 0
+ShowsLists limits source sink =
+    Answers source sink limits.input (IsShownBy limits) (IsRefused (showing limits))
 
 -- Outcome of `show_with`: all lines were written and flushed, or a prefix of them was written and
 -- the writer failed, or the first error is returned or an allocation failed, and nothing was
@@ -215,20 +236,28 @@ abbrev pub ShowsInput : {U R W : Type 0} → Detail → Limits → Source R → 
     → Result U Refused → Type 0
 ShowsInput detail limits source sink old new before after (Ok done) =
     (text : List ℕ) × (first : Option Refused)
-    × ShowsAll false detail limits source old new text first × AllSent sink before after text
+    × ShowsAll (without_marks detail limits) source old new text first
+    × AllSent sink before after text
 ShowsInput detail limits source sink old new before after (Err because.WriteFault) =
     (text : List ℕ) × (first : Option Refused)
-    × ShowsAll false detail limits source old new text first × PrefixWritten sink before after text
+    × ShowsAll (without_marks detail limits) source old new text first
+    × PrefixWritten sink before after text
 ShowsInput detail limits source sink old new before after (Err refused) =
-    StopsAt (viewing false detail limits) source old new refused × (after ≡ before)
+    StopsAt (viewing (without_marks detail limits)) source old new refused × (after ≡ before)
+
+-- ---- laws
 
 -- An input is accepted as exactly one list of entries, or rejected for exactly one reason, never
 -- both.
 abbrev pub ViewHasOneOutcome : Type 0
-ViewHasOneOutcome = (marks_faults : Bool) (detail : Detail) (limits : Limits) → AreSound limits
-    → HasOneOutcome (viewing marks_faults detail limits)
+ViewHasOneOutcome = (view : View) → AreSound view.limits → HasOneOutcome (viewing view)
+
+abbrev pub ShowHasOneOutcome : Type 0
+ShowHasOneOutcome = (limits : Limits) → AreSound limits → HasOneOutcome (showing limits)
 
 -- A rejection remains when more bytes follow, unless the record was only incomplete.
 abbrev pub ViewRefusalStays : Type 0
-ViewRefusalStays = (marks_faults : Bool) (detail : Detail) (limits : Limits) → AreSound limits
-    → RefusalStays (viewing marks_faults detail limits)
+ViewRefusalStays = (view : View) → AreSound view.limits → RefusalStays (viewing view)
+
+abbrev pub ShowRefusalStays : Type 0
+ShowRefusalStays = (limits : Limits) → AreSound limits → RefusalStays (showing limits)

@@ -1,23 +1,18 @@
--- What the steps of `show_with` and `show_faulty` do.
-use Rattle.std.specs.Prelude.{◌≡◌, ℕ, ◌+◌, ◌++◌, Bool, true, List, [], ◌∷◌, length, Option}
-use Rattle.std.specs.Prelude.{Some, Result, Ok, Err}
-use Rattle.std.specs.Option.{option_or}
+-- What the steps of `show`, `show_with` and `show_faulty` do.
+use Rattle.std.specs.Prelude.{◌≡◌, ℕ, ◌+◌, ◌++◌, Bool, true, List, [], ◌∷◌, length, Option, Some}
+use Rattle.std.specs.{Prelude.{Result, Ok, Err}, Option.option_or}
 use Rattle.dap_device.specs.declared.device.Source.{Ghosts as Source}
-use Rattle.dap_input.specs.InputSteps.{AcceptsAll}
-use Rattle.dap_input.specs.Refusals.{RejectsPayload}
-use Rattle.dap_input.specs.declared.limits.Limits.{Limits}
-use Rattle.dap_input.specs.declared.refused.Refused.{Refused}
+use Rattle.dap_input.specs.{InputSteps.{AcceptsAll, RefusesOne}, Refusals.RejectsPayload}
+use Rattle.dap_input.specs.{declared.records.Records.Records, declared.refused.Refused.Refused}
 use Rattle.dap_input.specs.declared.refused.Refused.TheVariants as because
 use Rattle.dap_message.specs.Message.{Sent}
 use Rattle.dap_normalise.specs.Accepting.{Payload}
-use Rattle.dap_session.specs.SessionState.{SessionState}
-use Rattle.dap_session.specs.Representation.{Represents}
+use Rattle.dap_recording.specs.RecordReading.{RecordReading}
+use Rattle.dap_session.specs.{SessionState.SessionState, Representation.Represents}
 use Rattle.dap_session.specs.declared.rule.Rule.{Rule}
-use Rattle.dap_show.specs.Showing.{listed_lines}
-use Rattle.dap_show.specs.Stopping.{StopsAt}
-use Rattle.dap_show.specs.Viewing.{Entry, IsFraming, IsNext, Rejects, first_refusal, kept}
-use Rattle.dap_show.specs.Viewing.{kept_if, lines_of, refusal_at, broken_rule, stop_line}
-use Rattle.dap_show.specs.Viewing.{viewing}
+use Rattle.dap_show.specs.{Showing.listed_lines, Stopping.StopsAt}
+use Rattle.dap_show.specs.Viewing.{Entry, IsFraming, IsNext, Rejects, first_refusal, kept, kept_if}
+use Rattle.dap_show.specs.Viewing.{lines_of, refusal_at, broken_rule, stop_line, viewing}
 use Rattle.dap_show.specs.declared.detail.Detail.{Detail}
 use Rattle.dap_show.specs.declared.detail.Detail.TheVariants.{Lists, Leaves}
 use Rattle.dap_show.specs.declared.detail.View.{View}
@@ -37,14 +32,14 @@ abbrev pub AreListed : Detail → Sent → List ℕ → Type 0
 AreListed Lists message lines = lines ≡ listed_lines message.doc
 AreListed Leaves message lines = Unit {0}
 
-module _ (marks_faults : Bool) (detail : Detail) (limits : Limits) where
+module _ (view : View) where
   -- Record n has this entry, whose lines were appended.
   pub record IsEntered (before : List Entry) (n : ℕ) (held : Payload) (session : SessionState)
       (lines : List ℕ) (refusal : Option Refused) : Type 0 where
     pub entry : Entry
-    pub is_next : IsNext marks_faults detail limits before held entry
-    pub session_is : StandsIf marks_faults session (kept (before ++ entry ∷ []))
-    pub lines_are : lines ≡ lines_of detail 1 (before ++ entry ∷ [])
+    pub is_next : IsNext view before held entry
+    pub session_is : StandsIf view.marks_faults session (kept (before ++ entry ∷ []))
+    pub lines_are : lines ≡ lines_of view.detail 1 (before ++ entry ∷ [])
     pub refusal_is : refusal ≡ refusal_at n entry
 
   -- The lines of record n are appended, or the record is rejected.
@@ -54,25 +49,26 @@ module _ (marks_faults : Bool) (detail : Detail) (limits : Limits) where
   Enters before n held session lines (Ok refusal) =
       IsEntered before n held session lines refusal
   Enters before n held session lines (Err refused) =
-      RejectsPayload (Rejects marks_faults detail limits before held) n refused
+      RejectsPayload (Rejects view before held) n refused
 
   -- These are the lines of the entries, and this is the first rejection among them.
   pub record AreShown (entries : List Entry) (lines : List ℕ) (first : Option Refused) : Type 0
     where
-      pub lines_are : lines ≡ lines_of detail 1 entries
+      pub lines_are : lines ≡ lines_of view.detail 1 entries
       pub first_is : first ≡ first_refusal 1 entries
 
   module _ {R : Type 0} (source : Source R) where
     -- All records have lines; or reading stops at a record, and if the framing of that record is
-    -- invalid, the records before it have lines.
-    abbrev pub ShowsRecords : {U : Type 0} → R → R → List ℕ → Option Refused → Result U Refused
-        → Type 0
-    ShowsRecords old new lines first (Ok done) =
+    -- invalid, the records before it have lines. The rest of the input can then be read.
+    abbrev pub ShowsRecords : {U : Type 0} → R → R → Records RecordReading → List ℕ
+        → Option Refused → Result U Refused → Type 0
+    ShowsRecords old new records lines first (Ok done) =
         (entries : List Entry)
-        × AcceptsAll (viewing marks_faults detail limits) source old new entries
+        × AcceptsAll (viewing view) source old new entries
         × AreShown entries lines first
-    ShowsRecords old new lines first (Err refused) =
-        (stops : StopsAt (viewing marks_faults detail limits) source old new refused)
+    ShowsRecords old new records lines first (Err refused) =
+        (stops : StopsAt (viewing view) source old new refused)
+        × RefusesOne (viewing view) source old new records refused
         × (IsFraming refused → AreShown stops.before.values lines first)
 
 -- After entries with these lines, the lines of the next record, which has number n, are appended, or
@@ -82,7 +78,7 @@ abbrev pub AppendsEntry : View → ℕ → Payload → SessionState → SessionS
 AppendsEntry view n held old new lines longer result = (before : List Entry)
     → StandsIf view.marks_faults old (kept before) → lines ≡ lines_of view.detail 1 before
     → n ≡ length before + 1
-    → Enters view.marks_faults view.detail view.limits before n held new longer result
+    → Enters view before n held new longer result
 
 -- The line of an error of the framing is appended, if errors are marked; any other rejection is
 -- returned.

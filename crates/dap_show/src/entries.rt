@@ -1,16 +1,15 @@
 //! Formats one record, and returns the error that it is marked with.
-ghost use Rattle.std.specs.Prelude.{◌≡◌, ◌+◌, ◌++◌, List, false};
-ghost use Rattle.std.specs.Prelude.{IfOk, IfSome, IsErrOf, None, OnOk, length};
+ghost use Rattle.std.specs.Prelude.{◌≡◌, ◌+◌, ◌++◌, List, false, IfOk, IfSome, IsErrOf, None, OnOk};
+ghost use Rattle.std.specs.Prelude.{length};
 ghost use Rattle.dap_input.specs.Refusals.{RejectsPayload};
 ghost use Rattle.dap_flat_message.specs.FlatMessages.{flat_sent};
 ghost use Rattle.dap_message.specs.Message.{Sent, sent};
 ghost use Rattle.dap_normalise.specs.Accepting.{HoldsNoMessage, IsMessage};
 ghost use Rattle.dap_normalise.specs.JudgingSteps.{payload_of};
 ghost use Rattle.dap_show.specs.Viewing.{detail_lines, fits_in, head_lines, rule_refusal};
-ghost use Rattle.dap_session.specs.SessionState.{SessionState};
 ghost use Rattle.dap_show.specs.ViewingSteps.{AppendsEntry, AreListed, IsJudged, StandsIf};
-ghost use Rattle.dap_tree.specs.Doc.{Doc};
-ghost use Rattle.dap_tree.specs.Json.{IsRead};
+ghost use Rattle.dap_session.specs.SessionState.{SessionState};
+ghost use Rattle.dap_tree.specs.{Doc.Doc, Json.IsRead};
 
 use crate::detail::{Detail, View};
 use crate::fault_words::{push_fault, push_untyped};

@@ -1,7 +1,6 @@
 //! Formats errors for the lines that mark them.
 ghost use Rattle.std.specs.Prelude.{◌≡◌, ◌++◌, ◌↔◌, IfOk, IsTrue, OnOk, codes, decimal};
-ghost use Rattle.dap_show.specs.Showing.{start_words};
-ghost use Rattle.dap_show.specs.Viewing.{IsFraming, fault_words, stop_line};
+ghost use Rattle.dap_show.specs.{Showing.start_words, Viewing.{IsFraming, fault_words, stop_line}};
 
 use crate::message_lines::{push_number, push_start};
 use dap_input::Refused;

@@ -1,18 +1,15 @@
 //! Formats the elements that a flat message lists as lines.
 ghost use Rattle.std.specs.Prelude.{◌≡◌, ◌++◌, [], ◌∷◌, IfOk, IfSome, MatchOption, OnOk, Some};
 ghost use Rattle.std.specs.Prelude.{option_map};
-ghost use Rattle.dap_flat.specs.Finding.{Holds};
-ghost use Rattle.dap_flat_message.specs.FlatMessages.{flat_doc};
-ghost use Rattle.dap_flat_message.specs.Judging.{top_of};
-ghost use Rattle.dap_flat.specs.Pieces.{piece_of};
+ghost use Rattle.dap_flat.specs.{Finding.Holds, Pieces.piece_of};
+ghost use Rattle.dap_flat_message.specs.{FlatMessages.flat_doc, Judging.top_of};
 ghost use Rattle.dap_message.specs.Envelope.{text_value};
 ghost use Rattle.dap_message.specs.ViewItems.{frame_shown, scope_shown, variable_shown};
 ghost use Rattle.dap_message.specs.Views.{frame_of, number_value, reference_value, scope_of};
 ghost use Rattle.dap_message.specs.Views.{variable_of};
 ghost use Rattle.dap_show.specs.FlatElements.{AppendsElements, IsMemberValue, IsViewedAs};
 ghost use Rattle.dap_show.specs.FlatElements.{StartsElements, StartsMember, array_name};
-ghost use Rattle.dap_show.specs.FlatElements.{element_lines, lines_of_kind};
-ghost use Rattle.dap_show.specs.Showing.{listed_lines};
+ghost use Rattle.dap_show.specs.{FlatElements.{element_lines, lines_of_kind}, Showing.listed_lines};
 ghost use Rattle.dap_tree.specs.Doc.{Doc};
 
 use crate::message_lines::{push_frame, push_scope, push_variable};

@@ -2,9 +2,7 @@
 ghost use Rattle.std.specs.Prelude.{◌≡◌, ℕ, ◌≤◌, ◌++◌, List, true, OnOk, codes, vec_len};
 ghost use Rattle.dap_show.specs.Indented.{indented, inner, next_line};
 ghost use Rattle.dap_tree.specs.Doc.{all_in_range, items_in_range, list, members_in_range, object};
-ghost use Rattle.dap_tree.specs.Doc.{text};
-ghost use Rattle.dap_tree.specs.Json.{text_of};
-ghost use Rattle.dap_tree.specs.View.{items_view, members_view, view};
+ghost use Rattle.dap_tree.specs.{Doc.text, Json.text_of, View.{items_view, members_view, view}};
 
 use crate::message_lines::push_quoted;
 use dap_tree::{Tree, write_tree};

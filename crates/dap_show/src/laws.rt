@@ -1,7 +1,7 @@
 //! Theorems about the inputs of `show`, for all byte strings. Each function is empty: calling it
 //! makes its clauses available to the caller's proof.
-ghost use Rattle.dap_show.specs.Showing.{ShowHasOneOutcome, ShowRefusalStays};
-ghost use Rattle.dap_show.specs.Viewing.{ViewHasOneOutcome, ViewRefusalStays};
+ghost use Rattle.dap_show.specs.Viewing.{ShowHasOneOutcome, ShowRefusalStays, ViewHasOneOutcome};
+ghost use Rattle.dap_show.specs.Viewing.{ViewRefusalStays};
 
 /// States that `show` either accepts a recording as exactly one list of messages, or rejects it for
 /// exactly one reason, never both. A rejection remains when more bytes follow, unless the input

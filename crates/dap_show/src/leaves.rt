@@ -1,11 +1,10 @@
 //! Formats the leaves of a tree, one line each.
-ghost use Rattle.std.specs.Prelude.{◌≡◌, ◌+◌, ◌<◌, ◌∷◌, ◌++◌, [], true, false, length};
-ghost use Rattle.std.specs.Prelude.{IfErr, IsErrOf, OnOk};
+ghost use Rattle.std.specs.Prelude.{◌≡◌, ◌+◌, ◌<◌, ◌∷◌, ◌++◌, [], true, false, length, IfErr};
+ghost use Rattle.std.specs.Prelude.{IsErrOf, OnOk};
 ghost use Rattle.dap_difference.specs.Shown.{path_of};
 ghost use Rattle.dap_show.specs.Leaves.{has_parts, item_lines, leaf_line, leaf_lines, member_lines};
 ghost use Rattle.dap_tree.specs.Doc.{Doc, all_in_range, items_in_range, members_in_range};
-ghost use Rattle.dap_tree.specs.Json.{IsRead};
-ghost use Rattle.dap_tree.specs.View.{items_view, members_view, view};
+ghost use Rattle.dap_tree.specs.{Json.IsRead, View.{items_view, members_view, view}};
 
 use dap_difference::{Step, push_path};
 use dap_tree::{Scratch, Tree, TreeFault, read_tree_with, write_tree_to};
@@ -155,9 +154,7 @@ fn push_items<'t>(
 {
     for (place, item) in items.iter().enumerate() {
         push_step(path, Step::Item(place))?;
-        if let Err(fault) = push_leaves(alloc, item, path, limit, value, out) {
-            return Err(fault);
-        }
+        push_leaves(alloc, item, path, limit, value, out)?;
         path.pop();
     }
     Ok(())
@@ -181,9 +178,7 @@ fn push_members<'t>(
 {
     for (name, member) in members.iter() {
         push_step(path, Step::Member(name.as_str()))?;
-        if let Err(fault) = push_leaves(alloc, member, path, limit, value, out) {
-            return Err(fault);
-        }
+        push_leaves(alloc, member, path, limit, value, out)?;
         path.pop();
     }
     Ok(())

@@ -13,10 +13,8 @@ pub mod laws;
 mod leaves;
 mod message_lines;
 mod one_record;
-mod showing;
 mod viewing;
 
 pub use detail::{Detail, ShowRequest};
 pub use one_record::{RecordShown, show_record};
-pub use showing::show;
-pub use viewing::{show_faulty, show_with};
+pub use viewing::{show, show_faulty, show_with};

@@ -2,10 +2,9 @@
 ghost use Rattle.std.specs.Prelude.{◌≡◌, ◌++◌, IfOk, OnOk};
 ghost use Rattle.dap_message.specs.Message.{doc_of};
 ghost use Rattle.dap_message.specs.ViewItems.{frame_shown, scope_shown, variable_shown};
-ghost use Rattle.dap_show.specs.Showing.{answered_words, frame_line, in_quotes};
-ghost use Rattle.dap_show.specs.Showing.{message_line, outcome_words, place_words};
-ghost use Rattle.dap_show.specs.Showing.{scope_line, start_words, success_words};
-ghost use Rattle.dap_show.specs.Showing.{listed_lines, title_words, variable_line};
+ghost use Rattle.dap_show.specs.Showing.{answered_words, frame_line, in_quotes, message_line};
+ghost use Rattle.dap_show.specs.Showing.{outcome_words, place_words, scope_line, start_words};
+ghost use Rattle.dap_show.specs.Showing.{success_words, listed_lines, title_words, variable_line};
 
 use dap_flat::{Node, write_flat};
 use dap_message::{AnyMessage, FrameView, Message, ScopeView, Side, VariableView};

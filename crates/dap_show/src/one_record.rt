@@ -1,10 +1,9 @@
 //! Prints the content of one record.
-ghost use Rattle.std.specs.Prelude.{◌+◌, ◌<◌, ◌≤◌, ◌^◌, IfOk};
-ghost use Rattle.dap_input.specs.ItemReading.{RepresentsRecord};
-ghost use Rattle.dap_input.specs.Limits.{AreSound};
+ghost use Rattle.std.specs.Prelude.{◌+◌, ◌≤◌, IfOk};
+ghost use Rattle.dap_device.specs.Devices.{CanRead, CanWrite};
+ghost use Rattle.dap_input.specs.{ItemReading.RepresentsRecord, Limits.AreSound};
 ghost use Rattle.dap_input.specs.RecordSteps.{IsAtStart};
-ghost use Rattle.dap_show.specs.OneRecord.{PrintsContent, ShowsRecord};
-ghost use Rattle.dap_show.specs.OneRecordSteps.{Finds};
+ghost use Rattle.dap_show.specs.{OneRecord.{PrintsContent, ShowsRecord}, OneRecordSteps.Finds};
 
 use crate::indented::push_indented;
 use dap_device::{Sink, Source, write_and_flush};
@@ -38,8 +37,7 @@ fn find_record<R: Source>(
 ) -> Result<Found, Refused>
     requires sound { AreSound limits }
     requires start { IsAtStart (RepresentsRecord limits.frame) limits.input records.old }
-    requires given { R.given reader.old < 2 ^ 62 }
-    requires failures { R.failures reader.old < 2 ^ 62 }
+    requires reader { CanRead R.Source reader.old }
     ensures { Finds limits R.Source reader.old reader.new number result }
 {
     'each: loop {
@@ -98,9 +96,7 @@ pub fn show_record<R: Source, W: Sink>(
     number: u64,
 ) -> Result<RecordShown, Refused>
     requires limits { AreSound limits }
-    requires given { R.given reader.old < 2 ^ 62 }
-    requires read_failures { R.failures reader.old < 2 ^ 62 }
-    requires write_failures { W.failures writer.old < 2 ^ 62 }
+    requires devices { CanRead R.Source reader.old × CanWrite W.Sink writer.old }
 
     // The text of the record's content is written and flushed. If the record does not exist or the
     // input is rejected, nothing is written.

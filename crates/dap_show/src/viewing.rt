@@ -1,9 +1,9 @@
-//! Prints recordings with the leaves of their contents, and with their errors.
-ghost use Rattle.std.specs.Prelude.{◌≡◌, ◌+◌, ◌<◌, ◌≤◌, ◌^◌, [], None, true};
-ghost use Rattle.dap_input.specs.ItemReading.{RepresentsRecord};
-ghost use Rattle.dap_input.specs.Limits.{AreSound};
-ghost use Rattle.dap_input.specs.RecordSteps.{IsAtStart};
-ghost use Rattle.dap_show.specs.Viewing.{ShowsInput, ViewsInput};
+//! Prints recordings as lines, with or without their errors.
+ghost use Rattle.std.specs.Prelude.{◌≡◌, ◌+◌, ◌≤◌, [], IsErrOf, None};
+ghost use Rattle.dap_device.specs.Devices.{CanRead, CanWrite};
+ghost use Rattle.dap_input.specs.{Engine.ReadsNoneOrAll, ItemReading.RepresentsRecord};
+ghost use Rattle.dap_input.specs.{Limits.AreSound, RecordSteps.IsAtStart};
+ghost use Rattle.dap_show.specs.Viewing.{ShowsInput, ShowsLists, ViewsInput, with_marks};
 ghost use Rattle.dap_show.specs.ViewingSteps.{Finishes, ShowsRecords};
 
 use crate::detail::{Detail, View};
@@ -30,10 +30,9 @@ fn view_records<R: Source>(
     requires start { IsAtStart (RepresentsRecord view.limits.frame) view.limits.input records.old }
     requires lines { lines.old.items ≡ [] }
     requires first { first.old ≡ None }
-    requires given { R.given reader.old < 2 ^ 62 }
-    requires failures { R.failures reader.old < 2 ^ 62 }
-    ensures { ShowsRecords view.marks_faults view.detail view.limits R.Source reader.old reader.new
-        lines.new.items first.new result }
+    requires reader { CanRead R.Source reader.old }
+    ensures { ShowsRecords view R.Source reader.old reader.new records.new lines.new.items first.new
+        result }
 {
     let mut session = Session::new(alloc);
     let mut scratch = Scratch::new(alloc);
@@ -92,11 +91,9 @@ fn view_input<R: Source, W: Sink>(
     view: View,
 ) -> Result<Option<Refused>, Refused>
     requires limits { AreSound view.limits }
-    requires given { R.given reader.old < 2 ^ 62 }
-    requires read_failures { R.failures reader.old < 2 ^ 62 }
-    requires write_failures { W.failures writer.old < 2 ^ 62 }
-    ensures outcome { ViewsInput view.marks_faults view.detail view.limits R.Source W.Sink
-        reader.old reader.new writer.old writer.new result }
+    requires devices { CanRead R.Source reader.old × CanWrite W.Sink writer.old }
+    ensures outcome { ViewsInput view R.Source W.Sink reader.old reader.new writer.old writer.new
+        result }
     ensures taken { R.given reader.new ≤ R.given reader.old + view.limits.input + 1 }
 {
     let record_reader = RecordReader::new(alloc, view.limits.frame);
@@ -106,12 +103,80 @@ fn view_input<R: Source, W: Sink>(
     let mut lines = Vec::new(alloc);
     let mut first = None;
     let stopped = view_records(alloc, view, &mut records, reader, &mut lines, &mut first);
-    if let Err(refused) = finish(view.marks_faults, stopped, &mut lines, &mut first) {
-        return Err(refused);
-    }
+    finish(view.marks_faults, stopped, &mut lines, &mut first)?;
     match write_and_flush(writer, lines.as_slice()) {
         Ok(()) => Ok(first),
         Err(_) => Err(Refused::WriteFault),
+    }
+}
+
+/// Reads a recording and writes it as lines, for people.
+///
+/// Record N, whose side has the marker M, produces `N M request NAME seq=S`,
+/// `N M event NAME seq=S`, or `N M response NAME seq=S request_seq=Q ok` (or `failed`). It is
+/// followed by one line for each stack frame, scope and variable that the message lists:
+///
+/// - `  frame ID LINE:COLUMN NAME`
+/// - `  scope REFERENCE NAME`
+/// - `  variable REFERENCE NAME VALUE`
+///
+/// Names and values are JSON strings in quotes; ids are printed unchanged. The session rules are
+/// not checked.
+///
+/// Reads and checks the whole input, at most one byte past `limits.input`, and writes and flushes
+/// last. Nothing is written if the input is rejected. Buffers one record and the output. Records
+/// are numbered from 1 in the order of the input.
+///
+/// # Errors
+///
+/// - `InputTooLong`, `Record`, `Json`, `Fraction`, `Message`: the first error of the input. The
+///   rest of the input is then read and discarded; if a read then fails, that is not reported.
+/// - `ReadFault`: the reader failed, and the bytes read so far contain no error other than being
+///   incomplete.
+/// - `WriteFault`: the writer failed.
+/// - `Memory`: an allocation failed.
+pub fn show<R: Source, W: Sink>(
+    alloc: Global,
+    reader: &mut R,
+    writer: &mut W,
+    limits: Limits,
+) -> Result<(), Refused>
+    requires limits { AreSound limits }
+    requires devices { CanRead R.Source reader.old × CanWrite W.Sink writer.old }
+
+    // The lines of the input's messages are written and flushed, or its first error is returned and
+    // nothing is written. `WriteFault` is returned if and only if the writer failed, `ReadFault`
+    // only if the reader failed: a read that fails after a rejection is not reported.
+    ensures outcome { ShowsLists limits R.Source W.Sink reader.old reader.new writer.old writer.new
+        result }
+
+    // After a failed allocation, either nothing or the whole input was read.
+    ensures memory { IsErrOf result Refused.Memory
+        → ReadsNoneOrAll R.Source limits.input reader.old reader.new }
+
+    // At most one byte past the limit is read.
+    ensures taken { R.given reader.new ≤ R.given reader.old + limits.input + 1 }
+{
+    let record_reader = RecordReader::new(alloc, limits.frame);
+    let Ok(mut records) = Records::new(alloc, record_reader, limits.input) else {
+        return Err(Refused::Memory);
+    };
+    let view = View {
+        detail: Detail::Lists,
+        limits,
+        marks_faults: false,
+    };
+    let mut lines = Vec::new(alloc);
+    let mut first = None;
+    match view_records(alloc, view, &mut records, reader, &mut lines, &mut first) {
+        Ok(()) => match write_and_flush(writer, lines.as_slice()) {
+            Ok(()) => Ok(()),
+            Err(_) => Err(Refused::WriteFault),
+        },
+        Err(refused) => {
+            records.drain(reader);
+            Err(refused)
+        }
     }
 }
 
@@ -141,9 +206,7 @@ pub fn show_with<R: Source, W: Sink>(
     detail: Detail,
 ) -> Result<(), Refused>
     requires limits { AreSound limits }
-    requires given { R.given reader.old < 2 ^ 62 }
-    requires read_failures { R.failures reader.old < 2 ^ 62 }
-    requires write_failures { W.failures writer.old < 2 ^ 62 }
+    requires devices { CanRead R.Source reader.old × CanWrite W.Sink writer.old }
 
     // The lines of all records are written and flushed, or the first error is returned and nothing
     // is written. `WriteFault` is returned if and only if the writer failed, `ReadFault` only if
@@ -185,14 +248,12 @@ pub fn show_faulty<R: Source, W: Sink>(
     detail: Detail,
 ) -> Result<Option<Refused>, Refused>
     requires limits { AreSound limits }
-    requires given { R.given reader.old < 2 ^ 62 }
-    requires read_failures { R.failures reader.old < 2 ^ 62 }
-    requires write_failures { W.failures writer.old < 2 ^ 62 }
+    requires devices { CanRead R.Source reader.old × CanWrite W.Sink writer.old }
 
     // The lines of all records, or those before an error of the framing and the line of that error,
     // are written and flushed. Otherwise nothing is written. `WriteFault` is returned if and only
     // if the writer failed, `ReadFault` only if the reader failed.
-    ensures outcome { ViewsInput true detail limits R.Source W.Sink reader.old reader.new
+    ensures outcome { ViewsInput (with_marks detail limits) R.Source W.Sink reader.old reader.new
         writer.old writer.new result }
 
     // At most one byte past the limit is read.

@@ -11,8 +11,8 @@ returns-in-Err-Full g c = λ before represents lines_are number_is.
     let is = c.requires.message in
     let d = is.1.0 in
     let reads = is.1.1 in
-    grown_detail c.args.view.detail c.args.view.limits before c.args.number number_is
-    c.args.lines.now.items lines_are c.args.view.marks_faults (payload_of c.args.whole.now)
+    grown_detail c.args.view before c.args.number number_is
+    c.args.lines.now.items lines_are (payload_of c.args.whole.now)
     message d c.in-Ok.rule c.judge.new.session is reads
     (c.in-Ok.ensures (kept before) represents) c.push_head.new.lines.items c.in-Ok-push_head.ensures
     (c.in-Err-Full.ensures.full d message
@@ -25,8 +25,8 @@ returns-then-not-fits g c = λ before represents lines_are number_is.
     let is = c.requires.message in
     let d = is.1.0 in
     let reads = is.1.1 in
-    grown_typed c.args.view.detail c.args.view.limits before c.args.number number_is
-    c.args.lines.now.items lines_are c.args.view.marks_faults (payload_of c.args.whole.now)
+    grown_typed c.args.view before c.args.number number_is
+    c.args.lines.now.items lines_are (payload_of c.args.whole.now)
     message d c.in-Ok.rule c.judge.new.session is reads
     (c.in-Ok.ensures (kept before) represents) c.push_head.new.lines.items c.in-Ok-push_head.ensures
     c.push_detail.new.lines.items
@@ -41,8 +41,8 @@ returns g c = λ before represents lines_are number_is.
     let d = is.1.0 in
     let reads = is.1.1 in
     rw c.rule_refusal.ensures
-    (entered_typed c.args.view.detail c.args.view.limits before c.args.number number_is
-    c.args.lines.now.items lines_are c.args.view.marks_faults (payload_of c.args.whole.now)
+    (entered_typed c.args.view before c.args.number number_is
+    c.args.lines.now.items lines_are (payload_of c.args.whole.now)
     message d c.in-Ok.rule c.judge.new.session is reads
     (c.in-Ok.ensures (kept before) represents) c.push_head.new.lines.items c.in-Ok-push_head.ensures
     c.push_detail.new.lines.items

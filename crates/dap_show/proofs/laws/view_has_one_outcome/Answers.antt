@@ -7,11 +7,11 @@ use Rattle.dap_show.proofs.laws.view_has_one_outcome.Goals as goal
 
 pub returns : goal.returns
 returns c = record {
-  outcome = λ marks_faults detail limits sound.
-      has_one_outcome (viewing marks_faults detail limits) (shown_cause limits.frame)
-      (readable limits.frame) (value_facts marks_faults detail limits)
-      (accepted_facts marks_faults detail limits);
-  refusal_stays = λ marks_faults detail limits sound.
-      refusal_of_stays (viewing marks_faults detail limits) (readable limits.frame)
-      (value_facts marks_faults detail limits) (accepted_facts marks_faults detail limits);
+  outcome = λ view sound.
+      has_one_outcome (viewing view) (shown_cause view.limits.frame)
+      (readable view.limits.frame) (value_facts view)
+      (accepted_facts view);
+  refusal_stays = λ view sound.
+      refusal_of_stays (viewing view) (readable view.limits.frame)
+      (value_facts view) (accepted_facts view);
 }

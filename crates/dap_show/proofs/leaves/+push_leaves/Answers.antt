@@ -1,4 +1,5 @@
 use Rattle.std.proofs.Common.{◌≡◌, ◌+◌, ◌<◌, length, get_or, suc, ◌∙◌, ap, arith}
+use Rattle.std.proofs.lemmas.Result.{err_from_is_err_and}
 use Rattle.dap_difference.specs.Shown.{path_of}
 use Rattle.dap_difference.proofs.TreeSteps.{tree_at}
 use Rattle.dap_difference.specs.declared.difference.Step.TheVariants.{Item, Member}
@@ -58,25 +59,34 @@ push_leaves-returns-else-is_empty-2-clause-full t c =
     let is = ap view c.in-Object.is ∙ view-Object c.in-Object.members in
     rw (ap (leaf_lines p) is ∙ object_lines p members some) c.push_members.ensures.full
 
-pub push_items-returns-in-Err-clause-full : goal.push_items-returns-in-Err-clause-full
-push_items-returns-in-Err-clause-full t c = λ full.
+pub push_items-returns-in_err-push_leaves-clause-full :
+    goal.push_items-returns-in_err-push_leaves-clause-full
+push_items-returns-in_err-push_leaves-clause-full t c =
+    let because = err_from_is_err_and c.from_residual-in_err-push_leaves.result
+    c.from_residual-in_err-push_leaves.ensures.1 in
     let l = c.loop-place in
     let xs = c.args.items.now.items in
     let item = c.item-item.result in
     let within : l.place < length xs = omega arith in
     let is : item ≡ get_or xs l.place item = cc in
-    items_full c.args.limit c.args.path.now.items l.path.items c.push_step.new.path.items xs l.place
-    item l.out.items c.args.out.now.items l.invariant.path c.in_ok-push_step.ensures.pushed
-    (tree_at xs l.place item within is) l.invariant.lines (c.in-Err.ensures.full full)
+    rw (because.1, because.2)
+    (λ full. items_full c.args.limit c.args.path.now.items l.path.items
+    c.push_step.new.path.items xs l.place item l.out.items c.args.out.now.items l.invariant.path
+    c.in_ok-push_step.ensures.pushed (tree_at xs l.place item within is) l.invariant.lines
+    (c.in_err-push_leaves.ensures.full full))
 
-pub push_members-returns-in-Err-clause-full : goal.push_members-returns-in-Err-clause-full
-push_members-returns-in-Err-clause-full t c = λ full.
+pub push_members-returns-in_err-push_leaves-clause-full :
+    goal.push_members-returns-in_err-push_leaves-clause-full
+push_members-returns-in_err-push_leaves-clause-full t c =
+    let because = err_from_is_err_and c.from_residual-in_err-push_leaves.result
+    c.from_residual-in_err-push_leaves.ensures.1 in
     let l = c.loop-name in
-    members_full c.args.limit c.args.path.now.items l.path.items c.push_step.new.path.items
-    c.as_str.result c.in-Some.name.now c.in-Some.member.now c.args.members.now.entries
-    l.name-iterator c.next.new.self l.out.items c.args.out.now.items l.invariant.path
-    c.in_ok-push_step.ensures.pushed c.as_str.ensures.value c.in-Some.ensures.steps
-    l.invariant.lines (c.in-Err.ensures.full full)
+    rw (because.1, because.2)
+    (λ full. members_full c.args.limit c.args.path.now.items l.path.items
+    c.push_step.new.path.items c.as_str.result c.in-Some.name.now c.in-Some.member.now
+    c.args.members.now.entries l.name-iterator c.next.new.self l.out.items c.args.out.now.items
+    l.invariant.path c.in_ok-push_step.ensures.pushed c.as_str.ensures.value
+    c.in-Some.ensures.steps l.invariant.lines (c.in_err-push_leaves.ensures.full full))
 
 pub push_items-loop-place-preserved : goal.push_items-loop-place-preserved
 push_items-loop-place-preserved t c =
@@ -91,10 +101,10 @@ push_items-loop-place-preserved t c =
     record {
       lines = items_kept c.args.path.now.items l.path.items c.push_step.new.path.items xs l.place _
           item l.out.items c.push_leaves.new.out.items _ next l.invariant.path pushed there
-          l.invariant.lines c.in_default.ensures.lines;
+          l.invariant.lines c.in_ok-push_leaves.ensures.lines;
       path = path_kept c.args.path.now.items l.path.items c.push_step.new.path.items
           c.push_leaves.new.path.items c.pop.new.self.items (Item l.place) _ l.invariant.path pushed
-          c.in_default.ensures.path c.push_leaves.new.path.ok.0 c.pop.ensures.rest;
+          c.in_ok-push_leaves.ensures.path c.push_leaves.new.path.ok.0 c.pop.ensures.rest;
       in_range = items_rest xs l.place _ item next there l.invariant.in_range;
     }
 
@@ -107,10 +117,10 @@ push_members-loop-name-preserved t c =
       lines = members_kept c.args.path.now.items l.path.items c.push_step.new.path.items
           c.as_str.result key c.in-Some.member.now l.name-iterator c.next.new.self l.out.items
           c.push_leaves.new.out.items _ l.invariant.path pushed c.as_str.ensures.value
-          c.in-Some.ensures.steps l.invariant.lines c.in_default.ensures.lines;
+          c.in-Some.ensures.steps l.invariant.lines c.in_ok-push_leaves.ensures.lines;
       path = path_kept c.args.path.now.items l.path.items c.push_step.new.path.items
           c.push_leaves.new.path.items c.pop.new.self.items (Member c.as_str.result) _
-          l.invariant.path pushed c.in_default.ensures.path c.push_leaves.new.path.ok.0
+          l.invariant.path pushed c.in_ok-push_leaves.ensures.path c.push_leaves.new.path.ok.0
           c.pop.ensures.rest;
       in_range = members_rest key c.in-Some.member.now l.name-iterator c.next.new.self
           c.in-Some.ensures.steps l.invariant.in_range;

@@ -17,12 +17,12 @@ next-requires-clause-number g c =
 pub next-requires-clause-given : goal.next-requires-clause-given
 next-requires-clause-given g c =
     few_given c.args.limits g.R.Source c.args.number c.args.reader.now c.each.reader
-    c.each.records c.each.invariant c.requires.sound.input c.requires.given
+    c.each.records c.each.invariant c.requires.sound.input c.requires.reader.0
 
 pub next-requires-clause-failures : goal.next-requires-clause-failures
 next-requires-clause-failures g c =
     few_failed c.args.limits g.R.Source c.args.number c.args.reader.now c.each.reader
-    c.each.records c.each.invariant c.requires.failures
+    c.each.records c.each.invariant c.requires.reader.1
 
 pub returns-in_err-whole : goal.returns-in_err-whole
 returns-in_err-whole g c =

@@ -4,7 +4,7 @@ use Rattle.dap_show.proofs.viewing.view_records.Given as goal
 
 abbrev pub invariant-each : goal.invariant-each
 invariant-each g l =
-    Viewed l.fn.view.marks_faults l.fn.view.detail l.fn.view.limits g.R.Source l.fn.reader l.reader
+    Viewed l.fn.view g.R.Source l.fn.reader l.reader
     l.records l.session l.lines.items l.first
 
 abbrev pub decreases-each : goal.decreases-each
