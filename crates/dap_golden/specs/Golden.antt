@@ -1,32 +1,24 @@
 -- The text of a golden file: how it is created from an input, and why an input has none. Source:
 -- own, over traces, recordings, the rules of a file and normal forms.
 use Rattle.std.specs.Prelude.{◌≡◌, ◌≢◌, ◌⊎◌, ℕ, Bool, false, List, [], length, Option, Some, None}
-use Rattle.std.specs.Borrow.{Bor}
-use Rattle.std.specs.Option.{option_map}
+use Rattle.std.specs.{Borrow.Bor, Option.option_map}
 use Rattle.dap_recording.specs.Recording.{recording_text}
 use Rattle.dap_tree.specs.declared.side.Side.{Side}
 use Rattle.dap_tree.specs.declared.side.Side.TheVariants.{Client, Adapter}
 use Rattle.dap_message.specs.Message.{Sent}
 use Rattle.dap_session.specs.Rules.{open_requests}
 use Rattle.dap_rename.specs.declared.mode.Mode.{Mode}
-use Rattle.dap_mask.specs.KeptRules.{mask_of}
-use Rattle.dap_mask.specs.Mask.{Mask}
-use Rattle.dap_mask.specs.declared.mask_rules.MaskRules.{MaskRules}
-use Rattle.dap_input.specs.declared.limits.Limits.{Limits}
-use Rattle.dap_input.specs.declared.refused.Refused.{Refused}
-use Rattle.dap_input.specs.declared.refused.Refused.TheVariants.{Incomplete}
-use Rattle.dap_input.specs.Refusals.{IsRefused}
+use Rattle.dap_mask.specs.{KeptRules.mask_of, Mask.Mask, declared.mask_rules.MaskRules.MaskRules}
+use Rattle.dap_input.specs.{declared.limits.Limits.Limits, declared.refused.Refused.Refused}
+use Rattle.dap_input.specs.{declared.refused.Refused.TheVariants.Incomplete, Refusals.IsRefused}
 use Rattle.dap_record.specs.Tracing.{IsRecordedAs, IsTraceRefused}
-use Rattle.dap_rules.specs.Applying.{AppliesRules, IsRefusedByRules}
-use Rattle.dap_rules.specs.Modes.{mode_by}
+use Rattle.dap_rules.specs.{Applying.{AppliesRules, IsRefusedByRules}, Modes.mode_by}
 use Rattle.dap_rules.specs.declared.fault.ApplyRefused.{ApplyRefused}
 use Rattle.dap_rules.specs.declared.fault.ApplyRefused.TheVariants as step
-use Rattle.dap_normalise.specs.Accepting.{IsAccepted, accepting}
-use Rattle.dap_normalise.specs.Normalising.{IsCanonical}
+use Rattle.dap_normalise.specs.{Accepting.{IsAccepted, accepting}, Normalising.IsCanonical}
 use Rattle.dap_golden.specs.declared.fault.GoldenRefused.{GoldenRefused}
 use Rattle.dap_golden.specs.declared.fault.GoldenRefused.TheVariants as because
-use Rattle.dap_golden.specs.declared.golden.GoldenText.{GoldenText}
-use Rattle.dap_golden.specs.TraceHead.{IsTraceHead}
+use Rattle.dap_golden.specs.{declared.golden.GoldenText.GoldenText, TraceHead.IsTraceHead}
 
 -- ---- the recording of an input, and the session that the rules make of it
 

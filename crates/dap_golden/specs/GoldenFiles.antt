@@ -3,12 +3,9 @@
 use Rattle.std.specs.Prelude.{◌≡◌, ◌≢◌, ℕ, false, List, Option}
 use Rattle.dap_message.specs.Message.{Sent}
 use Rattle.dap_rename.specs.declared.mode.Mode.{Mode}
-use Rattle.dap_input.specs.declared.limits.Limits.{Limits}
-use Rattle.dap_input.specs.declared.refused.Refused.{Refused}
-use Rattle.dap_input.specs.Inputs.{Input}
-use Rattle.dap_input.specs.Refusals.{IsRefused}
-use Rattle.dap_normalise.specs.Accepting.{accepting}
-use Rattle.dap_normalise.specs.Normalising.{Normalises}
+use Rattle.dap_input.specs.{declared.limits.Limits.Limits, declared.refused.Refused.Refused}
+use Rattle.dap_input.specs.{Inputs.Input, Refusals.IsRefused}
+use Rattle.dap_normalise.specs.{Accepting.accepting, Normalising.Normalises}
 use Rattle.dap_compare.specs.Comparing.{differ, refused_a}
 use Rattle.dap_compare.specs.Verdicts.{IsRecordingVerdict, IsRefusalOf}
 use Rattle.dap_diff.specs.Diffs.{HasAt, diff_lines}

@@ -4,17 +4,14 @@ use Rattle.dap_tree.specs.declared.side.Side.{Side}
 use Rattle.dap_rename.specs.declared.mode.Mode.{Mode}
 use Rattle.dap_mask.specs.Mask.{Mask}
 use Rattle.dap_message.specs.SwapRules.{SwapRule}
-use Rattle.dap_input.specs.declared.limits.Limits.{Limits}
-use Rattle.dap_input.specs.Refusals.{IsRefused}
+use Rattle.dap_input.specs.{declared.limits.Limits.Limits, Refusals.IsRefused}
 use Rattle.dap_record.specs.Tracing.{IsTraceRefused}
-use Rattle.dap_rules.specs.Masking.{masking}
+use Rattle.dap_rules.specs.{Masking.masking, Applying.{IsNotOrderedBy, IsRefusedByRules}}
 use Rattle.dap_normalise.specs.Accepting.{IsAccepted}
-use Rattle.dap_rules.specs.Applying.{IsNotOrderedBy, IsRefusedByRules}
 use Rattle.dap_rules.specs.declared.fault.ApplyRefused.TheVariants as step
 use Rattle.dap_golden.specs.declared.fault.GoldenRefused.{GoldenRefused}
 use Rattle.dap_golden.specs.declared.fault.GoldenRefused.TheVariants as because
-use Rattle.dap_golden.specs.Golden.{RefusesSession}
-use Rattle.dap_golden.specs.TraceHead.{IsTraceHead}
+use Rattle.dap_golden.specs.{Golden.RefusesSession, TraceHead.IsTraceHead}
 
 -- The input is a trace, and it is rejected for this reason or an allocation failed. Any other input
 -- is its own recording, without an allocation.

@@ -1,12 +1,10 @@
 -- The effect of `golden` on its input and its golden file, and its result. Source: own.
 use Rattle.std.specs.Prelude.{◌≡◌, ◌≢◌, ◌⊎◌, ℕ, ◌+◌, Bool, true, false, List, Option, Some, None}
 use Rattle.std.specs.Prelude.{Result, Ok, Err, if◌then◌else◌}
-use Rattle.dap_device.specs.declared.device.Source.{Ghosts as Source}
-use Rattle.dap_device.specs.declared.reading.Stop.{Stop}
+use Rattle.dap_device.specs.{Devices.Read, declared.reading.Stop.Stop}
 use Rattle.dap_device.specs.declared.reading.Stop.TheVariants.{Failed}
 use Rattle.dap_device.specs.Reading.{HasReadInput, HasReadPartly}
-use Rattle.dap_device.specs.Calls.{HasBytes, IsLonger, KeepsTarget}
-use Rattle.dap_device.specs.Crash.{Content}
+use Rattle.dap_device.specs.{Calls.{HasBytes, IsLonger, KeepsTarget}, Crash.Content}
 use Rattle.dap_device.specs.Replacing.{HasFailedAt, HasReplaced}
 use Rattle.dap_device.specs.declared.file.Replaceable.{Ghosts as Replaceable}
 use Rattle.dap_device.specs.declared.replacing.ReplaceFault.{ReplaceFault}
@@ -15,42 +13,40 @@ use Rattle.dap_mask.specs.Mask.{Mask}
 use Rattle.dap_rename.specs.declared.mode.Mode.{Mode}
 use Rattle.dap_golden.specs.Golden.{IsGolden, IsRefusedGolden, mode_given}
 use Rattle.dap_golden.specs.GoldenFiles.{IsGoldenVerdict, IsRefusedFile}
-use Rattle.dap_golden.specs.TraceHead.{CanBecomeGolden}
-use Rattle.dap_golden.specs.declared.golden.GoldenText.{GoldenText}
+use Rattle.dap_golden.specs.{TraceHead.CanBecomeGolden, declared.golden.GoldenText.GoldenText}
 use Rattle.dap_golden.specs.declared.updates.GoldenDone.{GoldenDone}
 use Rattle.dap_golden.specs.declared.updates.GoldenDone.TheVariants as done
 use Rattle.dap_golden.specs.declared.updates.GoldenRequest.{GoldenRequest}
 use Rattle.dap_golden.specs.declared.updates.GoldenStop.{GoldenStop}
 use Rattle.dap_golden.specs.declared.updates.GoldenStop.TheVariants as stop
 
--- The request, in the mode that the rules want.
-abbrev pub request_by : Option Mask → GoldenRequest → GoldenRequest
-request_by mask request = record request { mode = mode_given mask request.mode }
-
 -- ---- the input
 
-module _ {I : Type 0} (source : Source I) (limits : Limits) (mask : Option Mask)
-    (request : GoldenRequest) (old new : I) where
+module _ {I : Type 0} (input : Read I) (limits : Limits) (mask : Option Mask)
+    (request : GoldenRequest) where
   -- These bytes are the complete input, or its first bytes up to one past the limit.
   pub record HasRead (bytes : List ℕ) : Type 0 where
     pub reason : Stop
-    pub came : HasReadInput source old new limits.input bytes reason
+    pub came : HasReadInput input.source input.old input.new limits.input bytes reason
     pub not_failed : reason ≢ Failed
 
-  -- The input has this golden text.
+  -- The input has this golden text, in the mode of the request unless the rules want another.
   pub record HasText (text : GoldenText) : Type 0 where
     pub bytes : List ℕ
     pub read : HasRead bytes
-    pub is_golden : IsGolden limits request.mode mask request.allow_open bytes text
+    pub is_golden :
+        IsGolden limits (mode_given mask request.mode) mask request.allow_open bytes text
 
   -- The input has no golden text, for this reason. If an allocation failed, a prefix of the input
   -- was read, and the reader did not fail; or the input was read.
   abbrev pub HasNoText : GoldenStop → Type 0
-  HasNoText stop.Unread = (bytes : List ℕ) × HasReadInput source old new limits.input bytes Failed
+  HasNoText stop.Unread =
+      (bytes : List ℕ) × HasReadInput input.source input.old input.new limits.input bytes Failed
   HasNoText (stop.Input refused) = (bytes : List ℕ) × HasRead bytes
-      × IsRefusedGolden limits request.mode mask request.allow_open bytes refused
+      × IsRefusedGolden limits (mode_given mask request.mode) mask request.allow_open bytes refused
   HasNoText stop.Memory =
-      HasReadPartly source old new limits.input ⊎ ((bytes : List ℕ) × HasRead bytes)
+      HasReadPartly input.source input.old input.new limits.input
+      ⊎ ((bytes : List ℕ) × HasRead bytes)
   HasNoText _ = ⊥
 
   abbrev pub ReadsText : Result GoldenText GoldenStop → Type 0
@@ -131,20 +127,21 @@ module _ {F : Type 0} (file : Replaceable F) (old new : F) where
 
 -- ---- input and golden file
 
-module _ {I F : Type 0} (source : Source I) (file : Replaceable F) (limits : Limits)
-    (mask : Option Mask) (request : GoldenRequest) (old_input new_input : I) where
+module _ {I F : Type 0} (input : Read I) (file : Replaceable F) (limits : Limits)
+    (mask : Option Mask) (request : GoldenRequest) where
   -- Updates the golden file with the golden text of the input, or compares the two.
   abbrev pub RunsOn : Bool → GoldenText → F → F → Result GoldenDone GoldenStop → Type 0
   RunsOn true text old new result = Updates file old new limits.input text result
-  RunsOn false text old new result = Compares file old new limits request.mode text result
+  RunsOn false text old new result =
+      Compares file old new limits (mode_given mask request.mode) text result
 
   -- The input has no golden text and the golden file is not touched; or it has one, and the golden
   -- file is updated or compared.
   abbrev pub Answers : F → F → Result GoldenDone GoldenStop → Type 0
   Answers old new result =
       ((why : GoldenStop) × (result ≡ Err why)
-      × HasNoText source limits mask request old_input new_input why × (new ≡ old))
-      ⊎ ((text : GoldenText) × HasText source limits mask request old_input new_input text
+      × HasNoText input limits mask request why × (new ≡ old))
+      ⊎ ((text : GoldenText) × HasText input limits mask request text
       × RunsOn request.update text old new result)
 
   -- The contents that a crash during the run may leave: those that it could leave before, or, on an
@@ -153,5 +150,5 @@ module _ {I F : Type 0} (source : Source I) (file : Replaceable F) (limits : Lim
   MayBeLeft old content =
       file.may_leave old content
       ⊎ ((request.update ≡ true) × ((text : GoldenText)
-      × HasText source limits mask request old_input new_input text
+      × HasText input limits mask request text
       × (content ≡ Some text.bytes.items)))

@@ -1,11 +1,8 @@
 -- The statements of the functions in `laws`.
 use Rattle.std.specs.Prelude.{◌≡◌, ◌↔◌, ℕ, Bool, List, Option}
-use Rattle.dap_rename.specs.Messages.{AreSame}
-use Rattle.dap_rename.specs.Modes.{stop_in}
-use Rattle.dap_rename.specs.declared.mode.Mode.{Mode}
+use Rattle.dap_rename.specs.{Messages.AreSame, Modes.stop_in, declared.mode.Mode.Mode}
 use Rattle.dap_mask.specs.Mask.{Mask}
-use Rattle.dap_input.specs.Limits.{AreSound}
-use Rattle.dap_input.specs.declared.limits.Limits.{Limits}
+use Rattle.dap_input.specs.{Limits.AreSound, declared.limits.Limits.Limits}
 use Rattle.dap_golden.specs.declared.fault.GoldenRefused.{GoldenRefused}
 use Rattle.dap_golden.specs.declared.fault.GoldenRefused.TheVariants.{Memory}
 use Rattle.dap_golden.specs.declared.golden.GoldenText.{GoldenText}

@@ -2,8 +2,7 @@
 use Rattle.std.specs.Prelude.{ℕ, List}
 use Rattle.dap_rename.specs.declared.mode.Mode.{Mode}
 use Rattle.dap_input.specs.declared.limits.Limits.{Limits}
-use Rattle.dap_normalise.specs.Checking.{AreCounted}
-use Rattle.dap_normalise.specs.Normalising.{IsCanonical}
+use Rattle.dap_normalise.specs.{Checking.AreCounted, Normalising.IsCanonical}
 use Rattle.dap_golden.specs.declared.normal_session.NormalSession.{NormalSession}
 
 -- The bytes are the normal text of the recording, and the counts are those of its messages.

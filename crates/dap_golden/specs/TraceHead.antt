@@ -2,9 +2,7 @@
 -- line of a count, and a recording starts with a marker and the name of a header field. Therefore
 -- the first bytes of an input decide which of the two it is.
 use Rattle.std.specs.Prelude.{◌≡◌, ◌<◌, ◌⊎◌, ℕ, true, List, [], ◌∷◌, ◌++◌, codes, length, take}
-use Rattle.std.specs.Char.{is_ascii_digit}
-use Rattle.std.specs.List.{list_all}
-use Rattle.std.specs.Str.{str_eq_ignore_ascii_case}
+use Rattle.std.specs.{Char.is_ascii_digit, List.list_all, Str.str_eq_ignore_ascii_case}
 use Rattle.dap_recording.specs.Marker.{marker}
 use Rattle.dap_tree.specs.declared.side.Side.{Side}
 

@@ -1,17 +1,14 @@
 //! Creates the text of a golden file.
-ghost use Rattle.std.specs.Prelude.{◌≡◌, ◌↔◌, IfErr, IfOk, IsTrue, List, ℕ};
-ghost use Rattle.std.specs.Cow.{cow_slice_items};
+ghost use Rattle.std.specs.{Prelude.{◌≡◌, ◌↔◌, IfErr, IfOk, IsTrue, List, ℕ}, Cow.cow_slice_items};
 ghost use Rattle.dap_input.specs.Limits.{AreSound};
 ghost use Rattle.dap_mask.specs.KeptRules.{mask_of, swaps_of_mask};
-ghost use Rattle.dap_rules.specs.MaskedRecordings.{IsMaskedTo};
-ghost use Rattle.dap_rules.specs.Applying.{OrdersBy};
+ghost use Rattle.dap_rules.specs.{MaskedRecordings.IsMaskedTo, Applying.OrdersBy};
 ghost use Rattle.dap_golden.specs.Golden.{AppliesBy, IsGolden, IsGoldenOf, IsRecordingOf};
 ghost use Rattle.dap_golden.specs.Golden.{IsRefusedGolden, mask_given, mode_given};
 ghost use Rattle.dap_golden.specs.GoldenFiles.{IsNormalText};
-ghost use Rattle.dap_golden.specs.GoldenSteps.{RefusesGolden, RefusesMask};
-ghost use Rattle.dap_golden.specs.GoldenSteps.{RefusesOrder, RefusesRulesBy, RefusesTrace};
-ghost use Rattle.dap_golden.specs.NormalSession.{IsNormalSession};
-ghost use Rattle.dap_golden.specs.TraceHead.{IsTraceHead};
+ghost use Rattle.dap_golden.specs.GoldenSteps.{RefusesGolden, RefusesMask, RefusesOrder};
+ghost use Rattle.dap_golden.specs.GoldenSteps.{RefusesRulesBy, RefusesTrace};
+ghost use Rattle.dap_golden.specs.{NormalSession.IsNormalSession, TraceHead.IsTraceHead};
 
 use crate::fault::GoldenRefused;
 use crate::normal_session::{NormalSession, normalise_session};
@@ -198,26 +195,6 @@ pub(crate) fn mode_given(rules: Option<&MaskRules>, mode: Mode) -> Mode
     }
 }
 
-/// Creates the text of a golden file in this mode, whatever mode the rules want.
-pub(crate) fn golden_text_in(
-    alloc: Global,
-    input: &[u8],
-    rules: Option<&MaskRules>,
-    allow_open: bool,
-    limits: Limits,
-    mode: Mode,
-) -> Result<GoldenText, GoldenRefused>
-    requires limits { AreSound limits }
-    ensures ok { IfOk result (IsGolden limits mode (mask_given rules.entry) allow_open input.now) }
-    ensures err { IfErr result
-        (IsRefusedGolden limits mode (mask_given rules.entry) allow_open input.now) }
-    ensures normal { IfOk result (λ text. IsNormalText limits mode text.bytes.items) }
-{
-    let recording = recording_of(alloc, input, limits)?;
-    let session = session_of(alloc, recording, rules, limits, mode)?;
-    golden_of_recording(alloc, session.as_slice(), allow_open, limits, mode)
-}
-
 /// Creates the text of a golden file from a trace or a recording in memory.
 ///
 /// An input that starts with a marker, decimal digits and LF is a trace, and is recorded. Any other
@@ -262,5 +239,7 @@ pub fn golden_text(
         (mode_given (mask_given rules.entry) mode) text.bytes.items) }
 {
     let wanted = mode_given(rules, mode);
-    golden_text_in(alloc, input, rules, allow_open, limits, wanted)
+    let recording = recording_of(alloc, input, limits)?;
+    let session = session_of(alloc, recording, rules, limits, wanted)?;
+    golden_of_recording(alloc, session.as_slice(), allow_open, limits, wanted)
 }

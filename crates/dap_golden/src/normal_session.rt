@@ -1,8 +1,7 @@
 //! Normalises a recording in memory in one pass, and counts its records and unanswered requests.
 ghost use Rattle.std.specs.Prelude.{◌≡◌, [], IfErr, IfOk};
 ghost use Rattle.dap_input.specs.Limits.{AreSound};
-ghost use Rattle.dap_normalise.specs.NameTables.{AreReady};
-ghost use Rattle.dap_normalise.specs.NormalSteps.{RepresentsBefore};
+ghost use Rattle.dap_normalise.specs.{NameTables.AreReady, NormalSteps.RepresentsBefore};
 ghost use Rattle.dap_normalise.specs.Normalising.{RefusesBytes};
 ghost use Rattle.dap_golden.specs.NormalSession.{IsNormalSession};
 

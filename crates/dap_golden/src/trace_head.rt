@@ -1,6 +1,5 @@
 //! Recognises a trace and a recording by their first bytes.
-ghost use Rattle.std.specs.Prelude.{◌≡◌, ◌≤◌, ◌↔◌, IsTrue, length};
-ghost use Rattle.std.specs.Char.{is_ascii_digit};
+ghost use Rattle.std.specs.{Prelude.{◌≡◌, ◌≤◌, ◌↔◌, IsTrue, length}, Char.is_ascii_digit};
 ghost use Rattle.std.specs.List.{prefix_len};
 ghost use Rattle.dap_golden.specs.TraceHead.{CanBecomeGolden, IsLineEnd, IsMarker, IsTraceHead};
 ghost use Rattle.dap_golden.specs.TraceHead.{StartsWithCount, StartsWithField};

@@ -1,16 +1,15 @@
 //! Compares a session with its golden file, or creates or updates the golden file.
 ghost use Rattle.std.specs.Prelude.{◌≡◌, ◌↔◌, ◌+◌, ◌<◌, ◌≤◌, ◌^◌, None, IfOk, length};
-ghost use Rattle.dap_device.specs.Crash.{LeavesOnly};
+ghost use Rattle.dap_device.specs.{Devices.{CanRead, reads}, Crash.LeavesOnly};
 ghost use Rattle.dap_device.specs.Replacing.{IsOldOrNew};
 ghost use Rattle.dap_input.specs.Limits.{AreSound};
-ghost use Rattle.dap_golden.specs.Golden.{mask_given};
-ghost use Rattle.dap_golden.specs.GoldenFiles.{IsNormalText};
+ghost use Rattle.dap_golden.specs.{Golden.{mask_given, mode_given}, GoldenFiles.IsNormalText};
 ghost use Rattle.dap_golden.specs.GoldenUpdates.{Answers, Compares, Finds, MayBeLeft, ReadsText};
-ghost use Rattle.dap_golden.specs.GoldenUpdates.{Updates, request_by};
+ghost use Rattle.dap_golden.specs.GoldenUpdates.{Updates};
 
 use crate::comparing::{GoldenVerdict, compare_golden};
 use crate::fault::{GoldenFault, GoldenRefused};
-use crate::golden::{GoldenText, golden_text_in, mode_given};
+use crate::golden::{GoldenText, golden_text, mode_given};
 use crate::trace_head::can_become_golden;
 use dap_device::{ReadFault, ReplaceFault, Replaceable, Source, Stop, read_all, replace};
 use dap_input::{Limits, Refused};
@@ -74,11 +73,11 @@ fn read_text<I: Source>(
     limits: Limits,
 ) -> Result<GoldenText, GoldenStop>
     requires limits { AreSound limits }
-    requires given { I.given input.old < 2 ^ 62 }
-    requires failures { I.failures input.old < 2 ^ 62 }
-    ensures text { ReadsText I.Source limits (mask_given rules.entry) request input.old input.new
-        result }
-    ensures normal { IfOk result (λ text. IsNormalText limits request.mode text.bytes.items) }
+    requires reader { CanRead I.Source input.old }
+    ensures text { ReadsText (reads I.Source input.old input.new) limits (mask_given rules.entry)
+        request result }
+    ensures normal { IfOk result (λ text. IsNormalText limits
+        (mode_given (mask_given rules.entry) request.mode) text.bytes.items) }
     ensures short { IfOk result (λ text. length text.bytes.items ≤ limits.input) }
     ensures taken { I.given input.new ≤ I.given input.old + limits.input + 1 }
 {
@@ -90,7 +89,7 @@ fn read_text<I: Source>(
         return Err(GoldenStop::Unread);
     }
     let bytes = read.bytes.as_slice();
-    match golden_text_in(
+    match golden_text(
         alloc,
         bytes,
         rules,
@@ -193,46 +192,6 @@ fn update_file<F: Replaceable>(
     }
 }
 
-/// Returns the request, in the mode that the rules want.
-fn request_by(rules: Option<&MaskRules>, request: GoldenRequest) -> GoldenRequest
-    ensures { result ≡ request_by (mask_given rules.entry) request }
-{
-    GoldenRequest {
-        update: request.update,
-        allow_open: request.allow_open,
-        mode: mode_given(rules, request.mode),
-    }
-}
-
-/// Does the same as [`golden_file`], in the mode of the request.
-fn golden_file_in<I: Source, F: Replaceable>(
-    alloc: Global,
-    input: &mut I,
-    rules: Option<&MaskRules>,
-    file: &mut F,
-    request: GoldenRequest,
-    limits: Limits,
-) -> Result<GoldenDone, GoldenStop>
-    requires limits { AreSound limits }
-    requires given { I.given input.old < 2 ^ 62 }
-    requires failures { I.failures input.old < 2 ^ 62 }
-    requires few { F.failures file.old < 2 ^ 61 }
-    requires none { F.is_known file.old → F.temporary file.old ≡ None }
-    ensures outcome { Answers I.Source F.Replaceable limits (mask_given rules.entry) request
-        input.old input.new file.old file.new result }
-    ensures any_moment { F.is_known file.old
-        → LeavesOnly F.moment F.left_since (MayBeLeft I.Source F.Replaceable limits
-        (mask_given rules.entry) request input.old input.new file.old) file.old file.new }
-    ensures taken { I.given input.new ≤ I.given input.old + limits.input + 1 }
-{
-    let text = read_text(alloc, input, rules, request, limits)?;
-    if request.update {
-        update_file(alloc, file, &text, limits)
-    } else {
-        compare_file(alloc, file, &text, limits, request.mode)
-    }
-}
-
 /// Compares a session with its golden file, or creates or updates the golden file.
 ///
 /// The input is a trace or a recording, as [`golden_text`] describes. It is read to its end before
@@ -260,27 +219,29 @@ pub fn golden_file<I: Source, F: Replaceable>(
     limits: Limits,
 ) -> Result<GoldenDone, GoldenStop>
     requires limits { AreSound limits }
-    requires given { I.given input.old < 2 ^ 62 }
-    requires failures { I.failures input.old < 2 ^ 62 }
+    requires reader { CanRead I.Source input.old }
     requires few { F.failures file.old < 2 ^ 61 }
     requires none { F.is_known file.old → F.temporary file.old ≡ None }
 
     // The result is determined by the text of the input, in the mode that the rules want, and the
     // golden file. The golden file is written only on an update, after the input was checked.
-    ensures outcome { Answers I.Source F.Replaceable limits (mask_given rules.entry)
-        (request_by (mask_given rules.entry) request) input.old input.new file.old file.new result }
+    ensures outcome { Answers (reads I.Source input.old input.new) F.Replaceable limits
+        (mask_given rules.entry) request file.old file.new result }
 
     // A crash, the end of the process or a loss of power may happen at any moment. It leaves a
     // content that it could have left before the call, or, on an update, the complete text of the
     // session.
     ensures any_moment { F.is_known file.old
-        → LeavesOnly F.moment F.left_since (MayBeLeft I.Source F.Replaceable limits
-        (mask_given rules.entry) (request_by (mask_given rules.entry) request) input.old input.new
-        file.old) file.old file.new }
+        → LeavesOnly F.moment F.left_since (MayBeLeft (reads I.Source input.old input.new)
+        F.Replaceable limits (mask_given rules.entry) request file.old) file.old file.new }
 
     // At most one byte past the limit is read.
     ensures taken { I.given input.new ≤ I.given input.old + limits.input + 1 }
 {
-    let wanted = request_by(rules, request);
-    golden_file_in(alloc, input, rules, file, wanted, limits)
+    let text = read_text(alloc, input, rules, request, limits)?;
+    if request.update {
+        update_file(alloc, file, &text, limits)
+    } else {
+        compare_file(alloc, file, &text, limits, mode_given(rules, request.mode))
+    }
 }

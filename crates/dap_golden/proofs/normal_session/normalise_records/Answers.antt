@@ -26,7 +26,7 @@ pub returns-in_err-next-clause-err : goal.returns-in_err-next-clause-err
 returns-in_err-next-clause-err g c =
     let because = err_from_is_err_and c.from_residual.result c.from_residual.ensures.1 in
     rw (because.1, because.2)
-    (refuses_bytes c.loop-bytes.invariant _
+    (refuses_bytes c.loop-bytes.invariant.going _
     (c.in_err-next.ensures.next _ _ _ _ _ c.loop-bytes.invariant.going.represents))
 
 pub overflow_sub-counts : goal.overflow_sub-counts
