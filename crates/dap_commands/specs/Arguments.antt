@@ -1,14 +1,11 @@
 -- The part of a command line's definition that the parser reads, and a definition by values.
 -- Source: own.
 use Rattle.std.specs.Prelude.{◌≡◌, List, [], map, Some, true, false, codes}
-use Rattle.clap.specs.Simple.{new_shape}
-use Rattle.clap.specs.Walk.{is_empty}
-use Rattle.clap.specs.Words.{App, Rule, Shape, Text, app_of, new_rule, rule_of}
-use Rattle.clap.specs.declared.Arg.{Arg}
+use Rattle.clap.specs.{Simple.new_shape, Walk.is_empty}
+use Rattle.clap.specs.{Words.{App, Rule, Shape, Text, app_of, new_rule, rule_of}, declared.Arg.Arg}
 use Rattle.clap.specs.declared.Command.{Command as Definition}
 use Rattle.clap.specs.declared.builder.ArgAction.TheVariants.{Append, Set, SetTrue}
-use Rattle.dap_commands.specs.declared.arguments.Argument.{Argument}
-use Rattle.dap_commands.specs.declared.arguments.Kind.{Kind}
+use Rattle.dap_commands.specs.{declared.arguments.Argument.Argument, declared.arguments.Kind.Kind}
 use Rattle.dap_commands.specs.declared.arguments.Kind.TheVariants as kind
 use Rattle.dap_commands.specs.declared.arguments.Program.{Program}
 use Rattle.dap_commands.specs.declared.arguments.Subcommand.{Subcommand}

@@ -2,8 +2,7 @@
 use Rattle.std.specs.Prelude.{Bool, List, [], ◌∷◌, Option, Some, None, codes, option_and_then}
 use Rattle.clap.specs.Words.{App, Text}
 use Rattle.dap_commands.specs.Arguments.{file, flag, program_with, subcommand}
-use Rattle.dap_commands.specs.Commands.{command_named}
-use Rattle.dap_commands.specs.Jobs.{mode_for}
+use Rattle.dap_commands.specs.{Commands.command_named, Jobs.mode_for}
 use Rattle.dap_commands.specs.declared.commands.Command.{Command}
 use Rattle.dap_commands.specs.declared.commands.Command.TheVariants as command
 use Rattle.dap_commands.specs.declared.commands.Job.{Job}

@@ -1,20 +1,16 @@
 -- The program's command line, as `clap` reads it, and the command that it selects. Source: own.
-use Rattle.std.specs.Prelude.{◌≡◌, ◌||◌, Bool, true, false, List, [], ◌∷◌, Option, Some, None}
-use Rattle.std.specs.Prelude.{IfOk, IfErr, Result, codes, if◌then◌else◌, is_some, option_and_then}
-use Rattle.std.specs.Option.{option_map_or, unwrap_or}
-use Rattle.std.specs.Str.{bytes_eq}
+use Rattle.std.specs.Prelude.{◌≡◌, ◌||◌, Bool, true, false, List, [], ◌∷◌, Option, Some, None, IfOk}
+use Rattle.std.specs.Prelude.{IfErr, Result, codes, if◌then◌else◌, is_some, option_and_then}
+use Rattle.std.specs.{Option.{option_map_or, unwrap_or}, Str.bytes_eq}
 use Rattle.clap.specs.Words.{App, Row, Rule, Text, all_of, fault_of, first_of, subcommand_of, takes}
 use Rattle.dap_commands.specs.Arguments.{file, flag, option, optional, program_with, repeated}
-use Rattle.dap_commands.specs.Arguments.{subcommand}
-use Rattle.dap_commands.specs.Jobs.{mode_for}
-use Rattle.dap_commands.specs.LeadingArguments.{FirstDecides}
+use Rattle.dap_commands.specs.{Arguments.subcommand, Jobs.mode_for, LeadingArguments.FirstDecides}
 use Rattle.dap_commands.specs.Reading.{IsUsageErrorFor, has_flag, required}
 use Rattle.dap_commands.specs.declared.commands.Command.{Command}
 use Rattle.dap_commands.specs.declared.commands.Command.TheVariants as command
 use Rattle.dap_commands.specs.declared.commands.Printed.{Printed}
 use Rattle.dap_commands.specs.declared.commands.Printed.TheVariants as printed
-use Rattle.dap_commands.specs.declared.commands.Request.{Request}
-use Rattle.dap_commands.specs.declared.commands.Task.{Task}
+use Rattle.dap_commands.specs.{declared.commands.Request.Request, declared.commands.Task.Task}
 use Rattle.dap_commands.specs.declared.commands.Task.TheVariants as task
 use Rattle.dap_commands.specs.declared.commands.UsageFault.{UsageFault}
 use Rattle.dap_commands.specs.declared.commands.UsageFault.TheVariants.{Memory}

@@ -1,9 +1,6 @@
 -- What the leading arguments of a command line decide, whatever arguments follow. Source: own.
-use Rattle.std.specs.Prelude.{◌≡◌, ◌≢◌, ◌++◌, List, [], Option}
-use Rattle.std.specs.List.{find}
-use Rattle.std.specs.Option.{option_map_or}
-use Rattle.clap.specs.Faults.{walk_fault}
-use Rattle.clap.specs.Simple.{App, argument_words, built, label_of, names_of}
+use Rattle.std.specs.{Prelude.{◌≡◌, ◌≢◌, ◌++◌, List, [], Option}, List.find, Option.option_map_or}
+use Rattle.clap.specs.{Faults.walk_fault, Simple.{App, argument_words, built, label_of, names_of}}
 use Rattle.clap.specs.Walk.{Text, answers_to, nothing_held, walk, walk_from}
 use Rattle.clap.specs.Kinds.{Kinds, or_else}
 

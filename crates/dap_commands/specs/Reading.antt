@@ -1,12 +1,8 @@
 -- What the arguments of a command line give, and why they are rejected. Source: own.
-use Rattle.std.specs.Prelude.{◌≡◌, ◌⊎◌, Bool, true, false, List, [], Option, codes}
-use Rattle.std.specs.Prelude.{option_map}
-use Rattle.std.specs.Borrow.{Bor}
-use Rattle.std.specs.Option.{option_map_or, unwrap_or}
-use Rattle.std.specs.Str.{bytes_eq}
+use Rattle.std.specs.Prelude.{◌≡◌, ◌⊎◌, Bool, true, false, List, [], Option, codes, option_map}
+use Rattle.std.specs.{Borrow.Bor, Option.{option_map_or, unwrap_or}, Str.bytes_eq}
 use Rattle.clap.specs.Words.{IsAmong, Kinds, Row, Text, first_of, found_of, rows_of}
-use Rattle.clap.specs.declared.ArgMatches.{ArgMatches}
-use Rattle.clap.specs.declared.error.kind.ErrorKind.{ErrorKind}
+use Rattle.clap.specs.{declared.ArgMatches.ArgMatches, declared.error.kind.ErrorKind.ErrorKind}
 use Rattle.clap.specs.declared.error.kind.ErrorKind.TheVariants as kind
 use Rattle.dap_commands.specs.declared.commands.UsageFault.{UsageFault}
 use Rattle.dap_commands.specs.declared.commands.UsageFault.TheVariants as usage

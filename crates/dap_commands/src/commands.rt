@@ -1,7 +1,9 @@
 //! Defines the commands and the jobs that a command line can select.
 ghost use Rattle.std.specs.Prelude.{◌≡◌};
-ghost use Rattle.dap_commands.specs.Jobs.{job_mode, mode_for};
+ghost use Rattle.dap_commands.specs.{Commands.task_of, Jobs.{job_mode, mode_for}, Reading.given};
 
+use crate::reading::{has_flag, name_of, required};
+use clap::ArgMatches;
 use dap_rename::Mode;
 use std::marker::Model;
 
@@ -110,6 +112,25 @@ pub struct Show<'a> {
     pub faulty: bool,
     /// The number of the only record whose content is printed, as given.
     pub record: Option<Name<'a>>,
+}
+
+/// Returns the task of a subcommand that reads one input and writes one output.
+pub(crate) fn task_by<'a>(name: &str, rows: &ArgMatches<'a>) -> Option<Task<'a>>
+    ensures { result ≡ task_of name.now (given rows.now) }
+{
+    Some(match name {
+        "record" => Task::Record,
+        "normalise" => Task::Normalise(mode_for(has_flag(rows, "per-stop"))),
+        "show" => Task::Show(Show {
+            full: has_flag(rows, "full"),
+            faulty: has_flag(rows, "faulty"),
+            record: name_of(rows, "record"),
+        }),
+        "mask" => Task::Mask(required(rows, "RULES")),
+        "order" => Task::Order(required(rows, "RULES")),
+        "compact" => Task::Compact,
+        _ => return None,
+    })
 }
 
 /// The output for two recordings.

@@ -3,8 +3,7 @@ ghost use Rattle.std.specs.Prelude.{[], ◌≡◌, IfOk, IfErr, Some, is_some, t
 ghost use Rattle.clap.specs.Walk.{texts};
 ghost use Rattle.clap.specs.Words.{fault_of as faults_of, takes};
 ghost use Rattle.dap_commands.specs.CommandLine.{job_named, job_of, job_spec, program};
-ghost use Rattle.dap_commands.specs.LeadingArguments.{FirstDecides};
-ghost use Rattle.dap_commands.specs.Reading.{IsUsageErrorFor};
+ghost use Rattle.dap_commands.specs.{LeadingArguments.FirstDecides, Reading.IsUsageErrorFor};
 ghost use Rattle.dap_commands.specs.declared.commands.UsageFault.TheVariants.{Memory};
 
 use crate::arguments::{Argument, Kind, Program, Subcommand, define_program};

@@ -5,35 +5,34 @@ ghost use Rattle.clap.specs.Words.{HasKind, Kinds, fault_of as faults_of, first_
 ghost use Rattle.clap.specs.Words.{is_simple_and_free, takes, kind_of};
 ghost use Rattle.dap_commands.specs.Arguments.{app_for};
 ghost use Rattle.dap_commands.specs.Commands.{IsRead, command_named, command_of, explain_named};
-ghost use Rattle.dap_commands.specs.Commands.{is_explained, pair_of};
-ghost use Rattle.dap_commands.specs.Commands.{program, task_of, words_named, words_of};
-ghost use Rattle.dap_commands.specs.LeadingArguments.{FirstDecides};
+ghost use Rattle.dap_commands.specs.Commands.{is_explained, pair_of, program, words_named};
+ghost use Rattle.dap_commands.specs.{Commands.words_of, LeadingArguments.FirstDecides};
 ghost use Rattle.dap_commands.specs.Reading.{IsUsageErrorFor, given, has_flag, required};
 ghost use Rattle.dap_commands.specs.declared.commands.UsageFault.TheVariants.{Memory};
 
 use crate::arguments::{Program, clap_program};
-use crate::commands::{Command, Golden, Name, Printed, Request, Show, Task, UsageFault, mode_for};
+use crate::commands::{Command, Golden, Name, Printed, Request, UsageFault, mode_for, task_by};
 use crate::definition::PROGRAM;
 use clap::error::ErrorKind;
 use clap::{ArgMatches, Error};
 use std::alloc::{AllocError, Global};
 
 /// Returns the name that is the value of an argument, if it has one.
-fn name_of<'a>(rows: &ArgMatches<'a>, id: &str) -> Option<Name<'a>>
+pub(crate) fn name_of<'a>(rows: &ArgMatches<'a>, id: &str) -> Option<Name<'a>>
     ensures { result ≡ first_of id.now (given rows.now) }
 {
     Some(Name::new(rows.get_str(id)?))
 }
 
 /// Returns the name that is the value of a required argument.
-fn required<'a>(rows: &ArgMatches<'a>, id: &str) -> Name<'a>
+pub(crate) fn required<'a>(rows: &ArgMatches<'a>, id: &str) -> Name<'a>
     ensures { result ≡ required id.now (given rows.now) }
 {
     name_of(rows, id).unwrap_or(Name::new(""))
 }
 
 /// Returns whether a flag was given.
-fn has_flag(rows: &ArgMatches<'_>, id: &str) -> bool
+pub(crate) fn has_flag(rows: &ArgMatches<'_>, id: &str) -> bool
     ensures { result ≡ has_flag id.now (given rows.now) }
 {
     name_of(rows, id).is_some_and(|value| value.as_str() == "true")
@@ -50,25 +49,6 @@ fn pair<'a>(rows: &ArgMatches<'a>, printed: Printed) -> Command<'a>
         rules: name_of(rows, "rules"),
         mode: mode_for(has_flag(rows, "per-stop")),
     }
-}
-
-/// Returns the task of a subcommand that reads one input and writes one output.
-fn task_by<'a>(name: &str, rows: &ArgMatches<'a>) -> Option<Task<'a>>
-    ensures { result ≡ task_of name.now (given rows.now) }
-{
-    Some(match name {
-        "record" => Task::Record,
-        "normalise" => Task::Normalise(mode_for(has_flag(rows, "per-stop"))),
-        "show" => Task::Show(Show {
-            full: has_flag(rows, "full"),
-            faulty: has_flag(rows, "faulty"),
-            record: name_of(rows, "record"),
-        }),
-        "mask" => Task::Mask(required(rows, "RULES")),
-        "order" => Task::Order(required(rows, "RULES")),
-        "compact" => Task::Compact,
-        _ => return None,
-    })
 }
 
 /// Returns the command of a subcommand with its arguments.
