@@ -1,5 +1,1 @@
 pub mod Kept
-pub mod Reasons
-pub mod RulesLines
-pub mod Values
-pub mod WordLines

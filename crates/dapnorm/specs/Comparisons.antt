@@ -1,57 +1,40 @@
 -- What the program finds about two recordings that are given by their names. Source: own.
 use Rattle.std.specs.Prelude.{◌≡◌, ◌⊎◌, ◌&&◌, ℕ, Bool, true, false, List, [], Option, Some, None}
-use Rattle.std.specs.Prelude.{Result, Ok, Err, Vec}
-use Rattle.std.specs.declared.alloc.Global.{Global}
+use Rattle.std.specs.{Prelude.{Result, Ok, Err, Vec}, declared.alloc.Global.Global}
 use Rattle.dap_commands.specs.declared.commands.Printed.{Printed}
-use Rattle.dap_commands.specs.declared.commands.Printed.TheVariants as printed
 use Rattle.dap_compare.specs.Verdicts.{Compares}
-use Rattle.dap_compare.specs.declared.verdict.CompareRefused.{CompareRefused}
 use Rattle.dap_compare.specs.declared.verdict.Which.TheVariants.{A, B}
-use Rattle.dap_device.specs.Memory.{GivenBytes}
-use Rattle.dap_device.specs.declared.device.Source.{Ghosts as Source}
-use Rattle.dap_diff.specs.Diffs.{DescribesDifference}
-use Rattle.dap_diff.specs.Matching.{DiffersAll}
-use Rattle.dap_host.specs.Files.{is_standard}
-use Rattle.dap_host.specs.declared.host.Purpose.TheVariants as purpose
+use Rattle.dap_device.specs.{Memory.GivenBytes, declared.device.Source.Ghosts as Source}
+use Rattle.dap_diff.specs.{Diffs.DescribesDifference, Matching.DiffersAll}
+use Rattle.dap_host.specs.{Files.is_standard, declared.host.Purpose.Purpose}
 use Rattle.dap_host.specs.declared.limits.TheConstants.{LIMITS}
-use Rattle.dap_mask.specs.KeptRules.{mask_of}
-use Rattle.dap_mask.specs.Mask.{Mask}
-use Rattle.dap_mask.specs.declared.mask_rules.MaskRules.{MaskRules}
-use Rattle.dap_normalise.specs.Checking.{Checks}
-use Rattle.dap_normalise.specs.declared.checked.Checked.{Checked}
+use Rattle.dap_mask.specs.{KeptRules.mask_of, Mask.Mask, declared.mask_rules.MaskRules.MaskRules}
+use Rattle.dap_normalise.specs.{Checking.Checks, declared.checked.Checked.Checked}
 use Rattle.dap_rename.specs.declared.mode.Mode.{Mode}
-use Rattle.dap_rules.specs.Inputs.{ReadsByRules}
-use Rattle.dap_rules.specs.Modes.{mode_by}
+use Rattle.dap_rules.specs.{Inputs.ReadsByRules, Modes.mode_by}
 use Rattle.dap_rules.specs.declared.fault.ApplyRefused.{ApplyRefused}
-use Rattle.dap_rules.specs.declared.fault.ApplyRefused.TheVariants as because
-use Rattle.dapnorm.specs.Desks.{IsLeft, IsUnused, Place, empty}
-use Rattle.dapnorm.specs.Rules.{AreGivenRules}
-use Rattle.dapnorm.specs.declared.answer.Answer.{Answer}
-use Rattle.dapnorm.specs.declared.answer.Answer.TheVariants as answer
-use Rattle.dapnorm.specs.declared.desk.Desk.{Desk}
-use Rattle.dapnorm.specs.declared.reading.Unread.TheVariants.{Unopened}
-use Rattle.dapnorm.specs.declared.rules.NoRules.{NoRules}
-use Rattle.dapnorm.specs.declared.why.Mistake.TheVariants.{TwoStandard}
-use Rattle.dapnorm.specs.declared.why.Why.{Why}
-use Rattle.dapnorm.specs.declared.why.Why.TheVariants as why
+use Rattle.dapnorm.specs.{Desks.{IsLeft, IsUnused, Place, empty}, Rules.AreGivenRules}
+use Rattle.dapnorm.specs.declared.{answer.Answer.Answer, desk.Desk.Desk}
+use Rattle.dapnorm.specs.declared.{reading.Unread.TheVariants.Unopened, rules.NoRules.NoRules}
+use Rattle.dapnorm.specs.declared.why.{Mistake.TheVariants.TwoStandard, Why.Why}
 
 -- ---- two readers
 
 module _ {R S : Type 0} (source_a : Source R) (source_b : Source S) (mode : Mode) (old_a new_a : R)
     (old_b new_b : S) where
   -- The command finds this about the readers.
-  abbrev pub Finds : Printed → Result Answer CompareRefused → Type 0
-  Finds printed.Verdict (Ok (answer.Verdict used found)) = (used ≡ mode)
+  abbrev pub Finds : Printed → Result (Option Answer) Why → Type 0
+  Finds Printed.Verdict (Ok (Some (Answer.Verdict used found))) = (used ≡ mode)
       × Compares source_a source_b LIMITS mode old_a new_a old_b new_b (Ok found)
-  Finds printed.Verdict (Err refused) =
+  Finds Printed.Verdict (Err (Why.Pair refused)) =
       Compares source_a source_b LIMITS mode old_a new_a old_b new_b (Err refused)
-  Finds printed.FirstDifference (Ok (answer.Difference found)) =
+  Finds Printed.FirstDifference (Ok (Some (Answer.Difference found))) =
       DescribesDifference source_a source_b LIMITS mode old_a new_a old_b new_b (Ok found)
-  Finds printed.FirstDifference (Err refused) =
+  Finds Printed.FirstDifference (Err (Why.Pair refused)) =
       DescribesDifference source_a source_b LIMITS mode old_a new_a old_b new_b (Err refused)
-  Finds printed.AllDifferences (Ok (answer.Differences found)) =
+  Finds Printed.AllDifferences (Ok (Some (Answer.Differences found))) =
       DiffersAll source_a source_b LIMITS mode old_a new_a old_b new_b (Ok found)
-  Finds printed.AllDifferences (Err refused) =
+  Finds Printed.AllDifferences (Err (Why.Pair refused)) =
       DiffersAll source_a source_b LIMITS mode old_a new_a old_b new_b (Err refused)
   Finds other outcome = ⊥
 
@@ -68,9 +51,9 @@ bytes_of bytes = record { left = bytes; given = 0 }
 abbrev pub ChecksText : Mode → List ℕ → Result (Unit {0}) ApplyRefused → Type 0
 ChecksText mode bytes (Ok done) = (after : GivenBytes) × (checked : Checked)
     × Checks memory LIMITS mode false (bytes_of bytes) after (Ok checked)
-ChecksText mode bytes (Err (because.Order why)) = (after : GivenBytes)
+ChecksText mode bytes (Err (ApplyRefused.Order why)) = (after : GivenBytes)
     × Checks memory LIMITS mode false (bytes_of bytes) after (Err why)
-ChecksText mode bytes (Err because.Memory) = Unit {0}
+ChecksText mode bytes (Err ApplyRefused.Memory) = Unit {0}
 ChecksText mode bytes (Err why) = ⊥
 
 module _ {R : Type 0} (source : Source R) (mode : Mode) (mask : Mask) (old new : R) where
@@ -97,7 +80,7 @@ module _ {R : Type 0} (source : Source R) (one : Printed) (mode : Mode) (rules :
   Makes old new = HasText source (mode_by (mask_of rules) mode) (mask_of rules) old new
 
   -- The rules make texts of both inputs, and this is found about them.
-  pub record FindsTexts (outcome : Result Answer CompareRefused) : Type 0 where
+  pub record FindsTexts (outcome : Result (Option Answer) Why) : Type 0 where
     pub text_a : Vec ℕ Global
     pub text_b : Vec ℕ Global
     pub makes_a : Makes old_a new_a (Ok text_a)
@@ -107,15 +90,16 @@ module _ {R : Type 0} (source : Source R) (one : Printed) (mode : Mode) (rules :
     pub finds : Finds memory memory (mode_by (mask_of rules) mode) (bytes_of text_a.items) rest_a
         (bytes_of text_b.items) rest_b one outcome
 
-  -- A is read before B.
-  abbrev pub FindsByRules : Result (Option Answer) Why → Type 0
-  FindsByRules (Err (why.Unapplied A refused used)) =
+  -- The rules cannot be applied to an input. A is read before B.
+  abbrev pub IsUnapplied : Result (Option Answer) Why → Type 0
+  IsUnapplied (Err (Why.Unapplied A refused used)) =
       (used ≡ rules) × Makes old_a new_a (Err refused) × IsUnused old_b new_b
-  FindsByRules (Err (why.Unapplied B refused used)) = (used ≡ rules)
+  IsUnapplied (Err (Why.Unapplied B refused used)) = (used ≡ rules)
       × ((text : Vec ℕ Global) × Makes old_a new_a (Ok text)) × Makes old_b new_b (Err refused)
-  FindsByRules (Err (why.Pair refused)) = FindsTexts (Err refused)
-  FindsByRules (Ok (Some found)) = FindsTexts (Ok found)
-  FindsByRules outcome = ⊥
+  IsUnapplied outcome = ⊥
+
+  abbrev pub FindsByRules : Result (Option Answer) Why → Type 0
+  FindsByRules outcome = IsUnapplied outcome ⊎ FindsTexts outcome
 
 -- ---- two inputs, by their names
 
@@ -126,10 +110,10 @@ module _ {I O T : Type 0} (place : Place I O T) (one : Printed) (mode : Mode) (a
     (desk : Desk I O T) (name : Option (List ℕ)) (values : List (List ℕ)) where
   -- The inputs of A and of B are those of their names. B is opened after A.
   abbrev pub InputA : (I → I → Type 0) → Type 0
-  InputA = IsLeft (place.files.opens purpose.Input a) desk.a
+  InputA = IsLeft (place.files.opens Purpose.Input a) desk.a
 
   abbrev pub InputB : (I → I → Type 0) → Type 0
-  InputB = IsLeft (place.files.opens purpose.Input b) desk.b
+  InputB = IsLeft (place.files.opens Purpose.Input b) desk.b
 
   abbrev pub RulesAre : Result (Option MaskRules) NoRules → Type 0
   RulesAre = AreGivenRules place.files place.source name values
@@ -140,11 +124,8 @@ module _ {I O T : Type 0} (place : Place I O T) (one : Printed) (mode : Mode) (a
 
   -- What the command finds about two readers, without rules and by rules.
   abbrev pub FindsBy : Option MaskRules → Result (Option Answer) Why → I → I → I → I → Type 0
-  FindsBy None (Ok (Some found)) old_a new_a old_b new_b =
-      Finds place.source place.source mode old_a new_a old_b new_b one (Ok found)
-  FindsBy None (Err (why.Pair refused)) old_a new_a old_b new_b =
-      Finds place.source place.source mode old_a new_a old_b new_b one (Err refused)
-  FindsBy None outcome old_a new_a old_b new_b = ⊥
+  FindsBy None outcome old_a new_a old_b new_b =
+      Finds place.source place.source mode old_a new_a old_b new_b one outcome
   FindsBy (Some rules) outcome old_a new_a old_b new_b =
       FindsByRules place.source one mode rules old_a new_a old_b new_b outcome
 
@@ -158,13 +139,13 @@ module _ {I O T : Type 0} (place : Place I O T) (one : Printed) (mode : Mode) (a
 
   -- The rules are read first. Then A is opened, and then B.
   abbrev pub IsUnopened : Result (Option Answer) Why → Type 0
-  IsUnopened (Err (why.Rules one)) = RulesAre (Err one) × (desk ≡ empty)
-  IsUnopened (Err (why.Mistake TwoStandard)) =
+  IsUnopened (Err (Why.Rules one)) = RulesAre (Err one) × (desk ≡ empty)
+  IsUnopened (Err (Why.Mistake TwoStandard)) =
       HasRules × (are_both_standard a b ≡ true) × (desk ≡ empty)
-  IsUnopened (Err (why.Unread (Some A) (Unopened fault))) =
-      HasRules × (desk ≡ empty) × place.files.closed purpose.Input a fault
-  IsUnopened (Err (why.Unread (Some B) (Unopened fault))) = HasRules × InputA IsUnused
-      × (desk.b ≡ None) × place.files.closed purpose.Input b fault
+  IsUnopened (Err (Why.Unread (Some A) (Unopened fault))) =
+      HasRules × (desk ≡ empty) × place.files.closed Purpose.Input a fault
+  IsUnopened (Err (Why.Unread (Some B) (Unopened fault))) = HasRules × InputA IsUnused
+      × (desk.b ≡ None) × place.files.closed Purpose.Input b fault
   IsUnopened outcome = ⊥
 
   abbrev pub PairIsRun : Result (Option Answer) Why → Type 0

@@ -1,7 +1,6 @@
 -- The devices of a run: as they were opened, and as the run leaves them. Source: own.
-use Rattle.std.specs.Prelude.{◌≡◌, ℕ, ◌<◌, ◌≤◌, ◌^◌, Option, Some, None}
-use Rattle.dap_device.specs.declared.device.Sink.{Ghosts as Sink}
-use Rattle.dap_device.specs.declared.device.Source.{Ghosts as Source}
+use Rattle.std.specs.Prelude.{◌≡◌, ℕ, ◌≤◌, Option, Some, None}
+use Rattle.dap_device.specs.declared.device.{Sink.Ghosts as Sink, Source.Ghosts as Source}
 use Rattle.dap_device.specs.declared.file.Replaceable.{Ghosts as Replaceable}
 use Rattle.dap_host.specs.Files.{Files}
 use Rattle.dapnorm.specs.declared.desk.Desk.{Desk}
@@ -15,31 +14,6 @@ pub record Place (I O T : Type 0) : Type 1 where
 
 abbrev pub here : {I O T : Type 0} → Files I O T → Source I → Sink O → Replaceable T → Place I O T
 here files source sink file = record { files = files; source = source; sink = sink; file = file }
-
--- Counts of a device that cannot overflow during a call.
-abbrev pub CanRead : {R : Type 0} → Source R → R → Type 0
-CanRead source reader = (source.given reader < 2 ^ 62) × (source.failures reader < 2 ^ 62)
-
-abbrev pub CanWrite : {W : Type 0} → Sink W → W → Type 0
-CanWrite sink writer = sink.failures writer < 2 ^ 62
-
--- A reader, and its states before and after a call.
-pub record Read (R : Type 0) : Type 1 where
-  pub source : Source R
-  pub old : R
-  pub new : R
-
-abbrev pub reads : {R : Type 0} → Source R → R → R → Read R
-reads source old new = record { source = source; old = old; new = new }
-
--- A writer, and its states before and after a call.
-pub record Written (W : Type 0) : Type 1 where
-  pub sink : Sink W
-  pub old : W
-  pub new : W
-
-abbrev pub writes : {W : Type 0} → Sink W → W → W → Written W
-writes sink old new = record { sink = sink; old = old; new = new }
 
 -- only inputs were opened, or no device
 abbrev pub inputs : {I O T : Type 0} → Option I → Option I → Desk I O T

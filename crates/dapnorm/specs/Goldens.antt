@@ -1,33 +1,19 @@
 -- What the program does with `golden` over files that are given by their names. Source: own.
-use Rattle.std.specs.Prelude.{◌≡◌, ℕ, Bool, true, false, List, [], Option, Some, None, Result}
-use Rattle.std.specs.Prelude.{Ok, Err, Vec, option_map}
-use Rattle.std.specs.declared.alloc.Global.{Global}
+use Rattle.std.specs.Prelude.{◌≡◌, ◌⊎◌, ℕ, true, false, List, [], Option, Some, None, Result, Ok}
+use Rattle.std.specs.{Prelude.{Err, Vec, option_map}, declared.alloc.Global.Global}
 use Rattle.dap_commands.specs.declared.commands.Golden.{Golden}
-use Rattle.dap_device.specs.Crash.{LeavesOnly}
-use Rattle.dap_device.specs.Memory.{GivenBytes}
-use Rattle.dap_golden.specs.GoldenUpdates.{Answers, MayBeLeft, request_by}
-use Rattle.dap_golden.specs.declared.updates.GoldenDone.{GoldenDone}
-use Rattle.dap_golden.specs.declared.updates.GoldenRequest.{GoldenRequest}
+use Rattle.dap_device.specs.{Crash.LeavesOnly, Devices.reads, Memory.GivenBytes}
+use Rattle.dap_device.specs.declared.file.Replaceable.{Ghosts as Replaceable}
+use Rattle.dap_golden.specs.GoldenUpdates.{Answers, MayBeLeft}
+use Rattle.dap_golden.specs.declared.updates.{GoldenDone.GoldenDone, GoldenRequest.GoldenRequest}
 use Rattle.dap_golden.specs.declared.updates.GoldenStop.{GoldenStop}
-use Rattle.dap_host.specs.Files.{Files}
-use Rattle.dap_host.specs.declared.host.OpenFault.{OpenFault}
-use Rattle.dap_host.specs.declared.host.Purpose.TheVariants as purpose
+use Rattle.dap_host.specs.{Files.Files, declared.host.Purpose.Purpose}
 use Rattle.dap_host.specs.declared.limits.TheConstants.{LIMITS}
-use Rattle.dap_mask.specs.KeptRules.{mask_of}
-use Rattle.dap_mask.specs.declared.mask_rules.MaskRules.{MaskRules}
-use Rattle.dapnorm.specs.Comparisons.{bytes_of, memory}
-use Rattle.dapnorm.specs.Desks.{IsLeft, Place, empty, inputs}
-use Rattle.dapnorm.specs.Readings.{IsFileRead}
-use Rattle.dapnorm.specs.Rules.{AreGivenRules}
-use Rattle.dapnorm.specs.declared.answer.Answer.{Answer}
-use Rattle.dapnorm.specs.declared.answer.Answer.TheVariants as answer
-use Rattle.dapnorm.specs.declared.desk.Desk.{Desk}
-use Rattle.dapnorm.specs.declared.reading.Unread.{Unread}
-use Rattle.dapnorm.specs.declared.rules.NoRules.{NoRules}
-use Rattle.dapnorm.specs.declared.why.Overlap.{Overlap}
-use Rattle.dapnorm.specs.declared.why.Overlap.TheVariants.{GoldenAndInput, GoldenAndRules}
-use Rattle.dapnorm.specs.declared.why.Why.{Why}
-use Rattle.dapnorm.specs.declared.why.Why.TheVariants as why
+use Rattle.dap_mask.specs.{KeptRules.mask_of, declared.mask_rules.MaskRules.MaskRules}
+use Rattle.dapnorm.specs.{Comparisons.{bytes_of, memory}, Desks.{IsLeft, Place, empty, inputs}}
+use Rattle.dapnorm.specs.{Readings.IsFileRead, Rules.AreGivenRules, declared.answer.Answer.Answer}
+use Rattle.dapnorm.specs.declared.{desk.Desk.Desk, reading.Unread.Unread, rules.NoRules.NoRules}
+use Rattle.dapnorm.specs.declared.why.{Overlap.Overlap, Why.Why}
 
 -- what the options request
 abbrev pub request_of : Golden → GoldenRequest
@@ -44,13 +30,33 @@ AreApart files golden (Some rules) = files.are_same golden rules false
 
 -- Which file an update would replace that it reads.
 abbrev pub Replaces : {I O T : Type 0} → Files I O T → Golden → List ℕ → Option Overlap → Type 0
-Replaces files golden name (Some GoldenAndInput) =
+Replaces files golden name (Some Overlap.GoldenAndInput) =
     (golden.update ≡ true) × files.are_same golden.golden name true
-Replaces files golden name (Some GoldenAndRules) = (golden.update ≡ true)
+Replaces files golden name (Some Overlap.GoldenAndRules) = (golden.update ≡ true)
     × ((rules : List ℕ) × (golden.rules ≡ Some rules) × files.are_same golden.golden rules true)
 Replaces files golden name (Some other) = ⊥
 Replaces files golden name None = golden.update ≡ true
     → files.are_same golden.golden name false × AreApart files golden.golden golden.rules
+
+module _ {T : Type 0} (file : Replaceable T) (golden : Golden) (rules : Option MaskRules)
+    (session : Vec ℕ Global) (old new : T) where
+  -- The session is compared with the golden file, or written to it. A crash, the end of the process
+  -- or a loss of power at any moment leaves the golden file that it could have left before, or, on
+  -- an update, the whole text of the session.
+  pub record Keeps (outcome : Result GoldenDone GoldenStop) : Type 0 where
+    pub rest : GivenBytes
+    pub answers : Answers (reads memory (bytes_of session.items) rest) file LIMITS
+        (option_map mask_of rules) (request_of golden) old new outcome
+    pub any_moment : file.is_known old → LeavesOnly file.moment file.left_since
+        (MayBeLeft (reads memory (bytes_of session.items) rest) file LIMITS
+        (option_map mask_of rules) (request_of golden) old) old new
+
+  -- The result names the golden file.
+  abbrev pub IsKept : Result (Option Answer) Why → Type 0
+  IsKept (Ok (Some (Answer.Golden named done))) = (named ≡ golden.golden) × Keeps (Ok done)
+  IsKept (Err (Why.Golden named stop bytes used)) =
+      (named ≡ golden.golden) × (bytes ≡ session) × (used ≡ rules) × Keeps (Err stop)
+  IsKept outcome = ⊥
 
 module _ {I O T : Type 0} (place : Place I O T) (golden : Golden) (values : List (List ℕ))
     (name : List ℕ) (desk : Desk I O T) where
@@ -63,55 +69,31 @@ module _ {I O T : Type 0} (place : Place I O T) (golden : Golden) (values : List
 
   -- The input is that of the name, and is read whole, with this result.
   abbrev pub IsInput : Result (Vec ℕ Global) Unread → Type 0
-  IsInput = IsFileRead place.files place.source purpose.Input name LIMITS.input desk.a
+  IsInput = IsFileRead place.files place.source Purpose.Input name LIMITS.input desk.a
 
-  -- The golden file is that of its name.
-  abbrev pub Target : (T → T → Type 0) → Type 0
-  Target = IsLeft (place.files.targets golden.update golden.golden) desk.target
+  -- An update would replace the input or the rules file, or a file is not read or not found.
+  abbrev pub IsStopped : Result (Option Answer) Why → Type 0
+  IsStopped (Err (Why.SameFile files named)) = (named ≡ golden.golden)
+      × Replaces place.files golden name (Some files) × (desk ≡ empty)
+  IsStopped (Err (Why.Rules one)) = RulesAre (Err one) × (desk ≡ empty)
+  IsStopped (Err (Why.Session unread)) =
+      HasRules × IsInput (Err unread) × (desk ≡ inputs desk.a None)
+  IsStopped (Err (Why.GoldenFile named update fault)) = (named ≡ golden.golden)
+      × (update ≡ golden.update) × place.files.no_target golden.update golden.golden fault
+      × HasRules × ((session : Vec ℕ Global) × IsInput (Ok session))
+  IsStopped outcome = ⊥
 
-  -- The session of these bytes is compared with the golden file, or written to it. A crash, the end
-  -- of the process or a loss of power at any moment leaves the golden file that it could have left
-  -- before, or, on an update, the whole text of the session.
-  pub record Keeps (rules : Option MaskRules) (session : List ℕ) (old new : T)
-      (outcome : Result GoldenDone GoldenStop) : Type 0 where
-    pub rest : GivenBytes
-    pub answers : Answers memory place.file LIMITS (option_map mask_of rules)
-        (request_by (option_map mask_of rules) (request_of golden)) (bytes_of session) rest old new
-        outcome
-    pub any_moment : place.file.is_known old → LeavesOnly place.file.moment place.file.left_since
-        (MayBeLeft memory place.file LIMITS (option_map mask_of rules)
-        (request_by (option_map mask_of rules) (request_of golden)) (bytes_of session) rest old)
-        old new
-
-  -- An update would replace the input or the rules file, or neither.
-  abbrev pub IsReplaced : Option Overlap → Type 0
-  IsReplaced = Replaces place.files golden name
-
-  -- The rules and the session are read, and `golden` is run.
-  pub record IsKept (named : List ℕ) (rules : Option MaskRules) (session : Vec ℕ Global)
-      (outcome : Result GoldenDone GoldenStop) : Type 0 where
-    pub named_is : named ≡ golden.golden
-    pub apart : IsReplaced None
+  -- The rules and the session are read, and the golden file is found. An update replaces neither
+  -- the input nor the rules file.
+  pub record IsFound (outcome : Result (Option Answer) Why) : Type 0 where
+    pub rules : Option MaskRules
+    pub session : Vec ℕ Global
+    pub apart : Replaces place.files golden name None
     pub are_rules : RulesAre (Ok rules)
     pub is_input : IsInput (Ok session)
-    pub keeps : Target (λ old new. Keeps rules session.items old new outcome)
-
-  -- The golden file is not found.
-  pub record IsNotFound (named : List ℕ) (update : Bool) (fault : OpenFault) : Type 0 where
-    pub named_is : named ≡ golden.golden
-    pub update_is : update ≡ golden.update
-    pub none : place.files.no_target golden.update golden.golden fault
+    pub kept : IsLeft (place.files.targets golden.update golden.golden) desk.target
+        (λ old new. IsKept place.file golden rules session old new outcome)
 
   -- The rules are read first, then the input whole, and then the golden file is found.
   abbrev pub GoldenIsRun : Result (Option Answer) Why → Type 0
-  GoldenIsRun (Err (why.SameFile files named)) =
-      (named ≡ golden.golden) × IsReplaced (Some files) × (desk ≡ empty)
-  GoldenIsRun (Err (why.Rules one)) = RulesAre (Err one) × (desk ≡ empty)
-  GoldenIsRun (Err (why.Session unread)) =
-      HasRules × IsInput (Err unread) × (desk ≡ inputs desk.a None)
-  GoldenIsRun (Err (why.GoldenFile named update fault)) = HasRules
-      × ((session : Vec ℕ Global) × IsInput (Ok session)) × IsNotFound named update fault
-  GoldenIsRun (Err (why.Golden named stop session rules)) = IsKept named rules session (Err stop)
-  GoldenIsRun (Ok (Some (answer.Golden named done))) =
-      (rules : Option MaskRules) × (session : Vec ℕ Global) × IsKept named rules session (Ok done)
-  GoldenIsRun outcome = ⊥
+  GoldenIsRun outcome = IsStopped outcome ⊎ IsFound outcome

@@ -1,11 +1,10 @@
 -- What the program prints and reports of two readers. Source: own.
 use Rattle.std.specs.Prelude.{ℕ}
-use Rattle.dap_compare.specs.Verdicts.{Compares}
-use Rattle.dap_compare.specs.Which.{compare_refused_text}
+use Rattle.dap_compare.specs.{Verdicts.Compares, Which.compare_refused_text}
 use Rattle.dap_input.specs.declared.limits.Limits.{Limits}
 use Rattle.dap_rename.specs.declared.mode.Mode.{Mode}
+use Rattle.dap_device.specs.Devices.{Read, Written}
 use Rattle.dapnorm.specs.Answers.{verdict_status, verdict_text}
-use Rattle.dapnorm.specs.Desks.{Read, Written}
 use Rattle.dapnorm.specs.Reporting.{ResultIsReported, refusal_status}
 
 -- The verdict on these readers is printed, or an error is reported.

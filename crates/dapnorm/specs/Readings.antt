@@ -2,17 +2,10 @@
 use Rattle.std.specs.Prelude.{◌≡◌, ◌≢◌, ℕ, List, [], ◌∷◌, Option, None, Result, Ok, Err, Vec}
 use Rattle.std.specs.declared.alloc.Global.{Global}
 use Rattle.dap_device.specs.Reading.{HasReadInput, HasReadPartly}
-use Rattle.dap_device.specs.declared.device.Source.{Ghosts as Source}
-use Rattle.dap_device.specs.declared.reading.Stop.{Stop}
-use Rattle.dap_device.specs.declared.reading.Stop.TheVariants as stops
-use Rattle.dap_host.specs.Files.{Files}
-use Rattle.dap_host.specs.declared.host.OpenFault.{OpenFault}
-use Rattle.dap_host.specs.declared.host.OpenFault.TheVariants as because
-use Rattle.dap_host.specs.declared.host.Purpose.{Purpose}
-use Rattle.dap_input.specs.RefusedText.{refused_text}
-use Rattle.dap_input.specs.declared.refused.Refused.TheVariants as refused
-use Rattle.dapnorm.specs.Desks.{IsLeft}
-use Rattle.dapnorm.specs.Lines.{fault_line}
+use Rattle.dap_device.specs.declared.{device.Source.Ghosts as Source, reading.Stop.Stop}
+use Rattle.dap_host.specs.{Files.Files, declared.host.{OpenFault.OpenFault, Purpose.Purpose}}
+use Rattle.dap_input.specs.{RefusedText.refused_text, declared.refused.Refused.Refused}
+use Rattle.dapnorm.specs.{Desks.IsLeft, Lines.fault_line}
 use Rattle.dapnorm.specs.declared.reading.Unread.{Unread, TheVariants.{Failed, Memory, Unopened}}
 
 -- These are the bytes of the file, or its first bytes up to one past the limit; or a read failed; or
@@ -21,12 +14,12 @@ pub record HasWhole {R : Type 0} (source : Source R) (limit : ℕ) (old new : R)
     : Type 0 where
   pub stop : Stop
   pub came : HasReadInput source old new limit bytes stop
-  pub not_failed : stop ≢ stops.Failed
+  pub not_failed : stop ≢ Stop.Failed
 
 abbrev pub IsReadWhole : {R : Type 0} → Source R → ℕ → R → R → Result (Vec ℕ Global) Unread → Type 0
 IsReadWhole source limit old new (Ok bytes) = HasWhole source limit old new bytes.items
 IsReadWhole source limit old new (Err Failed) =
-    (bytes : List ℕ) × HasReadInput source old new limit bytes stops.Failed
+    (bytes : List ℕ) × HasReadInput source old new limit bytes Stop.Failed
 IsReadWhole source limit old new (Err Memory) = HasReadPartly source old new limit
 IsReadWhole source limit old new (Err (Unopened fault)) = ⊥
 
@@ -44,11 +37,11 @@ module _ {I O T : Type 0} (files : Files I O T) (source : Source I) (purpose : P
 
 -- the line about a file that was not read, unless an allocation failed
 abbrev pub unless_memory : Unread → List ℕ → List ℕ
-unless_memory Memory line = fault_line (refused_text refused.Memory ∷ [])
-unless_memory (Unopened because.Memory) line = fault_line (refused_text refused.Memory ∷ [])
+unless_memory Memory line = fault_line (refused_text Refused.Memory ∷ [])
+unless_memory (Unopened OpenFault.Memory) line = fault_line (refused_text Refused.Memory ∷ [])
 unless_memory unread line = line
 
 abbrev pub unread_status : Unread → ℕ
 unread_status Memory = 5
-unread_status (Unopened because.Memory) = 5
+unread_status (Unopened OpenFault.Memory) = 5
 unread_status unread = 4

@@ -1,13 +1,9 @@
 -- What the program prints and reports, and its statuses. Source: own.
 use Rattle.std.specs.Prelude.{◌≡◌, ◌⊎◌, ℕ, List, [], ◌∷◌, Result, Ok, Err}
-use Rattle.dap_compare.specs.Which.{compare_refused_text}
 use Rattle.dap_compare.specs.declared.verdict.CompareRefused.{CompareRefused}
-use Rattle.dap_compare.specs.declared.verdict.CompareRefused.TheVariants as comparing
-use Rattle.dap_device.specs.declared.device.Sink.{Ghosts as Sink}
-use Rattle.dap_device.specs.Written.{AllSent, PrefixWritten}
-use Rattle.dap_input.specs.declared.refused.Refused.{Refused}
-use Rattle.dap_input.specs.declared.refused.Refused.TheVariants.{ReadFault, WriteFault, Memory}
-use Rattle.dap_input.specs.RefusedText.{refused_text}
+use Rattle.dap_device.specs.{Written.{AllSent, PrefixWritten}, declared.device.Sink.Ghosts as Sink}
+use Rattle.dap_input.specs.{RefusedText.refused_text, declared.refused.Refused.Refused}
+use Rattle.dap_input.specs.declared.refused.Refused.TheVariants.{Memory, ReadFault, WriteFault}
 use Rattle.dapnorm.specs.Lines.{fault_line}
 
 -- the status of the program after an error: a reader or a writer failed, an allocation failed, or
@@ -20,8 +16,8 @@ refused_status refused = 2
 
 -- the status if two inputs were not compared: that of the error
 abbrev pub refusal_status : CompareRefused → ℕ
-refusal_status (comparing.Input which refused) = refused_status refused
-refusal_status comparing.Memory = 5
+refusal_status (CompareRefused.Input which refused) = refused_status refused
+refusal_status CompareRefused.Memory = 5
 
 -- the status of the program for the result of a command
 abbrev pub status_of : {U : Type 0} → Result U Refused → ℕ

@@ -1,80 +1,66 @@
 -- What the program does for a command. Source: own.
 use Rattle.std.specs.Prelude.{◌≡◌, ◌≢◌, ◌⊎◌, ℕ, Bool, List, [], Option, Some, None, Result, Ok, Err}
 use Rattle.std.specs.Prelude.{string_bytes}
-use Rattle.dap_commands.specs.declared.commands.Command.{Command}
-use Rattle.dap_commands.specs.declared.commands.Command.TheVariants as command
-use Rattle.dap_commands.specs.declared.commands.UsageFault.{UsageFault}
-use Rattle.dap_host.specs.declared.host.Purpose.TheVariants as purpose
-use Rattle.dap_host.specs.declared.host.Stream.TheVariants.{Errors}
+use Rattle.dap_commands.specs.declared.commands.{Command.Command, UsageFault.UsageFault}
+use Rattle.dap_host.specs.declared.host.{Purpose.Purpose, Stream.TheVariants.Errors}
 use Rattle.dap_host.specs.declared.limits.TheConstants.{LIMITS}
-use Rattle.dap_input.specs.declared.refused.Refused.{Refused, TheVariants.{Memory}}
-use Rattle.dap_normalise.specs.Checking.{Checks}
-use Rattle.dap_normalise.specs.declared.checked.Checked.{Checked}
+use Rattle.dap_input.specs.declared.refused.Refused.{Refused, TheVariants.Memory}
+use Rattle.dap_normalise.specs.{Checking.Checks, declared.checked.Checked.Checked}
 use Rattle.dap_profile.specs.RowLines.{lines_of}
 use Rattle.dap_rename.specs.declared.mode.Mode.{Mode}
 use Rattle.dapnorm.specs.Answers.{answer_status, answer_stream, answer_text}
-use Rattle.dapnorm.specs.Comparisons.{PairIsRun}
-use Rattle.dapnorm.specs.Desks.{IsLeft, Place, empty}
-use Rattle.dapnorm.specs.Goldens.{GoldenIsRun}
-use Rattle.dapnorm.specs.Reasons.{why_line, why_status}
-use Rattle.dapnorm.specs.Reporting.{HasSent, IsPrinted}
-use Rattle.dapnorm.specs.Streams.{StreamIsRun, input_name}
-use Rattle.dapnorm.specs.Suggestions.{SuggestionIsRun}
-use Rattle.dapnorm.specs.WordOption.{AreAccepted, HasNoLines}
-use Rattle.dapnorm.specs.declared.answer.Answer.{Answer}
-use Rattle.dapnorm.specs.declared.answer.Answer.TheVariants as answer
-use Rattle.dapnorm.specs.declared.desk.Desk.{Desk}
-use Rattle.dapnorm.specs.declared.reading.Unread.TheVariants.{Unopened}
-use Rattle.dapnorm.specs.declared.rules.NoRules.TheVariants.{Words}
-use Rattle.dapnorm.specs.declared.running.Ended.{Ended}
-use Rattle.dapnorm.specs.declared.why.Mistake.TheVariants.{NoRow}
-use Rattle.dapnorm.specs.declared.why.Why.{Why}
-use Rattle.dapnorm.specs.declared.why.Why.TheVariants as why
+use Rattle.dapnorm.specs.{Comparisons.PairIsRun, Desks.{IsLeft, Place, empty}, Goldens.GoldenIsRun}
+use Rattle.dapnorm.specs.{Reasons.{why_line, why_status}, Reporting.{HasSent, IsPrinted}}
+use Rattle.dapnorm.specs.{Streams.{StreamIsRun, input_name}, Suggestions.SuggestionIsRun}
+use Rattle.dapnorm.specs.{WordOption.{AreAccepted, HasNoLines}, declared.answer.Answer.Answer}
+use Rattle.dapnorm.specs.declared.{desk.Desk.Desk, reading.Unread.TheVariants.Unopened}
+use Rattle.dapnorm.specs.declared.{rules.NoRules.TheVariants.Words, running.Ended.Ended}
+use Rattle.dapnorm.specs.declared.why.{Mistake.TheVariants.NoRow, Why.Why}
 
 -- The lines of the requested rows are found; or there are none; or an allocation failed, and there
 -- are some.
 abbrev pub FindsRows : Option (List ℕ) → Result (Option Answer) Why → Type 0
-FindsRows number (Ok (Some (answer.Rows lines))) = (lines_of number ≢ [])
+FindsRows number (Ok (Some (Answer.Rows lines))) = (lines_of number ≢ [])
     × (string_bytes lines ≡ lines_of number)
-FindsRows number (Err (why.Mistake NoRow)) = lines_of number ≡ []
-FindsRows number (Err (why.Input Memory)) = lines_of number ≢ []
+FindsRows number (Err (Why.Mistake NoRow)) = lines_of number ≡ []
+FindsRows number (Err (Why.Input Memory)) = lines_of number ≢ []
 FindsRows number outcome = ⊥
 
 module _ {I O T : Type 0} (place : Place I O T) (desk : Desk I O T) where
   -- `check` accepts the input of the name, or rejects it.
   module _ (mode : Mode) (complete : Bool) (name : List ℕ) where
     abbrev pub ChecksInput : Result Checked Refused → Type 0
-    ChecksInput outcome = IsLeft (place.files.opens purpose.Input name) desk.a
+    ChecksInput outcome = IsLeft (place.files.opens Purpose.Input name) desk.a
         (λ old new. Checks place.source LIMITS mode complete old new outcome)
 
     abbrev pub CheckIsRun : Result (Option Answer) Why → Type 0
-    CheckIsRun (Err (why.Unread None (Unopened fault))) =
-        (desk ≡ empty) × place.files.closed purpose.Input name fault
-    CheckIsRun (Err (why.Input refused)) = ChecksInput (Err refused)
-    CheckIsRun (Ok (Some (answer.Accepted checked))) = ChecksInput (Ok checked)
+    CheckIsRun (Err (Why.Unread None (Unopened fault))) =
+        (desk ≡ empty) × place.files.closed Purpose.Input name fault
+    CheckIsRun (Err (Why.Input refused)) = ChecksInput (Err refused)
+    CheckIsRun (Ok (Some (Answer.Accepted checked))) = ChecksInput (Ok checked)
     CheckIsRun outcome = ⊥
 
   -- The command is done with these values of the option `--word`. The desk has the devices as they
   -- are then. Without an answer, the output is written already.
   abbrev pub IsDone : List (List ℕ) → Command → Result (Option Answer) Why → Type 0
-  IsDone values (command.Stream task input output) outcome =
+  IsDone values (Command.Stream task input output) outcome =
       StreamIsRun place task values (input_name input) desk output outcome
-  IsDone values (command.Check complete mode input) outcome =
+  IsDone values (Command.Check complete mode input) outcome =
       CheckIsRun mode complete (input_name input) outcome
-  IsDone values (command.Pair printed a b rules mode) outcome =
+  IsDone values (Command.Pair printed a b rules mode) outcome =
       PairIsRun place printed mode a b desk rules values outcome
-  IsDone values (command.Suggest a b rules) outcome =
+  IsDone values (Command.Suggest a b rules) outcome =
       SuggestionIsRun place a b rules values desk outcome
-  IsDone values (command.Golden golden) outcome =
+  IsDone values (Command.Golden golden) outcome =
       GoldenIsRun place golden values (input_name golden.input) desk outcome
-  IsDone values (command.Rows number) outcome = FindsRows number outcome
+  IsDone values (Command.Rows number) outcome = FindsRows number outcome
 
   -- The values of the option are rejected alone, before a file is opened.
   pub record RejectsWords (values : List (List ℕ)) (outcome : Result (Option Answer) Why) : Type 0
     where
       pub fault : UsageFault
       pub no_lines : HasNoLines values [] fault
-      pub outcome_is : outcome ≡ Err (why.Rules (Words fault))
+      pub outcome_is : outcome ≡ Err (Why.Rules (Words fault))
       pub unopened : desk ≡ empty
 
   -- Or they are accepted alone, and the command is done.

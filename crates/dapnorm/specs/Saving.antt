@@ -1,11 +1,10 @@
 -- What the program does with an output that goes to a file. Source: own.
 use Rattle.std.specs.Prelude.{◌≡◌, ℕ, ◌+◌, false, List, [], Some, None, codes, if◌then◌else◌}
 use Rattle.std.specs.Prelude.{Result, Ok, Err}
-use Rattle.dap_device.specs.Crash.{LeavesOnly}
-use Rattle.dap_device.specs.Replacing.{HasFailedAt, HasReplaced, IsOldOrNew}
+use Rattle.dap_device.specs.{Crash.LeavesOnly, Replacing.{HasFailedAt, HasReplaced, IsOldOrNew}}
 use Rattle.dap_device.specs.declared.device.Sink.{Ghosts as Sink}
 use Rattle.dap_device.specs.declared.file.Replaceable.{Ghosts as Replaceable}
-use Rattle.dap_device.specs.declared.file.Step.{Step, TheVariants.{SyncFolder}}
+use Rattle.dap_device.specs.declared.file.Step.{Step, TheVariants.SyncFolder}
 use Rattle.dap_device.specs.declared.replacing.ReplaceFault.{ReplaceFault}
 use Rattle.dap_rules.specs.Memory.{WrittenBytes}
 

@@ -1,54 +1,33 @@
 -- What the program does with one input whose output is written. Source: own.
-use Rattle.std.specs.Prelude.{◌≡◌, ◌⊎◌, ◌||◌, ℕ, ◌<◌, Bool, true, false, IsErrOf, List, [], Option, Some}
-use Rattle.std.specs.Prelude.{None, Result, Ok, Err, codes, cond, is_some}
-use Rattle.std.specs.Str.Parse.{ParsesUnsigned}
-use Rattle.std.specs.declared.num.ParseIntError.{ParseIntError}
-use Rattle.dap_commands.specs.declared.commands.Show.{Show}
-use Rattle.dap_commands.specs.declared.commands.Task.{Task}
-use Rattle.dap_commands.specs.declared.commands.Task.TheVariants as task
-use Rattle.dap_device.specs.declared.device.Sink.{Ghosts as Sink}
-use Rattle.dap_device.specs.declared.device.Source.{Ghosts as Source}
+use Rattle.std.specs.Prelude.{◌≡◌, ◌⊎◌, ◌||◌, ℕ, ◌<◌, Bool, true, false, IsErrOf, List, [], Option}
+use Rattle.std.specs.{Option.unwrap_or, Prelude.{Some, None, Result, Ok, Err, codes, cond, is_some}}
+use Rattle.std.specs.{Str.Parse.ParsesUnsigned, declared.num.ParseIntError.ParseIntError}
+use Rattle.dap_commands.specs.declared.commands.{Show.Show, Task.Task}
+use Rattle.dap_device.specs.declared.device.{Sink.Ghosts as Sink, Source.Ghosts as Source}
 use Rattle.dap_device.specs.declared.replacing.ReplaceFault.{ReplaceFault}
-use Rattle.dap_host.specs.Files.{Files, is_standard}
-use Rattle.dap_host.specs.declared.host.OpenFault.{OpenFault}
-use Rattle.dap_host.specs.declared.host.Purpose.TheVariants as purpose
-use Rattle.dap_host.specs.declared.host.Stream.TheVariants.{Bytes}
+use Rattle.dap_host.specs.{Files.{Files, is_standard}, declared.host.OpenFault.OpenFault}
+use Rattle.dap_host.specs.declared.host.{Purpose.Purpose, Stream.TheVariants.Bytes}
 use Rattle.dap_host.specs.declared.limits.TheConstants.{LIMITS}
-use Rattle.dap_input.specs.Engine.{Answers}
-use Rattle.dap_input.specs.Streaming.{Streams}
-use Rattle.dap_input.specs.declared.refused.Refused.{Refused, TheVariants.{Memory}}
-use Rattle.dap_mask.specs.KeptRules.{mask_of}
-use Rattle.dap_mask.specs.Mask.{Mask}
-use Rattle.dap_mask.specs.declared.mask_rules.MaskRules.{MaskRules}
+use Rattle.dap_input.specs.{Engine.Answers, Streaming.Streams}
+use Rattle.dap_input.specs.declared.refused.Refused.{Refused, TheVariants.Memory}
+use Rattle.dap_mask.specs.{KeptRules.mask_of, Mask.Mask, declared.mask_rules.MaskRules.MaskRules}
 use Rattle.dap_message.specs.SwapRules.{SwapRule}
 use Rattle.dap_record.specs.TracingRun.{RecordsTrace}
 use Rattle.dap_rename.specs.declared.mode.Mode.TheVariants.{Whole}
-use Rattle.dap_rules.specs.MaskedRecordings.{IsMaskedTo, Masks}
-use Rattle.dap_rules.specs.Masking.{masking}
-use Rattle.dap_rules.specs.Memory.{WrittenBytes}
-use Rattle.dap_rules.specs.Ordering.{IsNotOrdered, Orders, ReadsSomeOrAll}
-use Rattle.dap_show.specs.OneRecord.{ShowsRecord}
-use Rattle.dap_show.specs.Viewing.{ShowsInput, ViewsInput}
+use Rattle.dap_rules.specs.{MaskedRecordings.{IsMaskedTo, Masks}, Masking.masking}
+use Rattle.dap_rules.specs.{Memory.WrittenBytes, Ordering.{IsNotOrdered, Orders, ReadsSomeOrAll}}
+use Rattle.dap_show.specs.{OneRecord.ShowsRecord, Viewing.{ShowsInput, ViewsInput, with_marks}}
 use Rattle.dap_show.specs.declared.detail.Detail.{Detail, TheVariants.{Leaves, Lists}}
 use Rattle.dap_show.specs.declared.detail.ShowRequest.{ShowRequest}
-use Rattle.dap_show.specs.declared.detail.ShowRequest.TheVariants as request
 use Rattle.dap_show.specs.declared.one_record.RecordShown.{RecordShown}
-use Rattle.dap_show.specs.declared.one_record.RecordShown.TheVariants.{Shown, Missing}
-use Rattle.std.specs.Option.{unwrap_or}
-use Rattle.dapnorm.specs.Desks.{IsLeft, IsUnused, Place, Read, Written, empty, reads, writes}
-use Rattle.dapnorm.specs.Rules.{AreRules}
-use Rattle.dapnorm.specs.Run.{HasCompacted, HasNormalised, HasShown}
-use Rattle.dapnorm.specs.Saving.{Saves, no_text, text_sink}
-use Rattle.dapnorm.specs.declared.answer.Answer.{Answer}
-use Rattle.dapnorm.specs.declared.desk.Desk.{Desk}
-use Rattle.dapnorm.specs.declared.reading.Unread.TheVariants.{Unopened}
-use Rattle.dapnorm.specs.declared.rules.NoRules.{NoRules}
-use Rattle.dapnorm.specs.declared.stream.Unstreamed.{Unstreamed}
-use Rattle.dapnorm.specs.declared.stream.Unstreamed.TheVariants as stop
+use Rattle.dap_device.specs.Devices.{Read, Written, reads, writes}
+use Rattle.dapnorm.specs.Desks.{IsLeft, IsUnused, Place, empty}
+use Rattle.dapnorm.specs.{Rules.AreRules, Run.{HasCompacted, HasNormalised, HasShown}}
+use Rattle.dapnorm.specs.{Saving.{Saves, no_text, text_sink}, declared.answer.Answer.Answer}
+use Rattle.dapnorm.specs.declared.{desk.Desk.Desk, reading.Unread.TheVariants.Unopened}
+use Rattle.dapnorm.specs.declared.{rules.NoRules.NoRules, stream.Unstreamed.Unstreamed}
 use Rattle.dapnorm.specs.declared.why.Mistake.{Mistake, TheVariants.{RecordAlone, RecordNumber}}
-use Rattle.dapnorm.specs.declared.why.Overlap.TheVariants.{OutputAndRules}
-use Rattle.dapnorm.specs.declared.why.Why.{Why}
-use Rattle.dapnorm.specs.declared.why.Why.TheVariants as why
+use Rattle.dapnorm.specs.declared.why.{Overlap.TheVariants.OutputAndRules, Why.Why}
 
 -- ---- what the options of `show` request
 
@@ -69,23 +48,23 @@ RequestsLines show full faulty =
 
 -- Without an option, the lists of each record are printed. Another task has no options.
 abbrev pub TaskRequests : Task → Result (Option ShowRequest) Mistake → Type 0
-TaskRequests (task.Show show) (Ok None) = RequestsLines show false false
-TaskRequests (task.Show show) (Ok (Some (request.Lines detail))) =
+TaskRequests (Task.Show show) (Ok None) = RequestsLines show false false
+TaskRequests (Task.Show show) (Ok (Some (ShowRequest.Lines detail))) =
     RequestsLines show true false × (detail ≡ Leaves)
-TaskRequests (task.Show show) (Ok (Some (request.Faulty detail))) =
+TaskRequests (Task.Show show) (Ok (Some (ShowRequest.Faulty detail))) =
     RequestsLines show show.full true × (detail ≡ detail_of show.full)
-TaskRequests (task.Show show) (Ok (Some (request.Record number))) = RequestsRecord show number
-TaskRequests (task.Show show) (Err RecordAlone) =
+TaskRequests (Task.Show show) (Ok (Some (ShowRequest.Record number))) = RequestsRecord show number
+TaskRequests (Task.Show show) (Err RecordAlone) =
     (is_some show.record ≡ true) × ((show.full || show.faulty) ≡ true)
-TaskRequests (task.Show show) (Err RecordNumber) =
+TaskRequests (Task.Show show) (Err RecordNumber) =
     (is_some show.record ≡ true) × ((show.full || show.faulty) ≡ false)
-TaskRequests (task.Show show) (Err mistake) = ⊥
+TaskRequests (Task.Show show) (Err mistake) = ⊥
 TaskRequests one outcome = outcome ≡ Ok None
 
 -- the name of the rules file of a task
 abbrev pub task_rules : Task → Option (List ℕ)
-task_rules (task.Mask rules) = Some rules
-task_rules (task.Order rules) = Some rules
+task_rules (Task.Mask rules) = Some rules
+task_rules (Task.Order rules) = Some rules
 task_rules one = None
 
 -- ---- the engines
@@ -101,10 +80,10 @@ pub record HasOrdered {R W : Type 0} (source : Source R) (sink : Sink W) (rules 
 -- An engine leaves the devices like this with its result.
 abbrev pub unstreamed_of : Result (Unit {0}) Refused → Result (Unit {0}) Unstreamed
 unstreamed_of (Ok done) = Ok done
-unstreamed_of (Err refused) = Err (stop.Input refused)
+unstreamed_of (Err refused) = Err (Unstreamed.Input refused)
 
-pub record Ends (Leaves : Result (Unit {0}) Refused → Type 0) (outcome : Result (Unit {0}) Unstreamed)
-    : Type 0 where
+pub record Ends (Leaves : Result (Unit {0}) Refused → Type 0)
+    (outcome : Result (Unit {0}) Unstreamed) : Type 0 where
   pub ended : Result (Unit {0}) Refused
   pub leaves : Leaves ended
   pub outcome_is : outcome ≡ unstreamed_of ended
@@ -116,7 +95,7 @@ module _ {R W : Type 0} (input : Read R) (output : Written W) where
   Over Ran = Ends (Ran input.old input.new output.old output.new)
 
   abbrev pub Views : Detail → Result (Option Refused) Refused → Type 0
-  Views detail = ViewsInput true detail LIMITS input.source output.sink input.old input.new
+  Views detail = ViewsInput (with_marks detail LIMITS) input.source output.sink input.old input.new
       output.old output.new
 
   abbrev pub ShowsOne : ℕ → Result RecordShown Refused → Type 0
@@ -127,29 +106,30 @@ module _ {R W : Type 0} (input : Read R) (output : Written W) where
   -- the result.
   abbrev pub IsShown : Option ShowRequest → Result (Unit {0}) Unstreamed → Type 0
   IsShown None outcome = Over (HasShown input.source output.sink LIMITS) outcome
-  IsShown (Some (request.Lines detail)) outcome =
+  IsShown (Some (ShowRequest.Lines detail)) outcome =
       Over (ShowsInput detail LIMITS input.source output.sink) outcome
-  IsShown (Some (request.Faulty detail)) (Ok done) = Views detail (Ok None)
-  IsShown (Some (request.Faulty detail)) (Err (stop.Input refused)) =
+  IsShown (Some (ShowRequest.Faulty detail)) (Ok done) = Views detail (Ok None)
+  IsShown (Some (ShowRequest.Faulty detail)) (Err (Unstreamed.Input refused)) =
       Views detail (Ok (Some refused)) ⊎ Views detail (Err refused)
-  IsShown (Some (request.Record number)) (Ok done) = ShowsOne number (Ok Shown)
-  IsShown (Some (request.Record number)) (Err (stop.Input refused)) = ShowsOne number (Err refused)
-  IsShown (Some (request.Record number)) (Err (stop.NoRecord absent count)) =
-      (absent ≡ number) × ShowsOne number (Ok (Missing count))
+  IsShown (Some (ShowRequest.Record number)) (Ok done) = ShowsOne number (Ok RecordShown.Shown)
+  IsShown (Some (ShowRequest.Record number)) (Err (Unstreamed.Input refused)) =
+      ShowsOne number (Err refused)
+  IsShown (Some (ShowRequest.Record number)) (Err (Unstreamed.NoRecord absent count)) =
+      (absent ≡ number) × ShowsOne number (Ok (RecordShown.Missing count))
   IsShown shown outcome = ⊥
 
   -- The task is done over a reader and a writer, by these rules if it takes some.
   abbrev pub IsStreamed : Task → Option ShowRequest → Mask → Result (Unit {0}) Unstreamed → Type 0
-  IsStreamed task.Compact shown mask outcome =
+  IsStreamed Task.Compact shown mask outcome =
       Over (HasCompacted input.source output.sink LIMITS) outcome
-  IsStreamed task.Record shown mask outcome =
+  IsStreamed Task.Record shown mask outcome =
       Over (RecordsTrace input.source output.sink LIMITS) outcome
-  IsStreamed (task.Normalise mode) shown mask outcome =
+  IsStreamed (Task.Normalise mode) shown mask outcome =
       Over (HasNormalised input.source output.sink LIMITS mode) outcome
-  IsStreamed (task.Show show) shown mask outcome = IsShown shown outcome
-  IsStreamed (task.Mask rules) shown mask outcome = Over (Streams (masking LIMITS mask)
+  IsStreamed (Task.Show show) shown mask outcome = IsShown shown outcome
+  IsStreamed (Task.Mask rules) shown mask outcome = Over (Streams (masking LIMITS mask)
       (Masks LIMITS mask) (IsMaskedTo LIMITS mask) input.source output.sink) outcome
-  IsStreamed (task.Order rules) shown mask outcome =
+  IsStreamed (Task.Order rules) shown mask outcome =
       Over (HasOrdered input.source output.sink mask.swaps) outcome
 
 -- ---- the output
@@ -186,7 +166,7 @@ module _ {I O T : Type 0} (place : Place I O T) where
       (desk : Desk I O T) where
     -- The input is that of the name.
     abbrev pub Input : (I → I → Type 0) → Type 0
-    Input = IsLeft (place.files.opens purpose.Input name) desk.a
+    Input = IsLeft (place.files.opens Purpose.Input name) desk.a
 
     -- The rules of the task.
     abbrev pub RulesAre : Result MaskRules NoRules → Type 0
@@ -205,12 +185,12 @@ module _ {I O T : Type 0} (place : Place I O T) where
       Output = IsLeft (IsOutput place.files output) desk.output
 
       abbrev pub IsWritten : Result (Option Answer) Why → Type 0
-      IsWritten (Err (why.Unread None (Unopened fault))) =
-          (desk ≡ empty) × place.files.closed purpose.Input name fault
-      IsWritten (Err (why.Output named fault)) = (named ≡ unwrap_or output []) × Input IsUnused
+      IsWritten (Err (Why.Unread None (Unopened fault))) =
+          (desk ≡ empty) × place.files.closed Purpose.Input name fault
+      IsWritten (Err (Why.Output named fault)) = (named ≡ unwrap_or output []) × Input IsUnused
           × (desk.output ≡ None) × IsNoOutput place.files output fault
-      IsWritten (Err (why.Rules one)) = Input IsUnused × Output IsUnused × RulesAre (Err one)
-      IsWritten (Err (why.Stream one rules)) = RulesAre (Ok rules)
+      IsWritten (Err (Why.Rules one)) = Input IsUnused × Output IsUnused × RulesAre (Err one)
+      IsWritten (Err (Why.Stream one rules)) = RulesAre (Ok rules)
           × Output (λ before after. Does place.sink rules before after (Err one))
       IsWritten (Ok None) = (rules : MaskRules) × RulesAre (Ok rules)
           × Output (λ before after. Does place.sink rules before after (Ok tt))
@@ -227,12 +207,10 @@ module _ {I O T : Type 0} (place : Place I O T) where
       Holds rules text outcome = RulesAre (Ok rules) × Does text_sink rules no_text text outcome
 
       -- An allocation failed for the text.
-      pub record IsTooLong : Type 0 where
-        pub rules : MaskRules
-        pub text : WrittenBytes
-        pub outcome : Result (Unit {0}) Unstreamed
-        pub holds : Holds rules text outcome
-        pub failed : 0 < text.failures
+      abbrev pub IsTooLong : Type 0
+      IsTooLong = (rules : MaskRules) × (text : WrittenBytes)
+          × (outcome : Result (Unit {0}) Unstreamed) × Holds rules text outcome
+          × (0 < text.failures)
 
       -- The text was complete, and was saved or not.
       pub record IsFinished (outcome : Result (Unit {0}) ReplaceFault) : Type 0 where
@@ -243,15 +221,15 @@ module _ {I O T : Type 0} (place : Place I O T) where
         pub saves : Target (λ before after. Saves place.file text.out before after outcome)
 
       abbrev pub IsSavedIn : Result (Option Answer) Why → Type 0
-      IsSavedIn (Err (why.Unread None (Unopened fault))) =
-          (desk ≡ empty) × place.files.closed purpose.Input name fault
-      IsSavedIn (Err (why.Output named fault)) = (named ≡ output) × Input IsUnused
+      IsSavedIn (Err (Why.Unread None (Unopened fault))) =
+          (desk ≡ empty) × place.files.closed Purpose.Input name fault
+      IsSavedIn (Err (Why.Output named fault)) = (named ≡ output) × Input IsUnused
           × (desk.target ≡ None) × place.files.no_target true output fault
-      IsSavedIn (Err (why.Rules one)) = Input IsUnused × Target IsUnused × RulesAre (Err one)
-      IsSavedIn (Err (why.Input Memory)) = Target IsUnused × IsTooLong
-      IsSavedIn (Err (why.Stream one rules)) = Target IsUnused
+      IsSavedIn (Err (Why.Rules one)) = Input IsUnused × Target IsUnused × RulesAre (Err one)
+      IsSavedIn (Err (Why.Input Memory)) = Target IsUnused × IsTooLong
+      IsSavedIn (Err (Why.Stream one rules)) = Target IsUnused
           × ((text : WrittenBytes) × Holds rules text (Err one) × (text.failures ≡ 0))
-      IsSavedIn (Err (why.Unsaved named fault)) = (named ≡ output) × IsFinished (Err fault)
+      IsSavedIn (Err (Why.Unsaved named fault)) = (named ≡ output) × IsFinished (Err fault)
       IsSavedIn (Ok None) = IsFinished (Ok tt)
       IsSavedIn outcome = ⊥
 
@@ -273,7 +251,7 @@ module _ {I O T : Type 0} (place : Place I O T) where
     pub record IsLost (output : List ℕ) (outcome : Result (Option Answer) Why) : Type 0 where
       pub lost : List ℕ
       pub loses : LosesRules place.files (task_rules task) output (Some lost)
-      pub outcome_is : outcome ≡ Err (why.SameFile OutputAndRules lost)
+      pub outcome_is : outcome ≡ Err (Why.SameFile OutputAndRules lost)
       pub unopened : desk ≡ empty
 
     -- An output that has a name is a device, or a file that is replaced.
@@ -287,7 +265,7 @@ module _ {I O T : Type 0} (place : Place I O T) where
     pub record IsMistaken (outcome : Result (Option Answer) Why) : Type 0 where
       pub mistake : Mistake
       pub requests : TaskRequests task (Err mistake)
-      pub outcome_is : outcome ≡ Err (why.Mistake mistake)
+      pub outcome_is : outcome ≡ Err (Why.Mistake mistake)
       pub unopened : desk ≡ empty
 
     abbrev pub StreamIsRun : Option (List ℕ) → Result (Option Answer) Why → Type 0

@@ -1,36 +1,22 @@
 -- What the program does with `suggest` over files that are given by their names. Source: own.
-use Rattle.std.specs.Prelude.{◌≡◌, ◌⊎◌, ℕ, ◌≤◌, ◌++◌, true, false, List, [], Option, Some, None, Result, Ok, Err, Vec}
-use Rattle.std.specs.Prelude.{length}
-use Rattle.std.specs.declared.alloc.Global.{Global}
+use Rattle.std.specs.Prelude.{◌≡◌, ◌⊎◌, ℕ, ◌≤◌, ◌++◌, true, false, List, [], Option, Some, None}
+use Rattle.std.specs.{Prelude.{Result, Ok, Err, Vec, length}, declared.alloc.Global.Global}
 use Rattle.dap_compare.specs.declared.verdict.Which.{Which, TheVariants.{A, B}}
-use Rattle.dap_host.specs.declared.host.Purpose.TheVariants as purpose
-use Rattle.dap_host.specs.declared.limits.TheConstants.{LIMITS}
+use Rattle.dap_host.specs.declared.{host.Purpose.Purpose, limits.TheConstants.LIMITS}
 use Rattle.dap_input.specs.declared.refused.Refused.TheVariants.{Memory}
-use Rattle.dap_mask.specs.KeptRules.{mask_of}
-use Rattle.dap_mask.specs.RulesFile.{rules_said}
+use Rattle.dap_mask.specs.{KeptRules.mask_of, RulesFile.rules_said}
 use Rattle.dap_mask.specs.declared.mask_rules.MaskRules.{MaskRules}
 use Rattle.dap_rename.specs.declared.mode.Mode.{Mode}
 use Rattle.dap_rules.specs.declared.fault.ApplyRefused.{ApplyRefused}
-use Rattle.dap_rules.specs.declared.fault.ApplyRefused.TheVariants as step
-use Rattle.dap_suggest.specs.NotSuggested.{AreAccepted, IsInputRejected}
-use Rattle.dap_suggest.specs.Suggested.{AreSameBy}
-use Rattle.dapnorm.specs.Comparisons.{are_both_standard}
-use Rattle.dapnorm.specs.Desks.{Place, empty, inputs}
-use Rattle.dapnorm.specs.Readings.{IsFileRead}
-use Rattle.dapnorm.specs.Rules.{IsRulesText}
-use Rattle.dapnorm.specs.declared.answer.Answer.{Answer}
-use Rattle.dapnorm.specs.declared.answer.Answer.TheVariants as answer
-use Rattle.dapnorm.specs.declared.desk.Desk.{Desk}
-use Rattle.dapnorm.specs.declared.reading.Unread.{Unread}
-use Rattle.dapnorm.specs.declared.rules.NoRules.{NoRules}
-use Rattle.dapnorm.specs.declared.rules.NoRules.TheVariants as no_rules
-use Rattle.dapnorm.specs.declared.why.Mistake.TheVariants.{TwoStandard}
-use Rattle.dapnorm.specs.declared.why.Why.{Why}
-use Rattle.dapnorm.specs.declared.why.Why.TheVariants as why
+use Rattle.dap_suggest.specs.{NotSuggested.{AreAccepted, IsInputRejected}, Suggested.AreSameBy}
+use Rattle.dapnorm.specs.{Comparisons.are_both_standard, Desks.{Place, empty, inputs}}
+use Rattle.dapnorm.specs.{Readings.IsFileRead, Rules.IsRulesText, declared.answer.Answer.Answer}
+use Rattle.dapnorm.specs.declared.{desk.Desk.Desk, reading.Unread.Unread, rules.NoRules.NoRules}
+use Rattle.dapnorm.specs.declared.why.{Mistake.TheVariants.TwoStandard, Why.Why}
 
 -- Without rules that were given, a session that is rejected is the recording itself.
 abbrev pub reported_refusal : List ℕ → ApplyRefused → ApplyRefused
-reported_refusal [] (step.Order refused) = step.Mask refused
+reported_refusal [] (ApplyRefused.Order refused) = ApplyRefused.Mask refused
 reported_refusal given refused = refused
 
 -- By the rules that are given, an input is rejected.
@@ -45,14 +31,14 @@ pub record IsRejected (which : Which) (refused : ApplyRefused) (used : MaskRules
 -- line of the given rules is rejected, or an input by them, or no rules are found. A failed
 -- allocation is reported only if the rules that are given are not too long.
 abbrev pub Suggests : Vec ℕ Global → List ℕ → List ℕ → Result (Option Answer) Why → Type 0
-Suggests given read_a read_b (Ok (Some (answer.Rules found))) =
+Suggests given read_a read_b (Ok (Some (Answer.Rules found))) =
     (mode : Mode) × AreSameBy LIMITS mode (given.items ++ found.items) read_a read_b
-Suggests given read_a read_b (Err (why.Rules (no_rules.Line fault text))) =
+Suggests given read_a read_b (Err (Why.Rules (NoRules.Line fault text))) =
     (text ≡ given) × (rules_said given.items ≡ Err fault)
-Suggests given read_a read_b (Err (why.Unapplied which refused used)) =
+Suggests given read_a read_b (Err (Why.Unapplied which refused used)) =
     IsRejected which refused used given.items read_a read_b
-Suggests given read_a read_b (Err (why.NoSuggestion line)) = AreAccepted given.items
-Suggests given read_a read_b (Err (why.Input Memory)) = length given.items ≤ 65536
+Suggests given read_a read_b (Err (Why.NoSuggestion line)) = AreAccepted given.items
+Suggests given read_a read_b (Err (Why.Input Memory)) = length given.items ≤ 65536
 Suggests given read_a read_b outcome = ⊥
 
 module _ {I O T : Type 0} (place : Place I O T) (a b : List ℕ) (rules : Option (List ℕ))
@@ -66,10 +52,10 @@ module _ {I O T : Type 0} (place : Place I O T) (a b : List ℕ) (rules : Option
 
   -- The inputs are those of their names, and are read whole, with this result.
   abbrev pub InputA : Result (Vec ℕ Global) Unread → Type 0
-  InputA = IsFileRead place.files place.source purpose.Input a LIMITS.input desk.a
+  InputA = IsFileRead place.files place.source Purpose.Input a LIMITS.input desk.a
 
   abbrev pub InputB : Result (Vec ℕ Global) Unread → Type 0
-  InputB = IsFileRead place.files place.source purpose.Input b LIMITS.input desk.b
+  InputB = IsFileRead place.files place.source Purpose.Input b LIMITS.input desk.b
 
   abbrev pub HasA : Type 0
   HasA = (read : Vec ℕ Global) × InputA (Ok read)
@@ -87,11 +73,11 @@ module _ {I O T : Type 0} (place : Place I O T) (a b : List ℕ) (rules : Option
 
   -- A file is not read. The rules that are given are read first, then A whole, and then B.
   abbrev pub IsStopped : Result (Option Answer) Why → Type 0
-  IsStopped (Err (why.Mistake TwoStandard)) = (are_both_standard a b ≡ true) × (desk ≡ empty)
-  IsStopped (Err (why.Rules one)) = GivenIs (Err one) × (desk ≡ empty)
-  IsStopped (Err (why.Unread (Some A) unread)) =
+  IsStopped (Err (Why.Mistake TwoStandard)) = (are_both_standard a b ≡ true) × (desk ≡ empty)
+  IsStopped (Err (Why.Rules one)) = GivenIs (Err one) × (desk ≡ empty)
+  IsStopped (Err (Why.Unread (Some A) unread)) =
       HasGiven × InputA (Err unread) × (desk ≡ inputs desk.a None)
-  IsStopped (Err (why.Unread (Some B) unread)) = HasGiven × HasA × InputB (Err unread)
+  IsStopped (Err (Why.Unread (Some B) unread)) = HasGiven × HasA × InputB (Err unread)
   IsStopped outcome = ⊥
 
   abbrev pub SuggestionIsRun : Result (Option Answer) Why → Type 0

@@ -1,12 +1,10 @@
 //! What a command found, and how it is printed.
-ghost use Rattle.std.specs.Prelude.{◌≡◌, ◌∷◌, ◌<◌, ◌^◌, []};
-ghost use Rattle.std.specs.List.{flat_map};
-ghost use Rattle.dap_device.specs.Written.{HasSentAll, HasWrittenAll};
+ghost use Rattle.std.specs.{List.flat_map, Prelude.{◌≡◌, ◌∷◌, ◌<◌, ◌^◌, []}};
+ghost use Rattle.dap_device.specs.{Devices.CanWrite, Written.{HasSentAll, HasWrittenAll}};
 ghost use Rattle.dapnorm.specs.Answers.{accepted_texts, answer_mode, answer_pairs, answer_status};
 ghost use Rattle.dapnorm.specs.Answers.{answer_stream, answer_text, answer_texts, differ_texts};
 ghost use Rattle.dapnorm.specs.Answers.{done_status, done_texts, golden_texts, pair_line};
-ghost use Rattle.dapnorm.specs.Answers.{same_texts, shows_stop};
-ghost use Rattle.dapnorm.specs.Lines.{joined, parts_text};
+ghost use Rattle.dapnorm.specs.{Answers.{same_texts, shows_stop}, Lines.{joined, parts_text}};
 ghost use Rattle.dapnorm.specs.Reporting.{IsPrinted};
 
 use crate::line::{Part, fault, report_line, write_parts};
@@ -103,11 +101,8 @@ fn write_pair<W: Sink>(writer: &mut W, mode: Mode, pair: Pair) -> Result<(), Dev
     requires { W.failures writer.old < 2 ^ 63 }
     ensures { HasWrittenAll W.Sink writer.old writer.new result (pair_line mode pair) }
 {
-    let (word, space, end) = (
-        Part::Text(pair.sort.word()),
-        Part::Text(" "),
-        Part::Text("\n"),
-    );
+    let word = Part::Text(pair.sort.word());
+    let (space, end) = (Part::Text(" "), Part::Text("\n"));
     let (from, to) = (Part::Signed(pair.from), Part::Signed(pair.to));
     if shows_stop(mode, pair.sort) {
         let (at, stop) = (Part::Text("@"), Part::Number(pair.stop));
@@ -154,16 +149,8 @@ fn golden_done<'a>(name: &'a str, done: &'a GoldenDone) -> Parts<'a>
                 " records)\n"
             };
             let (wrote, name, open) = (Part::Text("wrote "), Part::Text(name), Part::Text(" ("));
-            let none = Part::Text("");
-            [
-                wrote,
-                name,
-                open,
-                Part::Number(*records),
-                Part::Text(end),
-                none,
-                none,
-            ]
+            let (number, end, none) = (Part::Number(*records), Part::Text(end), Part::Text(""));
+            [wrote, name, open, number, end, none, none]
         }
     }
 }
@@ -247,7 +234,7 @@ impl Answer<'_> {
 
     /// Writes the text of the answer and flushes.
     fn write<W: Sink>(&self, writer: &mut W) -> Result<(), DeviceFault>
-        requires { W.failures writer.old < 2 ^ 62 }
+        requires writer { CanWrite W.Sink writer.old }
         ensures { HasSentAll W.Sink writer.old writer.new result (answer_text self.now) }
     {
         write_parts(writer, &self.parts())?;
@@ -258,8 +245,7 @@ impl Answer<'_> {
     /// Prints the answer, and returns the status for it. If the writer fails, reports that in one
     /// line and returns the status for that.
     pub fn print<W: Sink, E: Sink>(&self, writer: &mut W, errors: &mut E) -> u8
-        requires write_failures { W.failures writer.old < 2 ^ 62 }
-        requires error_failures { E.failures errors.old < 2 ^ 62 }
+        requires writers { CanWrite W.Sink writer.old × CanWrite E.Sink errors.old }
         ensures { IsPrinted W.Sink E.Sink (answer_text self.now) (answer_status self.now)
             writer.old writer.new errors.old errors.new result }
     {

@@ -1,11 +1,10 @@
 //! Runs `golden` over the files that names lead to.
-ghost use Rattle.std.specs.Prelude.{◌≡◌, ◌+◌, None, option_map};
+ghost use Rattle.std.specs.Prelude.{◌≡◌, ◌+◌, ◌<◌, ◌^◌, None, option_map};
 ghost use Rattle.dap_golden.specs.Golden.{mask_given};
 ghost use Rattle.dap_host.specs.declared.limits.TheConstants.{LIMITS};
 ghost use Rattle.dap_mask.specs.KeptRules.{mask_of};
 ghost use Rattle.dapnorm.specs.Desks.{TakesAtMost, empty, here};
-ghost use Rattle.dapnorm.specs.Goldens.{GoldenIsRun, Replaces, request_of};
-ghost use Rattle.dapnorm.specs.Streams.{input_name};
+ghost use Rattle.dapnorm.specs.{Goldens.{GoldenIsRun, IsKept, Replaces}, Streams.input_name};
 
 use crate::answer::Answer;
 use crate::desk::Desk;
@@ -14,22 +13,11 @@ use crate::rules::given_rules;
 use crate::stream::{input_name, text_of};
 use crate::why::{Overlap, Why};
 use dap_commands::{Golden, Name};
-use dap_device::MemorySource;
+use dap_device::{MemorySource, Replaceable};
 use dap_golden::{GoldenRequest, golden_file};
 use dap_host::{Host, LIMITS, Purpose};
 use dap_mask::MaskRules;
 use std::alloc::Global;
-
-/// Returns what the options request.
-fn request_of(golden: &Golden<'_>) -> GoldenRequest
-    ensures { result ≡ request_of golden.now }
-{
-    GoldenRequest {
-        update: golden.update,
-        allow_open: golden.open,
-        mode: golden.mode,
-    }
-}
 
 /// Returns the rules as a reference.
 fn given(rules: &Option<MaskRules>) -> Option<&MaskRules>
@@ -56,6 +44,31 @@ fn replaced<H: Host>(host: &H, golden: &Golden<'_>, name: &str) -> Option<Overla
             Some(Overlap::GoldenAndRules)
         }
         _ => None,
+    }
+}
+
+/// Compares the session of these bytes with the golden file, or makes or renews the golden file.
+fn kept<'a, T: Replaceable>(
+    alloc: Global,
+    golden: &Golden<'a>,
+    rules: Option<MaskRules>,
+    session: Vec<u8>,
+    file: &mut T,
+) -> Result<Option<Answer<'a>>, Why<'a>>
+    requires few { T.failures file.old < 2 ^ 61 }
+    requires none { T.is_known file.old → T.temporary file.old ≡ None }
+    ensures { IsKept T.Replaceable golden.now rules session file.old file.new result }
+{
+    let name = Name::new(golden.golden.as_str());
+    let mut bytes = MemorySource::new(session.as_slice());
+    let request = GoldenRequest {
+        update: golden.update,
+        allow_open: golden.open,
+        mode: golden.mode,
+    };
+    match golden_file(alloc, &mut bytes, given(&rules), file, request, LIMITS) {
+        Ok(done) => Ok(Some(Answer::Golden(name, done))),
+        Err(stop) => Err(Why::Golden(name, stop, session, rules)),
     }
 }
 
@@ -92,10 +105,5 @@ pub(crate) fn run_golden<'a, H: Host>(
         Err(fault) => return Err(Why::GoldenFile(Name::new(path), golden.update, fault)),
     };
     let target = desk.target.insert(file);
-    let mut bytes = MemorySource::new(session.as_slice());
-    let request = request_of(golden);
-    match golden_file(alloc, &mut bytes, given(&rules), target, request, LIMITS) {
-        Ok(done) => Ok(Some(Answer::Golden(Name::new(path), done))),
-        Err(stop) => Err(Why::Golden(Name::new(path), stop, session, rules)),
-    }
+    kept(alloc, golden, rules, session, target)
 }

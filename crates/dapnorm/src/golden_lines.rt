@@ -1,8 +1,7 @@
 //! The line and the status for each reason why `golden` stopped.
 ghost use Rattle.std.specs.Prelude.{◌≡◌, ◌∷◌, []};
 ghost use Rattle.dapnorm.specs.GoldenLines.{golden_line, stop_line, stop_status};
-ghost use Rattle.dapnorm.specs.Lines.{line_text, part_text};
-ghost use Rattle.dapnorm.specs.Saving.{unsaved_words};
+ghost use Rattle.dapnorm.specs.{Lines.{line_text, part_text}, Saving.unsaved_words};
 
 use crate::line::{Line, Part};
 use crate::reporting::{FAULT, MEMORY, REFUSED};
@@ -55,10 +54,8 @@ pub(crate) fn stop_line<'a>(has_rules: bool, name: &'a str, stop: GoldenStop) ->
         GoldenStop::GoldenTooLong => (name, Part::Text(": InputTooLong"), REFUSED),
         GoldenStop::Golden(why) => {
             let (golden, colon) = (Part::Text("golden: "), Part::Text(": "));
-            return (
-                Line::Fault(golden, name, colon, Part::Refused(why)),
-                REFUSED,
-            );
+            let line = Line::Fault(golden, name, colon, Part::Refused(why));
+            return (line, REFUSED);
         }
         GoldenStop::NotRecording => {
             let words = ": not replaced, since it is not a recording: remove it first";

@@ -1,6 +1,6 @@
 //! Texts that are written in parts, and the lines that report errors.
 ghost use Rattle.std.specs.Prelude.{◌≡◌, ◌<◌, ◌^◌, ◌∷◌, []};
-ghost use Rattle.dap_device.specs.Written.{HasSentAll, HasWrittenAll};
+ghost use Rattle.dap_device.specs.{Devices.CanWrite, Written.{HasSentAll, HasWrittenAll}};
 ghost use Rattle.dapnorm.specs.Lines.{fault_line, line_text, part_text, parts_text};
 ghost use Rattle.dapnorm.specs.Reporting.{HasSent};
 
@@ -74,7 +74,7 @@ pub(crate) fn write_parts<W: Sink>(writer: &mut W, parts: &[Part<'_>]) -> Result
 
 /// Writes all parts, one after another, and flushes.
 fn send_parts<W: Sink>(writer: &mut W, parts: &[Part<'_>]) -> Result<(), DeviceFault>
-    requires { W.failures writer.old < 2 ^ 62 }
+    requires writer { CanWrite W.Sink writer.old }
     ensures { HasSentAll W.Sink writer.old writer.new result (parts_text parts.now) }
 {
     write_parts(writer, parts)?;
@@ -83,16 +83,14 @@ fn send_parts<W: Sink>(writer: &mut W, parts: &[Part<'_>]) -> Result<(), DeviceF
 
 /// Writes a line to the errors and flushes. A failure to write it is not reported.
 pub(crate) fn report_line<E: Sink>(errors: &mut E, line: Line<'_>)
-    requires { E.failures errors.old < 2 ^ 62 }
+    requires writer { CanWrite E.Sink errors.old }
     ensures { HasSent E.Sink errors.old errors.new (line_text line.entry) }
 {
     let _ = match line {
         Line::Whole(text) => send_parts(errors, &[Part::Text(text)]),
         Line::Fault(a, b, c, d) => {
-            send_parts(
-                errors,
-                &[Part::Text("dapnorm: "), a, b, c, d, Part::Text("\n")],
-            )
+            let (start, end) = (Part::Text("dapnorm: "), Part::Text("\n"));
+            send_parts(errors, &[start, a, b, c, d, end])
         }
     };
 }

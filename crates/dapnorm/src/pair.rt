@@ -1,13 +1,12 @@
 //! Compares two recordings: readers, or the files that names lead to.
-ghost use Rattle.std.specs.Prelude.{◌≡◌, ◌+◌, ◌<◌, ◌≤◌, ◌^◌};
+ghost use Rattle.std.specs.Prelude.{◌≡◌, ◌+◌, ◌≤◌};
 ghost use Rattle.dap_commands.specs.Reading.{text_in};
 ghost use Rattle.dap_host.specs.declared.limits.TheConstants.{LIMITS};
 ghost use Rattle.dap_input.specs.Limits.{AreSound};
 ghost use Rattle.dap_normalise.specs.NameTables.{AreReady};
 ghost use Rattle.dapnorm.specs.Comparisons.{Finds, FindsByRules, PairIsRun, are_both_standard};
-ghost use Rattle.dapnorm.specs.Desks.{writes};
-ghost use Rattle.dapnorm.specs.Desks.{CanRead, CanWrite, TakesAtMost, empty, here, reads};
-ghost use Rattle.dapnorm.specs.Pairs.{CompareIsReported};
+ghost use Rattle.dapnorm.specs.{Desks.{TakesAtMost, empty, here}, Pairs.CompareIsReported};
+ghost use Rattle.dap_device.specs.Devices.{CanRead, CanWrite, reads, writes};
 
 use crate::answer::Answer;
 use crate::desk::Desk;
@@ -18,7 +17,7 @@ use crate::rules::given_rules;
 use crate::texts::text_by_rules;
 use crate::why::{Mistake, Why};
 use dap_commands::{Name, Printed};
-use dap_compare::{CompareRefused, Which, compare_with};
+use dap_compare::{Which, compare_with};
 use dap_device::{MemorySource, Sink, Source};
 use dap_diff::{diff_all_with, diff_with};
 use dap_host::{Host, LIMITS, Purpose, is_standard};
@@ -114,7 +113,7 @@ fn found<'a, A: Source, B: Source, T: NameTable + Drop>(
     reader_b: &mut B,
     tables_a: Tables<T>,
     tables_b: Tables<T>,
-) -> Result<Answer<'a>, CompareRefused>
+) -> Result<Option<Answer<'a>>, Why<'a>>
     requires tables_a { AreReady T.numbers T.limit LIMITS tables_a }
     requires tables_b { AreReady T.numbers T.limit LIMITS tables_b }
     requires readers { CanRead A.Source reader_a.old × CanRead B.Source reader_b.old }
@@ -126,20 +125,20 @@ fn found<'a, A: Source, B: Source, T: NameTable + Drop>(
     match printed {
         Printed::Verdict => {
             match compare_with(alloc, reader_a, reader_b, LIMITS, tables_a, tables_b, mode) {
-                Ok(verdict) => Ok(Answer::Verdict(mode, verdict)),
-                Err(refused) => Err(refused),
+                Ok(verdict) => Ok(Some(Answer::Verdict(mode, verdict))),
+                Err(refused) => Err(Why::Pair(refused)),
             }
         }
         Printed::FirstDifference => {
             match diff_with(alloc, reader_a, reader_b, LIMITS, tables_a, tables_b, mode) {
-                Ok(diff) => Ok(Answer::Difference(diff)),
-                Err(refused) => Err(refused),
+                Ok(diff) => Ok(Some(Answer::Difference(diff))),
+                Err(refused) => Err(Why::Pair(refused)),
             }
         }
         Printed::AllDifferences => {
             match diff_all_with(alloc, reader_a, reader_b, LIMITS, tables_a, tables_b, mode) {
-                Ok(all) => Ok(Answer::Differences(all)),
-                Err(refused) => Err(refused),
+                Ok(all) => Ok(Some(Answer::Differences(all))),
+                Err(refused) => Err(Why::Pair(refused)),
             }
         }
     }
@@ -173,7 +172,7 @@ fn found_by_rules<'a, H: Host>(
     let mut bytes_a = MemorySource::new(text_a.as_slice());
     let mut bytes_b = MemorySource::new(text_b.as_slice());
     let (tables_a, tables_b) = (host.tables(alloc), host.tables(alloc));
-    match found(
+    found(
         alloc,
         printed,
         used,
@@ -181,10 +180,7 @@ fn found_by_rules<'a, H: Host>(
         &mut bytes_b,
         tables_a,
         tables_b,
-    ) {
-        Ok(answer) => Ok(Some(answer)),
-        Err(refused) => Err(Why::Pair(refused)),
-    }
+    )
 }
 
 /// Returns whether both inputs are standard input.
@@ -235,8 +231,5 @@ pub(crate) fn run_pair<'a, H: Host>(
         return found_by_rules(alloc, host, printed, mode, rules, reader_a, reader_b);
     }
     let (tables_a, tables_b) = (host.tables(alloc), host.tables(alloc));
-    match found(alloc, printed, mode, reader_a, reader_b, tables_a, tables_b) {
-        Ok(answer) => Ok(Some(answer)),
-        Err(refused) => Err(Why::Pair(refused)),
-    }
+    found(alloc, printed, mode, reader_a, reader_b, tables_a, tables_b)
 }

@@ -1,7 +1,7 @@
 //! Reads a file whole.
-ghost use Rattle.std.specs.Prelude.{◌≡◌, ◌+◌, ◌<◌, ◌≤◌, ◌^◌, None};
-ghost use Rattle.dapnorm.specs.Desks.{TakesAtMost};
-ghost use Rattle.dapnorm.specs.Lines.{line_text};
+ghost use Rattle.std.specs.Prelude.{◌≡◌, ◌+◌, ◌≤◌, ◌^◌, None};
+ghost use Rattle.dap_device.specs.Devices.{CanRead};
+ghost use Rattle.dapnorm.specs.{Desks.TakesAtMost, Lines.line_text};
 ghost use Rattle.dapnorm.specs.Readings.{IsFileRead, IsReadWhole, unless_memory, unread_status};
 
 use crate::line::{Line, Part, fault};
@@ -40,8 +40,7 @@ impl Unread {
 /// Reads a file whole, with at most one byte past the limit.
 fn read_whole<R: Source>(alloc: Global, reader: &mut R, limit: u64) -> Result<Vec<u8>, Unread>
     requires small { limit ≤ 2 ^ 62 }
-    requires given { R.given reader.old < 2 ^ 62 }
-    requires failures { R.failures reader.old < 2 ^ 62 }
+    requires reader { CanRead R.Source reader.old }
     ensures reads { IsReadWhole R.Source limit reader.old reader.new result }
     ensures taken { R.given reader.new ≤ R.given reader.old + limit + 1 }
 {

@@ -1,5 +1,6 @@
 //! Statuses, and what the program reports of the result of an engine.
-ghost use Rattle.std.specs.Prelude.{◌≡◌, ◌∷◌, ◌<◌, ◌^◌, []};
+ghost use Rattle.std.specs.Prelude.{◌≡◌, ◌∷◌, []};
+ghost use Rattle.dap_device.specs.Devices.{CanWrite};
 ghost use Rattle.dap_compare.specs.Which.{compare_refused_text};
 ghost use Rattle.dap_input.specs.RefusedText.{refused_text};
 ghost use Rattle.dapnorm.specs.Lines.{fault_line, line_text};
@@ -68,7 +69,7 @@ pub(crate) fn pair_line<'a>(refused: CompareRefused) -> (Line<'a>, u8)
 
 /// Reports an error in one line, and returns the status of the program.
 pub(crate) fn report_outcome<E: Sink>(errors: &mut E, outcome: Result<(), Refused>) -> u8
-    requires { E.failures errors.old < 2 ^ 62 }
+    requires writer { CanWrite E.Sink errors.old }
     ensures reported { IsReported E.Sink errors.old errors.new outcome }
     ensures status { result ≡ status_of outcome }
 {

@@ -1,8 +1,7 @@
 //! Reads the rules of a command.
 ghost use Rattle.std.specs.Prelude.{◌≡◌};
 ghost use Rattle.dap_commands.specs.Reading.{text_in};
-ghost use Rattle.dapnorm.specs.Lines.{line_text};
-ghost use Rattle.dapnorm.specs.Reasons.{no_rules_line, no_rules_status};
+ghost use Rattle.dapnorm.specs.{Lines.line_text, Reasons.{no_rules_line, no_rules_status}};
 ghost use Rattle.dapnorm.specs.Rules.{AreGivenRules, AreRules, IsRulesText, IsTextOf};
 
 use crate::line::{Line, Part, fault};
@@ -80,9 +79,6 @@ pub(crate) fn rules_text<H: Host>(
         Ok(text) => text,
         Err(why) => return Err(NoRules::File(why)),
     };
-    if values.is_empty() {
-        return Ok(text);
-    }
     match with_values(alloc, text, values) {
         Ok(rules) => Ok(rules),
         Err(fault) => Err(NoRules::Words(fault)),

@@ -1,8 +1,8 @@
 //! Does a job, prints its output, and returns a status.
-ghost use Rattle.std.specs.Prelude.{◌≡◌, ◌+◌, ◌<◌, ◌≤◌, ◌^◌};
+ghost use Rattle.std.specs.Prelude.{◌≡◌, ◌+◌, ◌≤◌};
 ghost use Rattle.dap_input.specs.Limits.{AreSound};
 ghost use Rattle.dap_normalise.specs.NameTables.{AreReady};
-ghost use Rattle.dapnorm.specs.Desks.{CanRead, CanWrite, reads, writes};
+ghost use Rattle.dap_device.specs.Devices.{CanRead, CanWrite, reads, writes};
 ghost use Rattle.dapnorm.specs.Run.{JobIsDone, ReportsUsage};
 
 use crate::answer::Answer;
@@ -46,15 +46,8 @@ pub fn run_stream<R: Source, W: Sink, E: Sink>(
     // It takes at most one byte past the limit.
     ensures taken { R.given reader.new ≤ R.given reader.old + limits.input + 1 }
 {
-    run_stream_with(
-        alloc,
-        job,
-        reader,
-        writer,
-        errors,
-        limits,
-        index_tables(alloc, limits.ids),
-    )
+    let tables = index_tables(alloc, limits.ids);
+    run_stream_with(alloc, job, reader, writer, errors, limits, tables)
 }
 
 /// Does what [`run_stream`] does, with these tables for the names of ids. They have to be empty,
@@ -103,8 +96,7 @@ pub fn run_stream_with<R: Source, W: Sink, E: Sink, T: NameTable + Drop>(
 /// fails. An error in the arguments goes to `errors`, with status 3, and a failed allocation with
 /// status 5. A failure of `errors` is not reported.
 pub fn run_usage<W: Sink, E: Sink>(fault: &UsageFault, writer: &mut W, errors: &mut E) -> u8
-    requires write_failures { W.failures writer.old < 2 ^ 62 }
-    requires error_failures { E.failures errors.old < 2 ^ 62 }
+    requires writers { CanWrite W.Sink writer.old × CanWrite E.Sink errors.old }
     ensures { ReportsUsage W.Sink E.Sink fault.now writer.old writer.new errors.old errors.new
         result }
 {

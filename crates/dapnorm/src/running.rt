@@ -4,8 +4,7 @@ ghost use Rattle.dap_commands.specs.Reading.{text_in};
 ghost use Rattle.dap_host.specs.declared.limits.TheConstants.{LIMITS};
 ghost use Rattle.dapnorm.specs.Desks.{TakesAtMost, empty, here};
 ghost use Rattle.dapnorm.specs.Running.{CheckIsRun, FindsRows, IsAnswered, IsDone, IsFinished};
-ghost use Rattle.dapnorm.specs.Running.{IsRun};
-ghost use Rattle.dapnorm.specs.Streams.{input_name};
+ghost use Rattle.dapnorm.specs.{Running.IsRun, Streams.input_name};
 
 use crate::answer::Answer;
 use crate::desk::Desk;
@@ -111,18 +110,9 @@ fn done<'a, H: Host>(
             rules,
             mode,
         } => {
-            let (a, b) = (a.as_str(), b.as_str());
-            run_pair(
-                alloc,
-                host,
-                *printed,
-                *mode,
-                a,
-                b,
-                text_of(rules),
-                words,
-                desk,
-            )
+            let (printed, mode) = (*printed, *mode);
+            let (a, b, rules) = (a.as_str(), b.as_str(), text_of(rules));
+            run_pair(alloc, host, printed, mode, a, b, rules, words, desk)
         }
         Command::Suggest { a, b, rules } => {
             let (a, b) = (a.as_str(), b.as_str());

@@ -1,16 +1,14 @@
 //! Does a task over one input, and writes or saves its output.
-ghost use Rattle.std.specs.Prelude.{◌≡◌, ◌+◌, ◌<◌, ◌≤◌, ◌^◌, [], IfErr, IfOk, None};
+ghost use Rattle.std.specs.Prelude.{◌≡◌, ◌+◌, ◌≤◌, [], IfErr, IfOk, None};
 ghost use Rattle.dap_commands.specs.Reading.{text_in};
 ghost use Rattle.dap_host.specs.declared.limits.TheConstants.{LIMITS};
 ghost use Rattle.dap_mask.specs.KeptRules.{mask_of};
 ghost use Rattle.dap_normalise.specs.NameTables.{AreReady};
-ghost use Rattle.dapnorm.specs.Desks.{writes};
-ghost use Rattle.dapnorm.specs.Desks.{CanRead, CanWrite, TakesAtMost, empty, here, reads};
-ghost use Rattle.dapnorm.specs.Lines.{line_text};
-ghost use Rattle.dapnorm.specs.Reasons.{unstreamed_line, unstreamed_status};
-ghost use Rattle.dapnorm.specs.Streams.{LosesRules};
+ghost use Rattle.dap_device.specs.Devices.{CanRead, CanWrite, reads, writes};
+ghost use Rattle.dapnorm.specs.Desks.{TakesAtMost, empty, here};
+ghost use Rattle.dapnorm.specs.{Lines.line_text, Reasons.{unstreamed_line, unstreamed_status}};
 ghost use Rattle.dapnorm.specs.Streams.{GoesTo, IsNoOutput, IsOutput, IsSavedIn, IsShown};
-ghost use Rattle.dapnorm.specs.Streams.{IsStreamed, IsWritten, StreamIsRun};
+ghost use Rattle.dapnorm.specs.Streams.{IsStreamed, IsWritten, LosesRules, StreamIsRun};
 ghost use Rattle.dapnorm.specs.Streams.{TaskRequests, input_name, output_name, task_rules};
 ghost use Rattle.dapnorm.specs.Streams.{unstreamed_of};
 
@@ -138,8 +136,7 @@ fn shown<R: Source, W: Sink>(
         Some(ShowRequest::Faulty(detail)) => {
             match show_faulty(alloc, reader, writer, LIMITS, detail) {
                 Ok(None) => Ok(()),
-                Ok(Some(refused)) => Err(Unstreamed::Input(refused)),
-                Err(refused) => Err(Unstreamed::Input(refused)),
+                Ok(Some(refused)) | Err(refused) => Err(Unstreamed::Input(refused)),
             }
         }
         Some(ShowRequest::Record(number)) => {

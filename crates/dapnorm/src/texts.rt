@@ -1,10 +1,10 @@
 //! The text that rules make of an input.
-ghost use Rattle.std.specs.Prelude.{◌≡◌, ◌↔◌, ◌+◌, ◌<◌, ◌≤◌, ◌^◌, [], IsTrue};
+ghost use Rattle.std.specs.Prelude.{◌≡◌, ◌↔◌, ◌+◌, ◌≤◌, [], IsTrue};
+ghost use Rattle.dap_device.specs.Devices.{CanRead};
 ghost use Rattle.dap_host.specs.declared.limits.TheConstants.{LIMITS};
 ghost use Rattle.dap_mask.specs.KeptRules.{mask_of};
 ghost use Rattle.dap_normalise.specs.NameTables.{AreReady};
-ghost use Rattle.dapnorm.specs.Comparisons.{ChecksText, HasText};
-ghost use Rattle.dapnorm.specs.Lines.{line_text};
+ghost use Rattle.dapnorm.specs.{Comparisons.{ChecksText, HasText}, Lines.line_text};
 ghost use Rattle.dapnorm.specs.Reasons.{unapplied_line, unapplied_status};
 
 use crate::line::{Line, Part};
@@ -28,11 +28,9 @@ pub(crate) fn unapplied_line<'a>(which: Which, refused: ApplyRefused) -> (Line<'
     match refused {
         ApplyRefused::Mask(refused) => pair_line(CompareRefused::Input(which, refused)),
         ApplyRefused::Order(refused) => {
-            let (letter, words) = (
-                Part::Text(which.letter()),
-                Part::Text(": after the rules: "),
-            );
-            let line = Line::Fault(letter, words, Part::Refused(refused), Part::Text(""));
+            let (letter, why) = (Part::Text(which.letter()), Part::Refused(refused));
+            let (words, none) = (Part::Text(": after the rules: "), Part::Text(""));
+            let line = Line::Fault(letter, words, why, none);
             (line, refused_status(refused))
         }
         ApplyRefused::ReadFault => pair_line(CompareRefused::Input(which, Refused::ReadFault)),
@@ -75,17 +73,16 @@ pub(crate) fn text_by_rules<R: Source, T: NameTable + Drop>(
     mode: Mode,
 ) -> Result<Vec<u8>, ApplyRefused>
     requires tables { AreReady T.numbers T.limit LIMITS tables }
-    requires given { R.given reader.old < 2 ^ 62 }
-    requires failures { R.failures reader.old < 2 ^ 62 }
+    requires reader { CanRead R.Source reader.old }
     ensures text { HasText R.Source mode (mask_of rules.now) reader.old reader.new result }
     ensures taken { R.given reader.new ≤ R.given reader.old + LIMITS.input + 1 }
 {
     let text = read_by_rules(alloc, rules, reader, LIMITS, mode)?;
-    if has_no_order(rules) {
-        return match check_text(alloc, text.as_slice(), tables, mode) {
-            Ok(()) => Ok(text),
-            Err(refused) => Err(refused),
-        };
+    if !has_no_order(rules) {
+        return Ok(text);
     }
-    Ok(text)
+    match check_text(alloc, text.as_slice(), tables, mode) {
+        Ok(()) => Ok(text),
+        Err(refused) => Err(refused),
+    }
 }

@@ -1,9 +1,9 @@
 //! Why a command did not finish. Each reason has one line and one status.
-ghost use Rattle.std.specs.Prelude.{◌≡◌, ◌<◌, ◌^◌};
+ghost use Rattle.std.specs.Prelude.{◌≡◌};
+ghost use Rattle.dap_device.specs.Devices.{CanWrite};
 ghost use Rattle.dapnorm.specs.Lines.{line_text};
 ghost use Rattle.dapnorm.specs.Reasons.{lost_words, mistake_line, overlap_words, unread_line};
-ghost use Rattle.dapnorm.specs.Reasons.{why_line, why_status};
-ghost use Rattle.dapnorm.specs.Reporting.{HasSent};
+ghost use Rattle.dapnorm.specs.{Reasons.{why_line, why_status}, Reporting.HasSent};
 
 use crate::golden_lines::{golden_line, stop_line, unsaved_words};
 use crate::line::{Line, Part, fault, fault_of, report_line};
@@ -171,7 +171,7 @@ impl Why<'_> {
     /// Reports the reason in one line, and returns the status of the program. A failure to write
     /// the line is not reported.
     pub fn report<E: Sink>(&self, errors: &mut E) -> u8
-        requires { E.failures errors.old < 2 ^ 62 }
+        requires writer { CanWrite E.Sink errors.old }
         ensures line { HasSent E.Sink errors.old errors.new (why_line self.now) }
         ensures status { result ≡ why_status self.now }
     {

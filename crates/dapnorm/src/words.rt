@@ -1,33 +1,24 @@
 //! The values of the option `--word`, and the lines that they add to a text of rules.
-ghost use Rattle.std.specs.Prelude.{◌≡◌, ◌≢◌, ◌<◌, ◌+◌, ◌++◌, ◌∷◌, [], IfErr, IfOk, Ok, OnErr};
-ghost use Rattle.std.specs.Prelude.{OnOk, count_by, get_or, is_ok, length};
-ghost use Rattle.dap_mask.specs.Mask.{no_rules};
-ghost use Rattle.dap_mask.specs.RulesFile.{is_line_feed, rules_said};
+ghost use Rattle.std.specs.Prelude.{◌≡◌, ◌≢◌, ◌<◌, ◌⊎◌, ◌++◌, ◌∷◌, [], IfErr, IfOk, Ok, OnErr};
+ghost use Rattle.std.specs.{Option.MatchOption, Prelude.{OnOk, count_by, get_or, is_ok, length}};
+ghost use Rattle.dap_mask.specs.{Mask.no_rules, RulesFile.{is_line_feed, rules_said}};
 ghost use Rattle.dap_mask.specs.WordLines.{word_line};
-ghost use Rattle.dapnorm.specs.WordOption.{AreNamedBy, HasLinesOf, HasNoLines};
-ghost use Rattle.dapnorm.specs.WordOption.{HaveNoPairs, IsNamedBy, IsReportOf};
-ghost use Rattle.dapnorm.specs.WordOption.{ReportsLine, line_end, reason_of};
-ghost use Rattle.dapnorm.specs.WordOption.{with_word_lines};
-ghost use Rattle.dap_words.specs.Words.{pair_of, pairs_of};
+ghost use Rattle.dapnorm.specs.WordOption.{BlamesFirst, HasEquals, HasLinesOf, HasNoEquals};
+ghost use Rattle.dapnorm.specs.WordOption.{HasNoLines, HaveEquals, IsReportOf, ReportsLine};
+ghost use Rattle.dapnorm.specs.WordOption.{line_end, pair_in, reason_of, with_lines};
 
 use dap_commands::{Name, UsageFault};
 use dap_mask::{MaskRules, RulesCause, RulesFault, write_word};
 use dap_words::Word;
 use std::alloc::{AllocError, Global};
 
-/// Returns the text and the word of a value TEXT=WORD. TEXT ends at the first `=`. `None`: the
-/// value does not contain `=`.
-fn word_of(alloc: Global, value: &str) -> Result<Option<Word>, AllocError>
-    ensures { IfOk result (IsNamedBy value.now) }
+/// Returns TEXT and WORD of a value TEXT=WORD. TEXT ends at the first `=`. `None`: the value does
+/// not contain `=`.
+fn parts(value: &str) -> Option<(&str, &str)>
+    ensures { MatchOption result (HasNoEquals value.now) (λ parts. HasEquals value.now
+        × (parts.0.now ≡ (pair_in value.now).text) × (parts.1.now ≡ (pair_in value.now).word)) }
 {
-    match value.split_once('=') {
-        None => Ok(None),
-        Some((text, word)) => {
-            let text = String::from_str(alloc, text)?;
-            let word = String::from_str(alloc, word)?;
-            Ok(Some(Word { text, word }))
-        }
-    }
+    value.split_once('=')
 }
 
 /// Ends the last line of a text, if it does not end in a line feed.
@@ -43,30 +34,18 @@ fn end_line(text: &mut Vec<u8>) -> Result<(), AllocError>
 }
 
 /// Appends the line of a rules file for a word, with its line feed.
-fn push_line(alloc: Global, word: Word, text: &mut Vec<u8>) -> Result<(), AllocError>
-    ensures { OnOk result
-        (text.new.items ≡ text.old.items ++ (word_line (pair_of word) ++ 10 ∷ [])) }
+fn push_line(alloc: Global, text: &str, word: &str, rules: &mut Vec<u8>) -> Result<(), AllocError>
+    ensures { OnOk result (rules.new.items ≡ rules.old.items
+        ++ (word_line (record { text = text.now; word = word.now }) ++ 10 ∷ [])) }
 {
+    let text = String::from_str(alloc, text)?;
+    let word = String::from_str(alloc, word)?;
     let mut line = Vec::new(alloc);
-    write_word(alloc, word, &mut line)?;
+    write_word(alloc, Word { text, word }, &mut line)?;
     // The line follows a line feed.
-    text.extend_from_slice(&line.as_slice()[1..])?;
-    text.push(b'\n')?;
+    rules.extend_from_slice(&line.as_slice()[1..])?;
+    rules.push(b'\n')?;
     Ok(())
-}
-
-/// Returns the text of a rules file with a line for each word after it.
-fn with_word_lines(alloc: Global, text: Vec<u8>, words: Vec<Word>) -> Result<Vec<u8>, AllocError>
-    ensures ok { IfOk result
-        (λ joined. joined.items ≡ with_word_lines text.items (pairs_of words.items)) }
-    ensures err { OnErr result (0 < length text.items + length words.items) }
-{
-    let mut joined = text;
-    end_line(&mut joined)?;
-    for word in words {
-        push_line(alloc, word, &mut joined)?;
-    }
-    Ok(joined)
 }
 
 /// Returns what is reported of a value of the option.
@@ -79,42 +58,44 @@ fn bad_value(alloc: Global, value: &str, why: &str) -> UsageFault
     }
 }
 
-/// Returns the words of the values of the option, in their order.
+/// Returns the text of a rules file with a line for each value after it, in their order.
 ///
 /// # Errors
 ///
 /// - `Usage`: a value does not contain `=`.
 /// - `Memory`: an allocation failed.
-fn words_of(alloc: Global, values: &[Name<'_>]) -> Result<Vec<Word>, UsageFault>
-    ensures ok { IfOk result (λ words. AreNamedBy values.now (pairs_of words.items)) }
-    ensures err { IfErr result (HaveNoPairs values.now) }
+fn with_lines(alloc: Global, text: Vec<u8>, values: &[Name<'_>]) -> Result<Vec<u8>, UsageFault>
+    ensures named { IfOk result (λ rules. HaveEquals values.now (length values.now)) }
+    ensures lines { IfOk result (λ rules. rules.items ≡ with_lines text.items values.now) }
+    ensures err { IfErr result
+        (λ report. BlamesFirst values.now report ⊎ (report ≡ UsageFault.Memory)) }
 {
-    let mut words = Vec::new(alloc);
-    for value in values {
-        let text = value.as_str();
-        match word_of(alloc, text) {
-            Ok(Some(word)) => {
-                if words.push(word).is_err() {
-                    return Err(UsageFault::Memory);
-                }
-            }
-            Ok(None) => return Err(bad_value(alloc, text, "write TEXT=WORD")),
-            Err(_) => return Err(UsageFault::Memory),
+    let mut rules = text;
+    if end_line(&mut rules).is_err() {
+        return Err(UsageFault::Memory);
+    }
+    for name in values {
+        let value = name.as_str();
+        let Some((text, word)) = parts(value) else {
+            return Err(bad_value(alloc, value, "write TEXT=WORD"));
+        };
+        if push_line(alloc, text, word, &mut rules).is_err() {
+            return Err(UsageFault::Memory);
         }
     }
-    Ok(words)
+    Ok(rules)
 }
 
 /// Returns why the rules do not accept the line of a word.
-fn reason_of(word: &Word, cause: RulesCause) -> &'static str
-    ensures { result.now ≡ reason_of (pair_of word.now) cause }
+fn reason_of(text: &str, word: &str, cause: RulesCause) -> &'static str
+    ensures { result.now ≡ reason_of (record { text = text.now; word = word.now }) cause }
 {
     match cause {
         RulesCause::Repeated => "TEXT has a WORD already",
         RulesCause::TooMany => "there are more than 1,000 rules",
         RulesCause::TooLong => "the rules are longer than 65,536 bytes",
-        _ if word.text.is_empty() => "TEXT is empty",
-        _ if word.word.is_empty() => "WORD is empty",
+        _ if text.is_empty() => "TEXT is empty",
+        _ if word.is_empty() => "WORD is empty",
         _ => "a WORD and a TEXT overlap: take another WORD, such as <home>",
     }
 }
@@ -136,19 +117,14 @@ fn value_at<'a>(values: &[Name<'a>], index: usize) -> &'a str
 /// Returns what is reported of the value whose line is rejected. The last lines of the rules are
 /// those of the values.
 fn refused_value(alloc: Global, rules: &[u8], values: &[Name<'_>], fault: RulesFault) -> UsageFault
-    ensures memory { fault.cause ≡ RulesCause.Memory → result ≡ UsageFault.Memory }
-    ensures line { ReportsLine values.now rules.now fault result }
-    ensures help { (said : _) → result ≢ UsageFault.Help said }
+    ensures { ReportsLine values.now rules.now fault result }
 {
-    if fault.cause == RulesCause::Memory {
-        return UsageFault::Memory;
-    }
     let after = line_count(rules).saturating_sub(fault.line);
     let index = values.len().saturating_sub(1).saturating_sub(after);
     let value = value_at(values, index);
-    match word_of(alloc, value) {
-        Ok(Some(word)) => bad_value(alloc, value, reason_of(&word, fault.cause)),
-        _ => UsageFault::Memory,
+    match parts(value) {
+        Some((text, word)) => bad_value(alloc, value, reason_of(text, word, fault.cause)),
+        None => UsageFault::Memory,
     }
 }
 
@@ -178,22 +154,24 @@ pub(crate) fn with_values(
     text: Vec<u8>,
     values: &[Name<'_>],
 ) -> Result<Vec<u8>, UsageFault>
-    ensures ok { IfOk result
-        (λ rules. HasLinesOf values.now text.items rules.items) }
+    ensures ok { IfOk result (λ rules. HasLinesOf values.now text.items rules.items) }
     ensures err { IfErr result (HasNoLines values.now text.items) }
 {
-    let words = words_of(alloc, values)?;
+    if values.is_empty() {
+        return Ok(text);
+    }
     let Ok(is_accepted) = is_accepted(alloc, text.as_slice()) else {
         return Err(UsageFault::Memory);
     };
-    let Ok(rules) = with_word_lines(alloc, text, words) else {
-        return Err(UsageFault::Memory);
-    };
+    let rules = with_lines(alloc, text, values)?;
     if !is_accepted {
         return Ok(rules);
     }
     match MaskRules::read(alloc, rules.as_slice()) {
         Ok(_) => Ok(rules),
-        Err(fault) => Err(refused_value(alloc, rules.as_slice(), values, fault)),
+        Err(fault) => match fault.cause {
+            RulesCause::Memory => Err(UsageFault::Memory),
+            _ => Err(refused_value(alloc, rules.as_slice(), values, fault)),
+        },
     }
 }

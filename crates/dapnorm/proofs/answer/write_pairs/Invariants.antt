@@ -1,5 +1,4 @@
-use Rattle.std.proofs.Common.{take}
-use Rattle.std.specs.List.{flat_map}
+use Rattle.std.{proofs.Common.take, specs.List.flat_map}
 use Rattle.dap_device.specs.Written.{AllWritten}
 use Rattle.dapnorm.specs.Answers.{pair_line}
 use Rattle.dapnorm.proofs.answer.write_pairs.Given as goal

@@ -1,5 +1,4 @@
-use Rattle.std.proofs.Common.{arith, refl}
-use Rattle.std.proofs.lemmas.Result.{err_from_is_err_and}
+use Rattle.std.proofs.{Common.{arith, refl}, lemmas.Result.err_from_is_err_and}
 use Rattle.dap_device.proofs.Sending.{line_not_sent}
 use Rattle.dapnorm.specs.Lines.{part_text}
 use Rattle.dapnorm.proofs.line.write_parts.Goals as goal

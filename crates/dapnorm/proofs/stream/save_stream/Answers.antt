@@ -1,5 +1,5 @@
-use Rattle.std.proofs.Common.{ℕ, List, Option, Ok, Err, ◌∙◌, refl, rules, subst}
-use Rattle.dapnorm.proofs.Kept.{saves}
+use Rattle.std.proofs.Common.{◌∙◌, ℕ, List, Option, Ok, Err, rules, subst}
+use Rattle.dapnorm.proofs.Kept.{is_left, saves}
 use Rattle.dapnorm.specs.Rules.{AreRules}
 use Rattle.dapnorm.proofs.stream.save_stream.Goals as goal
 
@@ -15,22 +15,17 @@ returns-in-Err-rules_of-clause-saved g c = (
 pub returns-then-failures-gt0-clause-saved : goal.returns-then-failures-gt0-clause-saved
 returns-then-failures-gt0-clause-saved g c = (
   search rules,
-  record {
-    rules = c.in-Ok-rules_of.rules;
-    text = c.streamed-outcome.new.writer;
-    outcome = c.streamed-outcome.result;
-    holds = (
+  (
+    c.in-Ok-rules_of.rules,
+    c.streamed-outcome.new.writer,
+    c.streamed-outcome.result,
+    (
       rw (c.task_rules.ensures) at c.in-Ok-rules_of.ensures,
-      record {
-        old = c.insert-reader.result.now;
-        new = c.streamed-outcome.new.reader;
-        opens = search rules;
-        is = refl;
-        does = rw (c.new-text.ensures) at c.streamed-outcome.ensures.done;
-      },
-    );
-    failed = search rules;
-  },
+      is_left c.insert-reader.result.now c.streamed-outcome.new.reader (search rules)
+          (rw (c.new-text.ensures) at c.streamed-outcome.ensures.done),
+    ),
+    search rules,
+  ),
 )
 
 pub returns-in-Err-outcome-clause-saved : goal.returns-in-Err-outcome-clause-saved
@@ -40,13 +35,8 @@ returns-in-Err-outcome-clause-saved g c = (
     c.streamed-outcome.new.writer,
     (
       rw (c.task_rules.ensures) at c.in-Ok-rules_of.ensures,
-      record {
-        old = c.insert-reader.result.now;
-        new = c.streamed-outcome.new.reader;
-        opens = search rules;
-        is = refl;
-        does = rw (c.new-text.ensures) at c.in-Err-outcome.ensures.done;
-      },
+      is_left c.insert-reader.result.now c.streamed-outcome.new.reader (search rules)
+          (rw (c.new-text.ensures) at c.in-Err-outcome.ensures.done),
     ),
     search rules,
   ),
@@ -58,25 +48,15 @@ returns-in-Ok-replace-clause-saved g c = record {
   text = c.streamed-outcome.new.writer;
   holds = (
     rw (c.task_rules.ensures) at c.in-Ok-rules_of.ensures,
-    record {
-      old = c.insert-reader.result.now;
-      new = c.streamed-outcome.new.reader;
-      opens = search rules;
-      is = refl;
-      does = rw (c.new-text.ensures) at c.in_default.ensures.done;
-    },
+    is_left c.insert-reader.result.now c.streamed-outcome.new.reader (search rules)
+        (rw (c.new-text.ensures) at c.in_default.ensures.done),
   );
   complete = search rules;
-  saves = record {
-    old = c.insert-target.result.now;
-    new = c.replace.new.file;
-    opens = search rules;
-    is = refl;
-    does = saves g.H.Target.Replaceable c.as_slice.result.now c.streamed-outcome.new.writer.out
-        c.insert-target.result.now c.replace.new.file (Ok tt)
-        (c.as_slice.ensures.value ∙ c.into_bytes-bytes.ensures) c.in-Ok-replace.ensures.done
-        c.in-Ok-replace.ensures.any_moment;
-  };
+  saves = is_left c.insert-target.result.now c.replace.new.file (search rules)
+      (saves g.H.Target.Replaceable c.as_slice.result.now c.streamed-outcome.new.writer.out
+      c.insert-target.result.now c.replace.new.file (Ok tt)
+      (c.as_slice.ensures.value ∙ c.into_bytes-bytes.ensures) c.in-Ok-replace.ensures.done
+      c.in-Ok-replace.ensures.any_moment);
 }
 
 pub returns-clause-saved : goal.returns-clause-saved
@@ -87,28 +67,18 @@ returns-clause-saved g c = (
     text = c.streamed-outcome.new.writer;
     holds = (
       rw (c.task_rules.ensures) at c.in-Ok-rules_of.ensures,
-      record {
-        old = c.insert-reader.result.now;
-        new = c.streamed-outcome.new.reader;
-        opens = search rules;
-        is = refl;
-        does = rw (c.new-text.ensures) at c.in_default.ensures.done;
-      },
+      is_left c.insert-reader.result.now c.streamed-outcome.new.reader (search rules)
+          (rw (c.new-text.ensures) at c.in_default.ensures.done),
     );
     complete = search rules;
-    saves = record {
-      old = c.insert-target.result.now;
-      new = c.replace.new.file;
-      opens = search rules;
-      is = refl;
-      does = saves g.H.Target.Replaceable c.as_slice.result.now c.streamed-outcome.new.writer.out
-          c.insert-target.result.now c.replace.new.file (Err c.in-Err-replace.fault)
-          (c.as_slice.ensures.value ∙ c.into_bytes-bytes.ensures) (record {
-            failed = c.in-Err-replace.ensures.failed;
-            removed = c.in-Err-replace.ensures.removed;
-            counted = c.in-Err-replace.ensures.counted;
-          })
-          c.in-Err-replace.ensures.any_moment;
-    };
+    saves = is_left c.insert-target.result.now c.replace.new.file (search rules)
+        (saves g.H.Target.Replaceable c.as_slice.result.now c.streamed-outcome.new.writer.out
+        c.insert-target.result.now c.replace.new.file (Err c.in-Err-replace.fault)
+        (c.as_slice.ensures.value ∙ c.into_bytes-bytes.ensures) (record {
+          failed = c.in-Err-replace.ensures.failed;
+          removed = c.in-Err-replace.ensures.removed;
+          counted = c.in-Err-replace.ensures.counted;
+        })
+        c.in-Err-replace.ensures.any_moment);
   },
 )

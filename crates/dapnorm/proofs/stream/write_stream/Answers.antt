@@ -1,4 +1,5 @@
-use Rattle.std.proofs.Common.{ℕ, List, Option, Ok, Err, ◌∙◌, refl, rules, subst}
+use Rattle.std.proofs.Common.{ℕ, List, Option, Err, rules, subst}
+use Rattle.dapnorm.proofs.Kept.{is_left}
 use Rattle.dapnorm.specs.Rules.{AreRules}
 use Rattle.dapnorm.proofs.stream.write_stream.Goals as goal
 
@@ -15,17 +16,15 @@ pub returns-in-Ok-streamed-clause-written : goal.returns-in-Ok-streamed-clause-w
 returns-in-Ok-streamed-clause-written g c = (
   c.in-Ok-rules_of.rules,
   rw (c.task_rules.ensures) at c.in-Ok-rules_of.ensures,
-  record {
-    old = c.insert-writer.result.now;
-    new = c.streamed.new.writer;
-    opens = search rules;
-    is = refl;
-    does = record {
-      old = c.insert-reader.result.now;
-      new = c.streamed.new.reader;
-      opens = search rules;
-      is = refl;
-      does = c.in-Ok-streamed.ensures.done;
-    };
-  },
+  is_left c.insert-writer.result.now c.streamed.new.writer (search rules)
+      (is_left c.insert-reader.result.now c.streamed.new.reader (search rules)
+      c.in-Ok-streamed.ensures.done),
+)
+
+pub returns-clause-written : goal.returns-clause-written
+returns-clause-written g c = (
+  rw (c.task_rules.ensures) at c.in-Ok-rules_of.ensures,
+  is_left c.insert-writer.result.now c.streamed.new.writer (search rules)
+      (is_left c.insert-reader.result.now c.streamed.new.reader (search rules)
+      c.in-Err-streamed.ensures.done),
 )

@@ -1,8 +1,8 @@
 use Rattle.std.proofs.Common.{Err, false, subst}
 use Rattle.dap_device.specs.Memory.{GivenBytes}
+use Rattle.dap_host.specs.declared.limits.TheConstants.{LIMITS}
 use Rattle.dap_normalise.specs.Checking.{Checks}
 use Rattle.dapnorm.specs.Comparisons.{memory}
-use Rattle.dap_host.specs.declared.limits.TheConstants.{LIMITS}
 use Rattle.dapnorm.proofs.texts.check_text.Goals as goal
 
 pub returns-in-Err : goal.returns-in-Err

@@ -1,8 +1,6 @@
-use Rattle.std.proofs.Common.{subst}
-use Rattle.std.specs.List.{flat_map}
-use Rattle.std.proofs.lemmas.Result.{err_from_is_err_and}
-use Rattle.dap_device.specs.Written.{AllWritten}
+use Rattle.std.{proofs.{Common.subst, lemmas.Result.err_from_is_err_and}, specs.List.flat_map}
 use Rattle.dap_device.proofs.Sending.{all_then_all, all_then_flush, all_then_front}
+use Rattle.dap_device.specs.Written.{AllWritten}
 use Rattle.dapnorm.specs.Answers.{answer_mode, answer_pairs, answer_texts, pair_line}
 use Rattle.dapnorm.specs.Lines.{joined}
 use Rattle.dapnorm.proofs.answer.Answer.write.Goals as goal
