@@ -200,6 +200,15 @@ def bench(report, scratch):
             report.check(f"{name} rejects {option} {value}", ran.returncode == 2 and words in ran.stderr, output_of(ran))
 
 
+def compare_programs(report, scratch):
+    """Random runs of the program and itself, and of an altered one."""
+    altered = write(os.path.join(scratch.figures, "altered"), ALTERED, 0o755)
+    for other, status, words in (("bin/dapnorm", 0, "60 runs, 0 differ"), (altered, 1, "normalise")):
+        ran = scratch.script("compare_programs.py", "bin/dapnorm", other, "--to", "60")
+        good = ran.returncode == status and words in ran.stdout
+        report.check(f"compare_programs.py with {os.path.basename(other)}", good, output_of(ran))
+
+
 def first_look(report, scratch):
     """`make try` with the built program, and with a program that it builds by `rt try`."""
     for words, calls in (((), []), (("PROGRAM=absent",), ["try --cases"])):
@@ -348,6 +357,7 @@ def gate_cost(report, scratch):
 SCRIPTS = {
     "bench.py": bench, "compact_reference.py": bench, "compare_reference.py": bench, "costs.py": bench, "generated_inputs.py": bench,
     "measured.py": bench, "measuring.py": bench, "normalise_reference.py": bench, "record_reference.py": bench, "show_reference.py": bench,
+    "compare_programs.py": compare_programs,
     "first_look.py": first_look, "gate_cost.py": gate_cost, "one_direction.py": one_direction, "proof_times.py": proof_times,
     **dict.fromkeys(["kit.py", "make_package.py", "pack_file.py", "proof_pack.py", "prove_all.py", "side_by_side.py"], "package.py"),
     **dict.fromkeys(["mutants.py", "mutation_record.py", "mutation_rounds.py", "mutation_scratch.py", "mutation_source.py"], "mutants.py"),
