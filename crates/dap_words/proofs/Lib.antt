@@ -8,6 +8,8 @@ pub mod UuidSteps
 pub mod WordSteps
 pub mod ReplacedTexts
 pub mod ReplaceSteps
+pub mod NextPlaces
+pub mod OccurrenceSteps
 pub mod WordsUtf8
 pub mod KeptApart
 pub mod ApartSteps

@@ -55,7 +55,7 @@ prefix_of_begun (b ∷ x) s h = h
 
 -- ---- the best so far
 
-abbrev step : Option Pair → Pair → List ℕ → Option Pair
+abbrev pub step : Option Pair → Pair → List ℕ → Option Pair
 step best p s = cond (begins_here p.text s && is_longer_than best p) (Some p) best
 
 pub none_found : (best : Option Pair) (pairs : List Pair) (s : List ℕ)

@@ -4,6 +4,7 @@ pub mod Long
 pub mod Uuids
 pub mod Placed
 pub mod Words
+pub mod Occurrences
 pub mod Apart
 pub mod Machines
 pub mod TextLaws

@@ -9,6 +9,7 @@
 mod apart;
 pub mod laws;
 mod long_runs;
+mod occurrences;
 mod putting;
 pub mod text_laws;
 mod uuids;
