@@ -10,4 +10,5 @@ pub mod NodeLengths
 pub mod DigitCounts
 pub mod SomeContents
 pub mod Marked
+pub mod SplicedLengths
 pub mod TreeNodes

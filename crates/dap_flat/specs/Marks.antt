@@ -41,6 +41,12 @@ pub record AppendsMarked (old new : List ℕ) (old_marks new_marks : List Mark) 
 
 -- All below is for private clauses.
 
+-- The length of the numbers at marks, of which the i-th mark has the i-th number.
+abbrev pub numbers_length : List Mark → List ℤ → ℕ
+numbers_length [] ns = 0
+numbers_length (m ∷ ms) ns =
+    length (signed_decimal (slice_index_or ns 0 m.number)) + numbers_length ms (drop 1 ns)
+
 -- The new list is the old list, possibly with more appended.
 abbrev pub Extends : {X : Type 0} → List X → List X → Type 0
 Extends {X} old new = take (length old) new ≡ old

@@ -30,7 +30,7 @@ pub use marks::{Mark, write_marked};
 pub use node::Node;
 pub use parse::read_flat;
 pub use place::value_end;
-pub use splicing::splice;
+pub use splicing::{splice, spliced_length};
 pub use trees::nodes_of;
 pub use unread::{Unclear, Unread};
 pub use write::write_flat;

@@ -1,7 +1,8 @@
 //! Copies a text with other numbers at its marks.
-ghost use Rattle.std.specs.Prelude.{◌≡◌, ◌+◌, ◌-◌, ◌++◌, take, drop, slice_index_or, IfOk, OnOk};
-ghost use Rattle.std.specs.{Prelude.OnErr, Fmt.signed_decimal};
-ghost use Rattle.dap_flat.specs.Marks.{Extends, digits_length, spliced};
+ghost use Rattle.std.specs.Prelude.{◌≡◌, ◌+◌, ◌-◌, ◌++◌, ℕ, List, [], length, take, drop, IfOk, OnOk};
+ghost use Rattle.std.specs.{Prelude.{OnErr, slice_index_or}, Fmt.signed_decimal};
+ghost use Rattle.dap_flat.specs.Lengths.{IsLengthWithin, Spends};
+ghost use Rattle.dap_flat.specs.Marks.{Extends, digits_length, numbers_length, spliced};
 
 use crate::digits::signed_length;
 use crate::lengths::first_number;
@@ -130,4 +131,29 @@ fn bytes_after(text: &[u8], count: usize) -> &[u8]
     } else {
         &[]
     }
+}
+
+/// Returns the length of the text that [`splice`] appends for a text of this length, or `None` if
+/// it is above the limit. The text must have the numbers of the marks at their places. Does not
+/// allocate.
+pub fn spliced_length(len: usize, marks: &[Mark], numbers: &[i64], limit: usize) -> Option<usize>
+    ensures { (text : List ℕ) → length text ≡ len → spliced 0 text marks.now [] ≡ text
+        → IsLengthWithin limit (spliced 0 text marks.now numbers.now) result }
+{
+    let between = spend_numbers(len, marks, &[])?;
+    let left = spend_numbers(limit.checked_sub(between)?, marks, numbers)?;
+    Some(limit - left)
+}
+
+/// Subtracts the length of the numbers at marks. Returns `None` if fewer bytes are left.
+fn spend_numbers(left: usize, marks: &[Mark], numbers: &[i64]) -> Option<usize>
+    ensures { Spends left (numbers_length marks.now numbers.now) result }
+{
+    let mut left = left;
+    let mut rest = numbers;
+    for mark in marks {
+        left = left.checked_sub(signed_length(first_number(rest, mark.number)))?;
+        rest = after_first(rest);
+    }
+    Some(left)
 }

@@ -6,6 +6,7 @@
 
 mod faults;
 mod marks;
+mod measured;
 mod members;
 mod message;
 mod reading;
@@ -13,5 +14,6 @@ mod row_marks;
 mod rows;
 mod typing;
 
+pub use measured::Measured;
 pub use message::FlatMessage;
 pub use reading::{FlatFault, read_flat_message};

@@ -8,8 +8,9 @@ ghost use Rattle.dap_message.specs.{Envelope.text_value, Numbers.is_proper};
 ghost use Rattle.dap_message.specs.Rows.{is_of_kind, name_key};
 ghost use Rattle.dap_flat_message.specs.{Document.document_of, Made.{IsMadeOf, Answers}};
 ghost use Rattle.dap_flat_message.specs.Heads.{Tells, text_in};
-ghost use Rattle.dap_flat.specs.{Pieces.Represents, Lengths.IsLengthWithin};
+ghost use Rattle.dap_flat.specs.Pieces.{Represents};
 
+use crate::measured::Measured;
 use crate::members::{Envelope, boolean_at, kind_of_tree, number_at, text_at};
 use dap_flat::{Node, Unclear, add_ids, length_within, replace_ids, write_flat};
 use dap_message::AnyMessage;
@@ -82,15 +83,6 @@ impl<'a> FlatMessage<'a> {
     {
         &self.nodes
     }
-
-    /// Returns the length of the canonical content in which the i-th id has the i-th number, or
-    /// `None` if it is above the limit. It is the length of what
-    /// [`write_with_ids`](AnyMessage::write_with_ids) appends. Does not allocate.
-    pub fn length_with_ids(&self, numbers: &[i64], limit: usize) -> Option<usize>
-        ensures { IsLengthWithin limit (text_of (with_ids (flat_doc self.now) numbers.now)) result }
-    {
-        length_within(&self.nodes, numbers, limit)
-    }
 }
 
 impl<'a> AnyMessage for FlatMessage<'a> {
@@ -134,6 +126,12 @@ impl<'a> AnyMessage for FlatMessage<'a> {
     ) -> Result<(), AllocError> {
         let FlatMessage { mut nodes, .. } = self;
         write_numbered(alloc, &mut nodes, numbers, out)
+    }
+}
+
+impl<'a> Measured for FlatMessage<'a> {
+    fn length_with_ids(&self, numbers: &[i64], limit: usize) -> Option<usize> {
+        length_within(&self.nodes, numbers, limit)
     }
 }
 

@@ -1,3 +1,4 @@
 pub mod Contents
+pub mod OwnNumbers
 pub mod Growth
 pub mod Storing

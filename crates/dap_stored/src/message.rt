@@ -8,7 +8,8 @@ ghost use Rattle.dap_flat.specs.Marks.{Extends, IsMarkedText, id_at};
 ghost use Rattle.dap_stored.specs.Contents.{doc_in};
 
 use crate::head::Head;
-use dap_flat::{Mark, splice};
+use dap_flat::{Mark, splice, spliced_length};
+use dap_flat_message::Measured;
 use dap_message::AnyMessage;
 use dap_profile::Kind;
 use dap_tree::{Side, Sort};
@@ -127,6 +128,12 @@ impl AnyMessage for StoredMessage<'_> {
         out: &mut Vec<u8>,
     ) -> Result<(), AllocError> {
         splice(self.content, self.marks, numbers, out)
+    }
+}
+
+impl Measured for StoredMessage<'_> {
+    fn length_with_ids(&self, numbers: &[i64], limit: usize) -> Option<usize> {
+        spliced_length(self.content.len(), self.marks, numbers, limit)
     }
 }
 

@@ -6,7 +6,7 @@ use Rattle.dap_tree.specs.Json.{text_of}
 use Rattle.dap_flat.specs.Pieces.{Represents}
 use Rattle.dap_flat_message.specs.FlatMessages.{flat_doc}
 use Rattle.dap_flat.specs.Lengths.{IsLengthWithin}
-use Rattle.dap_flat_message.proofs.message.FlatMessage.length_with_ids.Goals as goal
+use Rattle.dap_flat_message.proofs.message.FlatMessageMeasured.length_with_ids.Goals as goal
 
 pub returns : goal.returns
 returns c =
