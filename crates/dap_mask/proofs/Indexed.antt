@@ -20,6 +20,7 @@ use Rattle.dap_mask.specs.Index.{positions_from, positions, rules_at, masked_by,
 use Rattle.dap_mask.specs.Index.{NamePlaces, kept_for, AreRight, AsksNot, HasAsked, AddsName}
 use Rattle.dap_mask.specs.Index.{IsIndex}
 use Rattle.dap_mask.specs.Masked.{mask_by, masked}
+use Rattle.dap_mask.specs.FlatMasking.{changed_at, changed_by}
 use Rattle.dap_mask.specs.Rules.{Rule, rule_of, rules_of, has_name, rule_applies, same_kind}
 use Rattle.dap_mask.specs.Rules.{are_safe, is_telling_place}
 use Rattle.dap_mask.specs.declared.index.KindRules.{KindRules}
@@ -167,7 +168,7 @@ told_none d h k = go (is_of_kind Request d) (is_of_kind Response d) (is_of_kind 
     go false false false p q t e Response = q
     go false false false p q t e Event = t
 
-text_asked : (m : List ℕ) (o : Option Doc) → is_text m o ≡ asks_for (Some m) (text_told o)
+pub text_asked : (m : List ℕ) (o : Option Doc) → is_text m o ≡ asks_for (Some m) (text_told o)
 text_asked m None = refl
 text_asked m (Some null) = refl
 text_asked m (Some (boolean b)) = refl
@@ -177,7 +178,7 @@ text_asked m (Some (list ds)) = refl
 text_asked m (Some (object ms)) = refl
 text_asked m (Some (id s z)) = refl
 
-name_asked : (k : Kind) (m : Option (List ℕ)) (d : Doc)
+pub name_asked : (k : Kind) (m : Option (List ℕ)) (d : Doc)
     → has_name k m d ≡ asks_for m (told_name k d)
 name_asked k None d = refl
 name_asked k (Some m) d = text_asked m (get (name_key k) d)
@@ -245,6 +246,51 @@ masked_by_index rs d k safe h =
     masked_at-rules rs (positions k (told_name k d) rs) d
     ∙ ap (λ qs. masked qs d) (at_positions k (told_name k d) [] rs)
     ∙ masked-filter (may_speak k (told_name k d)) rs safe d (λ r. spoken-may d k r h)
+
+-- ---- changes by the rules that apply
+
+abbrev changed_all : List Rule → Doc → Doc
+changed_all [] d = d
+changed_all (r ∷ rs) d = changed_all rs (changed_by (Some r) d)
+
+spoken : (r : Rule) (d : Doc) → rule_applies r d ≡ true → changed_by (Some r) d ≡ mask_by r d
+spoken r d h = rw h refl
+
+abbrev ChangesTo : (Rule → Bool) → List Rule → Type 0
+ChangesTo p rs = (d : Doc) → ((r : Rule) → rule_applies r d ≡ p r)
+    → changed_all (filter p rs) d ≡ masked rs d
+
+change_step : (p : Rule → Bool) (r : Rule) (rs : List Rule) (d : Doc) (b : Bool)
+    → is_telling_place r.place ≡ false → ((q : Rule) → rule_applies q d ≡ p q) → p r ≡ b
+    → ChangesTo p rs
+    → changed_all (cond b (r ∷ filter p rs) (filter p rs)) d ≡ masked rs (mask_by r d)
+change_step p r rs d true t h e later =
+    ap (changed_all (filter p rs)) (spoken r d (h r ∙ e))
+    ∙ later (mask_by r d) (λ q. spoken-mask_by r q d t ∙ h q)
+change_step p r rs d false t h e later =
+    later d h ∙ ap (masked rs) (sym (unspoken r d (h r ∙ e)))
+
+changed-filter : (p : Rule → Bool) (rs : List Rule) → are_safe rs ≡ true → ChangesTo p rs
+changed-filter p [] s d h = refl
+changed-filter p (r ∷ rs) s d h =
+    change_step p r rs d (p r) (first_safe r rs s) h refl (changed-filter p rs (rest_safe r rs s))
+
+changed_at-rules : (rs : List Rule) (is : List ℕ) (d : Doc)
+    → changed_at rs is d ≡ changed_all (rules_at rs is) d
+changed_at-rules rs [] d = refl
+changed_at-rules rs (i ∷ is) d = go (slice_get rs i) (changed_at-rules rs is)
+  where
+    go : (o : Option Rule) → ((e : Doc) → changed_at rs is e ≡ changed_all (rules_at rs is) e)
+        → changed_at rs is (changed_by o d) ≡ changed_all (option_to_list o ++ rules_at rs is) d
+    go None later = later d
+    go (Some r) later = later (changed_by (Some r) d)
+
+pub changed_by_index : (rs : List Rule) (d : Doc) (k : Kind) → are_safe rs ≡ true
+    → told_kind d ≡ Some k → changed_at rs (positions k (told_name k d) rs) d ≡ masked rs d
+changed_by_index rs d k safe h =
+    changed_at-rules rs (positions k (told_name k d) rs) d
+    ∙ ap (λ qs. changed_all qs d) (at_positions k (told_name k d) [] rs)
+    ∙ changed-filter (may_speak k (told_name k d)) rs safe d (λ r. spoken-may d k r h)
 
 pub masked_untold : (rs : List Rule) (d : Doc) → told_kind d ≡ None → masked rs d ≡ d
 masked_untold rs d h =

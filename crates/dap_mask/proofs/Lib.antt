@@ -18,6 +18,8 @@ pub mod Lines
 pub mod Lists
 pub mod Growths
 pub mod Indexed
+pub mod FlatTold
+pub mod FlatChanges
 pub mod Options
 pub mod Blanks
 pub mod Quoted

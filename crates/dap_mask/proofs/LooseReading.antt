@@ -1,6 +1,7 @@
 -- A content read loosely: the document is unique, in order, in UTF-8 and without ids. The text of
 -- the masked document is read as the same document.
-use Rattle.std.proofs.Common.{◌≡◌, ◌⊎◌, inl, inr, ℕ, true, false, ◌&&◌, List, Some, refl, sym}
+use Rattle.std.proofs.Common.{◌≡◌, ◌⊎◌, inl, inr, ℕ, true, false, not, ◌&&◌, List, [], Some}
+use Rattle.std.proofs.Common.{refl, sym}
 use Rattle.std.proofs.Common.{ap, ap₂, ◌∙◌, subst, nat_cmp}
 use Rattle.std.specs.Cmp.Lexicographic.{slice_cmp}
 use Rattle.std.specs.Ordering.{is_lt}
@@ -8,32 +9,32 @@ use Rattle.std.specs.Str.{is_utf8}
 use Rattle.serde_json.specs.Data as json
 use Rattle.serde_json.specs.Read.{read}
 use Rattle.dap_tree.specs.Doc.{Doc, null, boolean, whole, text, list, object, id, Items, no_items}
-use Rattle.dap_tree.specs.Doc.{item, Members, no_members, member, has_id, items_have_id}
+use Rattle.dap_tree.specs.Doc.{item, Members, no_members, member, has_id, items_have_id, is_sound}
 use Rattle.dap_tree.specs.Doc.{members_have_id, is_below_all, is_ordered, items_ordered}
 use Rattle.dap_tree.specs.Doc.{members_ordered, all_utf8, items_utf8, members_utf8}
 use Rattle.dap_tree.specs.Ids.{ids_in_range, items_ids_in_range, members_ids_in_range}
 use Rattle.dap_tree.specs.Json.{IsRead, HasNoReading, Outcome, document, no_reading, fraction}
 use Rattle.dap_tree.specs.Json.{HasOutcome, text_of}
-use Rattle.dap_tree.proofs.Booleans.{and_both, or_left, or_right}
+use Rattle.dap_tree.proofs.Booleans.{and_both, and_left, or_left, or_right}
 use Rattle.dap_tree.proofs.MemberOrder.{data_below_all, data_ordered, items_data_ordered}
 use Rattle.dap_tree.proofs.MemberOrder.{members_data_ordered, ordered_read}
-use Rattle.dap_tree.proofs.Outcomes.{some_outcome}
+use Rattle.dap_tree.proofs.Outcomes.{read_is_plain, some_outcome}
 use Rattle.dap_tree.proofs.Texts.{text_is_read}
 use Rattle.dap_tree.proofs.Utf8.{data_utf8, items_data_utf8, members_data_utf8, read-utf8}
 use Rattle.dap_tree.proofs.WithoutIds.{without_no_id}
 use Rattle.dap_words.specs.Words.{Pair, AreUtf8}
 use Rattle.dap_words.specs.Worded.{worded_message}
-use Rattle.dap_words.proofs.WordedDocs.{ordered_worded, utf8_worded, id_worded}
+use Rattle.dap_words.proofs.WordedDocs.{ordered_worded, utf8_worded, id_worded, worded_none}
 use Rattle.dap_mask.specs.Loose.{loose, loose_items, loose_members, IsReadLoosely, IsReadWith}
 use Rattle.dap_mask.specs.Loose.{IsLeftOf}
-use Rattle.dap_mask.specs.Mask.{Mask}
+use Rattle.dap_mask.specs.Mask.{Mask, leaves_out}
 use Rattle.dap_mask.specs.Masked.{masked}
-use Rattle.dap_mask.specs.Promises.{IsMaskedAs}
+use Rattle.dap_mask.specs.Promises.{IsMaskedAs, IsContentMasked}
 use Rattle.dap_mask.specs.Rules.{Rule, are_safe, are_idempotent}
 use Rattle.dap_mask.specs.Ids.{leave_ids}
 use Rattle.dap_mask.proofs.ByPath.{masked_by_path, one_masked, keeps_others, none_new}
 use Rattle.dap_mask.proofs.ByPath.{ordered-masked, agree_from_equal, equal_from_agree}
-use Rattle.dap_mask.proofs.Keeping.{no_id_masked, utf8_masked}
+use Rattle.dap_mask.proofs.Keeping.{no_id_masked, sound_masked, utf8_masked}
 use Rattle.dap_mask.proofs.LeftIds.{keeps_ids}
 use Rattle.dap_mask.proofs.Loosening.{no_id_loose, read_loose}
 use Rattle.dap_mask.proofs.Settled.{masked_once}
@@ -199,3 +200,31 @@ content_masked rules words bytes d safe settled leave read =
         λ agree. equal_from_agree rules d f safe (ordered_with pairs others f also) agree,
       );
     }
+
+-- ---- a content that is read as a document, if there are no words
+
+pub read_unworded : (words : List Pair) (bytes : List ℕ) (d : Doc) → words ≡ [] → IsRead bytes d
+    → IsReadWith words bytes d
+read_unworded words bytes d none read = (
+  d,
+  read_loose bytes d read,
+  sym (ap (λ ws. worded_message ws d) none ∙ worded_none true d),
+)
+
+pub left_unworded : (mask : Mask) (bytes : List ℕ) (d : Doc) → mask.words ≡ [] → IsRead bytes d
+    → leaves_out mask d ≡ false → IsLeftOf mask bytes (Some (masked mask.changes d))
+left_unworded mask bytes d none read kept =
+    let sound = and_left (is_sound d) (not (has_id d)) (read_is_plain bytes d read) in (
+      d,
+      read_unworded mask.words bytes d none read,
+      (kept, refl, sound_masked mask.changes d sound),
+    )
+
+pub masked_unworded : (mask : Mask) (bytes : List ℕ) (d : Doc) → are_safe mask.changes ≡ true
+    → are_idempotent mask.changes ≡ true → leave_ids mask.changes ≡ true → mask.words ≡ []
+    → IsRead bytes d → IsContentMasked mask bytes (masked mask.changes d)
+masked_unworded mask bytes d safe settled leave none read e also =
+    let same = one_reading mask.words bytes e d also
+    (read_unworded mask.words bytes d none read) in
+    subst (IsMaskedAs mask.changes e) (ap (masked mask.changes) same)
+    (content_masked mask.changes mask.words bytes e safe settled leave also)

@@ -19,4 +19,5 @@ pub mod Laws
 pub mod Standing
 pub mod Loose
 pub mod Promises
+pub mod FlatMasking
 pub mod WordLines

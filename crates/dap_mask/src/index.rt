@@ -1,7 +1,7 @@
 //! Finds the rules that may apply to a message, by its kind and its name.
 ghost use Rattle.std.specs.Prelude.{◌≡◌, ◌<◌, length, option_map, IfOk, IfErr, OnOk};
-ghost use Rattle.dap_mask.specs.Index.{may_speak, positions, AreRight, AddsName, HasAsked, IsIndex};
-ghost use Rattle.dap_mask.specs.{Index.places_in, Rules.{rule_of, rules_of}};
+ghost use Rattle.dap_mask.specs.Index.{asks_for, may_speak, positions, AreRight, AddsName};
+ghost use Rattle.dap_mask.specs.{Index.{HasAsked, IsIndex, places_in}, Rules.{rule_of, rules_of}};
 
 use crate::meets::{same_kind, text_of};
 use crate::rule_list::RuleList;
@@ -117,10 +117,16 @@ fn positions(
 fn may_speak(rule: &MaskRule, kind: Kind, name: Option<&str>) -> bool
     ensures { result ≡ may_speak kind (option_map (λ s. s.now) name.entry) (rule_of rule.now) }
 {
-    if !same_kind(rule.kind, kind) {
-        return false;
-    }
-    match (text_of(&rule.name), name) {
+    same_kind(rule.kind, kind) && asks_for(text_of(&rule.name), name)
+}
+
+/// Returns whether a rule with the first name applies to messages of the second name. `None` is any
+/// name of a rule, and a name of a message that no rule contains.
+pub(crate) fn asks_for(asked: Option<&str>, name: Option<&str>) -> bool
+    ensures { result ≡ asks_for (option_map (λ s. s.now) asked.entry)
+        (option_map (λ s. s.now) name.entry) }
+{
+    match (asked, name) {
         (None, _) => true,
         (Some(asked), Some(name)) => asked == name,
         (Some(_), None) => false,

@@ -1,8 +1,9 @@
 //! Masks: rules that redact the parts of messages that change from run to run.
 //!
 //! [`MaskRules::read`] reads the rules of a file, and [`mask`] changes the values of a message at
-//! the places of the rules. `specs/` defines the meaning of the rules, and [`laws`] states the
-//! theorems. The file may also contain texts and their words, [`MaskRules::words`], which
+//! the places of the rules. [`read_masked_flat`] does the same to the nodes of a flat document, and
+//! [`write_masked`] writes the result. `specs/` defines the meaning of the rules, and [`laws`]
+//! states the theorems. The file may also contain texts and their words, [`MaskRules::words`], which
 //! [`read_masked`] puts in before the other rules apply; rules for the order of messages,
 //! [`MaskRules::swaps`]; and the line `per-stop`, [`MaskRules::per_stop`]. Masking does not use the
 //! last two.
@@ -14,10 +15,14 @@
 mod categories;
 mod element_names;
 mod fault;
+mod flat_masking;
+mod flat_places;
+mod flat_told;
 mod index;
 pub mod laws;
 mod loose;
 mod mask_rules;
+mod masked_text;
 mod masking;
 mod meets;
 mod names;
@@ -34,8 +39,10 @@ mod word_lines;
 pub use categories::CategoryRule;
 pub use dap_message::{Half, SwapRule};
 pub use fault::{RulesCause, RulesFault};
+pub use flat_masking::read_masked_flat;
 pub use loose::{read_loosely, read_masked, read_with_words};
 pub use mask_rules::MaskRules;
+pub use masked_text::write_masked;
 pub use masking::{is_dropped, mask};
 pub use names::{any_name, name_at};
 pub use places::place_at;

@@ -186,7 +186,8 @@ fn has_name(tree: &Tree, kind: Kind, name: Option<&str>) -> bool
     }
 }
 
-fn name_key(kind: Kind) -> &'static str
+/// Returns the member that names a message of a kind.
+pub(crate) fn name_key(kind: Kind) -> &'static str
     ensures { result.now ≡ name_key kind }
 {
     match kind {

@@ -1,0 +1,7 @@
+use Rattle.std.proofs.Common.{drop}
+use Rattle.dap_mask.specs.{FlatMasking.AreChanged, Rules.rules_of}
+use Rattle.dap_mask.proofs.flat_masking.change_places.Given as goal
+
+abbrev pub invariant-loop-place : goal.invariant-loop-place
+invariant-loop-place l =
+    AreChanged (rules_of l.rules) (drop l.place-index l.places) l.places l.initial.nodes l.nodes

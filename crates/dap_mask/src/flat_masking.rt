@@ -1,0 +1,114 @@
+//! Reads contents as flat documents, and masks them in place.
+ghost use Rattle.std.specs.Prelude.{◌≡◌, ◌<◌, Some, length, slice_get, IfOk, IfSome, IsErrOf, OnOk};
+ghost use Rattle.dap_flat_message.specs.Marking.{Edits};
+ghost use Rattle.dap_mask.specs.FlatMasking.{IsLeftFlat, IsMaskedFlat, IsTold};
+ghost use Rattle.dap_mask.specs.FlatMasking.{changed_at, changed_by};
+ghost use Rattle.dap_mask.specs.{Index.told_kind, KeptRules.{changes_of, mask_of}, Masked.masked};
+ghost use Rattle.dap_mask.specs.Rules.{rules_of};
+
+use crate::flat_places::{Memory, mask_path};
+use crate::flat_told::{is_dropped, told_kind, told_name};
+use crate::mask_rules::MaskRules;
+use crate::rules::MaskRule;
+use bumpalo::Bump;
+use dap_flat::{Node, Unread, read_flat};
+use dap_message::Kind;
+use dap_tree::Scratch;
+
+/// Reads a content as a flat document, with the members of each object in the order of their names,
+/// and masks it. Stores texts that the rules change in `arena`. Returns `None` for an event that
+/// the rules drop.
+///
+/// The nodes replace those in `nodes`, whose capacity is used.
+///
+/// # Errors
+///
+/// - `Memory`: an allocation failed. The content is not empty.
+/// - `Unclear`: [`read_masked`](crate::read_masked) has to mask the content. It has to be read as
+///   a tree (see [`Unclear`](struct@dap_flat::Unclear)), the rules have words, or a rule blanks a
+///   list or an object that is not empty.
+pub fn read_masked_flat<'a>(
+    content: &'a [u8],
+    rules: &MaskRules,
+    scratch: &'a mut Scratch,
+    arena: &'a Bump,
+    nodes: Vec<Node<'a>>,
+) -> Result<Option<Vec<Node<'a>>>, Unread>
+    ensures ok { IfOk result (IsLeftFlat (mask_of rules.now) content.now) }
+    ensures memory { IsErrOf result Unread.Memory → 0 < length content.now }
+
+    // Only the places of the rules change. Masking the result again does not change it. Another
+    // content has the same result if and only if both agree except for the redacted parts.
+    ensures masked { IfOk result
+        (λ o. IfSome o (IsMaskedFlat (mask_of rules.now) content.now)) }
+{
+    if !rules.words().is_empty() {
+        return Err(Unread::Unclear);
+    }
+    let alloc = *nodes.allocator();
+    let mut nodes = read_flat(content, scratch, nodes)?;
+    let dropped = is_dropped(&nodes, rules)?;
+    if dropped {
+        return Ok(None);
+    }
+    mask_flat(&mut nodes, rules, Memory { alloc, arena })?;
+    Ok(Some(nodes))
+}
+
+fn mask_flat<'a>(
+    nodes: &mut [Node<'a>],
+    rules: &MaskRules,
+    memory: Memory<'a>,
+) -> Result<(), Unread>
+    ensures { OnOk result (Edits nodes.old nodes.new 0 (masked (changes_of rules.now))) }
+{
+    match told_kind(nodes)? {
+        Some(kind) => mask_told(nodes, rules, kind, memory),
+        None => Ok(()),
+    }
+}
+
+fn mask_told<'a>(
+    nodes: &mut [Node<'a>],
+    rules: &MaskRules,
+    kind: Kind,
+    memory: Memory<'a>,
+) -> Result<(), Unread>
+    requires { IsTold nodes.old 0 told_kind (Some kind) }
+    ensures { OnOk result (Edits nodes.old nodes.new 0 (masked (changes_of rules.now))) }
+{
+    let name = told_name(nodes, kind)?;
+    let found = rules.places(kind, name);
+    change_places(nodes, rules.changes(), found, memory)
+}
+
+// Applies the rules at these positions, which apply to the message.
+fn change_places<'a>(
+    nodes: &mut [Node<'a>],
+    rules: &[MaskRule],
+    places: &[usize],
+    memory: Memory<'a>,
+) -> Result<(), Unread>
+    ensures { OnOk result
+        (Edits nodes.old nodes.new 0 (changed_at (rules_of rules.now) places.now)) }
+{
+    for place in places {
+        change_at(nodes, rules, *place, memory)?;
+    }
+    Ok(())
+}
+
+fn change_at<'a>(
+    nodes: &mut [Node<'a>],
+    rules: &[MaskRule],
+    place: usize,
+    memory: Memory<'a>,
+) -> Result<(), Unread>
+    ensures { OnOk result
+        (Edits nodes.old nodes.new 0 (changed_by (slice_get (rules_of rules.now) place))) }
+{
+    match rules.get(place) {
+        Some(rule) => mask_path(nodes, 0, &rule.place, rule.verb, memory),
+        None => Ok(()),
+    }
+}
