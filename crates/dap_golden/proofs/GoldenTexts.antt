@@ -1,6 +1,7 @@
 -- The golden text of a session, decided by its counts.
-use Rattle.std.proofs.Common.{◌≡◌, ◌≢◌, Bool, false, List, ℕ, ◌∙◌, length, ap, refl, sym}
-use Rattle.std.proofs.Common.{Option, Some, None, inl, inr}
+use Rattle.std.proofs.Common.{◌≡◌, ◌≢◌, Bool, false, List, [], ◌∷◌, ℕ, ◌∙◌, length, ap, refl, sym, subst}
+use Rattle.std.proofs.Common.{Option, Some, None, Result, Ok, Err, inl, inr}
+use Rattle.std.specs.Prelude.{IfErr, IfOk}
 use Rattle.dap_mask.specs.Mask.{Mask}
 use Rattle.dap_message.specs.SwapRules.{SwapRule}
 use Rattle.dap_tree.specs.declared.side.Side.TheVariants.{Client, Adapter}
@@ -8,22 +9,25 @@ use Rattle.dap_message.specs.Message.{Sent}
 use Rattle.dap_rename.specs.declared.mode.Mode.{Mode}
 use Rattle.dap_input.specs.declared.limits.Limits.{Limits}
 use Rattle.dap_input.specs.declared.refused.Refused.{Refused}
-use Rattle.dap_input.specs.declared.refused.Refused.TheVariants.{Memory}
+use Rattle.dap_input.specs.declared.refused.Refused.TheVariants.{Incomplete, Memory}
+use Rattle.dap_input.specs.Refusals.{IsRefused}
 use Rattle.dap_rules.specs.MaskedRecordings.{IsMaskedTo}
 use Rattle.dap_normalise.specs.declared.checked.Checked.{Checked}
-use Rattle.dap_normalise.specs.Checking.{AreCounted}
-use Rattle.dap_rules.specs.Applying.{IsRefusedByRules, RefusesOrderBy, RefusesToMask}
+use Rattle.dap_normalise.specs.declared.normal_session.NormalSession.{NormalSession}
+use Rattle.dap_normalise.specs.{Accepting.accepting, Checking.AreCounted, Normalising.RefusesBytes}
+use Rattle.dap_normalise.specs.NormalSession.{IsNormalSession}
+use Rattle.dap_rules.specs.Applying.{IsNotOrderedBy, OrdersBy, RefusesNormalBy, RefusesToMask}
+use Rattle.dap_rules.specs.Ordering.{IsNotOrdered, RefusesToOrder}
 use Rattle.dap_rules.specs.Memory.{IsOutOfMemory}
 use Rattle.dap_rules.specs.declared.fault.ApplyRefused.{ApplyRefused}
 use Rattle.dap_rules.specs.declared.fault.ApplyRefused.TheVariants as step
-use Rattle.dap_golden.specs.Golden.{AreAnswered, HasNoSession, IsGoldenOf, IsRecordingOf}
-use Rattle.dap_golden.specs.Golden.{IsRefusedGolden, IsSessionOf}
-use Rattle.dap_golden.specs.GoldenSteps.{RefusesGolden, RefusesMask, RefusesOrder, RefusesRules}
-use Rattle.dap_golden.specs.GoldenSteps.{RefusesRulesBy}
-use Rattle.dap_golden.specs.NormalSession.{IsNormalSession}
+use Rattle.dap_golden.specs.Golden.{AppliesBy, AreAnswered, HasNoSession, IsGolden, IsGoldenOf}
+use Rattle.dap_golden.specs.Golden.{IsRecordingOf, IsRefusedGolden, IsSessionOf, RefusesSession}
+use Rattle.dap_golden.specs.GoldenSteps.{HasNoSessionBy, RefusesGolden, RefusesMask, RefusesNormal}
+use Rattle.dap_golden.specs.GoldenSteps.{session_of}
+use Rattle.dap_golden.specs.declared.golden.GoldenText.{GoldenText}
 use Rattle.dap_golden.specs.declared.fault.GoldenRefused.{GoldenRefused}
 use Rattle.dap_golden.specs.declared.fault.GoldenRefused.TheVariants as because
-use Rattle.dap_golden.specs.declared.normal_session.NormalSession.{NormalSession}
 
 -- The counts show that each request has a response.
 abbrev pub AreZero : Checked → Type 0
@@ -57,59 +61,118 @@ pub mask_refuses : (limits : Limits) (mask : Mask) (recording : List ℕ) (why :
 mask_refuses limits mask recording Memory some is = absurd (some tt)
 mask_refuses limits mask recording why some is = is
 
--- A failed step of putting in order is reported as `Session`.
-pub order_refuses : (limits : Limits) (mode : Mode) (rules : List SwapRule) (masked : List ℕ)
-    (why : Refused) → (IsOutOfMemory why → ⊥) → RefusesOrderBy limits mode rules masked why
-    → RefusesOrder limits mode rules masked (because.Session why)
-order_refuses limits mode rules masked Memory some is = absurd (some tt)
-order_refuses limits mode rules masked why some is = is
+module _ (limits : Limits) (mode : Mode) where
+  no_order : (rule : SwapRule) (rules : List SwapRule) (masked : List ℕ) (why : Refused)
+      → (why ≡ Memory → ⊥) → RefusesToOrder limits mode (rule ∷ rules) masked why
+      → IsNotOrdered limits mode (rule ∷ rules) masked why
+  no_order rule rules masked Memory some is = absurd (some refl)
+  no_order rule rules masked why some is = is
 
-module _ (limits : Limits) (mode : Mode) (mask : Mask) (recording : List ℕ) where
-  -- A recording that cannot be masked has no session.
-  pub none_masked : (refused : GoldenRefused) → RefusesMask limits mask recording refused
-      → RefusesRules limits mode mask recording refused
-  none_masked (because.Mask refused) is = is
-  none_masked because.Memory is = tt
-  none_masked refused is = absurd is
+  no_normal : (session : List ℕ) (why : Refused) → (why ≡ Memory → ⊥)
+      → RefusesBytes limits mode session why → IsRefused (accepting limits mode) session why
+  no_normal session Memory some is = absurd (some refl)
+  no_normal session why some is = is
 
-  -- A recording whose masked form cannot be put in order has no session.
-  pub none_ordered : (masked : List ℕ) → IsMaskedTo limits mask recording masked
-      → (refused : GoldenRefused) → RefusesOrder limits mode mask.swaps masked refused
-      → RefusesRules limits mode mask recording refused
-  none_ordered masked masks (because.Session refused) is = (masked, masks, is)
-  none_ordered masked masks because.Memory is = tt
-  none_ordered masked masks refused is = absurd is
+  -- Without rules, a recording that is rejected is not normalised.
+  pub plain_refused : (recording : List ℕ) (why : Refused) → (why ≡ Memory → ⊥)
+      → RefusesBytes limits mode recording why
+      → RefusesNormal limits mode None recording (because.Session why)
+  plain_refused recording why some is = inr (recording, refl, no_normal recording why some is)
+
+  module _ (mask : Mask) (recording : List ℕ) where
+    -- A recording that cannot be masked has no session.
+    pub none_masked : (refused : GoldenRefused) → RefusesMask limits mask recording refused
+        → RefusesNormal limits mode (Some mask) recording refused
+    none_masked (because.Mask refused) is = is
+    none_masked because.Memory is = tt
+    none_masked refused is = absurd is
+
+    module _ (masked : List ℕ) (masks : IsMaskedTo limits mask recording masked) where
+      by_swaps : (swaps : List SwapRule) → mask.swaps ≡ swaps → (why : Refused)
+          → (why ≡ Memory → ⊥) → RefusesNormalBy limits mode swaps masked why
+          → RefusesNormal limits mode (Some mask) recording (because.Session why)
+      by_swaps [] none why some is = inr (
+        masked,
+        record {
+          masked = masked;
+          masks = masks;
+          orders = subst (λ swaps. OrdersBy limits mode swaps masked masked) (sym none) refl;
+        },
+        no_normal masked why some is,
+      )
+      by_swaps (rule ∷ rules) same why some is = inl (
+        masked,
+        masks,
+        subst (λ swaps. IsNotOrderedBy limits mode swaps masked why) (sym same)
+            (no_order rule rules masked why some is),
+      )
+
+      -- A masked recording that cannot be put in order, or is rejected, is not normalised.
+      pub masked_refused : (why : Refused) → (why ≡ Memory → ⊥)
+          → RefusesNormalBy limits mode mask.swaps masked why
+          → RefusesNormal limits mode (Some mask) recording (because.Session why)
+      masked_refused = by_swaps mask.swaps refl
+
+  -- An error of normalising is reported as `Session`.
+  pub step_refused : (mask : Option Mask) (recording : List ℕ) (Refuses : Refused → Type 0)
+      → ((why : Refused) → (why ≡ Memory → ⊥) → Refuses why
+      → RefusesNormal limits mode mask recording (because.Session why))
+      → (normal : Result NormalSession Refused) → IfErr normal Refuses
+      → IfErr (session_of normal) (RefusesNormal limits mode mask recording)
+  step_refused mask recording Refuses named (Ok session) is = tt
+  step_refused mask recording Refuses named (Err Memory) is = tt
+  step_refused mask recording Refuses named (Err why) is =
+      named why (λ memory. absurd (let same = memory in cc)) is
+
+pub step_done : (P : NormalSession → Type 0) (normal : Result NormalSession Refused) → IfOk normal P
+    → IfOk (session_of normal) P
+step_done P (Ok session) is = is
+step_done P (Err Memory) is = tt
+step_done P (Err why) is = tt
 
 module _ (limits : Limits) (mode : Mode) (mask : Option Mask) (allow_open : Bool)
     (input : List ℕ) where
-  -- If the rules cannot turn the recording into a session, its input has no golden text.
-  pub no_session : (recording : List ℕ) → IsRecordingOf limits input recording
-      → (refused : GoldenRefused) → RefusesRulesBy limits mode mask recording refused
-      → IsRefusedGolden limits mode mask allow_open input refused
-  no_session recording of_input refused is = by_rules mask refl is
-    where
-      by_rules : (given : Option Mask) → mask ≡ given
-          → RefusesRulesBy limits mode given recording refused
-          → IsRefusedGolden limits mode mask allow_open input refused
-      by_rules None same is = absurd is
-      by_rules (Some rules) same is = named refused is
-        where
-          has : (why : ApplyRefused) → IsRefusedByRules limits mode rules recording why
-              → HasNoSession limits mode mask input why
-          has why is = record {
-            recording = recording;
-            of_input = of_input;
-            rules = rules;
-            are_given = same;
-            is_refused = is;
-          }
+  module _ (recording : List ℕ) (of_input : IsRecordingOf limits input recording) where
+    has : (given : Option Mask) → mask ≡ given → (why : ApplyRefused)
+        → HasNoSessionBy limits mode given recording why → HasNoSession limits mode mask input why
+    has None same why is = absurd is
+    has (Some rules) same why is = record {
+      recording = recording;
+      of_input = of_input;
+      rules = rules;
+      are_given = same;
+      is_refused = is;
+    }
 
-          named : (why : GoldenRefused) → RefusesRules limits mode rules recording why
-              → IsRefusedGolden limits mode mask allow_open input why
-          named (because.Mask why) is = has (step.Mask why) is
-          named (because.Session why) is = inl (has (step.Order why) is)
-          named because.Memory is = tt
-          named why is = absurd is
+    refused_session : (session : List ℕ) (why : Refused)
+        → IsRefused (accepting limits mode) session why
+        → RefusesSession limits mode allow_open session why
+    refused_session session (Incomplete client adapter) is = absurd is
+    refused_session session why is = is
+
+    -- If the recording is not normalised by the rules, its input has no golden text.
+    pub no_session : (refused : GoldenRefused) → RefusesNormal limits mode mask recording refused
+        → IsRefusedGolden limits mode mask allow_open input refused
+    no_session (because.Mask why) is = has mask refl (step.Mask why) is
+    no_session (because.Session why) (inl is) = inl (has mask refl (step.Order why) is)
+    no_session (because.Session why) (inr (session, applies, is)) = inr (
+      session,
+      record { recording = recording; of_input = of_input; applies = applies },
+      refused_session session why is,
+    )
+    no_session because.Memory is = tt
+    no_session refused is = absurd is
+
+    -- The golden text of a session is that of its input.
+    pub golden_of_input : (text : GoldenText) (session : List ℕ)
+        → AppliesBy limits mode mask recording session
+        → IsGoldenOf limits mode allow_open session text
+        → IsGolden limits mode mask allow_open input text
+    golden_of_input text session applies is = record {
+      session = session;
+      of_input = record { recording = recording; of_input = of_input; applies = applies };
+      of_session = is;
+    }
 
   -- If a session has no golden text, neither has its input.
   pub session_refused : (session : List ℕ) → IsSessionOf limits mode mask input session

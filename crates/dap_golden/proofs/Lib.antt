@@ -2,5 +2,4 @@ pub mod ComparedTexts
 pub mod GoldenTexts
 pub mod MemoryRuns
 pub mod OneGoldenText
-pub mod SessionCounts
 pub mod TraceHeads

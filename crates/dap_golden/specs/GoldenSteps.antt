@@ -1,17 +1,19 @@
 -- What the steps of creating a golden text do.
-use Rattle.std.specs.Prelude.{ℕ, Bool, List, [], Option, Some, None}
+use Rattle.std.specs.Prelude.{◌⊎◌, ℕ, Bool, List, [], Option, Some, None, Result, Ok, Err}
 use Rattle.dap_tree.specs.declared.side.Side.{Side}
 use Rattle.dap_rename.specs.declared.mode.Mode.{Mode}
 use Rattle.dap_mask.specs.Mask.{Mask}
-use Rattle.dap_message.specs.SwapRules.{SwapRule}
-use Rattle.dap_input.specs.{declared.limits.Limits.Limits, Refusals.IsRefused}
+use Rattle.dap_input.specs.{declared.limits.Limits.Limits, declared.refused.Refused.Refused}
+use Rattle.dap_input.specs.{declared.refused.Refused.TheVariants.Memory, Refusals.IsRefused}
 use Rattle.dap_record.specs.Tracing.{IsTraceRefused}
-use Rattle.dap_rules.specs.{Masking.masking, Applying.{IsNotOrderedBy, IsRefusedByRules}}
-use Rattle.dap_normalise.specs.Accepting.{IsAccepted}
+use Rattle.dap_rules.specs.{Masking.masking, Applying.IsRefusedByRules}
+use Rattle.dap_normalise.specs.{Accepting.{IsAccepted, accepting}, NormalSession.IsNormalSession}
+use Rattle.dap_normalise.specs.declared.normal_session.NormalSession.{NormalSession}
+use Rattle.dap_rules.specs.declared.fault.ApplyRefused.{ApplyRefused}
 use Rattle.dap_rules.specs.declared.fault.ApplyRefused.TheVariants as step
 use Rattle.dap_golden.specs.declared.fault.GoldenRefused.{GoldenRefused}
 use Rattle.dap_golden.specs.declared.fault.GoldenRefused.TheVariants as because
-use Rattle.dap_golden.specs.{Golden.RefusesSession, TraceHead.IsTraceHead}
+use Rattle.dap_golden.specs.{Golden.{AppliesBy, RefusesSession}, TraceHead.IsTraceHead}
 
 -- The input is a trace, and it is rejected for this reason or an allocation failed. Any other input
 -- is its own recording, without an allocation.
@@ -29,27 +31,34 @@ RefusesMask limits mask recording (because.Mask refused) =
 RefusesMask limits mask recording because.Memory = Unit {0}
 RefusesMask limits mask recording _ = ⊥
 
--- The rules cannot turn the recording into a session for this reason, or an allocation failed.
-abbrev pub RefusesRules : Limits → Mode → Mask → List ℕ → GoldenRefused → Type 0
-RefusesRules limits mode mask recording (because.Mask refused) =
-    IsRefusedByRules limits mode mask recording (step.Mask refused)
-RefusesRules limits mode mask recording (because.Session refused) =
-    IsRefusedByRules limits mode mask recording (step.Order refused)
-RefusesRules limits mode mask recording because.Memory = Unit {0}
-RefusesRules limits mode mask recording _ = ⊥
+-- The rules turn the recording into a session, and this is its normal text, with its counts.
+abbrev pub IsNormalBy : Limits → Mode → Option Mask → List ℕ → NormalSession → Type 0
+IsNormalBy limits mode mask recording normal = (session : List ℕ)
+    × AppliesBy limits mode mask recording session × IsNormalSession limits mode session normal
 
--- The same for optional rules.
-abbrev pub RefusesRulesBy : Limits → Mode → Option Mask → List ℕ → GoldenRefused → Type 0
-RefusesRulesBy limits mode None recording refused = ⊥
-RefusesRulesBy limits mode (Some mask) recording refused =
-    RefusesRules limits mode mask recording refused
+-- The rules cannot turn the recording into a session for this reason.
+abbrev pub HasNoSessionBy : Limits → Mode → Option Mask → List ℕ → ApplyRefused → Type 0
+HasNoSessionBy limits mode None recording refused = ⊥
+HasNoSessionBy limits mode (Some mask) recording refused =
+    IsRefusedByRules limits mode mask recording refused
 
--- The rules cannot put the masked recording in order for this reason, or an allocation failed.
-abbrev pub RefusesOrder : Limits → Mode → List SwapRule → List ℕ → GoldenRefused → Type 0
-RefusesOrder limits mode rules masked (because.Session refused) =
-    IsNotOrderedBy limits mode rules masked refused
-RefusesOrder limits mode rules masked because.Memory = Unit {0}
-RefusesOrder limits mode rules masked _ = ⊥
+-- The rules cannot turn the recording into a session for this reason, or the session is rejected.
+-- Or an allocation failed.
+abbrev pub RefusesNormal : Limits → Mode → Option Mask → List ℕ → GoldenRefused → Type 0
+RefusesNormal limits mode mask recording (because.Mask refused) =
+    HasNoSessionBy limits mode mask recording (step.Mask refused)
+RefusesNormal limits mode mask recording (because.Session refused) =
+    HasNoSessionBy limits mode mask recording (step.Order refused)
+    ⊎ ((session : List ℕ) × AppliesBy limits mode mask recording session
+    × IsRefused (accepting limits mode) session refused)
+RefusesNormal limits mode mask recording because.Memory = Unit {0}
+RefusesNormal limits mode mask recording _ = ⊥
+
+-- The result of normalising a session, with its step if it is an error.
+abbrev pub session_of : Result NormalSession Refused → Result NormalSession GoldenRefused
+session_of (Ok session) = Ok session
+session_of (Err Memory) = Err because.Memory
+session_of (Err refused) = Err (because.Session refused)
 
 -- The session has no golden text for this reason, or an allocation failed.
 abbrev pub RefusesGolden : Limits → Mode → Bool → List ℕ → GoldenRefused → Type 0

@@ -3,5 +3,4 @@ pub mod GoldenFiles
 pub mod GoldenSteps
 pub mod GoldenUpdates
 pub mod Laws
-pub mod NormalSession
 pub mod TraceHead

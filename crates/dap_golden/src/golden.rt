@@ -1,25 +1,25 @@
 //! Creates the text of a golden file.
 ghost use Rattle.std.specs.{Prelude.{◌≡◌, ◌↔◌, IfErr, IfOk, IsTrue, List, ℕ}, Cow.cow_slice_items};
 ghost use Rattle.dap_input.specs.Limits.{AreSound};
-ghost use Rattle.dap_mask.specs.KeptRules.{mask_of, swaps_of_mask};
-ghost use Rattle.dap_rules.specs.{MaskedRecordings.IsMaskedTo, Applying.OrdersBy};
-ghost use Rattle.dap_golden.specs.Golden.{AppliesBy, IsGolden, IsGoldenOf, IsRecordingOf};
+ghost use Rattle.dap_mask.specs.KeptRules.{mask_of};
+ghost use Rattle.dap_normalise.specs.NormalSession.{IsNormalSession};
+ghost use Rattle.dap_rules.specs.MaskedRecordings.{IsMaskedTo};
+ghost use Rattle.dap_golden.specs.Golden.{IsGolden, IsGoldenOf, IsRecordingOf};
 ghost use Rattle.dap_golden.specs.Golden.{IsRefusedGolden, mask_given, mode_given};
 ghost use Rattle.dap_golden.specs.GoldenFiles.{IsNormalText};
-ghost use Rattle.dap_golden.specs.GoldenSteps.{RefusesGolden, RefusesMask, RefusesOrder};
-ghost use Rattle.dap_golden.specs.GoldenSteps.{RefusesRulesBy, RefusesTrace};
-ghost use Rattle.dap_golden.specs.{NormalSession.IsNormalSession, TraceHead.IsTraceHead};
+ghost use Rattle.dap_golden.specs.GoldenSteps.{IsNormalBy, RefusesGolden, RefusesMask};
+ghost use Rattle.dap_golden.specs.GoldenSteps.{RefusesNormal, RefusesTrace, session_of};
+ghost use Rattle.dap_golden.specs.TraceHead.{IsTraceHead};
 
 use crate::fault::GoldenRefused;
-use crate::normal_session::{NormalSession, normalise_session};
 use crate::trace_head::is_trace;
 use dap_device::MemorySource;
 use dap_input::{Limits, Refused};
 use dap_mask::MaskRules;
-use dap_normalise::Checked;
+use dap_normalise::{Checked, NormalSession, normalise_session};
 use dap_record::record;
 use dap_rename::Mode;
-use dap_rules::{TextSink, is_out_of_memory, mask_bytes, mode_by, order_masked};
+use dap_rules::{TextSink, is_out_of_memory, mask_bytes, mode_by, normalise_masked};
 use std::alloc::Global;
 use std::borrow::CowSlice;
 
@@ -90,48 +90,37 @@ fn mask_recording(
     }
 }
 
-/// Puts a masked recording in order, if there are rules for the order.
-fn order_recording(
+/// Normalises a recording. If there are rules, masks it before that, and then puts it in order if
+/// some of the rules are for the order.
+fn normalise_by_rules(
     alloc: Global,
-    masked: Vec<u8>,
-    rules: &MaskRules,
-    limits: Limits,
-    mode: Mode,
-) -> Result<Vec<u8>, GoldenRefused>
-    requires { AreSound limits }
-    ensures ok { IfOk result (λ session. OrdersBy limits mode (swaps_of_mask rules.now)
-        masked.items session.items) }
-    ensures err { IfErr result
-        (RefusesOrder limits mode (swaps_of_mask rules.now) masked.items) }
-{
-    match order_masked(alloc, rules, masked, limits, mode) {
-        Ok(session) => Ok(session),
-        Err(refused) if is_out_of_memory(refused) => Err(GoldenRefused::Memory),
-        Err(refused) => Err(GoldenRefused::Session(refused)),
-    }
-}
-
-/// Masks a recording and puts it in order, if there are rules. Without rules, returns it unchanged.
-fn session_of<'a>(
-    alloc: Global,
-    recording: CowSlice<'a, u8>,
+    recording: CowSlice<'_, u8>,
     rules: Option<&MaskRules>,
     limits: Limits,
     mode: Mode,
-) -> Result<CowSlice<'a, u8>, GoldenRefused>
+) -> Result<NormalSession, GoldenRefused>
     requires { AreSound limits }
-    ensures ok { IfOk result
-        (λ session. AppliesBy limits mode (mask_given rules.entry)
-        (cow_slice_items recording.entry) (cow_slice_items session)) }
-    ensures err { IfErr result
-        (RefusesRulesBy limits mode (mask_given rules.entry) (cow_slice_items recording.entry)) }
+    ensures ok { IfOk result (IsNormalBy limits mode (mask_given rules.entry)
+        (cow_slice_items recording.entry)) }
+    ensures err { IfErr result (RefusesNormal limits mode (mask_given rules.entry)
+        (cow_slice_items recording.entry)) }
 {
     let Some(rules) = rules else {
-        return Ok(recording);
+        return session_of(normalise_session(alloc, recording.as_slice(), limits, mode));
     };
     let masked = mask_recording(alloc, recording, rules, limits)?;
-    let session = order_recording(alloc, masked, rules, limits, mode)?;
-    Ok(CowSlice::Owned(session))
+    session_of(normalise_masked(alloc, rules, masked.as_slice(), limits, mode))
+}
+
+/// Returns the result of normalising a session, with its step if it is an error.
+fn session_of(normal: Result<NormalSession, Refused>) -> Result<NormalSession, GoldenRefused>
+    ensures { result ≡ session_of normal }
+{
+    match normal {
+        Ok(session) => Ok(session),
+        Err(Refused::Memory) => Err(GoldenRefused::Memory),
+        Err(refused) => Err(GoldenRefused::Session(refused)),
+    }
 }
 
 /// Returns whether each request has a response.
@@ -141,7 +130,7 @@ fn are_answered(counts: Checked) -> bool
     counts.client_open == 0 && counts.adapter_open == 0
 }
 
-/// Returns the golden text of a session. The session must have at least one record. Each request
+/// Returns the golden text of a session. It must have at least one record. Each request
 /// must have a response, unless `allow_open` is set.
 fn golden_of(session: NormalSession, allow_open: bool) -> Result<GoldenText, GoldenRefused>
     ensures ok { IfOk result (λ text. (limits : Limits) (mode : Mode) (recording : List ℕ)
@@ -163,25 +152,6 @@ fn golden_of(session: NormalSession, allow_open: bool) -> Result<GoldenText, Gol
         bytes,
         records: counts.records,
     })
-}
-
-/// Returns the golden text of a recording.
-fn golden_of_recording(
-    alloc: Global,
-    recording: &[u8],
-    allow_open: bool,
-    limits: Limits,
-    mode: Mode,
-) -> Result<GoldenText, GoldenRefused>
-    requires { AreSound limits }
-    ensures ok { IfOk result (IsGoldenOf limits mode allow_open recording.now) }
-    ensures err { IfErr result (RefusesGolden limits mode allow_open recording.now) }
-{
-    match normalise_session(alloc, recording, limits, mode) {
-        Ok(session) => golden_of(session, allow_open),
-        Err(refused) if is_out_of_memory(refused) => Err(GoldenRefused::Memory),
-        Err(refused) => Err(GoldenRefused::Session(refused)),
-    }
 }
 
 /// Returns the mode in which the ids of the session are numbered: that of the caller, unless there
@@ -240,6 +210,6 @@ pub fn golden_text(
 {
     let wanted = mode_given(rules, mode);
     let recording = recording_of(alloc, input, limits)?;
-    let session = session_of(alloc, recording, rules, limits, wanted)?;
-    golden_of_recording(alloc, session.as_slice(), allow_open, limits, wanted)
+    let session = normalise_by_rules(alloc, recording, rules, limits, wanted)?;
+    golden_of(session, allow_open)
 }

@@ -6,7 +6,6 @@ mod comparing;
 mod fault;
 mod golden;
 pub mod laws;
-mod normal_session;
 mod trace_head;
 mod updates;
 

@@ -36,6 +36,9 @@ use Rattle.dap_session.proofs.RenamingKeepsRules.{keeps_renamed}
 use Rattle.dap_input.specs.declared.limits.Limits.{Limits}
 use Rattle.dap_input.specs.Limits.{AreSound}
 use Rattle.dap_normalise.specs.Accepting.{Payload, AreMessages, IsAccepted, accepting, id_limit, text}
+use Rattle.dap_normalise.specs.Checking.{AreCounted}
+use Rattle.dap_normalise.specs.NormalSession.{IsNormalSession}
+use Rattle.dap_normalise.specs.declared.normal_session.NormalSession.{NormalSession}
 use Rattle.dap_normalise.specs.Normalising.{Normalises, IsCanonical, HasOneNormalForm}
 use Rattle.dap_normalise.specs.Normalising.{NormalIsAccepted, AcceptedIsNormalised, OneNormalText}
 use Rattle.dap_normalise.specs.Normalising.{NormalisingIsIdempotent, EqualTextsIffSame}
@@ -318,3 +321,11 @@ canonical limits mode sound bytes written a =
       only = λ other is. one_text limits mode sound written other written is again;
       tells = λ others other b. equal_texts_tell limits mode sound bytes others written other a b;
     }
+
+-- A normal text with the counts of the messages.
+pub normal_session : (limits : Limits) (mode : Mode) → AreSound limits → (bytes : List ℕ)
+    (session : NormalSession) (a : Normalises limits mode bytes session.bytes.items)
+    → AreCounted session.counts a.messages → IsNormalSession limits mode bytes session
+unfolding canonical
+normal_session limits mode sound bytes session a counted =
+    record { canonical = canonical limits mode sound bytes session.bytes.items a; counted = counted }

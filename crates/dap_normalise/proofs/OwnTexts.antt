@@ -8,7 +8,7 @@ use Rattle.dap_message.specs.Message.{Sent}
 use Rattle.dap_recording.specs.Recording.{records}
 use Rattle.dap_recording.proofs.Records.{readable}
 use Rattle.dap_recording.proofs.RecordsWritten.{written_is_record}
-use Rattle.dap_rename.specs.declared.mode.Mode.{Mode}
+use Rattle.dap_rename.specs.{Messages.IsNormal, Modes.stop_in, declared.mode.Mode.Mode}
 use Rattle.dap_input.specs.Limits.{AreSound}
 use Rattle.dap_input.specs.Refusals.{RejectsPayload, reason_of}
 use Rattle.dap_input.specs.Validation.{objected}
@@ -19,14 +19,17 @@ use Rattle.dap_input.proofs.InputLoop.{ReadsAs, first_objected, next_accepted}
 use Rattle.dap_input.proofs.Refusals.{objection_told, refused_as}
 use Rattle.dap_input.proofs.Runs.{none_accepted}
 use Rattle.dap_normalise.specs.declared.judging.Judge.{Judge}
+use Rattle.dap_normalise.specs.declared.normal_session.NormalSession.{NormalSession}
 use Rattle.dap_normalise.specs.Accepting.{Payload, IsAccepted, IsMessage, IsNext, Rejects, accepting}
 use Rattle.dap_normalise.specs.Accepting.{text}
 use Rattle.dap_normalise.specs.JudgingSteps.{IsTaken, RepresentsMessages, judge_limits, judge_mode}
 use Rattle.dap_normalise.specs.JudgingSteps.{record_of}
+use Rattle.dap_normalise.specs.{Checking.AreCounted, NormalSession.IsNormalSession}
 use Rattle.dap_normalise.specs.Normalising.{RefusesBytes}
 use Rattle.dap_normalise.specs.OwnTexts.{HasOwnText, IsOwn}
 use Rattle.dap_normalise.proofs.AcceptingFacts.{accepted_facts, message_once, value_laws}
 use Rattle.dap_normalise.proofs.JudgedRecords.{text_push}
+use Rattle.dap_normalise.proofs.NormalFormLaws.{normal_session}
 use Rattle.dap_normalise.proofs.NormalTexts.{text-append}
 
 -- The state represents the messages, and their text is accepted.
@@ -49,6 +52,39 @@ none_judged {limits = limits} {mode = mode} represents limits_are mode_is = reco
   limits_are = limits_are;
   mode_is = mode_is;
 }
+
+-- The same, and these bytes are the text of their normal form.
+pub record HasWritten {T : Type 0} (numbers : T → List ℤ) (table_limit : T → ℕ) (limits : Limits)
+    (mode : Mode) (judge : Judge T) (messages : List Sent) (bytes : List ℕ) : Type 0 where
+  pub judged : HasJudged numbers table_limit limits mode judge messages
+  pub text_is : bytes ≡ text judged.normal
+
+pub none_written : {T : Type 0} {numbers : T → List ℤ} {table_limit : T → ℕ} {limits : Limits}
+    {mode : Mode} {judge : Judge T} {bytes : List ℕ}
+    → RepresentsMessages numbers table_limit judge [] [] → judge_limits judge ≡ limits
+    → judge_mode judge ≡ mode → bytes ≡ []
+    → HasWritten numbers table_limit limits mode judge [] bytes
+unfolding none_judged
+none_written represents limits_are mode_is none =
+    record { judged = none_judged represents limits_are mode_is; text_is = none }
+
+pub written_session : {T : Type 0} {numbers : T → List ℤ} {table_limit : T → ℕ} {limits : Limits}
+    {mode : Mode} {judge : Judge T} {messages : List Sent} → AreSound limits
+    → (session : NormalSession) (all : List Sent) → messages ≡ all
+    → HasWritten numbers table_limit limits mode judge messages session.bytes.items
+    → AreCounted session.counts messages → IsNormalSession limits mode (text all) session
+written_session {limits = limits} {mode = mode} {messages = messages} sound session all same is
+    counted =
+    let judged = is.judged in
+    subst (λ ms. IsNormalSession limits mode (text ms) session) same
+    (normal_session limits mode sound (text messages) session (record {
+      messages = messages;
+      accepts = judged.accepted;
+      normal = judged.normal;
+      is_normal = subst (λ k. IsNormal (stop_in k) messages judged.normal) judged.mode_is
+          judged.represents.is_normal;
+      text_is = is.text_is;
+    }) counted)
 
 -- What holds of each message holds of the one after the first ones.
 next_of_all : (P : Sent → Type 0) (before : List Sent) (m : Sent) (after : List Sent)
@@ -118,6 +154,18 @@ module _ (limits : Limits) (mode : Mode) (sound : AreSound limits) (all before :
           limits_are = limits_are;
           mode_is = mode_is;
         }
+
+    pub written_on : {new : Judge T} {first longer : List ℕ}
+        → judge_limits new ≡ judge_limits old → judge_mode new ≡ judge_mode old
+        → first ≡ text was.normal
+        → IsTaken numbers table_limit before was.normal held new first longer
+        → HasWritten numbers table_limit limits mode new (before ++ m ∷ []) longer
+    unfolding judged_on
+    written_on same_limits same_mode first_is taken = record {
+      judged = judged_on same_limits same_mode taken;
+      text_is = taken.appended ∙ ap (λ t. t ++ record_of taken.named) first_is
+          ∙ sym (text_push was.normal taken.named);
+    }
 
     module _ (number : ℕ) (is_number : number ≡ length before + 1) where
       told : (because : Refused)

@@ -1,6 +1,6 @@
 -- The results of `read_session` for bytes in memory.
 use Rattle.std.proofs.Common.{◌≡◌, ℕ, ℤ, ◌<◌, Bool, true, false, Ok, List, [], ◌∷◌, ◌++◌, sym}
-use Rattle.std.proofs.Common.{◌∙◌, ap, subst}
+use Rattle.std.proofs.Common.{◌∙◌, ap, ap₂, refl, subst, length, Option, Some, slice_get}
 use Rattle.std.proofs.lemmas.Bool.{true≢false}
 use Rattle.dap_device.specs.Memory.{GivenBytes}
 use Rattle.dap_message.specs.Message.{Sent}
@@ -12,6 +12,16 @@ use Rattle.dap_normalise.specs.Accepting.{IsAccepted}
 use Rattle.dap_normalise.specs.NormalSteps.{RepresentsBefore, StoresNext, remaining}
 use Rattle.dap_normalise.proofs.StreamLoop.{Going, at_start, on}
 use Rattle.dap_normalise.proofs.WholeInput.{accepted_whole}
+
+-- The message that was appended last is the one at this place.
+last_item : (old : List Sent) (m : Sent) → slice_get (old ++ m ∷ []) (length old) ≡ Some m
+last_item [] m = refl
+last_item (n ∷ old) m = last_item old m
+
+pub last_message : (old all : List Sent) (m : Sent) (place : ℕ) (found : Option Sent)
+    → place ≡ length old → all ≡ old ++ m ∷ [] → found ≡ slice_get all place → found ≡ Some m
+last_message old all m place found at appended is =
+    is ∙ ap₂ (λ ms i. slice_get ms i) appended at ∙ last_item old m
 
 -- The records before the next one are accepted, and these are their messages.
 pub record HasStored {T : Type 0} (numbers : T → List ℤ) (table_limit : T → ℕ) (limits : Limits)

@@ -15,7 +15,7 @@ use Rattle.dap_input.specs.declared.refused.Refused.TheVariants.{Incomplete, Wri
 use Rattle.dap_input.proofs.Refusals.{untold}
 use Rattle.dap_input.proofs.StreamEnds.{none_come}
 use Rattle.dap_normalise.specs.Accepting.{IsAccepted, accepting, text}
-use Rattle.dap_normalise.specs.Checking.{Checks}
+use Rattle.dap_normalise.specs.Checking.{AreCounted, Checks}
 use Rattle.dap_input.specs.Engine.{Accepts}
 use Rattle.dap_normalise.specs.JudgingSteps.{RepresentsMessages}
 use Rattle.dap_normalise.specs.Normalising.{Normalises}
@@ -93,6 +93,17 @@ module _ {T R : Type 0} {numbers : T → List ℤ} {table_limit : T → ℕ} {so
         → RepresentsMessages numbers table_limit new.judge messages normal
         → adapter ≡ open_requests Adapter messages)
 
+    pub counted : (client adapter : ℕ) → Open client adapter
+        → (checked : Checked) → checked.records + 1 ≡ new.records.number
+        → checked.client_open ≡ client → checked.adapter_open ≡ adapter
+        → AreCounted checked was.messages
+    counted client adapter are_open checked count client_is adapter_is = record {
+      records = (let is = was.represents.number_is in let same = end.number_is in omega
+          (arith, is, same, count));
+      client = client_is ∙ are_open.0 was.messages was.normal judge_stands;
+      adapter = adapter_is ∙ are_open.1 was.messages was.normal judge_stands;
+    }
+
     pub check_accepts : (complete : Bool) (client adapter : ℕ) → Open client adapter
         → (checked : Checked) → checked.records + 1 ≡ new.records.number
         → checked.client_open ≡ client → checked.adapter_open ≡ adapter
@@ -102,12 +113,7 @@ module _ {T R : Type 0} {numbers : T → List ℤ} {table_limit : T → ℕ} {so
         record {
           messages = was.messages;
           accepts = accepts;
-          counted = record {
-            records = (let is = was.represents.number_is in let same = end.number_is in omega
-                (arith, is, same, count));
-            client = client_is ∙ are_open.0 was.messages was.normal judge_stands;
-            adapter = adapter_is ∙ are_open.1 was.messages was.normal judge_stands;
-          };
+          counted = counted client adapter are_open checked count client_is adapter_is;
           answered = λ asked. let none =
               answered asked in (client_is ∙ none.0, adapter_is ∙ none.1);
         }

@@ -10,15 +10,17 @@ use Rattle.dap_input.specs.declared.refused.Refused.{Refused}
 use Rattle.dap_input.specs.declared.refused.Refused.TheVariants.{Memory}
 use Rattle.dap_normalise.specs.Accepting.{Payload, IsAccepted, AreMessages, accepting, text}
 use Rattle.dap_input.specs.Limits.{AreSound}
+use Rattle.dap_normalise.specs.{Checking.AreCounted, NormalSession.IsNormalSession}
 use Rattle.dap_normalise.specs.Normalised.{AreTyped, HoldsSome}
-use Rattle.dap_normalise.specs.Normalising.{IsCanonical, Normalises, RefusesBytes}
+use Rattle.dap_normalise.specs.declared.normal_session.NormalSession.{NormalSession}
+use Rattle.dap_normalise.specs.Normalising.{Normalises, RefusesBytes}
 use Rattle.dap_normalise.specs.JudgingSteps.{record_of}
 use Rattle.dap_normalise.specs.NormalSteps.{HasAdvanced, HasEnded, HasStoppedAt, RepresentsBefore}
 use Rattle.dap_normalise.proofs.AcceptingFacts.{accepted_facts, value_laws}
 use Rattle.dap_input.proofs.MemoryInputs.{memory, start}
 use Rattle.dap_input.proofs.MemoryInputs as memory_inputs
 use Rattle.dap_recording.proofs.Records.{readable}
-use Rattle.dap_normalise.proofs.NormalFormLaws.{canonical}
+use Rattle.dap_normalise.proofs.NormalFormLaws.{normal_session}
 use Rattle.dap_normalise.proofs.JudgedRecords.{text_push}
 use Rattle.dap_normalise.proofs.StreamLoop.{Going, all_came, at_start, normal_before, on}
 use Rattle.dap_normalise.proofs.StreamLoop.{refuses_next}
@@ -104,14 +106,15 @@ module _ {T : Type 0} {numbers : T → List ℤ} {table_limit : T → ℕ} {limi
         (end : HasEnded numbers table_limit memory limits mode has.going.bytes
         has.going.messages has.going.normal
         records new reader after written longer) where
-      pub normalised_whole : Normalises limits mode bytes longer
-      normalised_whole = record {
-        messages = has.going.messages;
-        accepts = accepted_whole has.going end;
-        normal = has.going.normal;
-        is_normal = normal_before has.going.represents;
-        text_is = end.kept ∙ has.text_is;
-      }
-
-      pub canonical_whole : AreSound limits → IsCanonical limits mode bytes longer
-      canonical_whole sound = canonical limits mode sound bytes longer normalised_whole
+      -- The normal text, with the counts of the messages.
+      pub session_whole : AreSound limits → (session : NormalSession)
+          → session.bytes.items ≡ longer → AreCounted session.counts has.going.messages
+          → IsNormalSession limits mode bytes session
+      session_whole sound session same counted =
+          normal_session limits mode sound bytes session (record {
+            messages = has.going.messages;
+            accepts = accepted_whole has.going end;
+            normal = has.going.normal;
+            is_normal = normal_before has.going.represents;
+            text_is = same ∙ end.kept ∙ has.text_is;
+          }) counted

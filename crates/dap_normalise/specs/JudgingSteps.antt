@@ -9,7 +9,7 @@ use Rattle.dap_rename.specs.{Messages.{AreProper, IsNormal}, Modes.stop_in}
 use Rattle.dap_rename.specs.{Names.{Represents, limit_in, mode_of}, declared.mode.Mode.Mode}
 use Rattle.dap_session.specs.Representation.{Represents as SessionRepresents}
 use Rattle.dap_normalise.specs.declared.judging.Judge.{Judge}
-use Rattle.dap_normalise.specs.Accepting.{Payload, Fits, IsNext, Rejects, text}
+use Rattle.dap_normalise.specs.Accepting.{Payload, Fits, IsMessage, IsNext, Rejects, text}
 use Rattle.dap_input.specs.{declared.limits.Limits.Limits, declared.refused.Refused.Refused}
 use Rattle.dap_input.specs.declared.refused.Refused.TheVariants.{Grew, Memory}
 use Rattle.dap_input.specs.Refusals.{RejectsPayload}
@@ -82,6 +82,11 @@ module _ {T : Type 0} (numbers : T → List ℤ) (table_limit : T → ℕ) where
       (text : List ℕ) × IsTaken messages normal held after [] text
   ChecksRecord messages normal held n before after (Err because) =
       RejectsPayload (Rejects before.limits (judge_mode before) messages held) n because
+
+-- The content of the record is a message, which was appended to the old messages.
+abbrev pub AddsMessage : Payload → List Sent → List Sent → Type 0
+AddsMessage held old new = (message : Sent) × IsMessage held message
+    × (new ≡ old ++ message ∷ [])
 
 -- The messages are the same, or there is one more.
 abbrev pub IsSameOrLonger : List Sent → List Sent → Type 0

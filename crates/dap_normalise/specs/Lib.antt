@@ -3,6 +3,7 @@ pub mod Checking
 pub mod HeldMessages
 pub mod JudgingSteps
 pub mod NameTables
+pub mod NormalSession
 pub mod NormalSteps
 pub mod Normalised
 pub mod Normalising

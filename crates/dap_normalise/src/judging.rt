@@ -1,14 +1,13 @@
 //! Checks the records of a recording one after another, for both `check` and `normalise`.
-ghost use Rattle.std.specs.Prelude.{◌≡◌, ◌≤◌, ◌++◌, List, [], ◌∷◌, OnErr, OnOk};
-ghost use Rattle.dap_flat_message.specs.FlatMessages.{flat_sent};
+ghost use Rattle.std.specs.Prelude.{◌≡◌, ◌≤◌, List, [], OnErr, OnOk};
 ghost use Rattle.dap_message.specs.Message.{Sent};
 ghost use Rattle.dap_session.specs.Rules.{open_requests};
 ghost use Rattle.dap_stored.specs.Sessions.{messages_of};
 ghost use Rattle.dap_input.specs.Limits.{AreSound};
 ghost use Rattle.dap_normalise.specs.NameTables.{AreReady};
 
-use crate::messages::{append_record, count_record, read_flat, read_message};
-use dap_flat_message::FlatMessage;
+use crate::messages::{append_record, count_record, push_record, read_flat, read_message};
+use dap_flat_message::Measured;
 use dap_input::{Limits, Refused};
 use dap_message::{AnyMessage, Side};
 use dap_recording::Record;
@@ -35,6 +34,7 @@ pub struct Judge<T> {
 impl<T: NameTable + Drop> Judge<T> {
     ghost use Rattle.dap_normalise.specs.Accepting.{Payload, IsMessage};
     ghost use Rattle.dap_normalise.specs.JudgingSteps.{
+      AddsMessage,
       ChecksRecord,
       IsSameOrLonger,
       JudgesRecord,
@@ -118,7 +118,7 @@ impl<T: NameTable + Drop> Judge<T> {
     {
         let content = whole.content.as_slice();
         if let Some(message) = read_flat(alloc, number, whole.side, content, scratch)? {
-            return self.check_flat(number, &message);
+            return self.check_message(number, &message);
         }
         let message = read_message(alloc, number, whole.side, content, scratch)?;
         let mut text = Vec::new(alloc);
@@ -144,26 +144,19 @@ impl<T: NameTable + Drop> Judge<T> {
             → RepresentsMessages T.numbers T.limit self.old messages normal
             → ChecksRecord T.numbers T.limit messages normal (payload_of whole.now) number self.old
             self.new result }
-        ensures stored { OnOk result ((message : Sent) × IsMessage (payload_of whole.now) message
-            × (messages_of session.new ≡ messages_of session.old ++ message ∷ [])) }
+        ensures stored { OnOk result (AddsMessage (payload_of whole.now)
+            (messages_of session.old) (messages_of session.new)) }
         ensures kept { OnErr result
             (IsSameOrLonger (messages_of session.old) (messages_of session.new)) }
         ensures limits { judge_limits self.new ≡ judge_limits self.old }
         ensures mode { judge_mode self.new ≡ judge_mode self.old }
     {
-        let content = whole.content.as_slice();
-        if let Some(message) = read_flat(alloc, number, whole.side, content, scratch)? {
-            let Ok(()) = session.push(alloc, &message) else {
-                return Err(Refused::Memory);
-            };
-            return self.check_flat(number, &message);
-        }
-        let message = read_message(alloc, number, whole.side, content, scratch)?;
-        let Ok(()) = session.push_message(alloc, &message) else {
-            return Err(Refused::Memory);
+        let place = session.len();
+        push_record(alloc, number, whole, scratch, session)?;
+        let Some(message) = session.message(place) else {
+            unreachable!()
         };
-        let mut text = Vec::new(alloc);
-        self.judge_message(alloc, number, message, &mut text)
+        self.check_message(number, &message)
     }
 
     /// Checks the message of the record with this number, and appends the record of its normal form
@@ -213,10 +206,14 @@ impl<T: NameTable + Drop> Judge<T> {
 
     /// Checks the message of the record with this number, and counts the bytes of the record of its
     /// normal form.
-    fn check_flat(&mut self, number: u64, message: &FlatMessage<'_>) -> Result<(), Refused>
+    ///
+    /// # Errors
+    ///
+    /// Those of [`judge_message`](Judge::judge_message).
+    pub fn check_message<M: Measured>(&mut self, number: u64, message: &M) -> Result<(), Refused>
         ensures checks { (messages normal : List Sent) (held : Payload)
             → RepresentsMessages T.numbers T.limit self.old messages normal
-            → IsMessage held (flat_sent message.now)
+            → IsMessage held (M.sent message.now)
             → ChecksRecord T.numbers T.limit messages normal held number self.old self.new result }
         ensures limits { judge_limits self.new ≡ judge_limits self.old }
         ensures mode { judge_mode self.new ≡ judge_mode self.old }

@@ -1,5 +1,6 @@
-//! Checks and normalises recordings record by record. [`read_session`] also stores the messages,
-//! and [`check_messages`] checks the text of messages without reading it.
+//! Checks and normalises recordings record by record. [`read_session`] also stores the messages.
+//! [`check_messages`] and [`normalise_messages`] do the same for the text of messages, without
+//! reading it.
 #![tactic(auto)]
 
 mod checked;
@@ -8,6 +9,7 @@ mod judging;
 pub mod laws;
 mod messages;
 mod normal_records;
+mod normal_session;
 mod normalised;
 mod normalising;
 mod same_recordings;
@@ -15,8 +17,9 @@ mod sessions;
 
 pub use checked::Checked;
 pub use checking::{check, check_with};
-pub use messages::{append_record, read_flat, read_message};
+pub use messages::{append_record, count_record, read_flat, read_message};
 pub use normal_records::NormalRecords;
+pub use normal_session::{NormalSession, normalise_session};
 pub use normalised::Normalised;
 pub use normalising::{PIECE, finish_output, normalise, normalise_bytes, normalise_with};
-pub use sessions::{check_messages, read_session};
+pub use sessions::{check_messages, normalise_messages, read_session};

@@ -1,11 +1,12 @@
 //! Reads the message of a record, and writes the record of a content.
 ghost use Rattle.std.specs.Prelude.{◌≡◌, ◌<◌, ◌≤◌, ℕ, List, [], IfOk, IfErr, IfSome, OnErr, length};
-ghost use Rattle.std.specs.Prelude.{IsErrOf};
+ghost use Rattle.std.specs.Prelude.{IsErrOf, OnOk};
 ghost use Rattle.dap_tree.specs.Json.{text_of};
 ghost use Rattle.dap_flat_message.specs.FlatMessages.{flat_sent};
 ghost use Rattle.dap_message.specs.Message.{Sent, sent};
+ghost use Rattle.dap_stored.specs.Sessions.{messages_of};
 ghost use Rattle.dap_normalise.specs.Accepting.{HoldsNoMessage, IsMessage, Rejects};
-ghost use Rattle.dap_normalise.specs.JudgingSteps.{Writes, record_of};
+ghost use Rattle.dap_normalise.specs.JudgingSteps.{AddsMessage, Writes, payload_of, record_of};
 ghost use Rattle.dap_recording.specs.Recording.{record_text};
 ghost use Rattle.dap_input.specs.{Limits.AreSound, Refusals.RejectsPayload};
 
@@ -14,8 +15,9 @@ use dap_flat_message::{FlatFault, FlatMessage, read_flat_message};
 use dap_frame::FrameFault;
 use dap_input::{Limits, Refused};
 use dap_message::{Message, MessageFault, Side, typed};
-use dap_recording::write_record;
+use dap_recording::{Record, write_record};
 use dap_rename::Mode;
+use dap_stored::StoredSession;
 use dap_tree::{Scratch, TreeFault, read_tree_with};
 use std::alloc::Global;
 
@@ -92,6 +94,41 @@ pub fn read_flat<'a>(
         Err(FlatFault::Memory) => Err(Refused::Memory),
         Err(FlatFault::Message(fault)) => Err(Refused::Message(number, fault)),
     }
+}
+
+/// Appends the message of the record with this number to a session.
+///
+/// # Errors
+///
+/// - The first error of the content.
+/// - `Memory`: an allocation failed.
+///
+/// The messages of the session are unchanged.
+pub(crate) fn push_record(
+    alloc: Global,
+    number: u64,
+    whole: &Record,
+    scratch: &mut Scratch,
+    session: &mut StoredSession,
+) -> Result<(), Refused>
+    ensures ok { OnOk result
+        (AddsMessage (payload_of whole.now) (messages_of session.old) (messages_of session.new)) }
+    ensures err { IfErr result (λ because. (limits : Limits) (mode : Mode) (messages : List Sent)
+        → RejectsPayload (Rejects limits mode messages (payload_of whole.now)) number because) }
+    ensures kept { OnErr result (messages_of session.new ≡ messages_of session.old) }
+{
+    let content = whole.content.as_slice();
+    if let Some(message) = read_flat(alloc, number, whole.side, content, scratch)? {
+        let Ok(()) = session.push(alloc, &message) else {
+            return Err(Refused::Memory);
+        };
+        return Ok(());
+    }
+    let message = read_message(alloc, number, whole.side, content, scratch)?;
+    let Ok(()) = session.push_message(alloc, &message) else {
+        return Err(Refused::Memory);
+    };
+    Ok(())
 }
 
 /// Appends the record of a side and a content to an output of `written` bytes, and returns the new

@@ -7,8 +7,9 @@ ghost use Rattle.dap_normalise.specs.Normalising.{IsCanonical, RefusesBytes};
 ghost use Rattle.dap_normalise.specs.Streaming.{Ends, Flushes, HasGivenUpAt, Streams};
 
 use crate::normal_records::NormalRecords;
+use crate::normal_session::normalise_session;
 use crate::normalised::Normalised;
-use dap_device::{MemorySource, Sink, Source, write_all};
+use dap_device::{Sink, Source, write_all};
 use dap_input::{Limits, Refused};
 use dap_rename::{Mode, NameTable, Tables, index_tables};
 use std::alloc::Global;
@@ -43,48 +44,8 @@ pub fn normalise_bytes(
     ensures err { IfErr result (λ refused. RefusesBytes limits mode bytes.now refused) }
     ensures mode { IfOk result (λ text. text.mode ≡ mode) }
 {
-    let tables = index_tables(alloc, limits.ids);
-    normalise_bytes_with(alloc, bytes, limits, tables, mode)
-}
-
-/// Does the same as [`normalise_bytes`] with these interning tables.
-fn normalise_bytes_with<T: NameTable + Drop>(
-    alloc: Global,
-    bytes: &[u8],
-    limits: Limits,
-    tables: Tables<T>,
-    mode: Mode,
-) -> Result<Normalised, Refused>
-    requires limits { AreSound limits }
-    requires tables { AreReady T.numbers T.limit limits tables }
-    ensures ok { IfOk result (λ text. IsCanonical limits mode bytes.now text.bytes) }
-    ensures err { IfErr result (λ refused. RefusesBytes limits mode bytes.now refused) }
-    ensures mode { IfOk result (λ text. text.mode ≡ mode) }
-{
-    let Ok(mut records) = NormalRecords::new(alloc, limits, tables, mode) else {
-        return Err(Refused::Memory);
-    };
-    normal_text(alloc, &mut records, bytes, limits, mode)
-}
-
-/// Returns the normal form of a recording of which nothing has been read.
-fn normal_text<T: NameTable + Drop>(
-    alloc: Global,
-    records: &mut NormalRecords<T>,
-    bytes: &[u8],
-    limits: Limits,
-    mode: Mode,
-) -> Result<Normalised, Refused>
-    requires limits { AreSound limits }
-    requires represents { RepresentsBefore T.numbers T.limit limits mode [] records.old [] [] }
-    ensures ok { IfOk result (λ text. IsCanonical limits mode bytes.now text.bytes) }
-    ensures err { IfErr result (λ refused. RefusesBytes limits mode bytes.now refused) }
-    ensures mode { IfOk result (λ text. text.mode ≡ mode) }
-{
-    let mut reader = MemorySource::new(bytes);
-    let mut text = Vec::new(alloc);
-    while records.next(alloc, &mut reader, &mut text)? {}
-    Ok(Normalised::new(mode, text))
+    let session = normalise_session(alloc, bytes, limits, mode)?;
+    Ok(Normalised::new(mode, session.bytes))
 }
 
 /// Flushes the writer, then returns the given result, or `WriteFault` if the flush failed.

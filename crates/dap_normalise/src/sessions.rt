@@ -1,16 +1,19 @@
-//! Reads recordings into stored sessions, and checks the messages of sessions.
+//! Reads recordings into stored sessions, and checks and normalises the messages of sessions.
 ghost use Rattle.std.specs.Prelude.{◌≡◌, [], IfErr, IfOk, map};
 ghost use Rattle.dap_input.specs.Limits.{AreSound};
 ghost use Rattle.dap_stored.specs.Sessions.{messages_of, stored_sent};
 ghost use Rattle.dap_normalise.specs.Accepting.{IsAccepted, text};
 ghost use Rattle.dap_normalise.specs.JudgingSteps.{RepresentsMessages, judge_limits, judge_mode};
 ghost use Rattle.dap_normalise.specs.{NormalSteps.RepresentsBefore, Normalising.RefusesBytes};
-ghost use Rattle.dap_normalise.specs.OwnTexts.{HasOwnText};
+ghost use Rattle.dap_normalise.specs.{NormalSession.IsNormalSession, OwnTexts.HasOwnText};
 
+use crate::checked::Checked;
 use crate::judging::Judge;
 use crate::normal_records::NormalRecords;
+use crate::normal_session::NormalSession;
 use dap_device::MemorySource;
 use dap_input::{Limits, Refused};
+use dap_message::Side;
 use dap_rename::{Mode, NameTable, index_tables};
 use dap_stored::{StoredMessage, StoredSession};
 use std::alloc::Global;
@@ -82,12 +85,11 @@ pub fn check_messages(
 {
     let tables = index_tables(alloc, limits.ids);
     let mut judge = Judge::new(alloc, limits, tables, mode);
-    judge_messages(alloc, &mut judge, messages, limits, mode)
+    judge_messages(&mut judge, messages, limits, mode)
 }
 
 /// Checks the text of messages, by a state that represents no message.
 fn judge_messages<T: NameTable + Drop>(
-    alloc: Global,
     judge: &mut Judge<T>,
     messages: Vec<StoredMessage<'_>>,
     limits: Limits,
@@ -103,12 +105,71 @@ fn judge_messages<T: NameTable + Drop>(
     ensures err { IfErr result
         (RefusesBytes limits mode (text (map stored_sent messages.entry.items))) }
 {
-    let mut record = Vec::new(alloc);
     let mut number = 0;
     for message in messages {
         number += 1;
-        record.clear();
-        judge.judge_message(alloc, number, message, &mut record)?;
+        judge.check_message(number, &message)?;
     }
     Ok(())
+}
+
+/// Returns the normal form of the text of messages, which has the record of the canonical content
+/// of each message, as [`normalise_session`](crate::normalise_session) does for a recording. Does
+/// not read the text.
+///
+/// # Errors
+///
+/// Those of [`check_messages`].
+pub fn normalise_messages(
+    alloc: Global,
+    messages: Vec<StoredMessage<'_>>,
+    limits: Limits,
+    mode: Mode,
+) -> Result<NormalSession, Refused>
+    requires limits { AreSound limits }
+    requires own { HasOwnText limits (map stored_sent messages.items) }
+    ensures ok { IfOk result
+        (IsNormalSession limits mode (text (map stored_sent messages.entry.items))) }
+    ensures accepted { IfOk result (λ done. let all = map stored_sent messages.entry.items in
+        IsAccepted limits mode (text all) all) }
+    ensures err { IfErr result
+        (RefusesBytes limits mode (text (map stored_sent messages.entry.items))) }
+{
+    let tables = index_tables(alloc, limits.ids);
+    let mut judge = Judge::new(alloc, limits, tables, mode);
+    write_messages(alloc, &mut judge, messages, limits, mode)
+}
+
+/// Normalises the text of messages, by a state that represents no message.
+fn write_messages<T: NameTable + Drop>(
+    alloc: Global,
+    judge: &mut Judge<T>,
+    messages: Vec<StoredMessage<'_>>,
+    limits: Limits,
+    mode: Mode,
+) -> Result<NormalSession, Refused>
+    requires limits { AreSound limits }
+    requires own { HasOwnText limits (map stored_sent messages.items) }
+    requires represents { RepresentsMessages T.numbers T.limit judge.old [] [] }
+    requires limits_are { judge_limits judge.old ≡ limits }
+    requires mode_is { judge_mode judge.old ≡ mode }
+    ensures ok { IfOk result
+        (IsNormalSession limits mode (text (map stored_sent messages.entry.items))) }
+    ensures accepted { IfOk result (λ done. let all = map stored_sent messages.entry.items in
+        IsAccepted limits mode (text all) all) }
+    ensures err { IfErr result
+        (RefusesBytes limits mode (text (map stored_sent messages.entry.items))) }
+{
+    let mut bytes = Vec::new(alloc);
+    let mut records = 0;
+    for message in messages {
+        records += 1;
+        judge.judge_message(alloc, records, message, &mut bytes)?;
+    }
+    let counts = Checked {
+        records,
+        client_open: judge.open(Side::Client),
+        adapter_open: judge.open(Side::Adapter),
+    };
+    Ok(NormalSession { bytes, counts })
 }

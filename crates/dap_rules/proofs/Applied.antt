@@ -1,6 +1,6 @@
 -- The result of applying rules to bytes in memory.
 use Rattle.std.proofs.Common.{◌≡◌, ℕ, false, List, [], ◌∷◌, length, nat_eq, Result, Ok, Err, Vec, Global}
-use Rattle.std.proofs.Common.{refl, true≢false}
+use Rattle.std.proofs.Common.{arith, refl, true, true≢false}
 use Rattle.std.specs.Prelude.{IfErr}
 use Rattle.dap_mask.specs.Mask.{Mask}
 use Rattle.dap_message.specs.SwapRules.{SwapRule, swaps_of}
@@ -10,15 +10,20 @@ use Rattle.dap_input.specs.declared.limits.Limits.{Limits}
 use Rattle.dap_input.specs.declared.refused.Refused.{Refused}
 use Rattle.dap_input.specs.declared.refused.Refused.TheVariants.{Memory}
 use Rattle.dap_rules.specs.MaskedRecordings.{IsMaskedTo}
-use Rattle.dap_rules.specs.Ordering.{Orders, RefusesToOrder}
-use Rattle.dap_rules.specs.Applying.{IsRefusedByRules, OrdersBy}
-use Rattle.dap_rules.specs.Applying.{RefusesOrderBy, RefusesToMask}
+use Rattle.dap_normalise.specs.declared.normal_session.NormalSession.{NormalSession}
+use Rattle.dap_rules.specs.Ordering.{NormalisesInOrder, Orders, RefusesToOrder}
+use Rattle.dap_rules.specs.Applying.{IsRefusedByRules, NormalisesBy, OrdersBy}
+use Rattle.dap_rules.specs.Applying.{RefusesNormalBy, RefusesOrderBy, RefusesToMask}
 use Rattle.dap_rules.specs.ApplyingSteps.{mask_refusal, order_refusal}
 
 -- Some of the rules are for the order.
 pub not_empty : (ss : List ReadSwapRule) → nat_eq (length ss) 0 ≡ false → swaps_of ss ≡ [] → ⊥
 not_empty [] some none = true≢false some
 not_empty (s ∷ ss) some none = absurd (let e = none in cc)
+
+pub is_empty : (ss : List ReadSwapRule) → nat_eq (length ss) 0 ≡ true → swaps_of ss ≡ []
+is_empty [] none = refl
+is_empty (s ∷ ss) none = absurd (grind (arith, none))
 
 module _ (limits : Limits) (mode : Mode) (recording : List ℕ) where
   -- Without rules the recording is unchanged.
@@ -39,6 +44,17 @@ module _ (limits : Limits) (mode : Mode) (recording : List ℕ) where
   refuses [] some because is = absurd (some refl)
   refuses (rule ∷ rules) some Memory is = tt
   refuses (rule ∷ rules) some because is = is
+
+  pub normalises : (rules : List SwapRule) → (rules ≡ [] → ⊥) → (session : NormalSession)
+      → NormalisesInOrder limits mode rules recording session
+      → NormalisesBy limits mode rules recording session
+  normalises rules some session is = (is.0, orders rules some is.0 is.1, is.2)
+
+  pub refuses_normal : (rules : List SwapRule) → (rules ≡ [] → ⊥) → (because : Refused)
+      → RefusesToOrder limits mode rules recording because
+      → RefusesNormalBy limits mode rules recording because
+  refuses_normal [] some because is = absurd (some refl)
+  refuses_normal (rule ∷ rules) some because is = is
 
   pub all_refuse : (rules : List SwapRule) → (rules ≡ [] → ⊥)
       → (result : Result (Vec ℕ Global) Refused)

@@ -7,17 +7,17 @@ use Rattle.std.specs.List.{AllByRecursion}
 use Rattle.dap_tree.specs.Doc.{Doc}
 use Rattle.dap_tree.specs.Json.{text_of}
 use Rattle.dap_message.specs.Message.{Sent}
-use Rattle.dap_recording.specs.Recording.{record_text}
 use Rattle.dap_input.specs.declared.limits.Limits.{Limits}
 use Rattle.dap_input.specs.declared.refused.Refused.{Refused}
 use Rattle.dap_input.specs.declared.refused.Refused.TheVariants.{Fraction, Grew, Memory}
 use Rattle.dap_input.specs.Refusals.{RejectsPayload}
-use Rattle.dap_normalise.specs.Accepting.{Payload, Fits, text}
+use Rattle.dap_normalise.specs.{Accepting.{Payload, Fits, text}, JudgingSteps.record_of}
+use Rattle.dap_normalise.specs.JudgingSteps.{Writes as WritesRecord}
 use Rattle.dap_rename.proofs.Lists.{each-append, each_right}
 use Rattle.dap_mask.specs.Loose.{IsLeftOf, LeavesFraction}
 use Rattle.dap_mask.specs.Mask.{Mask}
 use Rattle.dap_rules.specs.Masking.{AreWhole, Rejects, left_of, masked_text}
-use Rattle.dap_rules.specs.MaskingSteps.{Masked, Writes}
+use Rattle.dap_rules.specs.MaskingSteps.{Masked}
 use Rattle.dap_rules.proofs.LeftLists.{left-append, left_none, left_one, masked_text-append}
 
 module _ (limits : Limits) (mask : Mask) (messages : List Sent) (held : Payload) (n written : ℕ)
@@ -63,15 +63,18 @@ module _ (limits : Limits) (mask : Mask) (messages : List Sent) (held : Payload)
     abbrev message : Sent
     message = record { side = held.0; doc = is.0 }
 
-    left_is : left_of mask (message ∷ []) ≡ record { side = held.0; doc = e } ∷ []
+    abbrev left : Sent
+    left = record { side = held.0; doc = e }
+
+    left_is : left_of mask (message ∷ []) ≡ left ∷ []
     left_is = left_one mask message is.2.0
         ∙ ap (λ d. record { side = held.0; doc = d } ∷ []) (sym is.2.1)
 
     abbrev record_is : List ℕ
-    record_is = record_text held.0 (text_of e)
+    record_is = record_of left
 
     all_left : left_of mask (messages ++ message ∷ [])
-        ≡ left_of mask messages ++ record { side = held.0; doc = e } ∷ []
+        ≡ left_of mask messages ++ left ∷ []
     all_left = left-append mask messages (message ∷ [])
         ∙ ap (λ ms. left_of mask messages ++ ms) left_is
 
@@ -93,13 +96,13 @@ module _ (limits : Limits) (mask : Mask) (messages : List Sent) (held : Payload)
     grown (inl content) next =
         let all = (subst (Fits limits) all_left next).each in
         let last = each_right (λ (m : Sent). length (text_of m.doc) ≤ limits.frame.content)
-        (left_of mask messages) (record { side = held.0; doc = e } ∷ []) all in
+        (left_of mask messages) (left ∷ []) all in
         let short : length (text_of e) ≤ limits.frame.content = last.0 in
         omega (arith, content, short)
     grown (inr long) next = let most = next.whole in omega (arith, long, most, next_length)
 
     not_written : (because : Refused) (old new : List ℕ)
-        → Writes limits held.0 e n written old new (Err because)
+        → WritesRecord limits left n written old new (Err because)
         → RejectsPayload (Rejects limits mask messages held) n because
     not_written (Grew k) old new reported = (
       reported.0,
@@ -109,7 +112,7 @@ module _ (limits : Limits) (mask : Mask) (messages : List Sent) (held : Payload)
     not_written because old new reported = absurd reported
 
     written_on : (old new : List ℕ) (after : ℕ)
-        → Writes limits held.0 e n written old new (Ok after)
+        → WritesRecord limits left n written old new (Ok after)
         → Masked limits mask messages held n old new (Ok after)
     written_on old new after (content, appended, long, most) = record {
       message = message;
@@ -132,7 +135,7 @@ module _ (limits : Limits) (mask : Mask) (messages : List Sent) (held : Payload)
     }
 
     pub recorded : (old new : List ℕ) (result : Result ℕ Refused)
-        → Writes limits held.0 e n written old new result
+        → WritesRecord limits left n written old new result
         → Masked limits mask messages held n old new result
     recorded old new (Ok after) writes = written_on old new after writes
     recorded old new (Err because) writes = not_written because old new writes

@@ -19,10 +19,11 @@ use Rattle.dap_input.specs.declared.refused.Refused.{Refused}
 use Rattle.dap_input.specs.declared.refused.Refused.TheVariants.{Grew, Memory, ReadFault, Record}
 use Rattle.dap_input.specs.declared.refused.Refused.TheVariants.{WriteFault}
 use Rattle.dap_normalise.specs.Accepting.{Fits, IsAccepted, accepting, text}
-use Rattle.dap_normalise.specs.Normalising.{RefusesBytes}
+use Rattle.dap_normalise.specs.{Normalising.RefusesBytes, OwnTexts.HasOwnText}
 use Rattle.dap_order.specs.MessageOrder.{ordered}
 use Rattle.dap_rules.specs.Ordering.{IsNotOrdered, IsTextError, Orders, RefusesToOrder}
-use Rattle.dap_rules.specs.OrderingSteps.{Writes, result_of_input}
+use Rattle.dap_rules.specs.OrderingSteps.{Measures, result_of_input}
+use Rattle.dap_rules.proofs.WrittenTexts.{ordered_own}
 
 abbrev failure : Refused → Result (Vec ℕ Global) Refused
 failure because = Err because
@@ -36,11 +37,11 @@ module _ (limits : Limits) (mode : Mode) (rules : List SwapRule) (bytes : List �
   recording_refused because is = inl is
 
   module _ (ms : List Sent) (accepted : IsAccepted limits mode bytes ms) where
-    pub not_written : (because : Refused) → Writes limits (ordered rules ms) (Err because)
+    pub not_counted : (because : Refused) → Measures limits (ordered rules ms) (Err because)
         → RefusesToOrder limits mode rules bytes because
-    not_written (Grew n) is = inr (ms, accepted, inl (n, refl, is))
-    not_written Memory is = tt
-    not_written because is = absurd is
+    not_counted (Grew n) is = inr (ms, accepted, inl (n, refl, is))
+    not_counted Memory is = tt
+    not_counted because is = absurd is
 
     pub text_refused : Fits limits (ordered rules ms) → (because : Refused)
         → RefusesBytes limits mode (text (ordered rules ms)) because
@@ -50,6 +51,16 @@ module _ (limits : Limits) (mode : Mode) (rules : List SwapRule) (bytes : List �
     text_refused fits Memory is errors = tt
     text_refused fits because is errors =
         inr (ms, accepted, inr (fits, is, errors because is))
+
+    pub own_text : Fits limits (ordered rules ms) → HasOwnText limits (ordered rules ms)
+    own_text fits =
+        record { fits = fits; own = ordered_own rules ms accepted.records accepted.typed }
+
+    pub orders : Fits limits (ordered rules ms)
+        → IsAccepted limits mode (text (ordered rules ms)) (ordered rules ms)
+        → Orders limits mode rules bytes (text (ordered rules ms))
+    orders fits in_order =
+        record { messages = ms; accepts = accepted; text_is = refl; fits = fits; accepted = in_order }
 
   -- ---- errors that no input has
 

@@ -1,4 +1,5 @@
--- The text of messages, created record by record, and the messages that its records contain.
+-- The length of the text of messages, counted record by record, and the messages that its records
+-- contain.
 use Rattle.std.proofs.Common.{◌≡◌, ◌⊎◌, inl, inr, ℕ, ◌+◌, ◌<◌, ◌≤◌, List, [], ◌∷◌, ◌++◌, length}
 use Rattle.std.proofs.Common.{Ok, Err, refl, sym, ◌∙◌, ap, subst, arith, length-append}
 use Rattle.std.specs.List.{AllByRecursion}
@@ -21,23 +22,23 @@ use Rattle.dap_order.proofs.Kept.{reordered_permutation}
 use Rattle.dap_order.specs.Free.{free}
 use Rattle.dap_order.specs.MessageOrder.{ordered}
 use Rattle.dap_order.proofs.MessageOrder.{to_ordered}
-use Rattle.dap_rules.specs.OrderingSteps.{IsTextOf, Writes}
+use Rattle.dap_rules.specs.Ordering.{PassesLimit}
+use Rattle.dap_rules.specs.OrderingSteps.{IsLengthOf, Measures}
 
 -- ---- one more record
 
-module _ (limits : Limits) (before : List Sent) (m : Sent) (old : List ℕ) (written : ℕ)
-    (was : IsTextOf limits before old) (count : written ≡ length old) where
-  longer : old ++ record_of m ≡ text (before ++ m ∷ [])
-  longer = ap (λ t. t ++ record_of m) was.text_is ∙ sym (text_push before m)
+module _ (limits : Limits) (before : List Sent) (m : Sent) (len : ℕ)
+    (was : IsLengthOf limits before len) where
+  long : length (text (before ++ m ∷ [])) ≡ len + length (record_of m)
+  long =
+      let is = was.length_is in
+      omega (arith, is, ap length (text_push before m), length-append (text before) (record_of m))
 
-  long : length (text (before ++ m ∷ [])) ≡ written + length (record_of m)
-  long = omega (arith, count, ap length longer, length-append old (record_of m))
-
-  pub one_more : (number after : ℕ) (new : List ℕ)
-      → WritesRecord limits m number written old new (Ok after)
-      → IsTextOf limits (before ++ m ∷ []) new
-  one_more number after new one = record {
-    text_is = one.1 ∙ longer;
+  pub one_more : (number after : ℕ)
+      → WritesRecord limits m number len [] (record_of m) (Ok after)
+      → IsLengthOf limits (before ++ m ∷ []) after
+  one_more number after one = record {
+    length_is = omega (arith, one.2, long);
     fits = record {
       each = each-append (λ n. length (text_of n.doc) ≤ limits.frame.content) before (m ∷ [])
           was.fits.each (one.0, tt);
@@ -52,32 +53,36 @@ module _ (limits : Limits) (before : List Sent) (m : Sent) (old : List ℕ) (wri
   last (n ∷ ns) all = last ns all.1
 
   passes : (limits.frame.content < length (text_of m.doc))
-      ⊎ (limits.input < written + length (record_of m)) → Fits limits (before ++ m ∷ []) → ⊥
+      ⊎ (limits.input < len + length (record_of m)) → Fits limits (before ++ m ∷ []) → ⊥
   passes (inl content) fits = let short = last before fits.each in omega (arith, content, short)
   passes (inr whole) fits = let short = fits.whole in omega (arith, whole, short, long)
 
-  -- The record exceeds a limit.
-  pub not_appended : (messages after : List Sent) → messages ≡ before ++ m ∷ after
-      → (number : ℕ) → number ≡ length before + 1 → (new : List ℕ) → (because : Refused)
-      → WritesRecord limits m number written old new (Err because)
-      → Writes limits messages (Err because)
-  not_appended messages after split number is new (Grew k) reported = record {
-    before = before;
-    message = m;
-    after = after;
-    split = split;
-    number_is = reported.0 ∙ is;
-    fits = was.fits;
-    too_long = passes reported.1;
-  }
-  not_appended messages after split number is new Memory reported = tt
-  not_appended messages after split number is new because reported = absurd reported
+  module _ (messages after : List Sent) (split : messages ≡ before ++ m ∷ after) (number : ℕ)
+      (is : number ≡ length before + 1) where
+    -- The record exceeds a limit.
+    pub too_long : (n : ℕ) → n ≡ number → (limits.frame.content < length (text_of m.doc))
+        ⊎ (limits.input < len + length (record_of m)) → PassesLimit limits messages n
+    too_long n same long = record {
+      before = before;
+      message = m;
+      after = after;
+      split = split;
+      number_is = same ∙ is;
+      fits = was.fits;
+      too_long = passes long;
+    }
 
--- No record has been written.
-pub none_written : (limits : Limits) (written : List ℕ) → written ≡ []
-    → IsTextOf limits [] written
-none_written limits written none = record {
-  text_is = none;
+    pub not_counted : (because : Refused)
+        → WritesRecord limits m number len [] (record_of m) (Err because)
+        → Measures limits messages (Err because)
+    not_counted (Grew k) reported = too_long k reported.0 reported.1
+    not_counted Memory reported = tt
+    not_counted because reported = absurd reported
+
+-- No record has been counted.
+pub none_counted : (limits : Limits) → IsLengthOf limits [] 0
+none_counted limits = record {
+  length_is = refl;
   fits = record { each = tt; whole = omega arith };
 }
 

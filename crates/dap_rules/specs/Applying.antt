@@ -6,8 +6,10 @@ use Rattle.dap_message.specs.SwapRules.{SwapRule}
 use Rattle.dap_rename.specs.declared.mode.Mode.{Mode}
 use Rattle.dap_input.specs.{declared.limits.Limits.Limits, declared.refused.Refused.Refused}
 use Rattle.dap_input.specs.{declared.refused.Refused.TheVariants.Memory, Refusals.IsRefused}
+use Rattle.dap_normalise.specs.{NormalSession.IsNormalSession, Normalising.RefusesBytes}
+use Rattle.dap_normalise.specs.declared.normal_session.NormalSession.{NormalSession}
 use Rattle.dap_rules.specs.{MaskedRecordings.IsMaskedTo, Masking.masking}
-use Rattle.dap_rules.specs.Ordering.{IsNotOrdered, Orders}
+use Rattle.dap_rules.specs.Ordering.{IsNotOrdered, Orders, RefusesToOrder}
 use Rattle.dap_rules.specs.declared.fault.ApplyRefused.{ApplyRefused}
 use Rattle.dap_rules.specs.declared.fault.ApplyRefused.TheVariants as because
 
@@ -25,6 +27,12 @@ pub record AppliesRules (limits : Limits) (mode : Mode) (mask : Mask)
   pub masked : List ℕ
   pub masks : IsMaskedTo limits mask recording masked
   pub orders : OrdersBy limits mode mask.swaps masked written
+
+-- The rules for the order put the recording in order, and this is the normal text of the result,
+-- with its counts.
+abbrev pub NormalisesBy : Limits → Mode → List SwapRule → List ℕ → NormalSession → Type 0
+NormalisesBy limits mode rules recording session = (written : List ℕ)
+    × OrdersBy limits mode rules recording written × IsNormalSession limits mode written session
 
 -- ---- errors
 
@@ -55,3 +63,10 @@ abbrev pub RefusesOrderBy : Limits → Mode → List SwapRule → List ℕ → R
 RefusesOrderBy limits mode rules recording Memory = Unit {0}
 RefusesOrderBy limits mode rules recording refused =
     IsNotOrderedBy limits mode rules recording refused
+
+-- The recording cannot be put in order by the rules, or the result is rejected, for this reason. Or
+-- an allocation failed. A text in order is never rejected.
+abbrev pub RefusesNormalBy : Limits → Mode → List SwapRule → List ℕ → Refused → Type 0
+RefusesNormalBy limits mode [] recording refused = RefusesBytes limits mode recording refused
+RefusesNormalBy limits mode (rule ∷ rules) recording refused =
+    RefusesToOrder limits mode (rule ∷ rules) recording refused

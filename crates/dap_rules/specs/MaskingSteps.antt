@@ -1,13 +1,9 @@
 -- What the steps of masking a recording do.
-use Rattle.std.specs.Prelude.{◌≡◌, ◌⊎◌, ℕ, ◌+◌, ◌<◌, ◌≤◌, List, [], ◌∷◌, ◌++◌, length, Result, Ok}
-use Rattle.std.specs.Prelude.{Err}
-use Rattle.dap_tree.specs.{Doc.Doc, Json.text_of, declared.side.Side.Side}
+use Rattle.std.specs.Prelude.{◌≡◌, ℕ, List, [], ◌∷◌, ◌++◌, length, Result, Ok, Err}
 use Rattle.dap_message.specs.Message.{Sent}
-use Rattle.dap_recording.specs.Recording.{record_text}
 use Rattle.dap_mask.specs.Mask.{Mask}
 use Rattle.dap_input.specs.{Refusals.RejectsPayload, declared.limits.Limits.Limits}
 use Rattle.dap_input.specs.declared.refused.Refused.{Refused}
-use Rattle.dap_input.specs.declared.refused.Refused.TheVariants.{Grew, Memory}
 use Rattle.dap_normalise.specs.Accepting.{Payload}
 use Rattle.dap_rules.specs.Masking.{IsNext, Rejects, masked_text}
 
@@ -29,15 +25,3 @@ Masked limits mask messages held n old new (Ok after) =
     IsTaken limits mask messages held old new after
 Masked limits mask messages held n old new (Err because) =
     RejectsPayload (Rejects limits mask messages held) n because
-
--- The record of a document is appended to an output that has `written` bytes so far, or exceeds a
--- limit.
-abbrev pub Writes : Limits → Side → Doc → ℕ → ℕ → List ℕ → List ℕ → Result ℕ Refused → Type 0
-Writes limits side doc n written old new (Ok after) =
-    (length (text_of doc) ≤ limits.frame.content) × (new ≡ old ++ record_text side (text_of doc))
-    × (after ≡ written + length (record_text side (text_of doc))) × (after ≤ limits.input)
-Writes limits side doc n written old new (Err (Grew m)) =
-    (m ≡ n) × ((limits.frame.content < length (text_of doc))
-    ⊎ (limits.input < written + length (record_text side (text_of doc))))
-Writes limits side doc n written old new (Err Memory) = Unit {0}
-Writes limits side doc n written old new (Err _) = ⊥

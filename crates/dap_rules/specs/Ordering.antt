@@ -12,6 +12,8 @@ use Rattle.dap_input.specs.{declared.limits.Limits.Limits, declared.refused.Refu
 use Rattle.dap_input.specs.declared.refused.Refused.TheVariants.{Grew, Memory, TooManyIds}
 use Rattle.dap_input.specs.Refusals.{IsRefused}
 use Rattle.dap_normalise.specs.Accepting.{Fits, IsAccepted, accepting, text}
+use Rattle.dap_normalise.specs.NormalSession.{IsNormalSession}
+use Rattle.dap_normalise.specs.declared.normal_session.NormalSession.{NormalSession}
 use Rattle.dap_order.specs.MessageOrder.{ordered}
 
 -- A prefix of the input was read, and the reader did not fail. Or the input was read up to its end,
@@ -30,6 +32,11 @@ pub record Orders (limits : Limits) (mode : Mode) (rules : List SwapRule)
   pub text_is : written ≡ text (ordered rules messages)
   pub fits : Fits limits (ordered rules messages)
   pub accepted : IsAccepted limits mode written (ordered rules messages)
+
+-- The recording is put in order, and this is the normal text of its text in order, with its counts.
+abbrev pub NormalisesInOrder : Limits → Mode → List SwapRule → List ℕ → NormalSession → Type 0
+NormalisesInOrder limits mode rules bytes session = (written : List ℕ)
+    × Orders limits mode rules bytes written × IsNormalSession limits mode written session
 
 -- The text of the messages before this one is within the limits, and the text including the message
 -- with this number is not.

@@ -1,6 +1,5 @@
 -- What the steps of ordering do, for private clauses.
-use Rattle.std.specs.Prelude.{◌≡◌, ℕ, List, map, Some, Result, Ok, Err, slice_get, Vec}
-use Rattle.std.specs.declared.alloc.Global.{Global}
+use Rattle.std.specs.Prelude.{◌≡◌, ℕ, List, length, map, Some, Result, Ok, Err, slice_get}
 use Rattle.dap_device.specs.{declared.reading.Stop.Stop, declared.reading.Stop.TheVariants.Failed}
 use Rattle.dap_message.specs.Message.{Sent}
 use Rattle.dap_recording.specs.declared.record_fault.RecordCause.TheVariants.{Cut}
@@ -9,17 +8,17 @@ use Rattle.dap_input.specs.declared.refused.Refused.TheVariants.{Grew, Memory, R
 use Rattle.dap_normalise.specs.Accepting.{Fits, text}
 use Rattle.dap_rules.specs.Ordering.{PassesLimit}
 
--- This is the text of the messages, and it is within the limits.
-pub record IsTextOf (limits : Limits) (messages : List Sent) (written : List ℕ) : Type 0 where
-  pub text_is : written ≡ text messages
+-- This is the length of the text of the messages, which is within the limits.
+pub record IsLengthOf (limits : Limits) (messages : List Sent) (len : ℕ) : Type 0 where
+  pub length_is : len ≡ length (text messages)
   pub fits : Fits limits messages
 
--- The text of the messages was created, or it exceeds a limit.
-abbrev pub Writes : Limits → List Sent → Result (Vec ℕ Global) Refused → Type 0
-Writes limits messages (Ok written) = IsTextOf limits messages written.items
-Writes limits messages (Err (Grew n)) = PassesLimit limits messages n
-Writes limits messages (Err Memory) = Unit {0}
-Writes limits messages (Err _) = ⊥
+-- The length of the text of the messages was counted, or it exceeds a limit.
+abbrev pub Measures : Limits → List Sent → Result ℕ Refused → Type 0
+Measures limits messages (Ok len) = IsLengthOf limits messages len
+Measures limits messages (Err (Grew n)) = PassesLimit limits messages n
+Measures limits messages (Err Memory) = Unit {0}
+Measures limits messages (Err _) = ⊥
 
 -- These are the messages at these positions of a list.
 abbrev pub AreAt : List Sent → List ℕ → List Sent → Type 0

@@ -2,15 +2,16 @@
 ghost use Rattle.std.specs.Prelude.{◌≡◌, [], IfErr, IfOk, IsOk};
 ghost use Rattle.dap_input.specs.Limits.{AreSound};
 ghost use Rattle.dap_mask.specs.KeptRules.{mask_of, swaps_of_mask};
-ghost use Rattle.dap_rules.specs.Applying.{AppliesRules, IsRefusedByRules, OrdersBy};
-ghost use Rattle.dap_rules.specs.Applying.{RefusesOrderBy};
+ghost use Rattle.dap_rules.specs.Applying.{AppliesRules, IsRefusedByRules, NormalisesBy, OrdersBy};
+ghost use Rattle.dap_rules.specs.Applying.{RefusesNormalBy, RefusesOrderBy};
 ghost use Rattle.dap_rules.specs.ApplyingSteps.{mask_refusal, order_refusal};
 
 use crate::fault::ApplyRefused;
 use crate::masking::mask_bytes;
-use crate::order_bytes;
+use crate::ordering::{normalise_in_order, order_bytes};
 use dap_input::{Limits, Refused};
 use dap_mask::MaskRules;
+use dap_normalise::{NormalSession, normalise_session};
 use dap_rename::Mode;
 use std::alloc::Global;
 
@@ -21,7 +22,7 @@ use std::alloc::Global;
 /// # Errors
 ///
 /// Those of [`order_bytes`].
-pub fn order_masked(
+fn order_masked(
     alloc: Global,
     rules: &MaskRules,
     masked: Vec<u8>,
@@ -41,6 +42,33 @@ pub fn order_masked(
         return Ok(masked);
     }
     order_bytes(alloc, swaps, masked.as_slice(), limits, mode)
+}
+
+/// Puts a masked recording in order, as [`order_bytes`] does, if some of the rules are for the order.
+/// Returns the normal form of the result and its counts, as [`normalise_session`] does.
+///
+/// # Errors
+///
+/// Those of [`order_bytes`], or those of [`normalise_session`] if no rules are for the order.
+pub fn normalise_masked(
+    alloc: Global,
+    rules: &MaskRules,
+    masked: &[u8],
+    limits: Limits,
+    mode: Mode,
+) -> Result<NormalSession, Refused>
+    requires limits { AreSound limits }
+    ensures ok { IfOk result
+        (NormalisesBy limits mode (swaps_of_mask rules.now) masked.now) }
+    ensures err { IfErr result
+        (RefusesNormalBy limits mode (swaps_of_mask rules.now) masked.now) }
+{
+    let swaps = rules.swaps();
+    if swaps.is_empty() {
+        normalise_session(alloc, masked, limits, mode)
+    } else {
+        normalise_in_order(alloc, swaps, masked, limits, mode)
+    }
 }
 
 /// Returns the error of the step that masks a recording.

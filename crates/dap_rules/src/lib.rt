@@ -20,11 +20,11 @@ mod reading;
 mod text_sink;
 mod writing;
 
-pub use applying::{apply_rules, order_masked};
+pub use applying::{apply_rules, normalise_masked};
 pub use fault::ApplyRefused;
 pub use mask_records::mask;
 pub use masking::mask_bytes;
 pub use modes::mode_by;
-pub use ordering::{order, order_bytes};
+pub use ordering::{normalise_in_order, order, order_bytes};
 pub use reading::read_by_rules;
 pub use text_sink::{TextSink, is_out_of_memory};

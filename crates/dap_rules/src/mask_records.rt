@@ -1,7 +1,6 @@
 //! Masks recordings.
-ghost use Rattle.std.specs.Prelude.{◌≡◌, ◌+◌, ◌≤◌, IsErrOf, List, length, true, OnErr};
+ghost use Rattle.std.specs.Prelude.{◌≡◌, ◌+◌, ◌≤◌, IsErrOf, List, length, OnErr};
 ghost use Rattle.dap_device.specs.Devices.{CanRead, CanWrite};
-ghost use Rattle.dap_tree.specs.{Doc.is_sound, View.view};
 ghost use Rattle.dap_message.specs.Message.{Sent};
 ghost use Rattle.dap_mask.specs.KeptRules.{mask_of};
 ghost use Rattle.dap_input.specs.{ItemReading.RepresentsRecord, Limits.AreSound};
@@ -9,15 +8,14 @@ ghost use Rattle.dap_input.specs.{RecordSteps.IsAtStart, Streaming.{HasGivenUpAt
 ghost use Rattle.dap_normalise.specs.{Accepting.Fits, JudgingSteps.payload_of};
 ghost use Rattle.dap_rules.specs.Masking.{left_of, masked_text, masking};
 ghost use Rattle.dap_rules.specs.MaskedRecordings.{IsMaskedTo, Masks};
-ghost use Rattle.dap_rules.specs.MaskingSteps.{Masked, Writes};
+ghost use Rattle.dap_rules.specs.MaskingSteps.{Masked};
 
 use dap_device::{Sink, Source, write_all};
-use dap_frame::FrameFault;
 use dap_input::{Limits, Records, Refused};
-use dap_mask::{MaskRules, read_masked};
-use dap_normalise::{PIECE, finish_output};
-use dap_recording::{Record, RecordReader, Side, write_record};
-use dap_tree::{Scratch, Tree, TreeFault, write_tree_to};
+use dap_mask::{MaskRules, write_masked};
+use dap_normalise::{PIECE, append_record, finish_output};
+use dap_recording::{Record, RecordReader};
+use dap_tree::{Scratch, TreeFault};
 use std::alloc::Global;
 
 /// Buffers that are reused for every record.
@@ -26,43 +24,6 @@ struct Room {
     scratch: Scratch,
     /// The canonical content of one record.
     content: Vec<u8>,
-}
-
-/// Appends the record of a tree to an output that has `written` bytes so far. Returns the new
-/// number of bytes.
-fn append_record(
-    alloc: Global,
-    number: u64,
-    side: Side,
-    tree: &Tree,
-    written: u64,
-    limits: Limits,
-    content: &mut Vec<u8>,
-    out: &mut Vec<u8>,
-) -> Result<u64, Refused>
-    requires sound { AreSound limits }
-    requires short { written ≤ limits.input }
-    requires tree { is_sound (view tree.now) ≡ true }
-    ensures writes { Writes limits side (view tree.now) number written out.old.items out.new.items
-        result }
-    ensures kept { OnErr result (out.new.items ≡ out.old.items) }
-{
-    content.clear();
-    let Ok(()) = write_tree_to(alloc, tree, content) else {
-        return Err(Refused::Memory);
-    };
-    let before = out.len();
-    match write_record(out, side, content.as_slice(), limits.frame) {
-        Ok(()) => {}
-        Err(FrameFault::ContentTooLong) => return Err(Refused::Grew(number)),
-        Err(_) => return Err(Refused::Memory),
-    }
-    let after = written + (out.len() - before) as u64;
-    if limits.input < after {
-        out.truncate(before);
-        return Err(Refused::Grew(number));
-    }
-    Ok(after)
 }
 
 /// Appends the record that the rules make of `whole` to an output that has `written` bytes so far.
@@ -86,20 +47,14 @@ fn append_masked(
         out.new.items result }
     ensures kept { OnErr result (out.new.items ≡ out.old.items) }
 {
-    match read_masked(alloc, whole.content.as_slice(), rules, &mut room.scratch) {
-        Ok(Some(tree)) => {
-            append_record(
-                alloc,
-                number,
-                whole.side,
-                &tree,
-                written,
-                limits,
-                &mut room.content,
-                out,
-            )
+    let content = whole.content.as_slice();
+    room.content.clear();
+    match write_masked(alloc, content, rules, &mut room.scratch, &mut room.content) {
+        Ok(true) => {
+            let content = room.content.as_slice();
+            append_record(number, whole.side, content, written, limits, out)
         }
-        Ok(None) => Ok(written),
+        Ok(false) => Ok(written),
         Err(TreeFault::Json) => Err(Refused::Json(number)),
         Err(TreeFault::Fraction) => Err(Refused::Fraction(number)),
         Err(TreeFault::Memory) => Err(Refused::Memory),

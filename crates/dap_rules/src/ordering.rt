@@ -3,16 +3,17 @@ ghost use Rattle.std.specs.Prelude.{◌≡◌, ◌+◌, ◌≤◌, [], IfErr, If
 ghost use Rattle.dap_device.specs.Devices.{CanRead, CanWrite};
 ghost use Rattle.dap_message.specs.{Message.Sent, SwapRules.swaps_of};
 ghost use Rattle.dap_input.specs.{Engine.Answers, Limits.AreSound};
-ghost use Rattle.dap_rules.specs.Ordering.{IsNotOrdered, Orders, ReadsSomeOrAll, RefusesToOrder};
+ghost use Rattle.dap_rules.specs.Ordering.{IsNotOrdered, NormalisesInOrder, Orders, ReadsSomeOrAll};
+ghost use Rattle.dap_rules.specs.Ordering.{RefusesToOrder};
 ghost use Rattle.dap_rules.specs.OrderingSteps.{AreAt, result_of_input};
 ghost use Rattle.dap_order.specs.MessageOrder.{ordered};
 ghost use Rattle.dap_stored.specs.Sessions.{messages_of, stored_sent};
 
-use crate::writing::text_of_messages;
+use crate::writing::{length_of_text, text_of_messages};
 use dap_device::{Sink, Source, Stop, read_all, write_and_flush};
 use dap_input::{Limits, Refused};
 use dap_message::SwapRule;
-use dap_normalise::{check_messages, read_session};
+use dap_normalise::{NormalSession, check_messages, normalise_messages, read_session};
 use dap_order::put_in_order;
 use dap_recording::RecordCause;
 use dap_rename::Mode;
@@ -59,9 +60,39 @@ pub fn order_bytes(
     let Ok(messages) = messages_in_order(alloc, rules, &session) else {
         return Err(Refused::Memory);
     };
-    let text = text_of_messages(alloc, messages.as_slice(), limits)?;
+    let len = length_of_text(messages.as_slice(), limits)?;
+    let Ok(text) = text_of_messages(alloc, messages.as_slice(), len as usize, limits.frame) else {
+        return Err(Refused::Memory);
+    };
     check_messages(alloc, messages, limits, mode)?;
     Ok(text)
+}
+
+/// Returns the normal form of the text that [`order_bytes`] returns for a recording, and its
+/// counts, as [`normalise_session`](dap_normalise::normalise_session) does. Reads the recording
+/// once, and does not create its text in order.
+///
+/// # Errors
+///
+/// Those of [`order_bytes`].
+pub fn normalise_in_order(
+    alloc: Global,
+    rules: &[SwapRule],
+    recording: &[u8],
+    limits: Limits,
+    mode: Mode,
+) -> Result<NormalSession, Refused>
+    requires limits { AreSound limits }
+    ensures ok { IfOk result
+        (NormalisesInOrder limits mode (swaps_of rules.now) recording.now) }
+    ensures err { IfErr result (RefusesToOrder limits mode (swaps_of rules.now) recording.now) }
+{
+    let session = read_session(alloc, recording, limits, mode)?;
+    let Ok(messages) = messages_in_order(alloc, rules, &session) else {
+        return Err(Refused::Memory);
+    };
+    length_of_text(messages.as_slice(), limits)?;
+    normalise_messages(alloc, messages, limits, mode)
 }
 
 /// Returns the messages of a session in order.

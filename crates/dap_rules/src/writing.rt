@@ -1,31 +1,57 @@
-//! Writes messages as records.
-ghost use Rattle.std.specs.Prelude.{map};
+//! Counts and writes the text of messages, which has the record of the canonical content of each
+//! message.
+ghost use Rattle.std.specs.Prelude.{◌≡◌, IfOk, map};
+ghost use Rattle.dap_frame.specs.Limits.{IsSound};
 ghost use Rattle.dap_stored.specs.Sessions.{stored_sent};
 ghost use Rattle.dap_input.specs.Limits.{AreSound};
-ghost use Rattle.dap_rules.specs.OrderingSteps.{Writes};
+ghost use Rattle.dap_normalise.specs.Accepting.{text};
+ghost use Rattle.dap_rules.specs.OrderingSteps.{Measures};
 
+use dap_frame::FrameLimits;
 use dap_input::{Limits, Refused};
 use dap_message::AnyMessage;
-use dap_normalise::append_record;
+use dap_normalise::count_record;
+use dap_recording::write_record;
 use dap_stored::StoredMessage;
-use std::alloc::Global;
+use std::alloc::{AllocError, Global};
 
-/// Returns the text of messages: for each one the record of its canonical content.
-pub fn text_of_messages(
-    alloc: Global,
-    messages: &[StoredMessage<'_>],
-    limits: Limits,
-) -> Result<Vec<u8>, Refused>
+/// Returns the length of the text of messages.
+///
+/// # Errors
+///
+/// - `Grew`: the text exceeds the limits. Messages are numbered from 1.
+pub fn length_of_text(messages: &[StoredMessage<'_>], limits: Limits) -> Result<u64, Refused>
     requires { AreSound limits }
-    ensures { Writes limits (map stored_sent messages.now) result }
+    ensures { Measures limits (map stored_sent messages.now) result }
 {
-    let mut text = Vec::new(alloc);
-    let mut written = 0;
+    let mut len = 0;
     let mut number = 0;
     for message in messages {
         number += 1;
-        let (side, content) = (message.side(), message.content());
-        written = append_record(number, side, content, written, limits, &mut text)?;
+        let content_len = message.content().len();
+        if limits.frame.content < content_len {
+            return Err(Refused::Grew(number));
+        }
+        len = count_record(number, content_len, len, limits)?;
     }
-    Ok(text)
+    Ok(len)
+}
+
+/// Returns the text of messages. Reserves `len` bytes for it.
+pub fn text_of_messages(
+    alloc: Global,
+    messages: &[StoredMessage<'_>],
+    len: usize,
+    limits: FrameLimits,
+) -> Result<Vec<u8>, AllocError>
+    requires { IsSound limits }
+    ensures { IfOk result (λ written. written.items ≡ text (map stored_sent messages.now)) }
+{
+    let mut written = Vec::with_capacity(alloc, len)?;
+    for message in messages {
+        let Ok(()) = write_record(&mut written, message.side(), message.content(), limits) else {
+            return Err(AllocError);
+        };
+    }
+    Ok(written)
 }

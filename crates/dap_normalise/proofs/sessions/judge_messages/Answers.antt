@@ -36,14 +36,14 @@ loop-message-preserved g c =
       all = all ∙ sym (append_assoc so_far (message ∷ []) rest);
       number = ap (λ n. n + 1) c.loop-message.invariant.number ∙ sym (length_push so_far message);
       judged = subst (HasJudged g.T.NameTable.numbers g.T.NameTable.limit c.args.limits c.args.mode
-          c.judge_message.new.self) (sym (map-append stored_sent so_far (message ∷ [])))
-          (step c.in_ok-judge_message.ensures.limits c.in_ok-judge_message.ensures.mode
-          (c.in_ok-judge_message.ensures.judges (map stored_sent so_far) was.normal _
-          was.represents is));
+          c.check_message.new.self) (sym (map-append stored_sent so_far (message ∷ [])))
+          (step c.in_ok-check_message.ensures.limits c.in_ok-check_message.ensures.mode
+          (c.in_ok-check_message.ensures.checks (map stored_sent so_far) was.normal _
+          was.represents is).1);
     }
 
-pub returns-in_err-judge_message-clause-err : goal.returns-in_err-judge_message-clause-err
-returns-in_err-judge_message-clause-err g c =
+pub returns-in_err-check_message-clause-err : goal.returns-in_err-check_message-clause-err
+returns-in_err-check_message-clause-err g c =
     let because = err_from_is_err_and c.from_residual.result c.from_residual.ensures.1 in
     let so_far = c.loop-message.yielded in
     let message = c.in-Some.message in
@@ -61,7 +61,7 @@ returns-in_err-judge_message-clause-err g c =
     (stored_sent message) (map stored_sent rest) split c.requires.own was
     (c.loop-message.number + 1)
     (ap (λ n. n + 1) (c.loop-message.invariant.number ∙ sym (length-map so_far stored_sent))) _
-    (c.in_err-judge_message.ensures.judges (map stored_sent so_far) was.normal _
+    (c.in_err-check_message.ensures.checks (map stored_sent so_far) was.normal _
     was.represents is))
 
 pub returns-clause-ok : goal.returns-clause-ok

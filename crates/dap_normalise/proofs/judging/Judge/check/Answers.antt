@@ -23,7 +23,7 @@ returns-in-Some-clause-checks g c = λ messages normal represents.
     (flat_sent m))) c.in-Some.is c.in_ok-message.ensures.ok in
     let is : IsMessage (payload_of c.args.whole.now) (flat_sent c.in-Some.message) =
     rw c.as_slice-content.ensures at read in
-    c.check_flat.ensures.checks messages normal (payload_of c.args.whole.now) represents is
+    c.check_message.ensures.checks messages normal (payload_of c.args.whole.now) represents is
 
 pub returns-clause-checks : goal.returns-clause-checks
 returns-clause-checks g c = λ messages normal represents.

@@ -1,14 +1,14 @@
-//! Normalises a recording in memory in one pass, and counts its records and unanswered requests.
+//! Normalises recordings in memory, and counts their records and unanswered requests.
 ghost use Rattle.std.specs.Prelude.{◌≡◌, [], IfErr, IfOk};
 ghost use Rattle.dap_input.specs.Limits.{AreSound};
 ghost use Rattle.dap_normalise.specs.{NameTables.AreReady, NormalSteps.RepresentsBefore};
-ghost use Rattle.dap_normalise.specs.Normalising.{RefusesBytes};
-ghost use Rattle.dap_golden.specs.NormalSession.{IsNormalSession};
+ghost use Rattle.dap_normalise.specs.{NormalSession.IsNormalSession, Normalising.RefusesBytes};
 
+use crate::checked::Checked;
+use crate::normal_records::NormalRecords;
 use dap_device::MemorySource;
 use dap_input::{Limits, Refused};
 use dap_message::Side;
-use dap_normalise::{Checked, NormalRecords};
 use dap_rename::{Mode, NameTable, Tables, index_tables};
 use std::alloc::Global;
 
@@ -19,8 +19,8 @@ pub struct NormalSession {
     pub counts: Checked,
 }
 
-/// Does the same as [`normalise_bytes`](dap_normalise::normalise_bytes) and
-/// [`check`](dap_normalise::check), in one pass.
+/// Returns the normal form of a recording, as [`normalise_bytes`](crate::normalise_bytes) does, and
+/// its counts, as [`check`](crate::check) does. Reads the recording once.
 ///
 /// # Errors
 ///
@@ -36,11 +36,11 @@ pub fn normalise_session(
     ensures err { IfErr result (RefusesBytes limits mode recording.now) }
 {
     let tables = index_tables(alloc, limits.ids);
-    normalise_with(alloc, recording, limits, tables, mode)
+    normalise_by(alloc, recording, limits, tables, mode)
 }
 
 /// Does the same as [`normalise_session`], with these tables for the ids.
-fn normalise_with<T: NameTable + Drop>(
+fn normalise_by<T: NameTable + Drop>(
     alloc: Global,
     recording: &[u8],
     limits: Limits,

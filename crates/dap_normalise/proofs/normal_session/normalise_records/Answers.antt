@@ -1,11 +1,8 @@
-use Rattle.std.proofs.Common.{false, refl, sym, arith}
-use Rattle.std.proofs.lemmas.Bool.{true≢false}
+use Rattle.std.proofs.Common.{◌≡◌, ◌+◌, ◌-◌, refl, arith}
 use Rattle.std.proofs.lemmas.Result.{err_from_is_err_and}
-use Rattle.dap_input.proofs.MemoryInputs.{start}
-use Rattle.dap_normalise.proofs.StreamAnswers.{check_accepts, ended, gone, some_records}
-use Rattle.dap_normalise.proofs.WholeInput.{canonical_whole, more_text, no_text, refuses_bytes}
-use Rattle.dap_golden.proofs.SessionCounts.{counted}
-use Rattle.dap_golden.proofs.normal_session.normalise_records.Goals as goal
+use Rattle.dap_normalise.proofs.StreamAnswers.{counted, ended, gone, some_records}
+use Rattle.dap_normalise.proofs.WholeInput.{more_text, no_text, refuses_bytes, session_whole}
+use Rattle.dap_normalise.proofs.normal_session.normalise_records.Goals as goal
 
 pub loop-bytes-init : goal.loop-bytes-init
 loop-bytes-init g c =
@@ -43,12 +40,7 @@ returns-clause-ok g c =
     let end = ended was (c.in_ok-next.ensures.next _ _ _ _ _ was.represents) c.if-branch.false in
     let some = some_records was end in
     let is = c.number.ensures in
-    let canonical = canonical_whole c.loop-bytes.invariant end c.requires.limits in
-    record {
-      canonical = canonical;
-      counted = counted c.args.limits c.args.mode c.args.recording.now c.next.new.text.items
-          canonical _ (start c.args.recording.now) c.next.new.reader refl
-          (check_accepts was end false c.open.result c.open-2.result
-          (c.open.ensures, c.open-2.ensures) _ (omega (arith, some, is)) refl refl
-          (λ asked. absurd (true≢false (sym asked))));
-    }
+    let count : c.number.result - 1 + 1 ≡ c.next.new.self.records.number = omega (arith, some, is) in
+    session_whole c.loop-bytes.invariant end c.requires.limits _ refl
+    (counted was end c.open.result c.open-2.result (c.open.ensures, c.open-2.ensures) _ count refl
+    refl)

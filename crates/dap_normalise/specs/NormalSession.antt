@@ -3,7 +3,7 @@ use Rattle.std.specs.Prelude.{ℕ, List}
 use Rattle.dap_rename.specs.declared.mode.Mode.{Mode}
 use Rattle.dap_input.specs.declared.limits.Limits.{Limits}
 use Rattle.dap_normalise.specs.{Checking.AreCounted, Normalising.IsCanonical}
-use Rattle.dap_golden.specs.declared.normal_session.NormalSession.{NormalSession}
+use Rattle.dap_normalise.specs.declared.normal_session.NormalSession.{NormalSession}
 
 -- The bytes are the normal text of the recording, and the counts are those of its messages.
 pub record IsNormalSession (limits : Limits) (mode : Mode) (recording : List ℕ)

@@ -2,16 +2,15 @@ use Rattle.std.proofs.Common.{◌≡◌, ◌<◌, [], length, ◌∙◌, ap, sym
 use Rattle.std.proofs.lemmas.Result.{err_from_is_err_and}
 use Rattle.dap_tree.specs.Ids.{with_ids}
 use Rattle.dap_tree.specs.Json.{text_of}
-use Rattle.dap_flat_message.specs.FlatMessages.{flat_sent}
 use Rattle.dap_rename.specs.Messages.{with_numbers}
 use Rattle.dap_input.specs.declared.refused.Refused.TheVariants.{Grew}
 use Rattle.dap_normalise.specs.JudgingSteps.{record_of}
 use Rattle.dap_normalise.proofs.JudgedRecords.{refused_to_write, taken}
-use Rattle.dap_normalise.proofs.judging.Judge.check_flat.Goals as goal
+use Rattle.dap_normalise.proofs.judging.Judge.check_message.Goals as goal
 
 pub returns-in_default-clause-checks : goal.returns-in_default-clause-checks
 returns-in_default-clause-checks g c = λ messages normal held represents is.
-    let m = flat_sent c.args.message.now in
+    let m = g.M.AnyMessage.sent c.args.message.now in
     let names = c.in-Ok-name_message.names.items in
     let says = c.in-Ok.ensures.says messages represents.session in
     let long : c.args.self.now.limits.frame.content < length (text_of (with_ids m.doc names)) =
@@ -24,7 +23,7 @@ returns-in_default-clause-checks g c = λ messages normal held represents is.
 
 pub returns-in_err-self-clause-checks : goal.returns-in_err-self-clause-checks
 returns-in_err-self-clause-checks g c = λ messages normal held represents is.
-    let m = flat_sent c.args.message.now in
+    let m = g.M.AnyMessage.sent c.args.message.now in
     let names = c.in-Ok-name_message.names.items in
     let named = with_numbers m names in
     let says = c.in-Ok.ensures.says messages represents.session in
@@ -40,7 +39,7 @@ returns-in_err-self-clause-checks g c = λ messages normal held represents is.
 
 pub returns-clause-checks : goal.returns-clause-checks
 returns-clause-checks g c = λ messages normal held represents is.
-    let m = flat_sent c.args.message.now in
+    let m = g.M.AnyMessage.sent c.args.message.now in
     let names = c.in-Ok-name_message.names.items in
     let named = with_numbers m names in
     let says = c.in-Ok.ensures.says messages represents.session in

@@ -1,6 +1,6 @@
 use Rattle.dap_normalise.specs.NormalSteps.{remaining}
 use Rattle.dap_normalise.proofs.WholeInput.{HasText}
-use Rattle.dap_golden.proofs.normal_session.normalise_records.Given as goal
+use Rattle.dap_normalise.proofs.normal_session.normalise_records.Given as goal
 
 abbrev pub invariant-loop-bytes : goal.invariant-loop-bytes
 invariant-loop-bytes g l =
