@@ -3,12 +3,15 @@
     python3 scripts/bench.py [--size small] [--json FILE]
 """
 import os
+import subprocess
 import sys
 import tempfile
 from typing import NamedTuple
 
-from generated_inputs import frames, renumbered, session, small_requests, trace
-from measuring import ROUNDS, SCRIPTS, Figures, digest, measure, options
+from generated_inputs import changed, frames, renumbered, session, small_requests, trace
+from measuring import ROUNDS, SCRIPTS, TOP, Figures, digest, measure, options
+
+RULES = os.path.join(TOP, "examples", "rules", "debugpy.rules")
 
 
 class Sizes(NamedTuple):
@@ -43,9 +46,9 @@ class Benchmark:
         rounds = ROUNDS[self.size]
         print(f"{title}, {f'the shortest of {rounds} runs' if rounds > 1 else 'one run'} each")
 
-    def measured(self, program, command, words, given, path=None):
+    def measured(self, program, command, words, given, path=None, status=0):
         """Measures a program on an input, prints the figures and collects them. Standard input is the file `path`, by default the input."""
-        found = measure(words, path or given.path, self.size)
+        found = measure(words, path or given.path, self.size, status)
         counts = {"bytes": given.size, "records": given.records, "requests": given.requests}
         self.figures.add(found, input=given.kind, program=program, command=command, **counts)
         speed = given.size / 1e6 / found.seconds
@@ -99,6 +102,38 @@ class Benchmark:
             self.beside_script("record", pieces)
             self.beside_script("show", given)
 
+    def ours(self, command, given, *words, status=0, prints=None):
+        """Measures a command without a script beside it. It has to end with this status, and to print the given text, if there is one."""
+        name = " ".join([*command.split(), *("--rules" for word in words if word == "--rules")])
+        found = self.measured("dapnorm", name, [self.program, *command.split(), *words], given, status=status)
+        if prints is not None and found.output != digest(prints.encode()):
+            sys.exit(f"dapnorm {name} did not print {prints!r}")
+
+    def golden(self, given):
+        """Writes the golden file of an input, by the rules, and returns its path."""
+        path = self.path("golden")
+        with open(given.path, "rb") as source:
+            words = [self.program, "golden", "--update", path, "--rules", RULES]
+            subprocess.run(words, stdin=source, stdout=subprocess.DEVNULL, check=True)
+        return path
+
+    def with_rules(self):
+        """The commands of a golden test: the session again, with other ids, and with other values of some variables."""
+        for wanted in self.sizes.large:
+            one = session(self.path("session"), wanted)
+            other = renumbered(one, self.path("other"))
+            both = one._replace(size=one.size + other.size, records=2 * one.records, requests=2 * one.requests)
+            differs = both._replace(path=changed(other, self.path("changed")).path)
+            golden = self.golden(one)
+            self.heading(f"a session of {one.size / 1e6:.1f} MB in {one.records} records, with rules and beside others")
+            self.ours("mask", one, RULES)
+            self.ours("order", one, RULES)
+            self.ours("golden", other, golden, "--rules", RULES, prints="same\n")
+            self.ours("compare", both, one.path, other.path, "--rules", RULES)
+            self.ours("diff --all", differs, one.path, differs.path, status=1)
+            self.ours("suggest", differs, one.path, differs.path)
+            self.ours("show --full", one)
+
     def small_requests(self):
         for count in self.sizes.requests:
             given = small_requests(self.path("session"), count)
@@ -110,6 +145,7 @@ class Benchmark:
         self.normalise()
         self.compare()
         self.record_and_show()
+        self.with_rules()
         self.small_requests()
 
 

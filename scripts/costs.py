@@ -18,6 +18,10 @@ from normalise_reference import OTHER, fill, normalised
 from one_direction import records
 from record_reference import recorded
 
+# A value that the other recording has as the next number.
+VALUE = 1_234_567
+# The number of rules that a file can have. With more, `suggest` ends with status 1.
+MOST_RULES = 1000
 # The larger input of a case has four times as many numbers, members, frames, records or bytes as the smaller one.
 FACTORS = (1, 4)
 NOISE = 1.5
@@ -113,6 +117,43 @@ def variables(file, count):
         file.write(record("adapter", response(seq, seq, "variables", body={"variables": found})))
 
 
+def letters(file, count):
+    """A text in which none of a thousand texts with a common start occurs."""
+    dice = random.Random(1)
+    launched(file, '{"x":"%s"}' % "".join(dice.choice("ab") for _ in range(count)))
+
+
+def one_letter(file, count):
+    """A text of one letter in which a text of 30,000 such letters and another one does not occur."""
+    launched(file, '{"x":"%s"}' % ("a" * count))
+
+
+def named_events(file, count):
+    """Events of two thousand names, any two of which may change places."""
+    begin_session(file)
+    for seq in range(1, count + 1):
+        file.write(record("adapter", {"seq": seq, "type": "event", "event": f"name{seq % 2000}"}))
+
+
+def new_members(file, count):
+    """A member with a new name in each record, and another value in the other recording."""
+    begin_session(file)
+    for seq in range(1, count + 1):
+        file.write(record("adapter", {"seq": seq, "type": "event", "event": "output", "body": {f"name{seq}": VALUE, "output": "x"}}))
+
+
+def new_commands(file, count):
+    """A request with a new command in each record, and another value in the other recording."""
+    begin_session(file)
+    for seq in range(1, count + 1):
+        file.write(record("client", request(seq, f"command{seq}", {"x": VALUE})))
+
+
+def nested_fractions(file, count):
+    """Numbers in arrays that are 120 deep, after a fraction that a later member of the same name replaces."""
+    launched(file, '{"x":1.5,"x":' + '{"x":' * 120 + "[" + ",".join(map(str, range(count))) + "]" + "}" * 121)
+
+
 def crossing(file, count):
     """Responses that all pass each other."""
     begin_session(file)
@@ -129,6 +170,12 @@ RULES += "hex response variables body.variables[].value\ndigits response variabl
 
 # Two responses may change places, if they answer different requests.
 SWAPS = "swap response * response *\n"
+
+# A thousand texts with a common start, and a text of many equal letters.
+ALIKE = "".join(f'word "{"ab" * 8}{number:04}" "<{number}>"\n' for number in range(1000))
+LONG = f'word "{"a" * 30_000}b" "<long>"\n'
+# A thousand rules for the order of two thousand names.
+NAMED = "".join(f"swap event name{number} event name{number + 1000}\n" for number in range(1000))
 
 
 def in_order(recording):
@@ -176,13 +223,53 @@ def compared_with_itself(recording):
     return compared(recording, recording).encode()
 
 
+def saved(folder, name, data):
+    """Writes a file and returns its path."""
+    path = os.path.join(folder, name)
+    with open(path, "wb") as file:
+        file.write(data)
+    return path
+
+
+def by(rules):
+    """The arguments of a command that reads a file with these rules."""
+    return lambda path, folder: [saved(folder, "rules", rules.encode())]
+
+
+def with_itself(path, folder):
+    return [path, path]
+
+
+def with_other_values(path, folder):
+    """The recording, and one that has the next number in place of each VALUE."""
+    with open(path, "rb") as file:
+        return [path, saved(folder, "other", file.read().replace(b":%d" % VALUE, b":%d" % (VALUE + 1)))]
+
+
+def suggested(recording):
+    """The rules for a recording and the one with other values: a rule for each place that has a VALUE, by the places in order. Nothing if
+    these are more than a file can have."""
+    rules = []
+    for number, (_, _, content) in enumerate(records(recording), 1):
+        message = json.loads(content)
+        name, part = message.get("event") or message.get("command"), "body" if message["type"] == "event" else "arguments"
+        places = [f"{name} {part}.{member}" for member, value in message.get(part, {}).items() if value == VALUE]
+        comment = f"# A record {number}: {VALUE}\n# B record {number}: {VALUE + 1}\n"
+        rules += [(place, f"{comment}blank  {message['type']:8} {place}\n\n") for place in places]
+    if len(rules) > MOST_RULES:
+        return b""
+    return ("".join(rule for _, rule in sorted(rules)) + "# with these rules: same\n").encode()
+
+
 class Case(NamedTuple):
-    """A command, the function that writes its input, the count that it is passed, and a function from the input to the expected output."""
+    """A command, the function that writes its input, the count that it is passed, a function from the input to the expected output, and
+    one from the path of the input and a folder to the further arguments."""
 
     command: str
     make: Callable
     count: int
     expected: Callable
+    words: Callable = lambda path, folder: []
 
 
 CASES = [
@@ -192,19 +279,12 @@ CASES = [
     Case("normalise", escapes, 600_000, normalised), Case("normalise", frames, 30, normalised),
     Case("check", open_requests, 50_000, accepted), Case("normalise", long_headers, 2_000, normalised),
     Case("compact", deep_frames, 20_000, compacted), Case("record", small_pieces, 20_000, recorded),
-    Case("mask", variables, 100, masked), Case("compare", frames, 30, compared_with_itself),
-    Case("order", crossing, 25_000, in_order),
+    Case("mask", variables, 100, masked, by(RULES)), Case("compare", frames, 30, compared_with_itself, with_itself),
+    Case("order", crossing, 25_000, in_order, by(SWAPS)), Case("normalise", nested_fractions, 500_000, normalised),
+    Case("order", named_events, 1_000, in_order, by(NAMED)), Case("mask", letters, 50_000, masked, by(ALIKE)),
+    Case("mask", one_letter, 50_000, masked, by(LONG)), Case("suggest", new_members, 5_000, suggested, with_other_values),
+    Case("suggest", new_commands, 10_000, suggested, with_other_values),
 ]
-
-
-def words_of(command, path, folder):
-    """The arguments of the program, with the files that the command requires."""
-    if command in ("mask", "order"):
-        rules = os.path.join(folder, "rules")
-        with open(rules, "w", encoding="utf-8") as file:
-            file.write(RULES if command == "mask" else SWAPS)
-        return [command, rules]
-    return [command, path, path] if command == "compare" else [command]
 
 
 def measured(case, count, program, folder, size):
@@ -214,10 +294,11 @@ def measured(case, count, program, folder, size):
     path = os.path.join(folder, "input")
     with open(path, "wb") as file:
         case.make(file, count)
-    found = measure([program, *words_of(case.command, path, folder)], path, size)
     with open(path, "rb") as file:
         given = file.read()
-    if found.output != digest(case.expected(given)):
+    expected = case.expected(given)
+    found = measure([program, case.command, *case.words(path, folder)], path, size, status=0 if expected else 1)
+    if found.output != digest(expected):
         sys.exit(f"dapnorm {case.command} did not write the expected output: {case.make.__doc__}")
     return found, len(given)
 

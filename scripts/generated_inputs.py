@@ -128,6 +128,19 @@ def renumbered(given, path):
     return given._replace(path=path, size=os.path.getsize(path))
 
 
+def changed(given, path, count=50):
+    """Writes the same session with other values of `count` variables, one of each of that many responses."""
+    left = count
+    with open(given.path, "rb") as source, open(path, "wb") as target:
+        for side, frame, content in records(source.read()):
+            message = json.loads(content) if left and b'"variables":' in content else {}
+            for variable in message.get("body", {}).get("variables", [])[:1]:
+                variable["value"] += "!"
+                left -= 1
+            target.write(record(side, message) if message else MARKERS[side] + frame + b"\n")
+    return given._replace(path=path, size=os.path.getsize(path))
+
+
 def trace(given, path):
     """Writes the trace of a session whose header parts and contents were written separately."""
     with open(given.path, "rb") as source, open(path, "wb") as target:

@@ -61,29 +61,31 @@ def digest(output):
     return hashlib.sha256(output).hexdigest()
 
 
-def run(command, source, out):
-    """Runs a command, and returns its seconds and the most bytes of memory that it used. Ends the benchmark if the command fails."""
+def run(command, source, out, wanted=0):
+    """Runs a command, and returns its seconds and the most bytes of memory that it used. Ends the benchmark if the command ends with
+    another status than the wanted one."""
     reads, writes = os.pipe()
     with open(reads, "rb") as report:
         starter = [sys.executable, "-I", "-S", os.path.join(SCRIPTS, "measured.py"), str(writes), *command]
-        process = subprocess.Popen(starter, stdin=source, stdout=out, pass_fds=[writes])
+        errors = subprocess.DEVNULL if wanted else None
+        process = subprocess.Popen(starter, stdin=source, stdout=out, stderr=errors, pass_fds=[writes])
         os.close(writes)
         words = report.read().split()
         process.wait()
     if len(words) != 3:
         sys.exit(f"{command} did not start")
     seconds, status, memory = words
-    if int(status) != 0:
+    if int(status) != wanted:
         sys.exit(f"{command} ended with status {int(status)}")
     return float(seconds), int(memory)
 
 
-def measure(command, path, size):
-    """Runs a command on a file as often as the size of the benchmark requires."""
+def measure(command, path, size, status=0):
+    """Runs a command on a file as often as the size of the benchmark requires. It has to end with this status."""
     runs, sums = [], set()
     for _ in range(ROUNDS[size]):
         with open(path, "rb") as source, tempfile.TemporaryFile() as out:
-            runs.append(run(command, source, out))
+            runs.append(run(command, source, out, status))
             out.seek(0)
             total = hashlib.sha256()
             for chunk in iter(lambda: out.read(1 << 20), b""):

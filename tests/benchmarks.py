@@ -1,6 +1,7 @@
 """Checks the tables of docs/BENCHMARKS.md against docs/benchmarks.json, the measured figures. With `write` it writes the tables.
 
-`costs FILE` first takes the figures of `scripts/costs.py --json FILE`, and `gate FILE` those that `make test` printed into FILE."""
+`costs FILE` first takes the figures of `scripts/costs.py --json FILE`, `bench FILE` those of `scripts/bench.py --json FILE` for the
+commands of a golden test, and `gate FILE` those that `make test` printed into FILE."""
 import json
 import os
 import re
@@ -15,6 +16,8 @@ FIGURES = os.path.join(TOP, "docs", "benchmarks.json")
 OF_COSTS = (0, 1, 5, 6, 7, 8)
 # Figures that only the file has.
 UNSHOWN = {"renamings", "gate"}
+# Commands with options that no script has, of commands that scripts are measured beside.
+OF_GOLDEN_TESTS = {"compare --rules", "show --full"}
 # Processor minutes of a crate that has a line of its own.
 LITTLE = 5.0
 
@@ -75,6 +78,18 @@ def costs(tables, measured):
     tables["costs"]["rows"] = rows
 
 
+def bench(tables, measured):
+    """Takes the figures of the commands that are measured without a script beside them."""
+    beside = {it["command"] for it in measured["figures"] if it["program"] == "script"}
+    rows = []
+    for it in measured["figures"]:
+        if it["command"].split()[0] not in beside | {"check"} or it["command"] in OF_GOLDEN_TESTS:
+            megabytes, seconds = it["bytes"] / 1e6, it["seconds"]
+            cells = (f"{megabytes:.0f} MB", f"{seconds:.2f} s", f"{megabytes / seconds:.0f}", f"{it['memory'] / 1e6:.0f} MB")
+            rows.append([f"`{it['command']}`", *cells])
+    tables["golden tests"]["rows"] = rows
+
+
 def gate(tables, printed):
     """Takes the table that the gate printed: the processor minutes of each crate."""
     start = printed.index("CPU minutes")
@@ -93,6 +108,8 @@ def main():
     words = sys.argv[1:]
     if words[:1] == ["costs"]:
         costs(tables, json.loads(read(words[1])))
+    elif words[:1] == ["bench"]:
+        bench(tables, json.loads(read(words[1])))
     elif words[:1] == ["gate"]:
         gate(tables, read(words[1]))
     if words:
