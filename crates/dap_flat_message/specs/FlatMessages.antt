@@ -5,6 +5,7 @@ use Rattle.dap_message.specs.Message.{Sent, IsTypedContent, HasRefusal, faulty}
 use Rattle.dap_flat_message.specs.{Document.document_of, declared.message.FlatMessage.FlatMessage}
 use Rattle.dap_flat_message.specs.declared.reading.FlatFault.{FlatFault}
 use Rattle.dap_flat_message.specs.declared.reading.FlatFault.TheVariants.{Memory, Unclear, Message}
+use Rattle.dap_flat.specs.{Reading.ReadsDocument, declared.node.Node.Node}
 use Rattle.dap_flat.specs.declared.unread.Unread.{Unread}
 use Rattle.dap_flat.specs.declared.unread.Unread.TheVariants as unread
 
@@ -19,6 +20,10 @@ flat_doc m = document_of m.nodes.items
 -- The message, as the crates above speak of it.
 abbrev pub flat_sent : FlatMessage → Sent
 flat_sent m = record { side = flat_side m; doc = flat_doc m }
+
+-- Some content is read as the document that the nodes represent.
+abbrev pub AreRead : List Node → Type 0
+AreRead ns = (bytes : List ℕ) × ReadsDocument bytes ns
 
 -- The content is that of a message of this side, and m is the message.
 abbrev pub IsFlatMessage : Side → List ℕ → FlatMessage → Type 0

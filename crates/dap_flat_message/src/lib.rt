@@ -16,4 +16,4 @@ mod typing;
 
 pub use measured::Measured;
 pub use message::FlatMessage;
-pub use reading::{FlatFault, read_flat_message};
+pub use reading::{FlatFault, read_flat_message, type_nodes};

@@ -1,6 +1,7 @@
 //! Reads a content as a flat message.
-ghost use Rattle.std.specs.Prelude.{◌≡◌, ◌<◌, length, IfOk, IfErr, IsErrOf, IsUtf8};
-ghost use Rattle.dap_flat_message.specs.FlatMessages.{IsFlatMessage, RefusesContent};
+ghost use Rattle.std.specs.Prelude.{ℕ, List, ◌≡◌, ◌<◌, length, IfOk, IfErr, IsErrOf, IsUtf8};
+ghost use Rattle.dap_flat_message.specs.FlatMessages.{AreRead, IsFlatMessage, RefusesContent};
+ghost use Rattle.dap_flat.specs.Reading.{ReadsDocument};
 
 use crate::members::find_envelope;
 use crate::message::FlatMessage;
@@ -58,7 +59,26 @@ pub fn read_flat_message<'a>(
     ensures memory { IsErrOf result FlatFault.Memory
         → (0 < length content.now) × IsUtf8 content.now }
 {
-    let mut nodes = read_flat(content, scratch, nodes)?;
+    let nodes = read_flat(content, scratch, nodes)?;
+    type_nodes(side, nodes)
+}
+
+/// Types the nodes of a document as a message of this side: checks it against the profile, and
+/// marks its ids. Does not allocate.
+///
+/// # Errors
+///
+/// - `Unclear`: the document has to be typed as a tree, as [`FlatFault::Unclear`] says.
+/// - `Message`: the document violates the profile.
+pub fn type_nodes<'a>(side: Side, nodes: Vec<Node<'a>>) -> Result<FlatMessage<'a>, FlatFault>
+    requires { AreRead nodes.items }
+    ensures ok { IfOk result (λ m. (bytes : List ℕ) → ReadsDocument bytes nodes.entry.items
+        → IsFlatMessage side bytes m) }
+    ensures err { IfErr result (λ fault. (bytes : List ℕ) → ReadsDocument bytes nodes.entry.items
+        → RefusesContent bytes fault) }
+    ensures memory { IsErrOf result FlatFault.Memory → ⊥ }
+{
+    let mut nodes = nodes;
     let found = find_envelope(&nodes)?;
     if let Some(fault) = typed_flat(&mut nodes, &found, side)? {
         return Err(FlatFault::Message(fault));

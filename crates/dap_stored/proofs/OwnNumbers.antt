@@ -9,7 +9,7 @@ use Rattle.dap_flat.specs.declared.marks.Mark.{Mark}
 use Rattle.dap_flat.specs.Marks.{IsMarkedText, spliced}
 
 mutual
-  own_ids : (d : Doc) → with_ids d [] ≡ d
+  pub own_ids : (d : Doc) → with_ids d [] ≡ d
   own_ids null = refl
   own_ids (boolean b) = refl
   own_ids (whole z) = refl

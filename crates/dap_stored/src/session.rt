@@ -1,9 +1,9 @@
 //! Stored sessions.
-ghost use Rattle.std.specs.Prelude.{◌≡◌, ◌++◌, [], ◌∷◌, length, option_map, slice_get, ◌==◌, IfOk};
-ghost use Rattle.std.specs.{Prelude.{IsOk, OnOk, OnErr, map}, List.All};
+ghost use Rattle.std.specs.Prelude.{◌≡◌, ◌++◌, List, [], ◌∷◌, length, option_map, slice_get};
+ghost use Rattle.std.specs.{Prelude.{◌==◌, IfOk, IsOk, OnOk, OnErr, map}, List.All};
 ghost use Rattle.dap_flat.specs.Pieces.{Represents};
 ghost use Rattle.dap_flat_message.specs.FlatMessages.{flat_sent};
-ghost use Rattle.dap_message.specs.Message.{sent};
+ghost use Rattle.dap_message.specs.Message.{Sent, sent};
 ghost use Rattle.dap_stored.specs.{Contents.IsOfContent, Heads.IsStored};
 
 use crate::head::Head;
@@ -23,7 +23,7 @@ pub struct StoredSession {
 }
 
 impl StoredSession {
-    ghost use Rattle.dap_stored.specs.Sessions.{messages_of, stored_sent};
+    ghost use Rattle.dap_stored.specs.Sessions.{AreAt, messages_of, stored_sent};
 
     /// Returns a session without messages. Does not allocate.
     pub fn new(alloc: Global) -> StoredSession
@@ -81,6 +81,30 @@ impl StoredSession {
     {
         let head = self.parts.store(alloc, message, nodes)?;
         self.heads.push(head)?;
+        Ok(())
+    }
+
+    /// Puts the messages at these places in the order of the places. A message at none of the
+    /// places is removed. No content moves, and that of a removed message stays in memory until the
+    /// session is dropped.
+    ///
+    /// # Errors
+    ///
+    /// - `AllocError`: an allocation failed. The messages are unchanged.
+    pub fn arrange(&mut self, alloc: Global, places: &[usize]) -> Result<(), AllocError>
+        requires { (those : List Sent) × AreAt (messages_of self.old) places.now those }
+        ensures ok { OnOk result
+            (AreAt (messages_of self.old) places.now (messages_of self.new)) }
+        ensures err { OnErr result (messages_of self.new ≡ messages_of self.old) }
+    {
+        let mut heads = Vec::with_capacity(alloc, places.len())?;
+        for place in places {
+            let Some(head) = self.heads.get(*place) else {
+                unreachable!()
+            };
+            heads.push(*head)?;
+        }
+        self.heads = heads;
         Ok(())
     }
 
