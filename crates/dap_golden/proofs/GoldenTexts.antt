@@ -3,7 +3,6 @@ use Rattle.std.proofs.Common.{◌≡◌, ◌≢◌, Bool, false, List, [], ◌�
 use Rattle.std.proofs.Common.{Option, Some, None, Result, Ok, Err, inl, inr}
 use Rattle.std.specs.Prelude.{IfErr, IfOk}
 use Rattle.dap_mask.specs.Mask.{Mask}
-use Rattle.dap_message.specs.SwapRules.{SwapRule}
 use Rattle.dap_tree.specs.declared.side.Side.TheVariants.{Client, Adapter}
 use Rattle.dap_message.specs.Message.{Sent}
 use Rattle.dap_rename.specs.declared.mode.Mode.{Mode}
@@ -11,20 +10,15 @@ use Rattle.dap_input.specs.declared.limits.Limits.{Limits}
 use Rattle.dap_input.specs.declared.refused.Refused.{Refused}
 use Rattle.dap_input.specs.declared.refused.Refused.TheVariants.{Incomplete, Memory}
 use Rattle.dap_input.specs.Refusals.{IsRefused}
-use Rattle.dap_rules.specs.MaskedRecordings.{IsMaskedTo}
 use Rattle.dap_normalise.specs.declared.checked.Checked.{Checked}
 use Rattle.dap_normalise.specs.declared.normal_session.NormalSession.{NormalSession}
 use Rattle.dap_normalise.specs.{Accepting.accepting, Checking.AreCounted, Normalising.RefusesBytes}
 use Rattle.dap_normalise.specs.NormalSession.{IsNormalSession}
-use Rattle.dap_rules.specs.Applying.{IsNotOrderedBy, OrdersBy, RefusesNormalBy, RefusesToMask}
-use Rattle.dap_rules.specs.Ordering.{IsNotOrdered, RefusesToOrder}
-use Rattle.dap_rules.specs.Memory.{IsOutOfMemory}
 use Rattle.dap_rules.specs.declared.fault.ApplyRefused.{ApplyRefused}
 use Rattle.dap_rules.specs.declared.fault.ApplyRefused.TheVariants as step
 use Rattle.dap_golden.specs.Golden.{AppliesBy, AreAnswered, HasNoSession, IsGolden, IsGoldenOf}
 use Rattle.dap_golden.specs.Golden.{IsRecordingOf, IsRefusedGolden, IsSessionOf, RefusesSession}
-use Rattle.dap_golden.specs.GoldenSteps.{HasNoSessionBy, RefusesGolden, RefusesMask, RefusesNormal}
-use Rattle.dap_golden.specs.GoldenSteps.{session_of}
+use Rattle.dap_golden.specs.GoldenSteps.{HasNoSessionBy, RefusesGolden, RefusesNormal, session_of}
 use Rattle.dap_golden.specs.declared.golden.GoldenText.{GoldenText}
 use Rattle.dap_golden.specs.declared.fault.GoldenRefused.{GoldenRefused}
 use Rattle.dap_golden.specs.declared.fault.GoldenRefused.TheVariants as because
@@ -54,20 +48,7 @@ golden allow_open session some zero limits mode recording is = record {
 
 -- ---- the rules
 
--- A failed step of masking is reported as `Mask`.
-pub mask_refuses : (limits : Limits) (mask : Mask) (recording : List ℕ) (why : Refused)
-    → (IsOutOfMemory why → ⊥) → RefusesToMask limits mask recording why
-    → RefusesMask limits mask recording (because.Mask why)
-mask_refuses limits mask recording Memory some is = absurd (some tt)
-mask_refuses limits mask recording why some is = is
-
 module _ (limits : Limits) (mode : Mode) where
-  no_order : (rule : SwapRule) (rules : List SwapRule) (masked : List ℕ) (why : Refused)
-      → (why ≡ Memory → ⊥) → RefusesToOrder limits mode (rule ∷ rules) masked why
-      → IsNotOrdered limits mode (rule ∷ rules) masked why
-  no_order rule rules masked Memory some is = absurd (some refl)
-  no_order rule rules masked why some is = is
-
   no_normal : (session : List ℕ) (why : Refused) → (why ≡ Memory → ⊥)
       → RefusesBytes limits mode session why → IsRefused (accepting limits mode) session why
   no_normal session Memory some is = absurd (some refl)
@@ -78,40 +59,6 @@ module _ (limits : Limits) (mode : Mode) where
       → RefusesBytes limits mode recording why
       → RefusesNormal limits mode None recording (because.Session why)
   plain_refused recording why some is = inr (recording, refl, no_normal recording why some is)
-
-  module _ (mask : Mask) (recording : List ℕ) where
-    -- A recording that cannot be masked has no session.
-    pub none_masked : (refused : GoldenRefused) → RefusesMask limits mask recording refused
-        → RefusesNormal limits mode (Some mask) recording refused
-    none_masked (because.Mask refused) is = is
-    none_masked because.Memory is = tt
-    none_masked refused is = absurd is
-
-    module _ (masked : List ℕ) (masks : IsMaskedTo limits mask recording masked) where
-      by_swaps : (swaps : List SwapRule) → mask.swaps ≡ swaps → (why : Refused)
-          → (why ≡ Memory → ⊥) → RefusesNormalBy limits mode swaps masked why
-          → RefusesNormal limits mode (Some mask) recording (because.Session why)
-      by_swaps [] none why some is = inr (
-        masked,
-        record {
-          masked = masked;
-          masks = masks;
-          orders = subst (λ swaps. OrdersBy limits mode swaps masked masked) (sym none) refl;
-        },
-        no_normal masked why some is,
-      )
-      by_swaps (rule ∷ rules) same why some is = inl (
-        masked,
-        masks,
-        subst (λ swaps. IsNotOrderedBy limits mode swaps masked why) (sym same)
-            (no_order rule rules masked why some is),
-      )
-
-      -- A masked recording that cannot be put in order, or is rejected, is not normalised.
-      pub masked_refused : (why : Refused) → (why ≡ Memory → ⊥)
-          → RefusesNormalBy limits mode mask.swaps masked why
-          → RefusesNormal limits mode (Some mask) recording (because.Session why)
-      masked_refused = by_swaps mask.swaps refl
 
   -- An error of normalising is reported as `Session`.
   pub step_refused : (mask : Option Mask) (recording : List ℕ) (Refuses : Refused → Type 0)

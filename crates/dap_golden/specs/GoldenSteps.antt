@@ -6,7 +6,7 @@ use Rattle.dap_mask.specs.Mask.{Mask}
 use Rattle.dap_input.specs.{declared.limits.Limits.Limits, declared.refused.Refused.Refused}
 use Rattle.dap_input.specs.{declared.refused.Refused.TheVariants.Memory, Refusals.IsRefused}
 use Rattle.dap_record.specs.Tracing.{IsTraceRefused}
-use Rattle.dap_rules.specs.{Masking.masking, Applying.IsRefusedByRules}
+use Rattle.dap_rules.specs.Applying.{IsRefusedByRules}
 use Rattle.dap_normalise.specs.{Accepting.{IsAccepted, accepting}, NormalSession.IsNormalSession}
 use Rattle.dap_normalise.specs.declared.normal_session.NormalSession.{NormalSession}
 use Rattle.dap_rules.specs.declared.fault.ApplyRefused.{ApplyRefused}
@@ -23,13 +23,6 @@ RefusesTrace limits input (because.Trace refused) =
     × ((messages : List (Side × List ℕ)) × IsTraceRefused limits input refused messages)
 RefusesTrace limits input because.Memory = IsTraceHead input
 RefusesTrace limits input _ = ⊥
-
--- The rules cannot mask the recording for this reason, or an allocation failed.
-abbrev pub RefusesMask : Limits → Mask → List ℕ → GoldenRefused → Type 0
-RefusesMask limits mask recording (because.Mask refused) =
-    IsRefused (masking limits mask) recording refused
-RefusesMask limits mask recording because.Memory = Unit {0}
-RefusesMask limits mask recording _ = ⊥
 
 -- The rules turn the recording into a session, and this is its normal text, with its counts.
 abbrev pub IsNormalBy : Limits → Mode → Option Mask → List ℕ → NormalSession → Type 0

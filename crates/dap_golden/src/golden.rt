@@ -1,14 +1,12 @@
 //! Creates the text of a golden file.
 ghost use Rattle.std.specs.{Prelude.{◌≡◌, ◌↔◌, IfErr, IfOk, IsTrue, List, ℕ}, Cow.cow_slice_items};
 ghost use Rattle.dap_input.specs.Limits.{AreSound};
-ghost use Rattle.dap_mask.specs.KeptRules.{mask_of};
 ghost use Rattle.dap_normalise.specs.NormalSession.{IsNormalSession};
-ghost use Rattle.dap_rules.specs.MaskedRecordings.{IsMaskedTo};
 ghost use Rattle.dap_golden.specs.Golden.{IsGolden, IsGoldenOf, IsRecordingOf};
 ghost use Rattle.dap_golden.specs.Golden.{IsRefusedGolden, mask_given, mode_given};
 ghost use Rattle.dap_golden.specs.GoldenFiles.{IsNormalText};
-ghost use Rattle.dap_golden.specs.GoldenSteps.{IsNormalBy, RefusesGolden, RefusesMask};
-ghost use Rattle.dap_golden.specs.GoldenSteps.{RefusesNormal, RefusesTrace, session_of};
+ghost use Rattle.dap_golden.specs.GoldenSteps.{IsNormalBy, RefusesGolden, RefusesNormal};
+ghost use Rattle.dap_golden.specs.GoldenSteps.{RefusesTrace, session_of};
 ghost use Rattle.dap_golden.specs.TraceHead.{IsTraceHead};
 
 use crate::fault::GoldenRefused;
@@ -19,7 +17,7 @@ use dap_mask::MaskRules;
 use dap_normalise::{Checked, NormalSession, normalise_session};
 use dap_record::record;
 use dap_rename::Mode;
-use dap_rules::{TextSink, is_out_of_memory, mask_bytes, mode_by, normalise_masked};
+use dap_rules::{ApplyRefused, TextSink, is_out_of_memory, mode_by, normalise_by_rules};
 use std::alloc::Global;
 use std::borrow::CowSlice;
 
@@ -70,46 +68,29 @@ pub fn recording_of<'a>(
     Ok(CowSlice::Owned(recording))
 }
 
-/// Masks a recording, then frees it.
-fn mask_recording(
-    alloc: Global,
-    recording: CowSlice<'_, u8>,
-    rules: &MaskRules,
-    limits: Limits,
-) -> Result<Vec<u8>, GoldenRefused>
-    requires { AreSound limits }
-    ensures ok { IfOk result (λ masked. IsMaskedTo limits (mask_of rules.now)
-        (cow_slice_items recording.entry) masked.items) }
-    ensures err { IfErr result
-        (RefusesMask limits (mask_of rules.now) (cow_slice_items recording.entry)) }
-{
-    match mask_bytes(alloc, rules, recording.as_slice(), limits) {
-        Ok(masked) => Ok(masked),
-        Err(refused) if is_out_of_memory(refused) => Err(GoldenRefused::Memory),
-        Err(refused) => Err(GoldenRefused::Mask(refused)),
-    }
-}
-
 /// Normalises a recording. If there are rules, masks it before that, and then puts it in order if
 /// some of the rules are for the order.
-fn normalise_by_rules(
+fn normalise_recording(
     alloc: Global,
-    recording: CowSlice<'_, u8>,
+    recording: &[u8],
     rules: Option<&MaskRules>,
     limits: Limits,
     mode: Mode,
 ) -> Result<NormalSession, GoldenRefused>
     requires { AreSound limits }
-    ensures ok { IfOk result (IsNormalBy limits mode (mask_given rules.entry)
-        (cow_slice_items recording.entry)) }
-    ensures err { IfErr result (RefusesNormal limits mode (mask_given rules.entry)
-        (cow_slice_items recording.entry)) }
+    ensures ok { IfOk result (IsNormalBy limits mode (mask_given rules.entry) recording.now) }
+    ensures err { IfErr result (RefusesNormal limits mode (mask_given rules.entry) recording.now) }
 {
     let Some(rules) = rules else {
-        return session_of(normalise_session(alloc, recording.as_slice(), limits, mode));
+        return session_of(normalise_session(alloc, recording, limits, mode));
     };
-    let masked = mask_recording(alloc, recording, rules, limits)?;
-    session_of(normalise_masked(alloc, rules, masked.as_slice(), limits, mode))
+    match normalise_by_rules(alloc, rules, recording, limits, mode) {
+        Ok(session) => Ok(session),
+        Err(ApplyRefused::Mask(refused)) => Err(GoldenRefused::Mask(refused)),
+        Err(ApplyRefused::Order(refused)) => Err(GoldenRefused::Session(refused)),
+        Err(ApplyRefused::ReadFault) => unreachable!(),
+        Err(ApplyRefused::Memory) => Err(GoldenRefused::Memory),
+    }
 }
 
 /// Returns the result of normalising a session, with its step if it is an error.
@@ -175,7 +156,8 @@ pub(crate) fn mode_given(rules: Option<&MaskRules>, mode: Mode) -> Mode
 ///
 /// If the rules have the line `per-stop`, the mode is `PerStop`.
 ///
-/// The input is not copied. Each intermediate text is freed after its last use.
+/// The input is not copied. Buffers the recording of a trace, the masked messages, and the golden
+/// text.
 ///
 /// # Errors
 ///
@@ -210,6 +192,6 @@ pub fn golden_text(
 {
     let wanted = mode_given(rules, mode);
     let recording = recording_of(alloc, input, limits)?;
-    let session = normalise_by_rules(alloc, recording, rules, limits, wanted)?;
+    let session = normalise_recording(alloc, recording.as_slice(), rules, limits, wanted)?;
     golden_of(session, allow_open)
 }

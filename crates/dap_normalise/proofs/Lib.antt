@@ -12,4 +12,4 @@ pub mod StreamWriting
 pub mod WholeInput
 pub mod SomeContents
 pub mod StoredInput
-pub mod OwnTexts
+pub mod RecordTexts

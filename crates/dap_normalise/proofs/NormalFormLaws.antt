@@ -36,6 +36,7 @@ use Rattle.dap_session.proofs.RenamingKeepsRules.{keeps_renamed}
 use Rattle.dap_input.specs.declared.limits.Limits.{Limits}
 use Rattle.dap_input.specs.Limits.{AreSound}
 use Rattle.dap_normalise.specs.Accepting.{Payload, AreMessages, IsAccepted, accepting, id_limit, text}
+use Rattle.dap_normalise.specs.RecordTexts.{contents_of}
 use Rattle.dap_normalise.specs.Checking.{AreCounted}
 use Rattle.dap_normalise.specs.NormalSession.{IsNormalSession}
 use Rattle.dap_normalise.specs.declared.normal_session.NormalSession.{NormalSession}
@@ -137,16 +138,11 @@ rules_kept mode records ms n typed (r, is, carries) =
 
 -- ---- the records of a text
 
-unfoldable pub contents_of : List Sent → List Payload
-contents_of [] = []
-contents_of (m ∷ ms) = (m.side, text_of m.doc) ∷ contents_of ms
-
 -- Messages that differ from typed messages only in their ids, which are small, are the messages of
 -- their own texts.
 typed_again : (records : List Payload) (ms n : List Sent) → AreMessages records ms
     → map message_skeleton ms ≡ map message_skeleton n
     → AllByRecursion (λ m. has_small_ids m.doc ≡ true) n → AreMessages (contents_of n) n
-unfolding contents_of
 typed_again records [] [] typed same small = tt
 typed_again records [] (k ∷ n) typed same small = absurd cc
 typed_again records (m ∷ ms) [] typed same small = absurd cc
@@ -164,7 +160,6 @@ module _ (limits : Limits) (sound : AreSound limits) where
   pub recording_of : (n : List Sent)
       → AllByRecursion (λ m. length (text_of m.doc) ≤ limits.frame.content) n
       → IsRecording limits.frame (text n) (contents_of n)
-  unfolding contents_of
   recording_of [] short = refl
   recording_of (m ∷ n) short = (
     record_text m.side (text_of m.doc),

@@ -32,7 +32,8 @@ use Rattle.dap_normalise.specs.Accepting.{text}
 use Rattle.dap_normalise.specs.Normalising.{Normalises}
 use Rattle.dap_normalise.specs.OldGoldenFiles.{IsOldGolden, OldGoldenFiles}
 use Rattle.dap_normalise.proofs.AcceptingFacts.{messages_proper}
-use Rattle.dap_normalise.proofs.NormalFormLaws.{contents_of, recording_of, rules_kept}
+use Rattle.dap_normalise.specs.RecordTexts.{contents_of}
+use Rattle.dap_normalise.proofs.NormalFormLaws.{recording_of, rules_kept}
 use Rattle.dap_normalise.proofs.NormalTexts.{normal_fits}
 
 -- ---- the messages of an old text
@@ -60,7 +61,7 @@ typed_later : (records : List Payload) (first ns ms : List Sent)
     → map message_skeleton first ≡ map message_skeleton ns
     → AllByRecursion (λ n. has_small_ids n.doc ≡ true) ns
     → AreMessages (contents_of ns) (later ns) × AreMixed is_later_sort first ns ms (later ns)
-unfolding contents_of later
+unfolding later
 typed_later [] [] [] [] h g same small = (tt, tt)
 typed_later (held ∷ records) (f ∷ first) (n ∷ ns) (m ∷ ms) h g same small =
     let alike = head_of same in

@@ -8,5 +8,5 @@ pub mod NormalSteps
 pub mod Normalised
 pub mod Normalising
 pub mod OldGoldenFiles
-pub mod OwnTexts
+pub mod RecordTexts
 pub mod Streaming

@@ -1,6 +1,6 @@
 //! Checks and normalises recordings record by record. [`read_session`] also stores the messages.
-//! [`check_messages`] and [`normalise_messages`] do the same for the text of messages, without
-//! reading it.
+//! [`check_messages`] and [`normalise_messages`] do the same for records that contain messages,
+//! without reading the records.
 #![tactic(auto)]
 
 mod checked;

@@ -169,12 +169,12 @@ pub fn append_record(
     Ok(after)
 }
 
-/// Returns the length of an output of `written` bytes after the record of a content of this length,
-/// which is within its limit. Writes nothing.
+/// Returns the length of an output of `written` bytes after the record of a content of this length.
+/// Writes nothing.
 ///
 /// # Errors
 ///
-/// - `Grew`: the output would exceed its limit.
+/// - `Grew`: the content or the output would exceed its limit.
 pub fn count_record(
     number: u64,
     content_len: usize,
@@ -183,11 +183,13 @@ pub fn count_record(
 ) -> Result<u64, Refused>
     requires sound { AreSound limits }
     requires short { written ≤ limits.input }
-    requires content { content_len ≤ limits.frame.content }
     ensures counts { (message : Sent) → length (text_of message.doc) ≡ content_len
         → Writes limits message number written [] (record_of message) result }
     ensures within { IfOk result (λ after. after ≤ limits.input) }
 {
+    if content_len > limits.frame.content {
+        return Err(Refused::Grew(number));
+    }
     let after = written + record_len(content_len);
     if after > limits.input {
         return Err(Refused::Grew(number));

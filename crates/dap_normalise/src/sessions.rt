@@ -1,11 +1,13 @@
 //! Reads recordings into stored sessions, and checks and normalises the messages of sessions.
-ghost use Rattle.std.specs.Prelude.{◌≡◌, [], IfErr, IfOk, map};
+ghost use Rattle.std.specs.Prelude.{◌≡◌, List, [], IfErr, IfOk, map};
 ghost use Rattle.dap_input.specs.Limits.{AreSound};
 ghost use Rattle.dap_stored.specs.Sessions.{messages_of, stored_sent};
-ghost use Rattle.dap_normalise.specs.Accepting.{IsAccepted, text};
+ghost use Rattle.dap_normalise.specs.Accepting.{Payload, IsAccepted};
 ghost use Rattle.dap_normalise.specs.JudgingSteps.{RepresentsMessages, judge_limits, judge_mode};
 ghost use Rattle.dap_normalise.specs.{NormalSteps.RepresentsBefore, Normalising.RefusesBytes};
-ghost use Rattle.dap_normalise.specs.{NormalSession.IsNormalSession, OwnTexts.HasOwnText};
+ghost use Rattle.dap_normalise.specs.NormalSession.{IsNormalSession};
+ghost use Rattle.dap_normalise.specs.RecordTexts.{BeginWith, Contain};
+ghost use Rattle.dap_recording.specs.Recording.{recording_text};
 
 use crate::checked::Checked;
 use crate::judging::Judge;
@@ -63,12 +65,12 @@ fn store_records<T: NameTable + Drop>(
     Ok(session)
 }
 
-/// Checks the text of messages, which has the record of the canonical content of each message, in
-/// the same way as [`check`](crate::check) checks a recording. Does not read the text.
+/// Checks any records that contain these messages, in the same way as [`check`](crate::check)
+/// checks a recording. Does not read the records.
 ///
 /// # Errors
 ///
-/// - The first error of the text. Records are numbered from 1.
+/// - The first error of the records, even if more records follow. Records are numbered from 1.
 /// - `Memory`: an allocation failed.
 pub fn check_messages(
     alloc: Global,
@@ -77,18 +79,19 @@ pub fn check_messages(
     mode: Mode,
 ) -> Result<(), Refused>
     requires limits { AreSound limits }
-    requires own { HasOwnText limits (map stored_sent messages.items) }
-    ensures ok { IfOk result (λ done. let all = map stored_sent messages.entry.items in
-        IsAccepted limits mode (text all) all) }
-    ensures err { IfErr result
-        (RefusesBytes limits mode (text (map stored_sent messages.entry.items))) }
+    ensures ok { let all = map stored_sent messages.entry.items in
+        (records : List Payload) → Contain limits all records
+        → IfOk result (λ done. IsAccepted limits mode (recording_text records) all) }
+    ensures err { (records : List Payload)
+        → BeginWith limits (map stored_sent messages.entry.items) records
+        → IfErr result (RefusesBytes limits mode (recording_text records)) }
 {
     let tables = index_tables(alloc, limits.ids);
     let mut judge = Judge::new(alloc, limits, tables, mode);
     judge_messages(&mut judge, messages, limits, mode)
 }
 
-/// Checks the text of messages, by a state that represents no message.
+/// Checks any records that contain these messages, by a state that represents no message.
 fn judge_messages<T: NameTable + Drop>(
     judge: &mut Judge<T>,
     messages: Vec<StoredMessage<'_>>,
@@ -96,14 +99,15 @@ fn judge_messages<T: NameTable + Drop>(
     mode: Mode,
 ) -> Result<(), Refused>
     requires limits { AreSound limits }
-    requires own { HasOwnText limits (map stored_sent messages.items) }
     requires represents { RepresentsMessages T.numbers T.limit judge.old [] [] }
     requires limits_are { judge_limits judge.old ≡ limits }
     requires mode_is { judge_mode judge.old ≡ mode }
-    ensures ok { IfOk result (λ done. let all = map stored_sent messages.entry.items in
-        IsAccepted limits mode (text all) all) }
-    ensures err { IfErr result
-        (RefusesBytes limits mode (text (map stored_sent messages.entry.items))) }
+    ensures ok { let all = map stored_sent messages.entry.items in
+        (records : List Payload) → Contain limits all records
+        → IfOk result (λ done. IsAccepted limits mode (recording_text records) all) }
+    ensures err { (records : List Payload)
+        → BeginWith limits (map stored_sent messages.entry.items) records
+        → IfErr result (RefusesBytes limits mode (recording_text records)) }
 {
     let mut number = 0;
     for message in messages {
@@ -113,9 +117,8 @@ fn judge_messages<T: NameTable + Drop>(
     Ok(())
 }
 
-/// Returns the normal form of the text of messages, which has the record of the canonical content
-/// of each message, as [`normalise_session`](crate::normalise_session) does for a recording. Does
-/// not read the text.
+/// Returns the normal form of any records that contain these messages, as
+/// [`normalise_session`](crate::normalise_session) does for a recording. Does not read the records.
 ///
 /// # Errors
 ///
@@ -127,20 +130,22 @@ pub fn normalise_messages(
     mode: Mode,
 ) -> Result<NormalSession, Refused>
     requires limits { AreSound limits }
-    requires own { HasOwnText limits (map stored_sent messages.items) }
-    ensures ok { IfOk result
-        (IsNormalSession limits mode (text (map stored_sent messages.entry.items))) }
-    ensures accepted { IfOk result (λ done. let all = map stored_sent messages.entry.items in
-        IsAccepted limits mode (text all) all) }
-    ensures err { IfErr result
-        (RefusesBytes limits mode (text (map stored_sent messages.entry.items))) }
+    ensures ok { (records : List Payload)
+        → Contain limits (map stored_sent messages.entry.items) records
+        → IfOk result (IsNormalSession limits mode (recording_text records)) }
+    ensures accepted { let all = map stored_sent messages.entry.items in
+        (records : List Payload) → Contain limits all records
+        → IfOk result (λ done. IsAccepted limits mode (recording_text records) all) }
+    ensures err { (records : List Payload)
+        → BeginWith limits (map stored_sent messages.entry.items) records
+        → IfErr result (RefusesBytes limits mode (recording_text records)) }
 {
     let tables = index_tables(alloc, limits.ids);
     let mut judge = Judge::new(alloc, limits, tables, mode);
     write_messages(alloc, &mut judge, messages, limits, mode)
 }
 
-/// Normalises the text of messages, by a state that represents no message.
+/// Normalises any records that contain these messages, by a state that represents no message.
 fn write_messages<T: NameTable + Drop>(
     alloc: Global,
     judge: &mut Judge<T>,
@@ -149,16 +154,18 @@ fn write_messages<T: NameTable + Drop>(
     mode: Mode,
 ) -> Result<NormalSession, Refused>
     requires limits { AreSound limits }
-    requires own { HasOwnText limits (map stored_sent messages.items) }
     requires represents { RepresentsMessages T.numbers T.limit judge.old [] [] }
     requires limits_are { judge_limits judge.old ≡ limits }
     requires mode_is { judge_mode judge.old ≡ mode }
-    ensures ok { IfOk result
-        (IsNormalSession limits mode (text (map stored_sent messages.entry.items))) }
-    ensures accepted { IfOk result (λ done. let all = map stored_sent messages.entry.items in
-        IsAccepted limits mode (text all) all) }
-    ensures err { IfErr result
-        (RefusesBytes limits mode (text (map stored_sent messages.entry.items))) }
+    ensures ok { (records : List Payload)
+        → Contain limits (map stored_sent messages.entry.items) records
+        → IfOk result (IsNormalSession limits mode (recording_text records)) }
+    ensures accepted { let all = map stored_sent messages.entry.items in
+        (records : List Payload) → Contain limits all records
+        → IfOk result (λ done. IsAccepted limits mode (recording_text records) all) }
+    ensures err { (records : List Payload)
+        → BeginWith limits (map stored_sent messages.entry.items) records
+        → IfErr result (RefusesBytes limits mode (recording_text records)) }
 {
     let mut bytes = Vec::new(alloc);
     let mut records = 0;

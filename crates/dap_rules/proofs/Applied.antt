@@ -1,7 +1,6 @@
 -- The result of applying rules to bytes in memory.
-use Rattle.std.proofs.Common.{◌≡◌, ℕ, false, List, [], ◌∷◌, length, nat_eq, Result, Ok, Err, Vec, Global}
-use Rattle.std.proofs.Common.{arith, refl, true, true≢false}
-use Rattle.std.specs.Prelude.{IfErr}
+use Rattle.std.proofs.Common.{◌≡◌, ◌<◌, inl, inr, ℕ, List, [], ◌∷◌, length, nat_eq, false, true}
+use Rattle.std.proofs.Common.{arith, refl, sym, subst, true≢false}
 use Rattle.dap_mask.specs.Mask.{Mask}
 use Rattle.dap_message.specs.SwapRules.{SwapRule, swaps_of}
 use Rattle.dap_message.specs.declared.swap_rule.SwapRule.{SwapRule as ReadSwapRule}
@@ -9,11 +8,12 @@ use Rattle.dap_rename.specs.declared.mode.Mode.{Mode}
 use Rattle.dap_input.specs.declared.limits.Limits.{Limits}
 use Rattle.dap_input.specs.declared.refused.Refused.{Refused}
 use Rattle.dap_input.specs.declared.refused.Refused.TheVariants.{Memory}
-use Rattle.dap_rules.specs.MaskedRecordings.{IsMaskedTo}
 use Rattle.dap_normalise.specs.declared.normal_session.NormalSession.{NormalSession}
-use Rattle.dap_rules.specs.Ordering.{NormalisesInOrder, Orders, RefusesToOrder}
-use Rattle.dap_rules.specs.Applying.{IsRefusedByRules, NormalisesBy, OrdersBy}
-use Rattle.dap_rules.specs.Applying.{RefusesNormalBy, RefusesOrderBy, RefusesToMask}
+use Rattle.dap_rules.specs.MaskedRecordings.{IsMaskedTo}
+use Rattle.dap_rules.specs.Ordering.{IsNotOrdered, NormalisesInOrder, Orders, RefusesToOrder}
+use Rattle.dap_rules.specs.Applying.{AppliesRules, IsNotNormalised, IsNotOrderedBy}
+use Rattle.dap_rules.specs.Applying.{IsRefusedByRules, NormalisesBy, OrdersBy, RefusesNormalBy}
+use Rattle.dap_rules.specs.Applying.{RefusesToMask}
 use Rattle.dap_rules.specs.ApplyingSteps.{mask_refusal, order_refusal}
 
 -- Some of the rules are for the order.
@@ -38,13 +38,6 @@ module _ (limits : Limits) (mode : Mode) (recording : List ℕ) where
   orders [] some written is = absurd (some refl)
   orders (rule ∷ rules) some written is = is
 
-  pub refuses : (rules : List SwapRule) → (rules ≡ [] → ⊥) → (because : Refused)
-      → RefusesToOrder limits mode rules recording because
-      → RefusesOrderBy limits mode rules recording because
-  refuses [] some because is = absurd (some refl)
-  refuses (rule ∷ rules) some Memory is = tt
-  refuses (rule ∷ rules) some because is = is
-
   pub normalises : (rules : List SwapRule) → (rules ≡ [] → ⊥) → (session : NormalSession)
       → NormalisesInOrder limits mode rules recording session
       → NormalisesBy limits mode rules recording session
@@ -56,21 +49,52 @@ module _ (limits : Limits) (mode : Mode) (recording : List ℕ) where
   refuses_normal [] some because is = absurd (some refl)
   refuses_normal (rule ∷ rules) some because is = is
 
-  pub all_refuse : (rules : List SwapRule) → (rules ≡ [] → ⊥)
-      → (result : Result (Vec ℕ Global) Refused)
-      → IfErr result (RefusesToOrder limits mode rules recording)
-      → IfErr result (RefusesOrderBy limits mode rules recording)
-  all_refuse rules some (Ok made) is = tt
-  all_refuse rules some (Err because) is = refuses rules some because is
-
   module _ (mask : Mask) where
     pub cannot_mask : (because : Refused) → RefusesToMask limits mask recording because
         → IsRefusedByRules limits mode mask recording (mask_refusal because)
     cannot_mask Memory is = tt
     cannot_mask because is = is
 
-    pub cannot_order : (masked : List ℕ) → IsMaskedTo limits mask recording masked
-        → (because : Refused) → RefusesOrderBy limits mode mask.swaps masked because
-        → IsRefusedByRules limits mode mask recording (order_refusal because)
-    cannot_order masked masks Memory is = tt
-    cannot_order masked masks because is = (masked, masks, is)
+    pub not_masked : (because : Refused) → RefusesToMask limits mask recording because
+        → IsNotNormalised limits mode mask recording (mask_refusal because)
+    not_masked Memory is = tt
+    not_masked because is = is
+
+    module _ (masked : List ℕ) (masks : IsMaskedTo limits mask recording masked) where
+      pub applies : (written : List ℕ) → OrdersBy limits mode mask.swaps masked written
+          → AppliesRules limits mode mask recording written
+      applies written orders = record { masked = masked; masks = masks; orders = orders }
+
+      is_refused : (rules : List SwapRule) → (rules ≡ [] → ⊥) → (because : Refused)
+          → IsNotOrdered limits mode rules masked because
+          → IsNotOrderedBy limits mode rules masked because
+      is_refused [] some because is = absurd (some refl)
+      is_refused (rule ∷ rules) some because is = is
+
+      pub cannot_order : (mask.swaps ≡ [] → ⊥) → (because : Refused)
+          → RefusesToOrder limits mode mask.swaps masked because
+          → IsRefusedByRules limits mode mask recording (order_refusal because)
+      cannot_order some Memory is = tt
+      cannot_order some because is = (masked, masks, is_refused mask.swaps some because is)
+
+      -- Without rules for the order, the masked recording is rejected; with them, it cannot be put
+      -- in order.
+      by_swaps : (swaps : List SwapRule) → mask.swaps ≡ swaps → (because : Refused)
+          → RefusesNormalBy limits mode swaps masked because
+          → IsNotNormalised limits mode mask recording (order_refusal because)
+      by_swaps swaps same Memory is = tt
+      by_swaps [] none because is = inr (
+        masked,
+        applies masked (subst (λ rules. OrdersBy limits mode rules masked masked) (sym none) refl),
+        is,
+      )
+      by_swaps (rule ∷ rules) same because is = inl (
+        masked,
+        masks,
+        subst (λ swaps. IsNotOrderedBy limits mode swaps masked because) (sym same) is,
+      )
+
+      pub not_normalised : (because : Refused)
+          → RefusesNormalBy limits mode mask.swaps masked because
+          → IsNotNormalised limits mode mask recording (order_refusal because)
+      not_normalised = by_swaps mask.swaps refl

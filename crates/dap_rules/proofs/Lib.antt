@@ -7,6 +7,9 @@ pub mod MaskingFacts
 pub mod MaskedTexts
 pub mod MaskedRecords
 pub mod MaskingLoop
+pub mod MaskedSessions
+pub mod MaskedSessionLoop
+pub mod CheckedSessions
 pub mod MaskedMachines
 pub mod OrderedTexts
 pub mod WrittenTexts
@@ -15,4 +18,3 @@ pub mod TextErrors
 pub mod OrderAnswers
 pub mod OneOrderOutcome
 pub mod EmptyRecordings
-pub mod PlacedMessages

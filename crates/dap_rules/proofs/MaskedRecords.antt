@@ -16,33 +16,43 @@ use Rattle.dap_normalise.specs.JudgingSteps.{Writes as WritesRecord}
 use Rattle.dap_rename.proofs.Lists.{each-append, each_right}
 use Rattle.dap_mask.specs.Loose.{IsLeftOf, LeavesFraction}
 use Rattle.dap_mask.specs.Mask.{Mask}
-use Rattle.dap_rules.specs.Masking.{AreWhole, Rejects, left_of, masked_text}
+use Rattle.dap_rules.specs.Masking.{AreWhole, IsNext, Rejects, left_of, masked_text}
 use Rattle.dap_rules.specs.MaskingSteps.{Masked}
 use Rattle.dap_rules.proofs.LeftLists.{left-append, left_none, left_one, masked_text-append}
 
 module _ (limits : Limits) (mask : Mask) (messages : List Sent) (held : Payload) (n written : ℕ)
     (fits : Fits limits (left_of mask messages))
     (count : written ≡ length (masked_text mask messages)) where
-  -- An event that the rules drop.
-  pub left_out : (out : List ℕ) → IsLeftOf mask held.1 None
-      → Masked limits mask messages held n out out (Ok written)
-  left_out out (d, read, dropped) =
+  -- An event that the rules drop leaves no message.
+  pub none_left : IsLeftOf mask held.1 None
+      → (m : Sent) × IsNext limits mask messages held m
+      × (left_of mask (messages ++ m ∷ []) ≡ left_of mask messages)
+  none_left (d, read, dropped) =
       let m : Sent = record { side = held.0; doc = d } in
       let none = left_none mask m dropped in
       let same : left_of mask (messages ++ m ∷ []) ≡ left_of mask messages =
       left-append mask messages (m ∷ []) ∙ ap (λ ms. left_of mask messages ++ ms) none
-      ∙ append-nil (left_of mask messages) in
-      record {
-        message = m;
-        is_next = record {
+      ∙ append-nil (left_of mask messages) in (
+        m,
+        record {
           is_message = (refl, read);
           whole = subst AreWhole (sym none) tt;
           fits = subst (Fits limits) (sym same) fits;
-        };
+        },
+        same,
+      )
+
+  pub left_out : (out : List ℕ) → IsLeftOf mask held.1 None
+      → Masked limits mask messages held n out out (Ok written)
+  left_out out is =
+      let left = none_left is in
+      record {
+        message = left.0;
+        is_next = left.1;
         longer = [];
         appended = sym (append-nil out);
-        text_is = ap text same ∙ sym (append-nil (masked_text mask messages));
-        count = count ∙ ap (λ ms. length (text ms)) (sym same);
+        text_is = ap text left.2 ∙ sym (append-nil (masked_text mask messages));
+        count = count ∙ ap (λ ms. length (text ms)) (sym left.2);
       }
 
   -- A number that is not an integer of 64 bits remains after masking.
@@ -60,10 +70,10 @@ module _ (limits : Limits) (mask : Mask) (messages : List Sent) (held : Payload)
 
   -- The masked message is written.
   module _ (e : Doc) (is : IsLeftOf mask held.1 (Some e)) where
-    abbrev message : Sent
+    abbrev pub message : Sent
     message = record { side = held.0; doc = is.0 }
 
-    abbrev left : Sent
+    abbrev pub left : Sent
     left = record { side = held.0; doc = e }
 
     left_is : left_of mask (message ∷ []) ≡ left ∷ []
@@ -73,7 +83,7 @@ module _ (limits : Limits) (mask : Mask) (messages : List Sent) (held : Payload)
     abbrev record_is : List ℕ
     record_is = record_of left
 
-    all_left : left_of mask (messages ++ message ∷ [])
+    pub all_left : left_of mask (messages ++ message ∷ [])
         ≡ left_of mask messages ++ left ∷ []
     all_left = left-append mask messages (message ∷ [])
         ∙ ap (λ ms. left_of mask messages ++ ms) left_is
@@ -101,7 +111,7 @@ module _ (limits : Limits) (mask : Mask) (messages : List Sent) (held : Payload)
         omega (arith, content, short)
     grown (inr long) next = let most = next.whole in omega (arith, long, most, next_length)
 
-    not_written : (because : Refused) (old new : List ℕ)
+    pub not_written : (because : Refused) (old new : List ℕ)
         → WritesRecord limits left n written old new (Err because)
         → RejectsPayload (Rejects limits mask messages held) n because
     not_written (Grew k) old new reported = (
@@ -111,12 +121,13 @@ module _ (limits : Limits) (mask : Mask) (messages : List Sent) (held : Payload)
     not_written Memory old new reported = tt
     not_written because old new reported = absurd reported
 
-    written_on : (old new : List ℕ) (after : ℕ)
+    -- The message is the next one, and the masked text has its record.
+    pub next_left : (old new : List ℕ) (after : ℕ)
         → WritesRecord limits left n written old new (Ok after)
-        → Masked limits mask messages held n old new (Ok after)
-    written_on old new after (content, appended, long, most) = record {
-      message = message;
-      is_next = record {
+        → IsNext limits mask messages held message
+        × (after ≡ length (masked_text mask (messages ++ message ∷ [])))
+    next_left old new after (content, appended, long, most) = (
+      record {
         is_message = (refl, is.1);
         whole = whole;
         fits = record {
@@ -127,12 +138,23 @@ module _ (limits : Limits) (mask : Mask) (messages : List Sent) (held : Payload)
               (content, tt));
           whole = omega (arith, next_length, long, most);
         };
-      };
-      longer = record_is;
-      appended = appended;
-      text_is = text_is;
-      count = long ∙ sym next_length;
-    }
+      },
+      long ∙ sym next_length,
+    )
+
+    written_on : (old new : List ℕ) (after : ℕ)
+        → WritesRecord limits left n written old new (Ok after)
+        → Masked limits mask messages held n old new (Ok after)
+    written_on old new after writes =
+        let next = next_left old new after writes in
+        record {
+          message = message;
+          is_next = next.0;
+          longer = record_is;
+          appended = writes.1;
+          text_is = text_is;
+          count = next.1;
+        }
 
     pub recorded : (old new : List ℕ) (result : Result ℕ Refused)
         → WritesRecord limits left n written old new result

@@ -17,7 +17,8 @@ use Rattle.dap_input.proofs.Outcomes.{one_list}
 use Rattle.dap_normalise.specs.Accepting.{Payload, Fits, text, AreMessages as AreTypedMessages}
 use Rattle.dap_rename.specs.declared.mode.Mode.{Mode}
 use Rattle.dap_normalise.specs.Normalising.{Normalises}
-use Rattle.dap_normalise.proofs.NormalFormLaws.{equal_texts_tell}
+use Rattle.dap_normalise.specs.RecordTexts.{contents_of}
+use Rattle.dap_normalise.proofs.NormalFormLaws.{equal_texts_tell, recording_of}
 use Rattle.dap_mask.specs.Ids.{leave_ids}
 use Rattle.dap_mask.specs.Categories.{keep_categories}
 use Rattle.dap_mask.specs.Loose.{IsReadWith}
@@ -63,10 +64,6 @@ kept_read mask [] read = tt
 kept_read mask (m ∷ messages) read =
     by_bool (is_kept mask m) (λ yes. rw yes (read.0, kept_read mask messages read.1))
     (λ no. rw no (kept_read mask messages read.1))
-
-abbrev contents_of : List Sent → List Payload
-contents_of [] = []
-contents_of (m ∷ ms) = (m.side, text_of m.doc) ∷ contents_of ms
 
 not_true : (b : Bool) → not b ≡ true → b ≡ false
 not_true true h = cc
@@ -187,18 +184,6 @@ typed_as mask (held ∷ records) (m ∷ ms) (t ∷ ts) (one, read) (two, typed) 
     )
 
 module _ (limits : Limits) (sound : AreSound limits) where
-  recording_of : (messages : List Sent)
-      → AllByRecursion (λ m. length (text_of m.doc) ≤ limits.frame.content) messages
-      → IsRecording limits.frame (text messages) (contents_of messages)
-  recording_of [] short = refl
-  recording_of (m ∷ messages) short = (
-    record_text m.side (text_of m.doc),
-    text messages,
-    written_is_record limits.frame m.side (text_of m.doc) sound.frame short.0,
-    refl,
-    recording_of messages short.1,
-  )
-
   module _ (mask : Mask) (safe : are_safe mask.changes ≡ true)
       (settled : are_idempotent mask.changes ≡ true)
       (keep : keep_categories mask.changes mask.categories ≡ true)
@@ -217,7 +202,7 @@ module _ (limits : Limits) (sound : AreSound limits) where
         record {
           short = let fits = accepted.fits in fits.whole;
           records = contents_of (left_of mask messages);
-          recording = let fits = accepted.fits in recording_of (left_of mask messages) fits.each;
+          recording = let fits = accepted.fits in recording_of limits sound (left_of mask messages) fits.each;
           read = read_again mask safe settled keep utf8 messages read accepted.whole;
           whole = subst AreWhole same accepted.whole;
           fits = subst (Fits limits) same accepted.fits;

@@ -1,6 +1,6 @@
 -- The result of ordering bytes in memory and of ordering an input.
 use Rattle.std.proofs.Common.{◌≡◌, ◌⊎◌, inl, inr, ℕ, ◌+◌, List, length, Result, Ok, Err}
-use Rattle.std.proofs.Common.{refl, ap, subst, arith, length-append}
+use Rattle.std.proofs.Common.{refl, sym, ◌∙◌, ap, subst, arith, length-append}
 use Rattle.std.specs.Prelude.{IfErr, IfOk, Vec}
 use Rattle.std.specs.declared.alloc.Global.{Global}
 use Rattle.dap_device.specs.declared.device.Sink.{Ghosts as Sink}
@@ -19,7 +19,10 @@ use Rattle.dap_input.specs.declared.refused.Refused.{Refused}
 use Rattle.dap_input.specs.declared.refused.Refused.TheVariants.{Grew, Memory, ReadFault, Record}
 use Rattle.dap_input.specs.declared.refused.Refused.TheVariants.{WriteFault}
 use Rattle.dap_normalise.specs.Accepting.{Fits, IsAccepted, accepting, text}
-use Rattle.dap_normalise.specs.{Normalising.RefusesBytes, OwnTexts.HasOwnText}
+use Rattle.dap_normalise.specs.Normalising.{RefusesBytes}
+use Rattle.dap_normalise.specs.RecordTexts.{Contain, contents_of}
+use Rattle.dap_recording.specs.Recording.{recording_text}
+use Rattle.dap_normalise.proofs.RecordTexts.{own_contents, recorded_contents}
 use Rattle.dap_order.specs.MessageOrder.{ordered}
 use Rattle.dap_rules.specs.Ordering.{IsNotOrdered, IsTextError, Orders, RefusesToOrder}
 use Rattle.dap_rules.specs.OrderingSteps.{Measures, result_of_input}
@@ -52,9 +55,22 @@ module _ (limits : Limits) (mode : Mode) (rules : List SwapRule) (bytes : List �
     text_refused fits because is errors =
         inr (ms, accepted, inr (fits, is, errors because is))
 
-    pub own_text : Fits limits (ordered rules ms) → HasOwnText limits (ordered rules ms)
-    own_text fits =
-        record { fits = fits; own = ordered_own rules ms accepted.records accepted.typed }
+    -- Messages that are those in order, and the records of their own contents.
+    module _ (all : List Sent) (same : all ≡ ordered rules ms) where
+      pub own_records : Fits limits (ordered rules ms) → Contain limits all (contents_of all)
+      own_records fits =
+          subst (λ (ns : List Sent). Contain limits ns (contents_of ns)) (sym same)
+          (own_contents limits (ordered rules ms) fits
+          (ordered_own rules ms accepted.records accepted.typed))
+
+      pub own_recorded : recording_text (contents_of all) ≡ text (ordered rules ms)
+      own_recorded = recorded_contents all ∙ ap text same
+
+      pub accepted_in_order : IsAccepted limits mode (recording_text (contents_of all)) all
+          → IsAccepted limits mode (text (ordered rules ms)) (ordered rules ms)
+      accepted_in_order is =
+          subst (λ (ns : List Sent). IsAccepted limits mode (text ns) ns) same
+          (subst (λ (t : List ℕ). IsAccepted limits mode t all) (recorded_contents all) is)
 
     pub orders : Fits limits (ordered rules ms)
         → IsAccepted limits mode (text (ordered rules ms)) (ordered rules ms)

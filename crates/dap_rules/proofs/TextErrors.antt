@@ -35,7 +35,8 @@ use Rattle.dap_input.proofs.Runs.{Run}
 use Rattle.dap_normalise.specs.Accepting.{AreMessages, Payload, IsAccepted, IsMessage, Rejects}
 use Rattle.dap_normalise.specs.Accepting.{Fits, accepting, id_limit, text}
 use Rattle.dap_normalise.proofs.AcceptingFacts.{accepted_facts, message_once}
-use Rattle.dap_normalise.proofs.NormalFormLaws.{contents_of, recording_of}
+use Rattle.dap_normalise.specs.RecordTexts.{contents_of}
+use Rattle.dap_normalise.proofs.NormalFormLaws.{recording_of}
 use Rattle.dap_normalise.proofs.NormalTexts.{few_not_many}
 use Rattle.dap_order.specs.Free.{free}
 use Rattle.dap_order.specs.MessageOrder.{ordered}

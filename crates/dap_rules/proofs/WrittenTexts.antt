@@ -15,9 +15,9 @@ use Rattle.dap_input.specs.declared.refused.Refused.{Refused}
 use Rattle.dap_input.specs.declared.refused.Refused.TheVariants.{Grew, Memory}
 use Rattle.dap_normalise.specs.Accepting.{Payload, AreMessages, Fits, text}
 use Rattle.dap_normalise.specs.JudgingSteps.{Writes as WritesRecord, record_of}
-use Rattle.dap_normalise.specs.OwnTexts.{IsOwn}
 use Rattle.dap_normalise.proofs.JudgedRecords.{text_push}
-use Rattle.dap_normalise.proofs.NormalFormLaws.{contents_of}
+use Rattle.dap_normalise.specs.RecordTexts.{contents_of}
+use Rattle.dap_normalise.proofs.RecordTexts.{read_contents}
 use Rattle.dap_order.proofs.Kept.{reordered_permutation}
 use Rattle.dap_order.specs.Free.{free}
 use Rattle.dap_order.specs.MessageOrder.{ordered}
@@ -88,6 +88,10 @@ none_counted limits = record {
 
 -- ---- the messages that the records contain
 
+-- The canonical content of the message is that of the message.
+abbrev IsOwn : Sent → Type 0
+IsOwn message = IsTypedContent message.side (text_of message.doc) message.doc
+
 all_own : (records : List Payload) (ms : List Sent) → AreMessages records ms
     → AllByRecursion IsOwn ms
 all_own [] [] typed = tt
@@ -98,11 +102,6 @@ all_own (held ∷ records) (m ∷ ms) (is, typed) = (
       (subst (λ side. IsTypedContent side held.1 m.doc) (sym is.0) is.1),
   all_own records ms typed,
 )
-
-own_contents : (ms : List Sent) → AllByRecursion IsOwn ms → AreMessages (contents_of ms) ms
-unfolding contents_of
-own_contents [] all = tt
-own_contents (m ∷ ms) all = ((refl, all.0), own_contents ms all.1)
 
 module _ (rules : List SwapRule) (ms : List Sent) (records : List Payload)
     (typed : AreMessages records ms) where
@@ -116,4 +115,4 @@ module _ (rules : List SwapRule) (ms : List Sent) (records : List Payload)
 
   -- The records of the text contain the messages in order.
   pub ordered_typed : AreMessages (contents_of (ordered rules ms)) (ordered rules ms)
-  ordered_typed = own_contents (ordered rules ms) ordered_own
+  ordered_typed = read_contents (ordered rules ms) ordered_own

@@ -1,12 +1,13 @@
 -- The text into which the rules of a file turn a recording, and the errors for which they cannot.
 -- Source: own, over masks and the order of messages.
-use Rattle.std.specs.Prelude.{◌≡◌, ℕ, List, [], ◌∷◌}
+use Rattle.std.specs.Prelude.{◌≡◌, ◌⊎◌, ℕ, List, [], ◌∷◌}
 use Rattle.dap_mask.specs.Mask.{Mask}
 use Rattle.dap_message.specs.SwapRules.{SwapRule}
 use Rattle.dap_rename.specs.declared.mode.Mode.{Mode}
 use Rattle.dap_input.specs.{declared.limits.Limits.Limits, declared.refused.Refused.Refused}
 use Rattle.dap_input.specs.{declared.refused.Refused.TheVariants.Memory, Refusals.IsRefused}
-use Rattle.dap_normalise.specs.{NormalSession.IsNormalSession, Normalising.RefusesBytes}
+use Rattle.dap_normalise.specs.{Accepting.accepting, NormalSession.IsNormalSession}
+use Rattle.dap_normalise.specs.Normalising.{RefusesBytes}
 use Rattle.dap_normalise.specs.declared.normal_session.NormalSession.{NormalSession}
 use Rattle.dap_rules.specs.{MaskedRecordings.IsMaskedTo, Masking.masking}
 use Rattle.dap_rules.specs.Ordering.{IsNotOrdered, Orders, RefusesToOrder}
@@ -34,6 +35,11 @@ abbrev pub NormalisesBy : Limits → Mode → List SwapRule → List ℕ → Nor
 NormalisesBy limits mode rules recording session = (written : List ℕ)
     × OrdersBy limits mode rules recording written × IsNormalSession limits mode written session
 
+-- The rules turn the recording into a text, and this is its normal text, with its counts.
+abbrev pub NormalisesByRules : Limits → Mode → Mask → List ℕ → NormalSession → Type 0
+NormalisesByRules limits mode mask recording session = (written : List ℕ)
+    × AppliesRules limits mode mask recording written × IsNormalSession limits mode written session
+
 -- ---- errors
 
 -- There are rules for the order, and they cannot put the recording in order for this reason.
@@ -58,11 +64,15 @@ abbrev pub RefusesToMask : Limits → Mask → List ℕ → Refused → Type 0
 RefusesToMask limits mask recording Memory = Unit {0}
 RefusesToMask limits mask recording refused = IsRefused (masking limits mask) recording refused
 
--- The recording cannot be put in order by the rules for this reason, or an allocation failed.
-abbrev pub RefusesOrderBy : Limits → Mode → List SwapRule → List ℕ → Refused → Type 0
-RefusesOrderBy limits mode rules recording Memory = Unit {0}
-RefusesOrderBy limits mode rules recording refused =
-    IsNotOrderedBy limits mode rules recording refused
+-- The rules cannot be applied to the recording, or the text into which they turn it is rejected. A
+-- text in order is never rejected.
+abbrev pub IsNotNormalised : Limits → Mode → Mask → List ℕ → ApplyRefused → Type 0
+IsNotNormalised limits mode mask recording (because.Order refused) =
+    IsRefusedByRules limits mode mask recording (because.Order refused)
+    ⊎ ((written : List ℕ) × AppliesRules limits mode mask recording written
+    × IsRefused (accepting limits mode) written refused)
+IsNotNormalised limits mode mask recording refused =
+    IsRefusedByRules limits mode mask recording refused
 
 -- The recording cannot be put in order by the rules, or the result is rejected, for this reason. Or
 -- an allocation failed. A text in order is never rejected.

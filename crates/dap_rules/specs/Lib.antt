@@ -7,6 +7,7 @@ pub mod Modes
 pub mod Masking
 pub mod MaskedRecordings
 pub mod MaskingSteps
+pub mod MaskedSessions
 pub mod Outcomes
 pub mod Ordering
 pub mod OrderingSteps

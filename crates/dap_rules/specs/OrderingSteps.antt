@@ -1,5 +1,5 @@
 -- What the steps of ordering do, for private clauses.
-use Rattle.std.specs.Prelude.{◌≡◌, ℕ, List, length, map, Some, Result, Ok, Err, slice_get}
+use Rattle.std.specs.Prelude.{◌≡◌, ℕ, List, length, Result, Ok, Err}
 use Rattle.dap_device.specs.{declared.reading.Stop.Stop, declared.reading.Stop.TheVariants.Failed}
 use Rattle.dap_message.specs.Message.{Sent}
 use Rattle.dap_recording.specs.declared.record_fault.RecordCause.TheVariants.{Cut}
@@ -19,10 +19,6 @@ Measures limits messages (Ok len) = IsLengthOf limits messages len
 Measures limits messages (Err (Grew n)) = PassesLimit limits messages n
 Measures limits messages (Err Memory) = Unit {0}
 Measures limits messages (Err _) = ⊥
-
--- These are the messages at these positions of a list.
-abbrev pub AreAt : List Sent → List ℕ → List Sent → Type 0
-AreAt all places messages = map (slice_get all) places ≡ map Some messages
 
 -- The result of `order` for an input whose reader stopped for this reason, given the result of
 -- ordering the bytes read.

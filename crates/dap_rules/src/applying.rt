@@ -1,74 +1,73 @@
 //! Applies the rules of a file to a recording in memory.
-ghost use Rattle.std.specs.Prelude.{◌≡◌, [], IfErr, IfOk, IsOk};
+ghost use Rattle.std.specs.Prelude.{◌≡◌, [], IfErr, IfOk, IsOk, List};
+ghost use Rattle.dap_message.specs.SwapRules.{swaps_of};
 ghost use Rattle.dap_input.specs.Limits.{AreSound};
-ghost use Rattle.dap_mask.specs.KeptRules.{mask_of, swaps_of_mask};
-ghost use Rattle.dap_rules.specs.Applying.{AppliesRules, IsRefusedByRules, NormalisesBy, OrdersBy};
-ghost use Rattle.dap_rules.specs.Applying.{RefusesNormalBy, RefusesOrderBy};
+ghost use Rattle.dap_mask.specs.KeptRules.{mask_of};
+ghost use Rattle.dap_normalise.specs.{Accepting.Payload, RecordTexts.FitRecords};
+ghost use Rattle.dap_recording.specs.Recording.{recording_text};
+ghost use Rattle.dap_rules.specs.Applying.{AppliesRules, IsNotNormalised, IsRefusedByRules};
+ghost use Rattle.dap_rules.specs.Applying.{NormalisesBy, NormalisesByRules, RefusesNormalBy};
 ghost use Rattle.dap_rules.specs.ApplyingSteps.{mask_refusal, order_refusal};
+ghost use Rattle.dap_rules.specs.{MaskedSessions.Holds, Ordering.{Orders, RefusesToOrder}};
 
 use crate::fault::ApplyRefused;
+use crate::masked_session::{MaskedSession, check_masked, normalise_masked, read_masked_session};
 use crate::masking::mask_bytes;
-use crate::ordering::{normalise_in_order, order_bytes};
+use crate::ordering::{normalise_in_order, order_session};
 use dap_input::{Limits, Refused};
 use dap_mask::MaskRules;
-use dap_normalise::{NormalSession, normalise_session};
+use dap_message::SwapRule;
+use dap_normalise::NormalSession;
 use dap_rename::Mode;
 use std::alloc::Global;
 
-/// Puts a masked recording in order, as [`order_bytes`] does. If no rules are for the order,
-/// returns the recording unchanged, does not check it, and does not allocate. An empty recording
-/// does not allocate either.
+/// Puts the records of a masked session in order, as [`order_bytes`](crate::order_bytes) does.
 ///
 /// # Errors
 ///
-/// Those of [`order_bytes`].
+/// Those of [`order_bytes`](crate::order_bytes).
 fn order_masked(
     alloc: Global,
-    rules: &MaskRules,
-    masked: Vec<u8>,
+    swaps: &[SwapRule],
+    masked: MaskedSession,
     limits: Limits,
     mode: Mode,
 ) -> Result<Vec<u8>, Refused>
     requires limits { AreSound limits }
-    ensures ok { IfOk result
-        (λ text. OrdersBy limits mode (swaps_of_mask rules.now) masked.items text.items) }
-    ensures err { IfErr result
-        (RefusesOrderBy limits mode (swaps_of_mask rules.now) masked.items) }
-    ensures none { swaps_of_mask rules.now ≡ [] → IsOk result }
-    ensures empty { masked.items ≡ [] → IsOk result }
+    ensures ok { (records : List Payload) → FitRecords limits records → Holds masked records
+        → IfOk result
+        (λ text. Orders limits mode (swaps_of swaps.now) (recording_text records) text.items) }
+    ensures err { (records : List Payload) → FitRecords limits records → Holds masked records
+        → IfErr result (RefusesToOrder limits mode (swaps_of swaps.now) (recording_text records)) }
 {
-    let swaps = rules.swaps();
-    if swaps.is_empty() {
-        return Ok(masked);
-    }
-    order_bytes(alloc, swaps, masked.as_slice(), limits, mode)
+    check_masked(alloc, &masked, limits, mode)?;
+    order_session(alloc, swaps, masked.messages, limits, mode)
 }
 
-/// Puts a masked recording in order, as [`order_bytes`] does, if some of the rules are for the order.
-/// Returns the normal form of the result and its counts, as [`normalise_session`] does.
+/// Normalises the records of a masked session, in order if some rules are for the order.
 ///
 /// # Errors
 ///
-/// Those of [`order_bytes`], or those of [`normalise_session`] if no rules are for the order.
-pub fn normalise_masked(
+/// Those of [`order_bytes`](crate::order_bytes), or those of
+/// [`normalise_session`](dap_normalise::normalise_session) if no rules are for the order.
+fn normalise_by(
     alloc: Global,
-    rules: &MaskRules,
-    masked: &[u8],
+    swaps: &[SwapRule],
+    masked: MaskedSession,
     limits: Limits,
     mode: Mode,
 ) -> Result<NormalSession, Refused>
     requires limits { AreSound limits }
-    ensures ok { IfOk result
-        (NormalisesBy limits mode (swaps_of_mask rules.now) masked.now) }
-    ensures err { IfErr result
-        (RefusesNormalBy limits mode (swaps_of_mask rules.now) masked.now) }
+    ensures ok { (records : List Payload) → FitRecords limits records → Holds masked records
+        → IfOk result (NormalisesBy limits mode (swaps_of swaps.now) (recording_text records)) }
+    ensures err { (records : List Payload) → FitRecords limits records → Holds masked records
+        → IfErr result (RefusesNormalBy limits mode (swaps_of swaps.now) (recording_text records)) }
 {
-    let swaps = rules.swaps();
     if swaps.is_empty() {
-        normalise_session(alloc, masked, limits, mode)
-    } else {
-        normalise_in_order(alloc, swaps, masked, limits, mode)
+        return normalise_masked(alloc, &masked, limits, mode);
     }
+    check_masked(alloc, &masked, limits, mode)?;
+    normalise_in_order(alloc, swaps, masked.messages, limits, mode)
 }
 
 /// Returns the error of the step that masks a recording.
@@ -120,12 +119,52 @@ pub fn apply_rules(
     ensures err { IfErr result (IsRefusedByRules limits mode (mask_of rules.now) recording.now) }
     ensures empty { recording.now ≡ [] → IsOk result }
 {
-    let masked = match mask_bytes(alloc, rules, recording, limits) {
+    let swaps = rules.swaps();
+    if swaps.is_empty() {
+        return match mask_bytes(alloc, rules, recording, limits) {
+            Ok(masked) => Ok(masked),
+            Err(refused) => Err(mask_refusal(refused)),
+        };
+    }
+    if recording.is_empty() {
+        return Ok(Vec::new(alloc));
+    }
+    let masked = match read_masked_session(alloc, rules, recording, limits) {
         Ok(masked) => masked,
         Err(refused) => return Err(mask_refusal(refused)),
     };
-    match order_masked(alloc, rules, masked, limits, mode) {
+    match order_masked(alloc, swaps, masked, limits, mode) {
         Ok(text) => Ok(text),
+        Err(refused) => Err(order_refusal(refused)),
+    }
+}
+
+/// Returns the normal form of the text that [`apply_rules`] returns, and its counts, as
+/// [`normalise_session`](dap_normalise::normalise_session) does. Reads the recording once, and
+/// creates neither the masked text nor the text in order.
+///
+/// # Errors
+///
+/// Those of [`apply_rules`]. `Order` also if no rules are for the order and the masked recording was
+/// rejected.
+pub fn normalise_by_rules(
+    alloc: Global,
+    rules: &MaskRules,
+    recording: &[u8],
+    limits: Limits,
+    mode: Mode,
+) -> Result<NormalSession, ApplyRefused>
+    requires limits { AreSound limits }
+    ensures ok { IfOk result
+        (NormalisesByRules limits mode (mask_of rules.now) recording.now) }
+    ensures err { IfErr result (IsNotNormalised limits mode (mask_of rules.now) recording.now) }
+{
+    let masked = match read_masked_session(alloc, rules, recording, limits) {
+        Ok(masked) => masked,
+        Err(refused) => return Err(mask_refusal(refused)),
+    };
+    match normalise_by(alloc, rules.swaps(), masked, limits, mode) {
+        Ok(normal) => Ok(normal),
         Err(refused) => Err(order_refusal(refused)),
     }
 }

@@ -1,13 +1,14 @@
 //! Puts the records of a recording in order.
-ghost use Rattle.std.specs.Prelude.{◌≡◌, ◌+◌, ◌≤◌, [], IfErr, IfOk, IsOk, IsErrOf, List, map};
+ghost use Rattle.std.specs.Prelude.{◌≡◌, ℕ, ◌+◌, ◌≤◌, [], IfErr, IfOk, IsOk, IsErrOf, List, map};
 ghost use Rattle.dap_device.specs.Devices.{CanRead, CanWrite};
 ghost use Rattle.dap_message.specs.{Message.Sent, SwapRules.swaps_of};
 ghost use Rattle.dap_input.specs.{Engine.Answers, Limits.AreSound};
+ghost use Rattle.dap_normalise.specs.Accepting.{IsAccepted};
 ghost use Rattle.dap_rules.specs.Ordering.{IsNotOrdered, NormalisesInOrder, Orders, ReadsSomeOrAll};
 ghost use Rattle.dap_rules.specs.Ordering.{RefusesToOrder};
-ghost use Rattle.dap_rules.specs.OrderingSteps.{AreAt, result_of_input};
+ghost use Rattle.dap_rules.specs.OrderingSteps.{result_of_input};
 ghost use Rattle.dap_order.specs.MessageOrder.{ordered};
-ghost use Rattle.dap_stored.specs.Sessions.{messages_of, stored_sent};
+ghost use Rattle.dap_stored.specs.Sessions.{AreAt, messages_of};
 
 use crate::writing::{length_of_text, text_of_messages};
 use dap_device::{Sink, Source, Stop, read_all, write_and_flush};
@@ -17,7 +18,7 @@ use dap_normalise::{NormalSession, check_messages, normalise_messages, read_sess
 use dap_order::put_in_order;
 use dap_recording::RecordCause;
 use dap_rename::Mode;
-use dap_stored::{StoredMessage, StoredSession};
+use dap_stored::StoredSession;
 use std::alloc::{AllocError, Global};
 
 /// Returns the text of the records of a recording in order.
@@ -57,7 +58,34 @@ pub fn order_bytes(
         return Ok(Vec::new(alloc));
     }
     let session = read_session(alloc, recording, limits, mode)?;
-    let Ok(messages) = messages_in_order(alloc, rules, &session) else {
+    order_session(alloc, rules, session, limits, mode)
+}
+
+/// Returns the text in order of the messages of an accepted recording.
+///
+/// # Errors
+///
+/// Those of [`order_bytes`] that concern the text in order.
+pub(crate) fn order_session(
+    alloc: Global,
+    rules: &[SwapRule],
+    session: StoredSession,
+    limits: Limits,
+    mode: Mode,
+) -> Result<Vec<u8>, Refused>
+    requires limits { AreSound limits }
+    ensures ok { (recording : List ℕ)
+        → IsAccepted limits mode recording (messages_of session)
+        → IfOk result
+        (λ text. Orders limits mode (swaps_of rules.now) recording text.items) }
+    ensures err { (recording : List ℕ)
+        → IsAccepted limits mode recording (messages_of session)
+        → IfErr result (RefusesToOrder limits mode (swaps_of rules.now) recording) }
+{
+    let Ok(session) = in_order(alloc, rules, session) else {
+        return Err(Refused::Memory);
+    };
+    let Ok(messages) = session.views(alloc) else {
         return Err(Refused::Memory);
     };
     let len = length_of_text(messages.as_slice(), limits)?;
@@ -68,65 +96,63 @@ pub fn order_bytes(
     Ok(text)
 }
 
-/// Returns the normal form of the text that [`order_bytes`] returns for a recording, and its
-/// counts, as [`normalise_session`](dap_normalise::normalise_session) does. Reads the recording
-/// once, and does not create its text in order.
+/// Returns the normal form of the text that [`order_session`] returns, and its counts. Does not
+/// create that text.
 ///
 /// # Errors
 ///
-/// Those of [`order_bytes`].
-pub fn normalise_in_order(
+/// Those of [`order_session`].
+pub(crate) fn normalise_in_order(
     alloc: Global,
     rules: &[SwapRule],
-    recording: &[u8],
+    session: StoredSession,
     limits: Limits,
     mode: Mode,
 ) -> Result<NormalSession, Refused>
     requires limits { AreSound limits }
-    ensures ok { IfOk result
-        (NormalisesInOrder limits mode (swaps_of rules.now) recording.now) }
-    ensures err { IfErr result (RefusesToOrder limits mode (swaps_of rules.now) recording.now) }
+    ensures ok { (recording : List ℕ)
+        → IsAccepted limits mode recording (messages_of session)
+        → IfOk result (NormalisesInOrder limits mode (swaps_of rules.now) recording) }
+    ensures err { (recording : List ℕ)
+        → IsAccepted limits mode recording (messages_of session)
+        → IfErr result (RefusesToOrder limits mode (swaps_of rules.now) recording) }
 {
-    let session = read_session(alloc, recording, limits, mode)?;
-    let Ok(messages) = messages_in_order(alloc, rules, &session) else {
+    let Ok(session) = in_order(alloc, rules, session) else {
+        return Err(Refused::Memory);
+    };
+    let Ok(messages) = session.views(alloc) else {
         return Err(Refused::Memory);
     };
     length_of_text(messages.as_slice(), limits)?;
     normalise_messages(alloc, messages, limits, mode)
 }
 
-/// Returns the messages of a session in order.
-fn messages_in_order<'s>(
+/// Returns a session with its messages in order.
+fn in_order(
     alloc: Global,
     rules: &[SwapRule],
-    session: &'s StoredSession,
-) -> Result<Vec<StoredMessage<'s>>, AllocError>
-    ensures { IfOk result (λ messages. map stored_sent messages.items
-        ≡ ordered (swaps_of rules.now) (messages_of session.now)) }
+    session: StoredSession,
+) -> Result<StoredSession, AllocError>
+    ensures { IfOk result (λ ordered_session. messages_of ordered_session
+        ≡ ordered (swaps_of rules.now) (messages_of session)) }
 {
-    let messages = session.views(alloc)?;
-    let places = put_in_order(alloc, rules, messages.as_slice())?;
-    messages_at(alloc, session, places.as_slice())
+    let mut session = session;
+    let places = places_in_order(alloc, rules, &session)?;
+    session.arrange(alloc, places.as_slice())?;
+    Ok(session)
 }
 
-/// Returns the messages at these places of a session, in the order of the places.
-fn messages_at<'s>(
+/// Returns the places of the messages of a session in order.
+fn places_in_order(
     alloc: Global,
-    session: &'s StoredSession,
-    places: &[usize],
-) -> Result<Vec<StoredMessage<'s>>, AllocError>
-    requires { (those : List Sent) × AreAt (messages_of session.now) places.now those }
-    ensures { IfOk result
-        (λ messages. AreAt (messages_of session.now) places.now (map stored_sent messages.items)) }
+    rules: &[SwapRule],
+    session: &StoredSession,
+) -> Result<Vec<usize>, AllocError>
+    ensures { IfOk result (λ places. AreAt (messages_of session.now) places.items
+        (ordered (swaps_of rules.now) (messages_of session.now))) }
 {
-    let mut messages = Vec::with_capacity(alloc, places.len())?;
-    for place in places {
-        let Some(message) = session.message(*place) else {
-            unreachable!()
-        };
-        messages.push(message)?;
-    }
-    Ok(messages)
+    let messages = session.views(alloc)?;
+    put_in_order(alloc, rules, messages.as_slice())
 }
 
 /// Reads a recording and writes its records in order, as [`order_bytes`] returns them.

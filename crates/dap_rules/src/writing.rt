@@ -28,11 +28,7 @@ pub fn length_of_text(messages: &[StoredMessage<'_>], limits: Limits) -> Result<
     let mut number = 0;
     for message in messages {
         number += 1;
-        let content_len = message.content().len();
-        if limits.frame.content < content_len {
-            return Err(Refused::Grew(number));
-        }
-        len = count_record(number, content_len, len, limits)?;
+        len = count_record(number, message.content().len(), len, limits)?;
     }
     Ok(len)
 }

@@ -1,7 +1,8 @@
-use Rattle.std.proofs.Common.{subst}
+use Rattle.std.proofs.Common.{List, ℕ, subst}
 use Rattle.std.specs.{Cow.cow_slice_items, Prelude.{IfErr, IfOk}}
 use Rattle.std.proofs.lemmas.Result.{IfErr-weaker, IfOk-weaker, err_from_is_err_and}
 use Rattle.dap_golden.specs.{Golden.{IsGolden, IsRefusedGolden, mask_given}, GoldenFiles.IsNormalText}
+use Rattle.dap_golden.specs.GoldenSteps.{IsNormalBy, RefusesNormal}
 use Rattle.dap_rename.specs.declared.mode.Mode.{Mode}
 use Rattle.dap_golden.proofs.GoldenTexts.{golden_of_input, no_session, session_refused}
 use Rattle.dap_golden.proofs.golden.golden_text.Goals as goal
@@ -15,12 +16,17 @@ returns-in_err-session-clause-err c =
     c.args.allow_open c.args.input.now c.in_err-session.field-0.0) c.mode_given-wanted.ensures
     (no_session c.args.limits c.mode_given-wanted.result (mask_given c.args.rules)
     c.args.allow_open c.args.input.now (cow_slice_items c.in_ok-recording.recording)
-    c.in_ok-recording.ensures.ok c.in_err-session.field-0.0 c.in_err-session.ensures.err))
+    c.in_ok-recording.ensures.ok c.in_err-session.field-0.0
+    (subst (λ (bytes : List ℕ). RefusesNormal c.args.limits c.mode_given-wanted.result
+    (mask_given c.args.rules) bytes c.in_err-session.field-0.0) c.as_slice.ensures.value
+    c.in_err-session.ensures.err)))
 
 pub returns-clause-ok : goal.returns-clause-ok
 returns-clause-ok c =
-    let made = c.in_ok-session.ensures.ok in
     let wanted = c.mode_given-wanted.result in
+    let made =
+    subst (λ (bytes : List ℕ). IsNormalBy c.args.limits wanted (mask_given c.args.rules) bytes
+    c.in_ok-session.session) c.as_slice.ensures.value c.in_ok-session.ensures.ok in
     subst (λ (mode : Mode). IfOk c.golden_of.result (IsGolden c.args.limits mode
     (mask_given c.args.rules) c.args.allow_open c.args.input.now)) c.mode_given-wanted.ensures
     (IfOk-weaker c.golden_of.result _ _
@@ -30,8 +36,10 @@ returns-clause-ok c =
 
 pub returns-clause-err : goal.returns-clause-err
 returns-clause-err c =
-    let made = c.in_ok-session.ensures.ok in
     let wanted = c.mode_given-wanted.result in
+    let made =
+    subst (λ (bytes : List ℕ). IsNormalBy c.args.limits wanted (mask_given c.args.rules) bytes
+    c.in_ok-session.session) c.as_slice.ensures.value c.in_ok-session.ensures.ok in
     subst (λ (mode : Mode). IfErr c.golden_of.result (IsRefusedGolden c.args.limits mode
     (mask_given c.args.rules) c.args.allow_open c.args.input.now)) c.mode_given-wanted.ensures
     (IfErr-weaker c.golden_of.result _ _
@@ -44,8 +52,10 @@ returns-clause-err c =
 
 pub returns-clause-normal : goal.returns-clause-normal
 returns-clause-normal c =
-    let made = c.in_ok-session.ensures.ok in
     let wanted = c.mode_given-wanted.result in
+    let made =
+    subst (λ (bytes : List ℕ). IsNormalBy c.args.limits wanted (mask_given c.args.rules) bytes
+    c.in_ok-session.session) c.as_slice.ensures.value c.in_ok-session.ensures.ok in
     subst (λ (mode : Mode). IfOk c.golden_of.result
     (λ text. IsNormalText c.args.limits mode text.bytes.items)) c.mode_given-wanted.ensures
     (IfOk-weaker c.golden_of.result _ _

@@ -6,7 +6,7 @@ use Rattle.std.proofs.lemmas.Result.{err_from_is_err_and}
 use Rattle.dap_tree.specs.Json.{text_of}
 use Rattle.dap_stored.specs.Sessions.{stored_sent}
 use Rattle.dap_rules.specs.OrderingSteps.{IsLengthOf}
-use Rattle.dap_rules.proofs.WrittenTexts.{none_counted, not_counted, one_more, too_long}
+use Rattle.dap_rules.proofs.WrittenTexts.{none_counted, not_counted, one_more}
 use Rattle.dap_rules.proofs.writing.length_of_text.Goals as goal
 
 pub loop-message-init : goal.loop-message-init
@@ -15,29 +15,6 @@ loop-message-init c = record {
   within = omega arith;
   counted = none_counted c.args.limits;
 }
-
-pub returns-then-limits-content_len : goal.returns-then-limits-content_len
-returns-then-limits-content_len c =
-    let all = c.args.messages.now in
-    let i = c.loop-message.message-index in
-    let before = map stored_sent (take i all) in
-    let item = c.message-item.result in
-    let m = stored_sent item in
-    let inv = c.loop-message.invariant in
-    let rest = drop (suc i) all in
-    let low = c.loop-message-test.true in
-    let split : map stored_sent all ≡ before ++ m ∷ map stored_sent rest =
-    ap (map stored_sent) (split_at all i item low
-    ∙ ap (λ x. take i all ++ x ∷ rest) (sym c.message-item.is))
-    ∙ map-append stored_sent (take i all) (item ∷ rest) in
-    let count : length before ≡ i =
-    length-map (take i all) stored_sent
-    ∙ length-take-le i all (let low : i < length all = c.loop-message-test.true in omega arith) in
-    let number = inv.number in
-    too_long c.args.limits before m c.loop-message.len inv.counted (map stored_sent all)
-    (map stored_sent rest) split (c.loop-message.number + 1) (omega (arith, number, count)) _ refl
-    (inl (subst (λ n. c.args.limits.frame.content < n) (ap length c.content-content_len.ensures)
-    c.if-limits-content_len.true))
 
 pub returns-in_err-len : goal.returns-in_err-len
 returns-in_err-len c =
@@ -61,7 +38,7 @@ returns-in_err-len c =
     rw (because.1, because.2)
     (not_counted c.args.limits before m c.loop-message.len inv.counted (map stored_sent all)
     (map stored_sent rest) split (c.loop-message.number + 1) (omega (arith, number, count)) _
-    (c.in_err-len.ensures.counts m (sym (ap length c.content-content_len.ensures))))
+    (c.in_err-len.ensures.counts m (sym (ap length c.content.ensures))))
 
 pub loop-message-preserved : goal.loop-message-preserved
 loop-message-preserved c =
@@ -75,7 +52,7 @@ loop-message-preserved c =
     map_more stored_sent all i item c.loop-message-test.true
     ∙ ap (λ x. before ++ stored_sent x ∷ []) (sym c.message-item.is) in
     let counted = c.in_ok-len.ensures.counts m
-    (sym (ap length c.content-content_len.ensures)) in
+    (sym (ap length c.content.ensures)) in
     let number = inv.number in
     record {
       number = omega (arith, number);
