@@ -112,7 +112,7 @@ MEASURE = python3 scripts/$(1).py --size "$(SIZE)" --program "$(PROGRAM)" $(if $
 GENERATORS := contracts errors architecture library benchmarks pictures
 
 documents: need-python
-	@echo "Writes the generated parts of the documents: a second."
+	@echo "Writes the generated parts of the documents, and the contracts of each crate to docs/reference: a second."
 	@for it in $(GENERATORS) profile; do python3 "tests/$$it.py" write > /dev/null || exit; done
 
 bench: need-python $(PROGRAM)
@@ -160,5 +160,5 @@ real: need-python $(PROGRAM)
 	@python3 tests/real/run.py --install "$(PROGRAM)"
 
 clean:
-	@echo "Removes bin, dist and the folder out of each crate: the next make proves every crate again."
-	rm -rf bin dist crates/*/out
+	@echo "Removes bin, dist, docs/reference and the folder out of each crate: the next make proves every crate again."
+	rm -rf bin dist docs/reference crates/*/out

@@ -1,11 +1,9 @@
-"""Checks the table of crates in docs/ARCHITECTURE.md against crates.txt and the crates: those that docs/CONTRACTS.md does not have. With `write`
-it writes the table."""
+"""Checks the table of crates in docs/ARCHITECTURE.md against crates.txt and the crates. With `write` it writes the table."""
 import os
 import re
 import sys
 
 from generated import between
-from public_calls import NOT_LIBRARIES
 from report import TOP, Report
 
 DOCUMENT = os.path.join(TOP, "docs", "ARCHITECTURE.md")
@@ -37,7 +35,7 @@ def drawn(used, own):
 
 
 def table():
-    return "\n".join(["| Crate | Purpose |", "|---|---|", *(f"| `{crate}` | {purpose(crate)} |" for crate, _ in crates() if crate in NOT_LIBRARIES)])
+    return "\n".join(["| Crate | Purpose |", "|---|---|", *(f"| `{crate}` | {purpose(crate)} |" for crate, _ in crates())])
 
 
 def filled(text):

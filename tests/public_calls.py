@@ -147,5 +147,13 @@ def calls(crate: str) -> List[Call]:
     return found
 
 
+def passed_on(crate: str) -> Set[Tuple[str, str]]:
+    """Returns the names that the crate and its public modules re-export from other crates, each with its crate."""
+    _, modules = exported(crate)
+    texts = [read(crate, "src", f"{module}.rt") for module in ("lib", *sorted(modules))]
+    found = {it for text in texts for it in REEXPORT.findall(text)}
+    return {(path.split("::")[0], name.strip()) for path, several, one in found for name in (several or one).split(",") if name.strip()}
+
+
 def by_crate() -> Dict[str, List[Call]]:
     return {crate: calls(crate) for crate in crates()}

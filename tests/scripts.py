@@ -154,13 +154,15 @@ def help_lists(report, scratch):
 
 def documents(report, scratch):
     """`make documents` writes what the documents of the sources have."""
-    paths = [os.path.join("docs", name) for name in sorted(os.listdir(os.path.join(TOP, "docs")))]
+    paths = [os.path.join("docs", name) for name in sorted(os.listdir(os.path.join(TOP, "docs"))) if name != "reference"]
     write(scratch.path("docs", "CONTRACTS.md"))
     ran = scratch.make("documents")
     report.check("make documents ends well", ran.returncode == 0, output_of(ran))
     for path in paths:
         with open(scratch.path(path), encoding="utf-8") as file:
             report.check(f"make documents writes {path} as it is", file.read() == read(path))
+    written = os.path.exists(scratch.path("docs", "reference", "dap_normalise.md"))
+    report.check("make documents writes the contracts of each crate", written)
 
 
 def figures_of(scratch, name):
