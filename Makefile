@@ -92,7 +92,7 @@ proofs: $(PACK)
 test: need-rt need-python
 	@command -v git > /dev/null || { echo "git is not found: the gate asks it which files there are"; exit 1; }
 	@echo "Proves every crate, tries the must-fail edits, and runs the tests: about 40 minutes on 4 cores. With rattle-kit-13f, a later run proves and tries only what changed."
-	@python3 tests/all.py
+	@python3 -m tests.all
 
 # The crates that the command line names, none if it names none.
 TRIED = $(if $(findstring command,$(origin CRATES)),$(CRATES))
@@ -113,7 +113,7 @@ GENERATORS := contracts errors architecture library benchmarks pictures
 
 documents: need-python
 	@echo "Writes the generated parts of the documents, and the contracts of each crate to docs/reference: a second."
-	@for it in $(GENERATORS) profile; do python3 "tests/$$it.py" write > /dev/null || exit; done
+	@for it in $(GENERATORS) profile; do python3 -m "tests.documents.$$it" write > /dev/null || exit; done
 
 bench: need-python $(PROGRAM)
 	@echo "Measures each command on generated inputs, and compares it with short Python scripts: $(if $(filter small,$(SIZE)),seconds,some minutes)."

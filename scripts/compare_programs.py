@@ -1,7 +1,7 @@
 """Runs two programs on random inputs, and reports each run in which status, output, errors or files differ.
 
 For a change that must not change what the program does: `compare_programs.py OLD NEW --from 0 --to 20000`. Equal numbers give equal runs.
-The inputs are sessions of `tests/random_sessions.py`, other forms of them, damaged ones, and random rules files."""
+The inputs are sessions of `tests/program/random_sessions.py`, other forms of them, damaged ones, and random rules files."""
 import argparse
 import copy
 import json
@@ -16,8 +16,8 @@ from concurrent.futures import ThreadPoolExecutor
 from typing import List, NamedTuple, Optional
 
 TOP = os.path.dirname(os.path.dirname(os.path.abspath(__file__)))
-sys.path.insert(0, os.path.join(TOP, "tests"))
-import random_sessions as sessions  # noqa: E402
+sys.path.insert(0, TOP)
+from tests.program import random_sessions as sessions  # noqa: E402
 
 COMMANDS = [
     ["normalise"], ["check"], ["check", "--complete"], ["compact"], ["show"], ["show", "--full"], ["show", "--record", "3"],

@@ -5,7 +5,7 @@ import subprocess
 import sys
 import time
 
-from report import TOP, toolchain
+from tests.report import TOP, toolchain
 
 sys.path.append(os.path.join(TOP, "scripts"))
 import mutation_record
@@ -13,6 +13,86 @@ from gate_cost import Cost
 
 COUNT = re.compile(r"^(\d+) passed, (\d+) failed$")
 
+
+# The tests after the gate, by their folders, each with what it tests.
+SCRIPTS = {
+    "program": {
+        "examples": "the program on the examples",
+        "captures": "the captures of real adapters",
+        "recording": "their traces recorded",
+        "tracing": "a trace made by hand",
+        "typed_recordings": "their messages typed",
+        "normal_form": "the normal form",
+        "comparing": "recordings compared",
+        "per_stop": "names that begin again at each stop",
+        "differing": "what differs told",
+        "masks": "recordings of fresh runs masked",
+        "order": "recordings in order",
+        "example_rules": "the rules of the examples",
+        "showing": "recordings shown",
+        "command_lines": "the words of command lines",
+        "golden": "golden files",
+        "ruled": "commands that apply rules",
+        "suggest": "rules that are suggested",
+        "files": "inputs and outputs in files",
+        "kept_files": "files that must not be lost",
+        "replacing": "links, permissions and temporary files",
+        "matching": "all differences of recordings",
+        "explaining": "explanations of refusals",
+        "explained_commands": "explanations by each command",
+        "refusals": "the lines of refusals",
+        "limits": "the limits of the program",
+        "writes": "how the program writes",
+        "messages": "messages and their ids",
+        "sessions": "the rules of a session",
+        "trees": "contents and their texts",
+        "frames": "faults of frames, records and traces",
+        "mask_rules": "the rules of masks",
+        "leaves": "the leaves of differences",
+        "views": "the elements that messages list",
+        "fault_injection": "growths of memory refused in turn",
+        "hostile": "hostile inputs and failing devices",
+    },
+    "engines": {
+        "driver": "calls of the driver",
+        "check": "the engine check",
+        "normalise": "the engine normalise",
+        "compare": "the engine compare",
+        "record": "the engine record",
+        "compact": "the engine compact over devices that fail",
+        "per_stop": "engines with names that begin again at each stop",
+        "streams": "how much engines read",
+        "tables": "engines with tables that are handed in",
+        "random": "engines on random inputs",
+        "growths": "growths of memory of engines refused in turn",
+        "limits": "limits that the program does not have",
+        "contents": "random contents and their texts",
+    },
+    "kit": {
+        "adapter_kit": "the test kit for adapters",
+        "examples": "the examples",
+        "how_to": "the how-to pages",
+    },
+    "documents": {
+        "shown_commands": "the commands that documents show",
+        "manual": "the man page, completions and installation",
+        "usage": "the synopses and the completions",
+        "names": "what the documents name",
+        "profile": "the document of the profile",
+        "contracts": "the document of the contracts",
+        "errors": "the document of the errors",
+        "architecture": "the document of the crates",
+        "library": "the document of the library",
+        "benchmarks": "the figures of the benchmarks",
+        "prose": "the prose",
+        "pictures": "the drawn pictures",
+    },
+    "tools": {
+        "package": "the packages",
+        "mutants": "the script of make mutants",
+        "scripts": "the scripts and the targets of the Makefile",
+    },
+}
 
 # What a prover may take at most, in bytes: where memory is short, fewer run side by side.
 MOST = 5 << 30
@@ -49,82 +129,15 @@ def counted(name, arguments, **variables):
 
 def main():
     toolchain()
-    tests = os.path.join(TOP, "tests")
     cost = Cost(os.getpid())
     passed, failed = counted("the gate, rt ci", ["rt", "ci"], RT_JOBS=str(provers()))
     cost.close()
     print("\n".join(cost.table() + cost.dearest(20) + mutation_record.table(TOP)), flush=True)
     if failed == 0:
-        for name, script in [
-            ("the program on the examples", "program.py"),
-            ("the captures of real adapters", "captures.py"),
-            ("their traces recorded", "recording.py"),
-            ("a trace made by hand", "tracing.py"),
-            ("their messages typed", "typed_recordings.py"),
-            ("the normal form", "normal_form.py"),
-            ("recordings compared", "comparing.py"),
-            ("names that begin again at each stop", "per_stop.py"),
-            ("what differs told", "differing.py"),
-            ("recordings of fresh runs masked", "masks.py"),
-            ("recordings in order", "order.py"),
-            ("the rules of the examples", "example_rules.py"),
-            ("recordings shown", "showing.py"),
-            ("the words of command lines", "command_lines.py"),
-            ("golden files", "golden.py"),
-            ("commands that apply rules", "ruled.py"),
-            ("rules that are suggested", "suggest.py"),
-            ("inputs and outputs in files", "files.py"),
-            ("files that must not be lost", "kept_files.py"),
-            ("links, permissions and temporary files", "replacing.py"),
-            ("all differences of recordings", "matching.py"),
-            ("explanations of refusals", "explaining.py"),
-            ("explanations by each command", "explained_commands.py"),
-            ("the commands that documents show", "shown_commands.py"),
-            ("the lines of refusals", "refusals.py"),
-            ("calls of the driver", "driver.py"),
-            ("the engine check", "engine_check.py"),
-            ("the engine normalise", "engine_normalise.py"),
-            ("the engine compare", "engine_compare.py"),
-            ("the engine record", "engine_record.py"),
-            ("the engine compact over devices that fail", "engine_compact.py"),
-            ("engines with names that begin again at each stop", "engine_per_stop.py"),
-            ("how much engines read", "engine_streams.py"),
-            ("engines with tables that are handed in", "engine_tables.py"),
-            ("engines on random inputs", "engine_random.py"),
-            ("growths of memory of engines refused in turn", "engine_growths.py"),
-            ("limits that the program does not have", "limits.py"),
-            ("the limits of the program", "program_limits.py"),
-            ("how the program writes", "writes.py"),
-            ("messages and their ids", "messages.py"),
-            ("the rules of a session", "sessions.py"),
-            ("contents and their texts", "trees.py"),
-            ("random contents and their texts", "contents.py"),
-            ("faults of frames, records and traces", "frames.py"),
-            ("the rules of masks", "mask_rules.py"),
-            ("the leaves of differences", "leaves.py"),
-            ("the elements that messages list", "views.py"),
-            ("growths of memory refused in turn", "fault_injection.py"),
-            ("hostile inputs and failing devices", "hostile.py"),
-            ("the test kit for adapters", "adapter_kit.py"),
-            ("the examples", "examples.py"),
-            ("the how-to pages", "how_to.py"),
-            ("the man page, completions and installation", "manual.py"),
-            ("the synopses and the completions", "usage.py"),
-            ("the packages", "package.py"),
-            ("the script of make mutants", "mutants.py"),
-            ("the scripts and the targets of the Makefile", "scripts.py"),
-            ("what the documents name", "documents.py"),
-            ("the document of the profile", "profile.py"),
-            ("the document of the contracts", "contracts.py"),
-            ("the document of the errors", "errors.py"),
-            ("the document of the crates", "architecture.py"),
-            ("the document of the library", "library.py"),
-            ("the figures of the benchmarks", "benchmarks.py"),
-            ("the prose", "prose.py"),
-            ("the drawn pictures", "pictures.py"),
-        ]:
-            more_passed, more_failed = counted(name, [sys.executable, os.path.join(tests, script)])
-            passed, failed = passed + more_passed, failed + more_failed
+        for folder, scripts in SCRIPTS.items():
+            for script, name in scripts.items():
+                more_passed, more_failed = counted(name, [sys.executable, "-m", f"tests.{folder}.{script}"])
+                passed, failed = passed + more_passed, failed + more_failed
     print(f"{passed} passed, {failed} failed", flush=True)
     return 1 if failed else 0
 

@@ -1,8 +1,8 @@
 //! Tests masks over memory: each allocation fails in turn, including with rules that are used
 //! again, and flushes fail.
 //!
-//! tests/fault_injection.py runs the tests on allocations under a shim in which allocations fail.
-//! Without the shim each test makes one turn in which no allocation fails.
+//! tests/program/fault_injection.py runs the tests on allocations under a shim in which allocations
+//! fail. Without the shim each test makes one turn in which no allocation fails.
 ghost use Rattle.std.specs.Prelude.{◌<◌, ◌^◌};
 
 use crate::devices::TestSink;

@@ -16,7 +16,7 @@
 //! # What is only tested
 //!
 //! No clause states the words of an explanation, that it fits the rejection, or that `AllocError`
-//! is returned only after a failed allocation. `tests/explaining.py` contains the complete
+//! is returned only after a failed allocation. `tests/program/explaining.py` contains the complete
 //! explanation for each kind of rejection, except for the limits that only huge inputs reach.
 #![tactic(auto)]
 

@@ -3,8 +3,8 @@
 //!
 //! Standard input contains a sequence of calls: a line of words, followed by the bytes of the
 //! call's inputs. Each call gets a response: a line, followed by the bytes that the function wrote.
-//! tests/driver.py writes the calls and reads the responses. A malformed call ends the program with
-//! status 1.
+//! tests/engines/driver.py writes the calls and reads the responses. A malformed call ends the
+//! program with status 1.
 #![tactic(auto)]
 
 mod answer;

@@ -1,9 +1,9 @@
 //! Lets a test make an allocation fail.
 //!
 //! The test passes its request in the size of an allocation. The shim built from
-//! tests/fault_injection.c, which is loaded before the C library, recognises the size and makes the
-//! requested allocation fail. The normal allocator does not recognise it. Therefore the same test
-//! also passes without the shim: no allocation fails, and the test makes one turn.
+//! tests/program/fault_injection.c, which is loaded before the C library, recognises the size and
+//! makes the requested allocation fail. The normal allocator does not recognise it. Therefore the
+//! same test also passes without the shim: no allocation fails, and the test makes one turn.
 #![tactic(auto)]
 
 use std::alloc::Global;

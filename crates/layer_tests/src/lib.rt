@@ -2,8 +2,8 @@
 //!
 //! In the modules whose names begin with `allocating_`, each allocation of a call fails in turn, on
 //! objects that are used again afterwards. Each call returns the same as without a failure, or the
-//! error for a failed allocation. tests/fault_injection.py runs them under a shim in which allocations
-//! fail. Without the shim each test makes one turn in which no allocation fails.
+//! error for a failed allocation. tests/program/fault_injection.py runs them under a shim in which
+//! allocations fail. Without the shim each test makes one turn in which no allocation fails.
 #![tactic(auto)]
 
 #[cfg(test)]

@@ -1,0 +1,169 @@
+"""Runs the commands, tests and rules that docs/HOWTO.md shows, each as it is written."""
+import os
+import re
+import shutil
+import subprocess
+import sys
+import tempfile
+
+from tests.kit.examples import EXAMPLES, with_program
+from tests.kit.golden_sessions import FAKE, TIMEOUT, SLACK, python_with, write
+from tests.report import PROGRAM, TOP, Report
+
+CAPTURES = os.path.join(EXAMPLES, "captures")
+# Two runs of one session with delve.
+RUNS = [os.path.join(CAPTURES, f"dlv-l-stopentry.{it}.trace") for it in (3, 5)]
+CHILD = 'print(sum([3, 4, 5]))\n'
+PARENT = 'import subprocess\nimport sys\nsubprocess.run([sys.executable, "child.py"])\n'
+
+
+def blocks(title):
+    """The indented blocks of a section."""
+    with open(os.path.join(TOP, "docs", "HOWTO.md"), encoding="utf-8") as file:
+        section = re.search(rf"^## {title}\n(.*?)(?=^## |\Z)", file.read(), re.MULTILINE | re.DOTALL)[1]
+    found = re.findall(r"(?:^ {4}.*\n(?:\n(?= {4}))*)+", section, re.MULTILINE)
+    return [re.sub(r"^ {4}", "", it, flags=re.MULTILINE) for it in found]
+
+
+class Place:
+    """A folder in which commands run."""
+
+    def __init__(self, folder, environment):
+        self.folder, self.environment = folder, {**environment, "TMPDIR": folder, "ADAPTER_TIMEOUT": str(TIMEOUT + SLACK)}
+
+    def path(self, name):
+        return os.path.join(self.folder, name)
+
+    def run(self, command, **more):
+        environment = {**self.environment, **more}
+        ran = subprocess.run(["sh", "-c", command], cwd=self.folder, env=environment, capture_output=True, text=True, timeout=60)
+        return ran.returncode, ran.stdout + ran.stderr
+
+    def repository(self):
+        """A repository with the golden file of the first run, as an author has committed it."""
+        shutil.copy(RUNS[0], self.path("session.trace"))
+        shutil.copy(os.path.join(EXAMPLES, "rules", "delve.rules"), self.folder)
+        shutil.copy(self.path("delve.rules"), self.path("my.rules"))
+        self.run("dapnorm golden --rules my.rules --update session.golden session.trace; git init -q . && git add session.golden")
+        self.run("git -c user.name=somebody -c user.email=somebody@example.org commit -qm golden")
+        self.run(f"sh {os.path.join(EXAMPLES, 'git_setup.sh')}")
+
+
+def changed(path):
+    """Writes a trace of the second run in which one request has another command."""
+    with open(RUNS[1], "rb") as file, open(path, "wb") as other:
+        other.write(file.read().replace(b'"stepIn"', b'"stepUp"'))
+
+
+def part(report, place):
+    start, rules, _value = blocks("Compare a part of a session")
+    write(place.path("own.rules"), rules)
+    write(place.path("some_test.py"), f"ADAPTER = {FAKE + ' 7'!r}\nPROGRAM = {os.path.join(EXAMPLES, 'program.py')!r}\n{start}")
+    shutil.copy(os.path.join(EXAMPLES, "session.rules"), place.folder)
+    answers = [place.run(f"{sys.executable} -m dapnorm {option} some_test.py") for option in ("--update", "")]
+    report.check("the start of a session is compared", answers[0][1].startswith("wrote ") and answers[1] == (0, "same\n"), repr(answers))
+    commands = f"dapnorm golden --rules own.rules --update part.golden {RUNS[0]} && dapnorm golden --rules own.rules part.golden {RUNS[1]}"
+    answer = place.run(commands)
+    report.check("a session without some content is compared", answer[1].endswith("\nsame\n"), repr(answer))
+
+
+def children(report, place):
+    """The child session with debugpy, and the handler for `startDebugging` with the fake adapter."""
+    test, rules = blocks("Record child sessions")
+    handler = (
+        "import dapnorm\ndef test_handler():\n    started = []\n"
+        f"    with dapnorm.Adapter.start({FAKE + ' 7 sends=startDebugging'!r}) as parent:\n"
+        '        parent.handlers["startDebugging"] = started.append\n        parent.request("initialize", adapterID="debugpy")\n'
+        '        parent.send("launch")\n        parent.wait_for("initialized")\n        parent.request("disconnect")\n    assert len(started) == 1\n'
+    )
+    write(place.path("handler_test.py"), handler)
+    answer = place.run(f"{sys.executable} -m dapnorm handler_test.py")
+    report.check("a handler notes startDebugging", answer == (0, "passed\n"), repr(answer))
+    python = python_with("debugpy.adapter")
+    if python is None:
+        print("debugpy is not installed: child sessions are not tried", flush=True)
+        return
+    with open(os.path.join(EXAMPLES, "rules", "debugpy.rules"), encoding="utf-8") as file:
+        write(place.path("children.rules"), file.read() + rules)
+    for name, text in (("children_test.py", test), ("parent.py", PARENT), ("child.py", CHILD)):
+        write(place.path(name), text)
+    for option, wanted in (("--update", "wrote "), ("", "same\n"), ("", "same\n")):
+        status, output = place.run(f"{sys.executable} -m dapnorm {option} children_test.py", ADAPTER=f"{python} -m debugpy.adapter")
+        report.check(f"child sessions are compared {option}", status == 0 and output.startswith(wanted), output)
+    made = {it for it in os.listdir(place.folder) if it.endswith(".golden")}
+    report.check("each session has its golden file", made == {"parent.golden", "child.golden"}, repr(made))
+
+
+def upgrade(report, place):
+    look, accept = blocks("Review a golden file after an upgrade of the adapter")
+    place.repository()
+    changed(place.path("later.trace"))
+    status, output = place.run(look)
+    report.check("all differences are shown", status == 1 and '-/29 > request "stepUp"\n' in output, output)
+    status, output = place.run(accept)
+    report.check("the new session is accepted", status == 0 and "wrote session.golden" in output and '+29 > request "stepUp"' in output, output)
+    shutil.copy(place.path("later.rec"), place.path("again.rec"))
+    answer = place.run("dapnorm suggest --rules delve.rules later.rec again.rec")
+    report.check("suggest compares two records of one scenario", answer == (0, "# with these rules: same\n"), repr(answer))
+
+
+def without_python(report, place):
+    script, own = blocks("Work without Python")
+    place.repository()
+    write(place.path("compare.sh"), script)
+    client = os.path.join(place.environment["PATH"].split(os.pathsep)[0], "my-client")
+    write(client, '#!/bin/sh\ncp "$RUN" "$1"\n')
+    os.chmod(client, 0o755)
+    answer = place.run("sh compare.sh", RUN=RUNS[1])
+    report.check("the script accepts a run with other ids", answer == (0, "unchanged\n"), repr(answer))
+    changed(place.path("changed.trace"))
+    status, output = place.run("sh compare.sh", RUN="changed.trace")
+    report.check("and shows a difference", status == 1 and '+29 > request "stepUp"' in output, output)
+    place.run("git checkout -q session.golden")
+    status, output = place.run("sh compare.sh; status=$?; git diff --quiet && exit $status", RUN=os.path.join(EXAMPLES, "program.py"))
+    report.check("a step that fails leaves the golden file unchanged", status == 2, output)
+    status, output = place.run("rm session.trace session.golden\n" + own)
+    report.check("a trace that the client writes is read", (status, output) == (0, "wrote session.golden (1 record)\n"), output)
+
+
+def violations(report, place):
+    [look] = blocks("Test an adapter that violates the specification")
+    messages = [(">", '{"seq":1,"type":"request","command":"initialize","arguments":{"adapterID":"x"}}')]
+    messages += [("<", '{"seq":1,"type":"response","request_seq":1,"command":"initialize","success":true}'), ("<", '{"seq":2,"type":"event","event":"stopped","body":{}}')]
+    frames = [(marker, f"Content-Length: {len(it)}\r\n\r\n{it}".encode()) for marker, it in messages]
+    with open(place.path("session.trace"), "wb") as file:
+        file.write(b"".join(b"%s%d\n%s" % (marker.encode(), len(it), it) for marker, it in frames))
+    output = place.run(look)[1]
+    told = ("body.reason is missing; the profile requires a string there", "89 event stopped body.reason needed string\n", "3 < fault: Missing row 89\n")
+    report.check("the error, its row and all others are shown", all(it in output for it in told), output)
+    write(place.path("drop.rules"), "drop event stopped\n")
+    answer = place.run("dapnorm golden --rules drop.rules --update session.golden session.trace")
+    report.check("a rule removes the event", answer == (0, "wrote session.golden (2 records)\n"), repr(answer))
+
+
+def installed(report, _place):
+    """The script that a CI job runs is one that `make install` puts there."""
+    [job] = blocks("Install the packages in a CI job")
+    said = subprocess.run(["make", "-C", TOP, "-n", "install", f"PROGRAM={PROGRAM}", "PREFIX=/usr"], capture_output=True, text=True, timeout=60).stdout
+    [script] = re.findall(r"/usr/(share/dapnorm/\S+\.sh)", job)
+    report.check("the CI job runs an installed script", script.removeprefix("share/dapnorm/") in said and "share/dapnorm" in said, script)
+
+
+PARTS = (part, children, upgrade, without_python, violations, installed)
+
+
+def main():
+    report = Report()
+    if not report.check("the gate has built the program", os.access(PROGRAM, os.X_OK)):
+        return report.close()
+    with tempfile.TemporaryDirectory() as top:
+        environment = with_program(top)
+        for it in PARTS:
+            folder = os.path.join(top, it.__name__)
+            os.makedirs(folder)
+            it(report, Place(folder, environment))
+    return report.close()
+
+
+if __name__ == "__main__":
+    sys.exit(main())
