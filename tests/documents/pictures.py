@@ -1,17 +1,17 @@
-"""Checks the drawn pictures of the documents: the crates, from crates.txt, and a session before and after, from the README. With `write` it
-draws them."""
+"""Checks the drawn pictures of the documents: the parts of docs/ARCHITECTURE.md with their crates, and a session before and after, from the
+README. With `write` it draws them."""
 import html
 import os
 import re
 import sys
 
-from tests.documents.architecture import crates, drawn
+from tests.documents.architecture import crates
 from tests.report import TOP, Report
 
 CRATES = os.path.join(TOP, "docs", "crates.svg")
 SESSION = os.path.join(TOP, "docs", "session.svg")
-TESTS = {"layer_tests", "conformance", "driver", "fault_injection", "first_look", "callers"}
-WIDTH, HEIGHT, GAP, LAYER = 122, 26, 14, 74
+# The width of all boxes and of a name, the gap between boxes, the heights of a title and of a line, and the room between layers.
+WIDTH, NAME, GAP, TITLE, LINE, ROOM = 860, 136, 14, 30, 20, 26
 STYLE = "text{font-family:ui-sans-serif,Helvetica,Arial,sans-serif;font-size:12px;fill:#1f2328}.m{font-family:ui-monospace,Menlo,Consolas,monospace}"
 
 
@@ -22,56 +22,83 @@ def svg(width, height, body):
     )
 
 
+def parts():
+    """Returns the parts of docs/ARCHITECTURE.md, from the lowest to the highest, each with its crates."""
+    with open(os.path.join(TOP, "docs", "ARCHITECTURE.md"), encoding="utf-8") as file:
+        table = file.read().split("| Part | Crates |\n|---|---|\n")[1].split("\n\n")[0]
+    rows = re.findall(r"^\| (.*?) \| (.*) \|$", table, re.MULTILINE)
+    return {part: re.findall(r"`(dap\w*|callers)`", text) for part, text in rows}
+
+
+def parts_used(part_of):
+    """Returns the parts that each part builds on, without those that another one of them builds on already."""
+    used = {part: set() for part in part_of.values()}
+    for name, below in crates():
+        if name in part_of:
+            used[part_of[name]] |= {part_of[it] for it in below if it in part_of} - {part_of[name]}
+    every = {}
+    for part in used:
+        every[part] = used[part].union(*(every.get(it, set()) for it in used[part]))
+    return {part: sorted(it for it in below if not any(it in every[other] for other in below)) for part, below in used.items()}
+
+
 def layers(used):
-    """Returns the crates by layer: each above all that it uses."""
+    """Returns the parts by layer: each above all that it uses. Those that a part uses from two layers above come last."""
     depth = {}
-
-    def layer(name):
-        if name not in depth:
-            depth[name] = 1 + max((layer(it) for it in used[name]), default=-1)
-        return depth[name]
-
-    found = {}
-    for name in used:
-        found.setdefault(layer(name), []).append(name)
-    return [found[it] for it in sorted(found)]
+    for part in used:
+        depth[part] = 1 + max((depth[it] for it in used[part]), default=-1)
+    far = {it for part in used for it in used[part] if depth[it] + 1 < depth[part]}
+    return [sorted((part for part in used if depth[part] == layer), key=far.__contains__) for layer in range(max(depth.values()) + 1)]
 
 
-def placed(rows, used):
-    """Returns the middle of each crate's box: in its layer, near the middle of those that it uses."""
-    width = max(len(row) for row in rows) * (WIDTH + GAP) + GAP
-    x = {}
-    for row in rows:
-        def wanted(name):
-            below = [x[it] for it in used[name]]
-            return sum(below) / len(below) if below else width / 2
+def placed(rows, names):
+    """Returns the left, the top, the width and the height of the box of each part, and the height of the picture."""
+    boxes, top = {}, GAP
+    for row in reversed(rows):
+        width = (WIDTH - GAP * (len(row) - 1)) / len(row)
+        height = TITLE + LINE * max(len(lines_of(names[part], width)) for part in row)
+        for i, part in enumerate(row):
+            boxes[part] = (GAP + i * (width + GAP), top, width, height)
+        top += height + ROOM
+    return boxes, top - ROOM + GAP
 
-        order = sorted(row, key=wanted) if any(used[it] for it in row) else row
-        step = width / len(order)
-        for i, name in enumerate(order):
-            x[name] = step * (i + 0.5)
-    height = len(rows) * LAYER
-    y = {name: height - LAYER * i - LAYER / 2 for i, row in enumerate(rows) for name in row}
-    return x, y, width, height
+
+def lines_of(names, width):
+    """Returns the names in lines that fit a box of this width."""
+    each = int(width // NAME)
+    return [names[i : i + each] for i in range(0, len(names), each)]
+
+
+def line_between(upper, lower):
+    """Returns a line from a box to one in the next layer, or at the right edge to one further below."""
+    (x, y, width, height), (x2, y2, width2, height2) = upper, lower
+    if y + height + ROOM < y2:
+        path = f"M{x + width:.0f} {y + height / 2:.0f}h8V{y2 + height2 / 2:.0f}h-8"
+    else:
+        start = min(max(x2 + width2 / 2, x + GAP), x + width - GAP)
+        end = min(max(start, x2 + GAP), x2 + width2 - GAP)
+        path = f"M{start:.0f} {y + height:.0f}L{end:.0f} {y2:.0f}"
+    return f'<path d="{path}" fill="none" stroke="#57606a"/>'
+
+
+def box(part, names, place):
+    """Returns the box of a part, with its crates."""
+    x, y, width, height = place
+    yield f'<rect x="{x:.0f}" y="{y:.0f}" width="{width:.0f}" height="{height:.0f}" rx="5" fill="#f6f8fa" stroke="#57606a"/>'
+    yield f'<text x="{x + 12:.0f}" y="{y + 20:.0f}" font-weight="bold">{part}</text>'
+    for i, line in enumerate(lines_of(names, width)):
+        for j, crate in enumerate(line):
+            yield f'<text class="m" x="{x + 12 + NAME * j:.0f}" y="{y + 40 + LINE * i:.0f}">{crate}</text>'
 
 
 def crates_picture():
-    own = {name: used for name, used in crates() if name not in TESTS}
-    used = {name: drawn(own[name], own) for name in own}
-    rows = layers(used)
-    x, y, width, height = placed(rows, used)
-    body = []
-    for name, below in used.items():
-        for it in below:
-            body.append(
-                f'<path d="M{x[name]:.0f} {y[name] + HEIGHT / 2:.0f}C{x[name]:.0f} {y[name] + LAYER / 2:.0f} {x[it]:.0f} {y[it] - LAYER / 2:.0f} '
-                f'{x[it]:.0f} {y[it] - HEIGHT / 2:.0f}" fill="none" stroke="#8c959f"/>'
-            )
-    for name in used:
-        fill = "#ddf4ff" if name.startswith("dapnorm") else "#f6f8fa"
-        body.append(f'<rect x="{x[name] - WIDTH / 2:.0f}" y="{y[name] - HEIGHT / 2:.0f}" width="{WIDTH}" height="{HEIGHT}" rx="5" fill="{fill}" stroke="#57606a"/>')
-        body.append(f'<text x="{x[name]:.0f}" y="{y[name] + 4:.0f}" text-anchor="middle">{name}</text>')
-    return svg(f"{width:.0f}", f"{height:.0f}", body)
+    names = parts()
+    used = parts_used({crate: part for part, several in names.items() for crate in several})
+    boxes, height = placed(layers(used), names)
+    body = [line_between(boxes[part], boxes[it]) for part, below in used.items() for it in below]
+    for part, place in boxes.items():
+        body += box(part, names[part], place)
+    return svg(WIDTH + 2 * GAP, height, body)
 
 
 def marked(line):
