@@ -77,7 +77,7 @@ module _ {T R : Type 0} {numbers : T → List ℤ} {table_limit : T → ℕ} {so
     some_records = let is = was.represents.number_is in let same =
         end.number_is in omega (arith, is, same)
 
-    accepts : Accepts source limits.input (IsAccepted limits mode) start after was.messages
+    pub accepts : Accepts source limits.input (IsAccepted limits mode) start after was.messages
     accepts = record {
       whole = was.bytes ++ end.more;
       came = all_came was end;

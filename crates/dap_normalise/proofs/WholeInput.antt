@@ -1,16 +1,18 @@
--- The results of `normalise_bytes` for bytes in memory.
-use Rattle.std.proofs.Common.{◌≡◌, ℕ, ℤ, List, [], ◌∷◌, ◌++◌, sym}
-use Rattle.std.proofs.Common.{◌∙◌, ap, subst}
+-- The results of `normalise_session` and `read_session` for bytes in memory.
+use Rattle.std.proofs.Common.{◌≡◌, ℕ, ℤ, false, List, [], ◌∷◌, ◌++◌, Err, sym}
+use Rattle.std.proofs.Common.{◌∙◌, ap, refl, subst}
+use Rattle.std.proofs.lemmas.Bool.{true≢false}
 use Rattle.dap_device.specs.Memory.{GivenBytes}
 use Rattle.dap_message.specs.Message.{Sent, IsTypedContent}
 use Rattle.dap_rename.specs.declared.mode.Mode.{Mode}
 use Rattle.dap_input.specs.declared.limits.Limits.{Limits}
 use Rattle.dap_normalise.specs.declared.normal_records.NormalRecords.{NormalRecords}
 use Rattle.dap_input.specs.declared.refused.Refused.{Refused}
-use Rattle.dap_input.specs.declared.refused.Refused.TheVariants.{Memory}
+use Rattle.dap_input.specs.declared.refused.Refused.TheVariants.{Incomplete, Memory, WriteFault}
+use Rattle.dap_input.specs.{Engine.Accepts, Refusals.IsRefused}
 use Rattle.dap_normalise.specs.Accepting.{Payload, IsAccepted, AreMessages, accepting, text}
 use Rattle.dap_input.specs.Limits.{AreSound}
-use Rattle.dap_normalise.specs.{Checking.AreCounted, NormalSession.IsNormalSession}
+use Rattle.dap_normalise.specs.{Checking.{AreCounted, Checks}, NormalSession.IsNormalSession}
 use Rattle.dap_normalise.specs.Normalised.{AreTyped, HoldsSome}
 use Rattle.dap_normalise.specs.declared.normal_session.NormalSession.{NormalSession}
 use Rattle.dap_normalise.specs.Normalising.{Normalises, RefusesBytes}
@@ -22,8 +24,8 @@ use Rattle.dap_input.proofs.MemoryInputs as memory_inputs
 use Rattle.dap_recording.proofs.Records.{readable}
 use Rattle.dap_normalise.proofs.NormalFormLaws.{normal_session}
 use Rattle.dap_normalise.proofs.JudgedRecords.{text_push}
-use Rattle.dap_normalise.proofs.StreamLoop.{Going, all_came, at_start, normal_before, on}
-use Rattle.dap_normalise.proofs.StreamLoop.{refuses_next}
+use Rattle.dap_normalise.proofs.StreamAnswers.{accepts, check_refuses}
+use Rattle.dap_normalise.proofs.StreamLoop.{Going, at_start, normal_before, on}
 
 are_typed : (records : List Payload) (messages : List Sent) → AreMessages records messages
     → AreTyped messages
@@ -48,29 +50,47 @@ holds_of limits mode bytes written is = (
   },
 )
 
+-- The outcome for a reader of bytes in memory is that of the bytes.
+module _ (limits : Limits) (mode : Mode) {bytes : List ℕ} {reader : GivenBytes}
+    (first : reader ≡ start bytes) (after : GivenBytes) where
+  pub whole_accepted : (messages : List Sent)
+      → Accepts memory limits.input (IsAccepted limits mode) reader after messages
+      → IsAccepted limits mode bytes messages
+  whole_accepted messages is =
+      subst (λ t. IsAccepted limits mode t messages)
+      (memory_inputs.all_came reader after limits.input is.whole is.came
+      ∙ ap (λ (source : GivenBytes). source.left) first) is.gives
+
+  pub whole_refused : (because : Refused)
+      → Checks memory limits mode false reader after (Err because)
+      → RefusesBytes limits mode bytes because
+  whole_refused Memory is = tt
+  whole_refused (Incomplete client adapter) is = absurd (true≢false (sym is.asked))
+  whole_refused WriteFault is = absurd is
+  whole_refused because is =
+      subst (λ t. IsRefused (accepting limits mode) t because)
+      (ap (λ (source : GivenBytes). source.left) first)
+      (memory_inputs.refused_whole reader after (accepting limits mode) (readable limits.frame)
+      (value_laws limits mode) (accepted_facts limits mode) (Normalises limits mode) because is.0
+      is.1)
+
 module _ {T : Type 0} {numbers : T → List ℤ} {table_limit : T → ℕ} {limits : Limits} {mode : Mode}
     {bytes : List ℕ} {reader : GivenBytes} {records : NormalRecords T}
     (was : Going numbers table_limit memory limits mode (start bytes) reader records)
     {new : NormalRecords T} {after : GivenBytes} where
-  pub accepted_whole : {before longer : List ℕ}
+  accepted_whole : {before longer : List ℕ}
       → HasEnded numbers table_limit memory limits mode was.bytes was.messages was.normal
       records new reader after before longer
       → IsAccepted limits mode bytes was.messages
-  accepted_whole end =
-      subst (λ t. IsAccepted limits mode t was.messages)
-      (memory_inputs.all_came (start bytes) after limits.input (was.bytes ++ end.more)
-      (all_came was end)) end.accepted
+  accepted_whole end = whole_accepted limits mode refl after was.messages (accepts was end)
 
   pub refuses_bytes : (because : Refused)
       → HasStoppedAt numbers table_limit memory limits mode was.bytes was.messages was.normal
       records new reader after because
       → RefusesBytes limits mode bytes because
-  refuses_bytes Memory stopped = tt
   refuses_bytes because stopped =
-      memory_inputs.refused_whole (start bytes) after (accepting limits mode)
-      (readable limits.frame) (value_laws limits mode) (accepted_facts limits mode)
-      (Normalises limits mode) because (text was.normal)
-      (refuses_next was stopped stopped.says)
+      whole_refused limits mode {bytes = bytes} refl after because
+      (check_refuses was false because stopped)
 
 -- The records before the next one are accepted, and this is the text of their normal form.
 pub record HasText {T : Type 0} (numbers : T → List ℤ) (table_limit : T → ℕ) (limits : Limits)

@@ -1,4 +1,4 @@
-//! Checks the records of a recording one after another, for both `check` and `normalise`.
+//! Checks the records of a recording one after another, or their messages.
 ghost use Rattle.std.specs.Prelude.{◌≡◌, ◌≤◌, List, [], OnErr, OnOk};
 ghost use Rattle.dap_message.specs.Message.{Sent};
 ghost use Rattle.dap_session.specs.Rules.{open_requests};
@@ -17,7 +17,12 @@ use dap_stored::StoredSession;
 use dap_tree::Scratch;
 use std::alloc::Global;
 
-/// The state after the records so far, which is needed to check the next record.
+/// The state after the accepted records so far, which is needed to check the next record. It
+/// represents their messages, by the state of the session rules, the canonical numbers of their ids
+/// and the length of their normal form.
+///
+/// A method that checks a record takes its number, counted from 1, and returns it in an error.
+/// After an error, no clause says which messages the state represents.
 #[derive(Drop)]
 pub struct Judge<T> {
     session: Session,
@@ -44,7 +49,8 @@ impl<T: NameTable + Drop> Judge<T> {
     };
     ghost use Rattle.dap_normalise.specs.JudgingSteps.{judge_mode};
 
-    /// Returns the state before the first record.
+    /// Returns the state before the first record. The tables must be empty, each with the limit
+    /// `limits.ids`.
     pub fn new(alloc: Global, limits: Limits, tables: Tables<T>, mode: Mode) -> Judge<T>
         requires limits { AreSound limits }
         requires tables { AreReady T.numbers T.limit limits tables }
@@ -71,7 +77,7 @@ impl<T: NameTable + Drop> Judge<T> {
     /// - The first error of the record.
     /// - `Memory`: an allocation failed.
     ///
-    /// The contents of `out` are unchanged.
+    /// After an error, the contents of `out` are unchanged.
     pub fn judge(
         &mut self,
         alloc: Global,
@@ -167,7 +173,7 @@ impl<T: NameTable + Drop> Judge<T> {
     /// - The first error of the message: a session rule, `TooManyIds` or `Grew`.
     /// - `Memory`: an allocation failed.
     ///
-    /// The contents of `out` are unchanged.
+    /// After an error, the contents of `out` are unchanged.
     pub fn judge_message<M: AnyMessage + Drop>(
         &mut self,
         alloc: Global,
@@ -236,7 +242,7 @@ impl<T: NameTable + Drop> Judge<T> {
         Ok(())
     }
 
-    /// Returns the canonical numbers of the messages so far.
+    /// Returns the canonical numbers of the ids in the messages so far.
     pub fn names(&self) -> &Names<T>
         ensures { result.now ≡ self.now.names }
     {

@@ -1,8 +1,10 @@
 //! Reads recordings into stored sessions, and checks and normalises the messages of sessions.
-ghost use Rattle.std.specs.Prelude.{◌≡◌, List, [], IfErr, IfOk, map};
-ghost use Rattle.dap_input.specs.Limits.{AreSound};
+ghost use Rattle.std.specs.Prelude.{◌≡◌, ◌+◌, ◌≤◌, Err, List, [], false, IfErr, IfOk, map};
+ghost use Rattle.dap_device.specs.Devices.{CanRead};
+ghost use Rattle.dap_input.specs.{Engine.Accepts, Limits.AreSound};
 ghost use Rattle.dap_stored.specs.Sessions.{messages_of, stored_sent};
 ghost use Rattle.dap_normalise.specs.Accepting.{Payload, IsAccepted};
+ghost use Rattle.dap_normalise.specs.{Checking.Checks, NameTables.AreReady};
 ghost use Rattle.dap_normalise.specs.JudgingSteps.{RepresentsMessages, judge_limits, judge_mode};
 ghost use Rattle.dap_normalise.specs.{NormalSteps.RepresentsBefore, Normalising.RefusesBytes};
 ghost use Rattle.dap_normalise.specs.NormalSession.{IsNormalSession};
@@ -13,10 +15,10 @@ use crate::checked::Checked;
 use crate::judging::Judge;
 use crate::normal_records::NormalRecords;
 use crate::normal_session::NormalSession;
-use dap_device::MemorySource;
+use dap_device::{MemorySource, Source};
 use dap_input::{Limits, Refused};
 use dap_message::Side;
-use dap_rename::{Mode, NameTable, index_tables};
+use dap_rename::{Mode, NameTable, Tables, index_tables};
 use dap_stored::{StoredMessage, StoredSession};
 use std::alloc::Global;
 
@@ -38,30 +40,68 @@ pub fn read_session(
         (λ session. IsAccepted limits mode recording.now (messages_of session)) }
     ensures err { IfErr result (RefusesBytes limits mode recording.now) }
 {
+    let mut reader = MemorySource::new(recording);
     let tables = index_tables(alloc, limits.ids);
+    read_session_from(alloc, &mut reader, limits, tables, mode)
+}
+
+/// Reads the messages of a recording, which is checked in the same way as by
+/// [`check_with`](crate::check_with). Reads each record once. The tables must be empty, each with
+/// the limit `limits.ids`.
+///
+/// # Errors
+///
+/// - The first error of the input.
+/// - `ReadFault`: the reader failed, and the bytes read so far contain no error other than being
+///   incomplete.
+/// - `Memory`: an allocation failed.
+pub fn read_session_from<R: Source, T: NameTable + Drop>(
+    alloc: Global,
+    reader: &mut R,
+    limits: Limits,
+    tables: Tables<T>,
+    mode: Mode,
+) -> Result<StoredSession, Refused>
+    requires limits { AreSound limits }
+    requires tables { AreReady T.numbers T.limit limits tables }
+    requires reader { CanRead R.Source reader.old }
+
+    // These are the messages of the entire input, which is accepted.
+    ensures ok { IfOk result (λ session. Accepts R.Source limits.input (IsAccepted limits mode)
+        reader.old reader.new (messages_of session)) }
+
+    // The error is that of `check_with`.
+    ensures err { IfErr result (λ refused.
+        Checks R.Source limits mode false reader.old reader.new (Err refused)) }
+
+    // It reads at most one byte beyond the limit.
+    ensures taken { R.given reader.new ≤ R.given reader.old + limits.input + 1 }
+{
     let Ok(mut records) = NormalRecords::new(alloc, limits, tables, mode) else {
         return Err(Refused::Memory);
     };
-    store_records(alloc, &mut records, recording, limits, mode)
+    store_records(alloc, &mut records, reader, limits, mode)
 }
 
-/// Returns the messages of a recording of which nothing has been read.
-fn store_records<T: NameTable + Drop>(
+/// Returns the messages of an input of which nothing has been read.
+fn store_records<R: Source, T: NameTable + Drop>(
     alloc: Global,
     records: &mut NormalRecords<T>,
-    recording: &[u8],
+    reader: &mut R,
     limits: Limits,
     mode: Mode,
 ) -> Result<StoredSession, Refused>
     requires limits { AreSound limits }
     requires represents { RepresentsBefore T.numbers T.limit limits mode [] records.old [] [] }
-    ensures ok { IfOk result
-        (λ session. IsAccepted limits mode recording.now (messages_of session)) }
-    ensures err { IfErr result (RefusesBytes limits mode recording.now) }
+    requires reader { CanRead R.Source reader.old }
+    ensures ok { IfOk result (λ session. Accepts R.Source limits.input (IsAccepted limits mode)
+        reader.old reader.new (messages_of session)) }
+    ensures err { IfErr result (λ refused.
+        Checks R.Source limits mode false reader.old reader.new (Err refused)) }
+    ensures taken { R.given reader.new ≤ R.given reader.old + limits.input + 1 }
 {
-    let mut reader = MemorySource::new(recording);
     let mut session = StoredSession::new(alloc);
-    while records.store_next(alloc, &mut reader, &mut session)? {}
+    while records.store_next(alloc, reader, &mut session)? {}
     Ok(session)
 }
 

@@ -5,8 +5,8 @@ use Rattle.dap_normalise.proofs.sessions.store_records.Given as goal
 
 abbrev pub invariant-loop-session : goal.invariant-loop-session
 invariant-loop-session g l =
-    HasStored g.T.NameTable.numbers g.T.NameTable.limit l.fn.limits l.fn.mode l.fn.recording
-    l.reader l.records (messages_of l.session)
+    HasStored g.T.NameTable.numbers g.T.NameTable.limit g.R.Source l.fn.limits l.fn.mode
+    l.fn.reader l.reader l.records (messages_of l.session)
 
 abbrev pub decreases-loop-session : goal.decreases-loop-session
 decreases-loop-session g l = remaining l.records
