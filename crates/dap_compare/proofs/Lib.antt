@@ -4,3 +4,4 @@ pub mod SomeVerdict
 pub mod StreamComparing
 pub mod Verdicts
 pub mod LeftTexts
+pub mod SessionComparing
