@@ -1,6 +1,5 @@
 pub mod ReadTexts
 pub mod Texts
 pub mod Differing
-pub mod ProperNumbers
-pub mod ReadRecords
-pub mod Entries
+pub mod EntryLists
+pub mod SessionTexts

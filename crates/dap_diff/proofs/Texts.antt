@@ -1,28 +1,28 @@
 -- The messages in the texts that `compare` stores, and that each text has at most one.
 use Rattle.std.proofs.Common.{◌≡◌, inl, inr, ℕ, ◌≤◌, List, [], ◌∷◌, ◌++◌, length, Option}
 use Rattle.std.proofs.Common.{Some, None, Ok, Err, refl, sym, ap, subst, append-nil}
-use Rattle.std.specs.List.{AllByRecursion}
 use Rattle.dap_device.specs.declared.device.Source.{Ghosts as Source}
 use Rattle.dap_device.specs.declared.reading.Stop.{Stop}
 use Rattle.dap_device.specs.declared.reading.Stop.TheVariants.{End, Full, Failed}
 use Rattle.dap_tree.specs.Json.{text_of}
 use Rattle.dap_message.specs.Message.{Sent}
-use Rattle.dap_recording.specs.Recording.{IsRecord, IsRecording, recording_text}
+use Rattle.dap_recording.specs.Recording.{IsRecord}
 use Rattle.dap_recording.proofs.Records.{record_grammar, readable}
-use Rattle.dap_recording.proofs.RecordsWritten.{written_is_record, written_is_recording}
+use Rattle.dap_recording.proofs.RecordsWritten.{written_is_record}
 use Rattle.dap_frame.proofs.Ends.{not_empty, one_item}
 use Rattle.dap_frame.proofs.ItemStreams.{one_list}
 use Rattle.dap_rename.specs.Messages.{IsNormal}
 use Rattle.dap_rename.specs.Modes.{stop_in}
 use Rattle.dap_rename.specs.declared.mode.Mode.{Mode}
+use Rattle.dap_rename.proofs.Lists.{each_right}
 use Rattle.dap_input.specs.declared.limits.Limits.{Limits}
 use Rattle.dap_input.specs.Inputs.{Input}
 use Rattle.dap_input.specs.Limits.{AreSound}
 use Rattle.dap_input.specs.ReadTo.{IsOf, so_far}
-use Rattle.dap_normalise.specs.Accepting.{Payload, AreMessages, IsAccepted, IsMessage, text}
-use Rattle.dap_normalise.specs.JudgingSteps.{record_of}
+use Rattle.dap_normalise.specs.Accepting.{AreMessages, IsAccepted, IsMessage, text}
+use Rattle.dap_normalise.specs.{JudgingSteps.record_of, RecordTexts.contents_of}
 use Rattle.dap_normalise.proofs.AcceptingFacts.{message_once}
-use Rattle.dap_normalise.proofs.NormalFormLaws.{normal_accepted}
+use Rattle.dap_normalise.proofs.NormalFormLaws.{normal_accepted, recording_of}
 use Rattle.dap_compare.specs.LeftTexts.{IsRecordAt, LeavesRecord}
 use Rattle.dap_compare.specs.Verdicts.{Compares}
 use Rattle.dap_compare.specs.declared.verdict.CompareRefused.TheVariants.{Memory}
@@ -33,46 +33,20 @@ use Rattle.dap_diff.specs.Texts.{IsRecordOf, IsRecordText, Holds, IsLeftText, De
 
 -- ---- a message of a normal form is that of its own text
 
-abbrev contents : List Sent → List Payload
-contents [] = []
-contents (m ∷ ms) = (m.side, text_of m.doc) ∷ contents ms
-
-contents_text : (ms : List Sent) → recording_text (contents ms) ≡ text ms
-contents_text [] = refl
-contents_text (m ∷ ms) = ap (λ t. record_of m ++ t) (contents_text ms)
-
-module _ (limits : Limits) where
-  abbrev AreShort : List Sent → Type 0
-  AreShort ms = AllByRecursion (λ (m : Sent). length (text_of m.doc) ≤ limits.frame.content) ms
-
-  contents_short : (ms : List Sent) → AreShort ms
-      → AllByRecursion (λ (h : Payload). length h.1 ≤ limits.frame.content) (contents ms)
-  contents_short [] short = tt
-  contents_short (m ∷ ms) short = (short.0, contents_short ms short.1)
-
-  last_short : (ms : List Sent) (m : Sent) → AreShort (ms ++ m ∷ [])
-      → length (text_of m.doc) ≤ limits.frame.content
-  last_short [] m short = short.0
-  last_short (n ∷ ms) m short = last_short ms m short.1
-
-last_message : (ms : List Sent) (m : Sent) → AreMessages (contents (ms ++ m ∷ [])) (ms ++ m ∷ [])
-    → IsMessage (m.side, text_of m.doc) m
+last_message : (ms : List Sent) (m : Sent)
+    → AreMessages (contents_of (ms ++ m ∷ [])) (ms ++ m ∷ []) → IsMessage (m.side, text_of m.doc) m
 last_message [] m typed = typed.0
 last_message (n ∷ ms) m typed = last_message ms m typed.1
 
 module _ (limits : Limits) (mode : Mode) (sound : AreSound limits) where
   own_contents : (bytes : List ℕ) (values all : List Sent) → IsAccepted limits mode bytes values
-      → IsNormal (stop_in mode) values all → AreMessages (contents all) all
+      → IsNormal (stop_in mode) values all → AreMessages (contents_of all) all
   own_contents bytes values all accepted is_normal =
-      let again : IsAccepted limits mode (text all) all =
-      (normal_accepted limits mode sound bytes values all accepted is_normal).0 in
-      let short = contents_short limits all (accepted.fits all is_normal).each in
-      let written : IsRecording limits.frame (text all) (contents all) =
-      subst (λ t. IsRecording limits.frame t (contents all)) (contents_text all)
-      (written_is_recording limits.frame (contents all) sound.frame short) in
+      let again = (normal_accepted limits mode sound bytes values all accepted is_normal).0 in
       subst (λ r. AreMessages r all)
       (one_list (record_grammar limits.frame) (not_empty (readable limits.frame)) (text all)
-      again.records (contents all) again.recording written)
+      again.records (contents_of all) again.recording
+      (recording_of limits sound all (accepted.fits all is_normal).each))
       again.typed
 
   pub record_is : (text bytes : List ℕ) (values normal : List Sent) (named : Sent)
@@ -80,7 +54,9 @@ module _ (limits : Limits) (mode : Mode) (sound : AreSound limits) where
       → text ≡ record_of named → IsRecordOf limits text named
   record_is text bytes values normal named accepted is_normal is = record {
     is_record = is;
-    short = last_short limits normal named (accepted.fits (normal ++ named ∷ []) is_normal).each;
+    short =
+        (each_right (λ (m : Sent). length (text_of m.doc) ≤ limits.frame.content) normal
+        (named ∷ []) (accepted.fits (normal ++ named ∷ []) is_normal).each).0;
     typed =
         (last_message normal named
         (own_contents bytes values (normal ++ named ∷ []) accepted is_normal)).1;
@@ -117,7 +93,7 @@ module _ (limits : Limits) (sound : AreSound limits) where
       message_once (m.side, text_of m.doc) m n (refl, is.typed)
       (subst (λ h. IsMessage h n) (sym one.1) (refl, other.typed))
 
-  one_holds : (text : List ℕ) (a b : Option Sent) → Holds limits text a → Holds limits text b
+  pub one_holds : (text : List ℕ) (a b : Option Sent) → Holds limits text a → Holds limits text b
       → a ≡ b
   one_holds text None None is other = refl
   one_holds text None (Some m) is other = absurd (not_empty_record m text other.is_record is)

@@ -2,6 +2,6 @@ pub mod Diffs
 pub mod Texts
 pub mod RecordLines
 pub mod Matching
-pub mod Numbers
 pub mod Entries
 pub mod JointNumbers
+pub mod Sessions

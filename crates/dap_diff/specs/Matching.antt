@@ -8,7 +8,6 @@ use Rattle.dap_input.specs.Engine.{Accepts}
 use Rattle.dap_normalise.specs.{Checking.Checks, Normalising.Normalises}
 use Rattle.dap_compare.specs.declared.verdict.CompareRefused.{CompareRefused}
 use Rattle.dap_compare.specs.declared.verdict.CompareRefused.TheVariants.{Input, Memory}
-use Rattle.dap_compare.specs.declared.verdict.Which.{Which}
 use Rattle.dap_compare.specs.declared.verdict.Which.TheVariants.{A, B}
 use Rattle.dap_diff.specs.declared.all_differences.AllDifferences.{AllDifferences}
 use Rattle.dap_diff.specs.declared.all_differences.AllDifferences.TheVariants.{Same, Differ}
@@ -28,14 +27,6 @@ module _ {R : Type 0} (source : Source R) (limits : Limits) (mode : Mode) (old n
   abbrev pub RanOutOfMemory : Type 0
   RanOutOfMemory = ChecksRefused why.Memory
 
-  -- The input, A or B, is read whole and accepted, and this is the text of its normal form; or it
-  -- is refused for what `check` refuses it for; or an allocation failed before all of it was
-  -- accepted.
-  abbrev pub Reads : {U : Type 0} → Which → List ℕ → Result U CompareRefused → Type 0
-  Reads which text (Ok done) = HasNormalText text
-  Reads which text (Err (Input whose why)) = (whose ≡ which) × ChecksRefused why
-  Reads which text (Err Memory) = RanOutOfMemory
-
 -- Two inputs, A and then B.
 module _ {R S : Type 0} (source_a : Source R) (source_b : Source S) (limits : Limits) (mode : Mode)
     (old_a new_a : R) (old_b new_b : S) where
@@ -44,15 +35,13 @@ module _ {R S : Type 0} (source_a : Source R) (source_b : Source S) (limits : Li
     pub a : HasNormalText source_a limits mode old_a new_a text_a
     pub b : HasNormalText source_b limits mode old_b new_b text_b
 
-  -- An allocation failed while A was read, and nothing was read of B; or while B was read, and A is
-  -- accepted; or after both were accepted, with two normal forms.
+  -- An allocation failed at some record of A, and nothing was read of B; or A is accepted, and an
+  -- allocation failed at some record of B, or after its last record.
   abbrev pub RunsOutOfMemory : Type 0
   RunsOutOfMemory =
       (RanOutOfMemory source_a limits mode old_a new_a × (new_b ≡ old_b))
-      ⊎ (((text_a : List ℕ) × HasNormalText source_a limits mode old_a new_a text_a
+      ⊎ ((text_a : List ℕ) × HasNormalText source_a limits mode old_a new_a text_a
       × RanOutOfMemory source_b limits mode old_b new_b)
-      ⊎ ((text_a : List ℕ) × (text_b : List ℕ) × AreAccepted text_a text_b
-      × (text_a ≡ text_b → ⊥)))
 
   -- `Same` is returned if both recordings have one normal form, and differences if they have two.
   -- A refusal of A is reported before anything of B is read, and a refusal of B if A is accepted.

@@ -16,7 +16,7 @@ use dap_tree::Scratch;
 use std::alloc::{AllocError, Global};
 
 /// Returns the lines for the stored records of A and of B.
-fn lines_of(
+pub fn lines_of(
     alloc: Global,
     text_a: &[u8],
     text_b: &[u8],

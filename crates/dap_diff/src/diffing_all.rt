@@ -6,24 +6,23 @@ ghost use Rattle.dap_normalise.specs.NameTables.{AreReady};
 ghost use Rattle.dap_diff.specs.Matching.{DiffersAll};
 
 use crate::all_differences::AllDifferences;
-use crate::entry::Recording;
-use crate::recordings::read_recording;
-use crate::report::report_lines;
+use crate::sessions::diff_all_sessions;
 use dap_compare::{CompareRefused, Which};
 use dap_device::Source;
 use dap_input::Limits;
-use dap_rename::{Mode, NameTable, Tables};
+use dap_normalise::read_session_from;
+use dap_rename::{Mode, NameTable, Tables, index_tables};
 use std::alloc::Global;
 
 /// Compares two recordings record by record, and reports each pair of records that differs and each
 /// record without a counterpart.
 ///
-/// Both inputs are read whole and held in memory. The counterpart of the K-th request or event with
-/// some side and name is the K-th one with that side and name; the counterpart of a response is the
-/// response to the counterpart of its request. Ids are compared by joint numbers: two ids of one
-/// sort at one path of a pair get one number, if neither has a number yet. With [`Mode::PerStop`]
-/// ids of frames and references that come after different stops are different ids. The tables for
-/// the ids of A and of B must be empty, each with the limit `limits.ids`.
+/// Both inputs are read whole, and their messages are stored. The counterpart of the K-th request
+/// or event with some side and name is the K-th one with that side and name; the counterpart of a
+/// response is the response to the counterpart of its request. Ids are compared by joint numbers:
+/// two ids of one sort at one path of a pair get one number, if neither has a number yet. With
+/// [`Mode::PerStop`] ids of frames and references that come after different stops are different
+/// ids. The tables for the ids of A and of B must be empty, each with the limit `limits.ids`.
 ///
 /// The first line is `differ: N paired, N only in A, N only in B`. The records follow in the order
 /// of A, each as a line such as `12/13 < event "stopped"`, with the numbers in A and in B and `-`
@@ -57,13 +56,15 @@ pub fn diff_all_with<A: Source, B: Source, T: NameTable + Drop>(
     ensures taken_a { A.given reader_a.new ≤ A.given reader_a.old + limits.input + 1 }
     ensures taken_b { B.given reader_b.new ≤ B.given reader_b.old + limits.input + 1 }
 {
-    let mut a = Recording::new(alloc);
-    read_recording(alloc, Which::A, reader_a, limits, tables_a, mode, &mut a)?;
-    let mut b = Recording::new(alloc);
-    read_recording(alloc, Which::B, reader_b, limits, tables_b, mode, &mut b)?;
-    if a.text.as_slice() == b.text.as_slice() {
-        return Ok(AllDifferences::Same);
-    }
-    let lines = report_lines(alloc, &mut a, &mut b)?;
-    Ok(AllDifferences::Differ { lines })
+    let a = match read_session_from(alloc, reader_a, limits, tables_a, mode) {
+        Ok(session) => session,
+        Err(refused) => return Err(CompareRefused::of(Which::A, refused)),
+    };
+    let b = match read_session_from(alloc, reader_b, limits, tables_b, mode) {
+        Ok(session) => session,
+        Err(refused) => return Err(CompareRefused::of(Which::B, refused)),
+    };
+    let tables_a = index_tables(alloc, limits.ids);
+    let tables_b = index_tables(alloc, limits.ids);
+    Ok(diff_all_sessions(alloc, &a, &b, limits, tables_a, tables_b, mode)?)
 }

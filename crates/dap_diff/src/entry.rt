@@ -1,12 +1,12 @@
-//! A recording in memory: its records, and what matching needs of each.
-ghost use Rattle.std.specs.Prelude.{◌≡◌, []};
+//! The records of a recording, and what matching needs of each.
+use crate::record_lines::head_of;
+use dap_message::AnyMessage;
+use dap_stored::StoredMessage;
+use std::alloc::{AllocError, Global};
 
-use dap_message::Message;
-use std::alloc::Global;
-
-/// A record of the normal form of a recording.
+/// A record of a recording.
 #[derive(Drop)]
-pub struct Entry {
+pub struct Entry<M> {
     /// The place of the record in its recording, counted from 1.
     pub number: u64,
     /// The number of the last `stopped` event before the record, if frame ids and variables
@@ -14,33 +14,30 @@ pub struct Entry {
     pub stop: u64,
     /// The side, the kind and the name of the message, such as `< event "stopped"`.
     pub head: String,
-    pub message: Message,
+    pub message: M,
     /// The index of the record's counterpart in the other recording.
     pub counterpart: Option<usize>,
 }
 
-/// A recording in memory.
-#[derive(Drop)]
-pub struct Recording {
-    /// The text of the normal form.
-    pub text: Vec<u8>,
-    /// The records of the normal form.
-    pub entries: Vec<Entry>,
-    /// The number of the last `stopped` event so far; 0 if the ids are numbered once.
-    pub stop: u64,
-}
+/// A record of a stored session.
+pub type StoredEntry<'s> = Entry<StoredMessage<'s>>;
 
-impl Recording {
-    /// Creates a recording without records. Does not allocate.
-    pub fn new(alloc: Global) -> Recording
-        ensures text { result.text.items ≡ [] }
-        ensures entries { result.entries.items ≡ [] }
-        ensures stop { result.stop ≡ 0 }
+impl<M: AnyMessage + Drop> Entry<M> {
+    ghost use Rattle.std.specs.Prelude.{IfOk};
+    ghost use Rattle.dap_diff.specs.Entries.{IsEntryOf};
+
+    /// Returns the record with this number and this message, which follows this stop. It has no
+    /// counterpart.
+    pub fn new(alloc: Global, number: u64, stop: u64, message: M) -> Result<Entry<M>, AllocError>
+        ensures { IfOk result (IsEntryOf M.sent stop number (M.sent message)) }
     {
-        Recording {
-            text: Vec::new(alloc),
-            entries: Vec::new(alloc),
-            stop: 0,
-        }
+        let head = head_of(alloc, &message)?;
+        Ok(Entry {
+            number,
+            stop,
+            head,
+            message,
+            counterpart: None,
+        })
     }
 }

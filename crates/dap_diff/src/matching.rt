@@ -1,6 +1,6 @@
 //! Finds the counterpart of each record.
 use crate::entry::Entry;
-use dap_message::{Message, Side};
+use dap_message::{AnyMessage, Side};
 use dap_tree::Sort;
 use std::alloc::{AllocError, Global};
 use std::collections::{BTreeMap, VecDeque};
@@ -23,7 +23,7 @@ fn seq_of(side: Side, number: i64) -> Seq {
 
 /// Returns the sequence number of the request that a response answers, and nothing for any other
 /// message.
-fn answered_seq(message: &Message) -> Option<Seq> {
+fn answered_seq<M: AnyMessage>(message: &M) -> Option<Seq> {
     let number = message.request_seq()?;
     match message.side() {
         Side::Client => Some(seq_of(Side::Adapter, number)),
@@ -59,7 +59,12 @@ impl Matcher {
     }
 
     /// Adds a record of A.
-    fn add(&mut self, alloc: Global, index: usize, entry: &Entry) -> Result<(), AllocError> {
+    fn add<M: AnyMessage>(
+        &mut self,
+        alloc: Global,
+        index: usize,
+        entry: &Entry<M>,
+    ) -> Result<(), AllocError> {
         if let Some(seq) = answered_seq(&entry.message) {
             let _ = self.responses.insert(seq, index)?;
             return Ok(());
@@ -85,7 +90,10 @@ impl Matcher {
     }
 
     /// Returns the index of the counterpart of a record of B. The records of B come in their order.
-    fn counterpart(&mut self, entry: &Entry) -> Result<Option<usize>, AllocError> {
+    fn counterpart<M: AnyMessage>(
+        &mut self,
+        entry: &Entry<M>,
+    ) -> Result<Option<usize>, AllocError> {
         if let Some(request) = answered_seq(&entry.message) {
             return Ok(self.response_to(request));
         }
@@ -102,7 +110,11 @@ impl Matcher {
 ///
 /// The counterpart of the K-th request or event with some side and name is the K-th one with that
 /// side and name. The counterpart of a response is the response to the counterpart of its request.
-pub fn match_records(alloc: Global, a: &mut [Entry], b: &mut [Entry]) -> Result<(), AllocError> {
+pub fn match_records<M: AnyMessage>(
+    alloc: Global,
+    a: &mut [Entry<M>],
+    b: &mut [Entry<M>],
+) -> Result<(), AllocError> {
     let mut matcher = Matcher::new(alloc);
     for (index, entry) in a.iter().enumerate() {
         matcher.add(alloc, index, entry)?;

@@ -1,13 +1,18 @@
 //! Numbers the ids of two recordings jointly.
-ghost use Rattle.std.specs.Prelude.{◌≡◌, length, true, IfOk};
-ghost use Rattle.dap_diff.specs.Numbers.{are_positive};
+ghost use Rattle.std.specs.Prelude.{◌≡◌, length, IfOk};
+ghost use Rattle.dap_stored.specs.Sessions.{stored_sent};
+ghost use Rattle.dap_tree.specs.Ids.{ids};
 
-use crate::entry::Entry;
+use crate::contents::have_one_text;
+use crate::entry::StoredEntry;
 use crate::ids::{Id, JointNumbers};
 use crate::rows::Row;
 use dap_compare::Which;
-use dap_message::Message;
-use dap_tree::{Sort, Tree};
+use dap_flat::Mark;
+use dap_message::{AnyMessage, Message};
+use dap_normalise::read_message;
+use dap_stored::StoredMessage;
+use dap_tree::{Scratch, Tree};
 use std::alloc::{AllocError, Global};
 use std::collections::BTreeMap;
 
@@ -65,49 +70,78 @@ fn join_members(
     Ok(())
 }
 
+/// Joins the ids of one sort at one place of two lists, which follow these stops.
+fn join_marks(
+    stops: (u64, u64),
+    marks: &[Mark],
+    others: &[Mark],
+    numbers: &mut JointNumbers,
+) -> Result<(), AllocError> {
+    for (mark, other) in marks.iter().zip(others) {
+        if mark.sort == other.sort {
+            numbers.join(
+                Id::new(Which::A, mark.sort, stops.0, mark.number),
+                Id::new(Which::B, other.sort, stops.1, other.number),
+            )?;
+        }
+    }
+    Ok(())
+}
+
+/// Returns a stored message with its tree.
+fn tree_of(
+    alloc: Global,
+    message: &StoredMessage<'_>,
+    scratch: &mut Scratch,
+) -> Result<Message, AllocError> {
+    // The content was read as a message before, so no other error is possible.
+    read_message(alloc, 1, message.side(), message.content(), scratch).map_err(|_| AllocError)
+}
+
+/// Joins the ids of one sort at one path of a pair. Messages with the same text between their ids
+/// have them at the same paths.
+fn join_pair(
+    alloc: Global,
+    a: &StoredEntry<'_>,
+    b: &StoredEntry<'_>,
+    scratch: &mut Scratch,
+    numbers: &mut JointNumbers,
+) -> Result<(), AllocError> {
+    let stops = (a.stop, b.stop);
+    if have_one_text(&a.message, &b.message) {
+        return join_marks(stops, a.message.marks(), b.message.marks(), numbers);
+    }
+    let message = tree_of(alloc, &a.message, scratch)?;
+    let other = tree_of(alloc, &b.message, scratch)?;
+    join_trees(stops, message.tree(), other.tree(), numbers)
+}
+
 /// Numbers the ids of the pairs jointly, in the order of the rows.
 pub fn join_pairs(alloc: Global, rows: &[Row<'_>]) -> Result<JointNumbers, AllocError> {
     let mut numbers = JointNumbers::new(alloc);
+    let mut scratch = Scratch::new(alloc);
     for row in rows {
         if let Row::Pair(a, b) = row {
-            let stops = (a.stop, b.stop);
-            join_trees(stops, a.message.tree(), b.message.tree(), &mut numbers)?;
+            join_pair(alloc, a, b, &mut scratch, &mut numbers)?;
         }
     }
     Ok(numbers)
 }
 
-/// Returns the joint numbers of the ids of a record after a stop.
-fn numbers_of(
+/// Returns the joint numbers of the ids of a record of A or of B, in the order of its content.
+pub fn numbers_of(
     alloc: Global,
     which: Which,
-    stop: u64,
-    ids: &[(Sort, i64)],
+    entry: &StoredEntry<'_>,
     numbers: &mut JointNumbers,
 ) -> Result<Vec<i64>, AllocError>
-    ensures count { IfOk result (λ joint. length joint.items ≡ length ids.now) }
-    ensures positive { IfOk result (λ joint. are_positive joint.items ≡ true) }
+    ensures { IfOk result (λ joint.
+        length joint.items ≡ length (ids (stored_sent entry.now.message).doc)) }
 {
-    let mut joint = Vec::new(alloc);
-    for (sort, number) in ids {
-        joint.push(numbers.number(Id::new(which, *sort, stop, *number))?)?;
+    let marks = entry.message.marks();
+    let mut joint = Vec::with_capacity(alloc, marks.len())?;
+    for mark in marks {
+        joint.push(numbers.number(Id::new(which, mark.sort, entry.stop, mark.number))?)?;
     }
     Ok(joint)
-}
-
-/// Returns the message of a record of A or of B with the joint numbers of its ids.
-pub fn renumbered(
-    alloc: Global,
-    which: Which,
-    entry: &Entry,
-    numbers: &mut JointNumbers,
-) -> Result<Message, AllocError> {
-    let Ok(ids) = entry.message.ids(alloc) else {
-        return Err(AllocError);
-    };
-    let joint = numbers_of(alloc, which, entry.stop, ids.as_slice(), numbers)?;
-    let Ok(message) = entry.message.copy(alloc) else {
-        return Err(AllocError);
-    };
-    Ok(message.replace_ids(joint.as_slice()))
 }

@@ -1,13 +1,13 @@
 //! The parts of the lines that report differences.
 ghost use Rattle.std.specs.Prelude.{◌≡◌, ◌++◌, IfOk, OnOk, decimal, string_bytes};
 ghost use Rattle.dap_diff.specs.Diffs.{head_text, kind_word, leaf_lines, side_word};
-ghost use Rattle.dap_message.specs.Message.{doc_of, sent};
+ghost use Rattle.dap_message.specs.Message.{doc_of};
 ghost use Rattle.dap_diff.specs.RecordLines.{place_line, record_text};
 
 use crate::reading::plain_tree;
 use dap_difference::difference_text;
-use dap_message::{Kind, Message, Side};
-use dap_tree::{Scratch, Tree, write_tree};
+use dap_message::{AnyMessage, Kind, Message, Side};
+use dap_tree::{Scratch, Tree, read_tree_with, write_tree};
 use itoa::Buffer;
 use std::alloc::{AllocError, Global};
 
@@ -33,8 +33,8 @@ fn kind_word(kind: Kind) -> &'static str
 }
 
 /// Returns the head of a message, such as `< event "stopped"`.
-pub fn head_of(alloc: Global, message: &Message) -> Result<String, AllocError>
-    ensures { IfOk result (λ head. string_bytes head ≡ head_text (sent message.now)) }
+pub fn head_of<M: AnyMessage>(alloc: Global, message: &M) -> Result<String, AllocError>
+    ensures { IfOk result (λ head. string_bytes head ≡ head_text (M.sent message.now)) }
 {
     let name = Tree::Text(String::from_str(alloc, message.name())?);
     let Ok(quoted) = write_tree(alloc, &name) else {
@@ -98,6 +98,21 @@ pub fn push_leaves(
 {
     let tree_a = plain_tree(alloc, a, scratch)?;
     let tree_b = plain_tree(alloc, b, scratch)?;
+    let text = difference_text(alloc, &tree_a, &tree_b)?;
+    out.extend_from_slice(text.as_slice())
+}
+
+/// Appends the lines of the leaves at which two contents differ.
+pub fn push_content_leaves(
+    alloc: Global,
+    a: &[u8],
+    b: &[u8],
+    scratch: &mut Scratch,
+    out: &mut Vec<u8>,
+) -> Result<(), AllocError> {
+    // Both are contents of messages, so no other error is possible.
+    let tree_a = read_tree_with(alloc, a, scratch).map_err(|_| AllocError)?;
+    let tree_b = read_tree_with(alloc, b, scratch).map_err(|_| AllocError)?;
     let text = difference_text(alloc, &tree_a, &tree_b)?;
     out.extend_from_slice(text.as_slice())
 }

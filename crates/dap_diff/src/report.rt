@@ -1,15 +1,19 @@
 //! The lines that report all differences of two recordings.
-ghost use Rattle.std.specs.Prelude.{◌≡◌, IfOk};
+ghost use Rattle.std.specs.Prelude.{◌≡◌, IfOk, length};
 ghost use Rattle.dap_diff.specs.RecordLines.{count_line};
+ghost use Rattle.dap_stored.specs.Sessions.{stored_sent};
+ghost use Rattle.dap_tree.specs.{Ids.{ids, with_ids}, Json.text_of};
 
-use crate::entry::{Entry, Recording};
+use crate::contents::have_one_text;
+use crate::entry::StoredEntry;
 use crate::ids::JointNumbers;
 use crate::matching::match_records;
-use crate::numbering::{join_pairs, renumbered};
-use crate::record_lines::{push_count, push_leaves, push_place};
+use crate::numbering::{join_pairs, numbers_of};
+use crate::record_lines::{push_content_leaves, push_count, push_place};
 use crate::rows::{Row, first_out_of_order, rows_of};
 use dap_compare::Which;
-use dap_message::Message;
+use dap_message::AnyMessage;
+use dap_stored::StoredMessage;
 use dap_tree::Scratch;
 use std::alloc::{AllocError, Global};
 
@@ -37,26 +41,33 @@ impl Report {
         }
     }
 
-    /// Adds a pair, whose messages have joint numbers, if they differ.
+    /// Adds a pair, if its messages differ by the joint numbers of their ids.
     fn add_pair(
         &mut self,
         alloc: Global,
-        entries: (&Entry, &Entry),
-        a: &Message,
-        b: &Message,
+        a: &StoredEntry<'_>,
+        b: &StoredEntry<'_>,
+        numbers: &mut JointNumbers,
     ) -> Result<(), AllocError> {
-        if have_one_content(alloc, a, b)? {
+        let numbers_a = numbers_of(alloc, Which::A, a, numbers)?;
+        let numbers_b = numbers_of(alloc, Which::B, b, numbers)?;
+        if numbers_a.as_slice() == numbers_b.as_slice() && have_one_text(&a.message, &b.message) {
             return Ok(());
         }
-        let (entry, other) = entries;
+        let content_a = numbered_content(alloc, &a.message, numbers_a.as_slice())?;
+        let content_b = numbered_content(alloc, &b.message, numbers_b.as_slice())?;
+        let (one, other) = (content_a.as_slice(), content_b.as_slice());
+        if one == other {
+            return Ok(());
+        }
         self.pairs = self.pairs.saturating_add(1);
         push_place(
-            Some(entry.number),
-            Some(other.number),
-            entry.head.as_str(),
+            Some(a.number),
+            Some(b.number),
+            a.head.as_str(),
             &mut self.lines,
         )?;
-        push_leaves(alloc, a, b, &mut self.scratch, &mut self.lines)
+        push_content_leaves(alloc, one, other, &mut self.scratch, &mut self.lines)
     }
 
     /// Adds a row, if it differs.
@@ -67,11 +78,7 @@ impl Report {
         numbers: &mut JointNumbers,
     ) -> Result<(), AllocError> {
         match row {
-            Row::Pair(a, b) => {
-                let message = renumbered(alloc, Which::A, a, numbers)?;
-                let other = renumbered(alloc, Which::B, b, numbers)?;
-                self.add_pair(alloc, (a, b), &message, &other)
-            }
+            Row::Pair(a, b) => self.add_pair(alloc, a, b, numbers),
             Row::OnlyA(a) => {
                 self.only_a = self.only_a.saturating_add(1);
                 push_place(Some(a.number), None, a.head.as_str(), &mut self.lines)
@@ -89,12 +96,19 @@ impl Report {
     }
 }
 
-/// Returns whether two messages have one content.
-fn have_one_content(alloc: Global, a: &Message, b: &Message) -> Result<bool, AllocError> {
-    let (Ok(content), Ok(other)) = (a.content(alloc), b.content(alloc)) else {
-        return Err(AllocError);
-    };
-    Ok(content.as_str() == other.as_str())
+/// Returns the content of a message, in which the ids have these numbers.
+fn numbered_content(
+    alloc: Global,
+    message: &StoredMessage<'_>,
+    numbers: &[i64],
+) -> Result<Vec<u8>, AllocError>
+    requires { length numbers.now ≡ length (ids (stored_sent message.now).doc) }
+    ensures { IfOk result (λ content.
+        content.items ≡ text_of (with_ids (stored_sent message.now).doc numbers.now)) }
+{
+    let mut content = Vec::new(alloc);
+    (*message).write_with_ids(alloc, numbers, &mut content)?;
+    Ok(content)
 }
 
 /// Returns the first line, which counts the rows that differ.
@@ -135,12 +149,12 @@ fn report_rows(alloc: Global, rows: &[Row<'_>]) -> Result<Vec<u8>, AllocError> {
 }
 
 /// Returns the lines that report all differences of two recordings.
-pub fn report_lines(
+pub fn report_lines<'m>(
     alloc: Global,
-    a: &mut Recording,
-    b: &mut Recording,
+    a: &mut [StoredEntry<'m>],
+    b: &mut [StoredEntry<'m>],
 ) -> Result<Vec<u8>, AllocError> {
-    match_records(alloc, a.entries.as_mut_slice(), b.entries.as_mut_slice())?;
-    let rows = rows_of(alloc, a.entries.as_slice(), b.entries.as_slice())?;
+    match_records(alloc, a, b)?;
+    let rows = rows_of(alloc, a, b)?;
     report_rows(alloc, rows.as_slice())
 }

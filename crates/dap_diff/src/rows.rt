@@ -1,24 +1,27 @@
 //! The records of two recordings in the order of the report.
-use crate::entry::Entry;
+use crate::entry::StoredEntry;
 use std::alloc::{AllocError, Global};
 
 /// A record of A, of B, or of both.
 #[derive(Clone, Copy)]
 pub enum Row<'m> {
-    Pair(&'m Entry, &'m Entry),
-    OnlyA(&'m Entry),
-    OnlyB(&'m Entry),
+    Pair(&'m StoredEntry<'m>, &'m StoredEntry<'m>),
+    OnlyA(&'m StoredEntry<'m>),
+    OnlyB(&'m StoredEntry<'m>),
 }
 
 /// Returns the counterpart of a record and its index.
-fn counterpart_of<'m>(entry: &Entry, others: &'m [Entry]) -> Option<(usize, &'m Entry)> {
+fn counterpart_of<'m>(
+    entry: &StoredEntry<'m>,
+    others: &'m [StoredEntry<'m>],
+) -> Option<(usize, &'m StoredEntry<'m>)> {
     let index = entry.counterpart?;
     Some((index, others.get(index)?))
 }
 
 /// Appends the records of B from one index to another that have no counterpart.
 fn push_only_b<'m>(
-    b: &'m [Entry],
+    b: &'m [StoredEntry<'m>],
     from: usize,
     to: usize,
     rows: &mut Vec<Row<'m>>,
@@ -37,8 +40,8 @@ fn push_only_b<'m>(
 /// first pair that comes after it in B.
 pub fn rows_of<'m>(
     alloc: Global,
-    a: &'m [Entry],
-    b: &'m [Entry],
+    a: &'m [StoredEntry<'m>],
+    b: &'m [StoredEntry<'m>],
 ) -> Result<Vec<Row<'m>>, AllocError> {
     let mut rows = Vec::new(alloc);
     let mut passed = 0;
@@ -57,7 +60,9 @@ pub fn rows_of<'m>(
 }
 
 /// Returns the first pair that comes in B before a pair that it follows in A.
-pub fn first_out_of_order<'m>(rows: &[Row<'m>]) -> Option<(&'m Entry, &'m Entry)> {
+pub fn first_out_of_order<'m>(
+    rows: &[Row<'m>],
+) -> Option<(&'m StoredEntry<'m>, &'m StoredEntry<'m>)> {
     let mut last = 0;
     for row in rows {
         if let Row::Pair(a, b) = row {

@@ -1,7 +1,7 @@
 //! Counts the events of two recordings, and drops those of which they have different numbers.
 use crate::words::{class_of, push_parts, text_at};
 use dap_compare::Which;
-use dap_diff::{Entry, Recording};
+use dap_diff::Entry;
 use dap_difference::{Step, push_path};
 use dap_message::{Kind, Message};
 use std::alloc::{AllocError, Global};
@@ -110,7 +110,7 @@ fn category_of(message: &Message) -> Option<&str> {
 }
 
 /// Returns whether a record is an event that is dropped.
-pub fn is_dropped(entry: &Entry, events: &EventsByName) -> bool {
+pub fn is_dropped(entry: &Entry<Message>, events: &EventsByName) -> bool {
     let message = &entry.message;
     message.kind() == Kind::Event
         && events
@@ -123,11 +123,11 @@ pub fn is_dropped(entry: &Entry, events: &EventsByName) -> bool {
 pub fn count_events(
     alloc: Global,
     which: Which,
-    recording: &Recording,
+    entries: &[Entry<Message>],
     by_category: bool,
     events: &mut EventsByName,
 ) -> Result<(), AllocError> {
-    for entry in recording.entries.iter() {
+    for entry in entries {
         let message = &entry.message;
         if message.kind() == Kind::Event && !is_needed(message.name()) {
             let name = String::from_str(alloc, message.name())?;

@@ -5,18 +5,20 @@ use crate::counting::{count_events, drops, is_dropped};
 use crate::obstacle::{Reason, Unsolved, unsolved_at};
 use crate::sessions::{Session, Sessions};
 use dap_compare::{CompareRefused, Which};
-use dap_device::MemorySource;
-use dap_diff::{Entry, Recording, match_records, read_recording};
+use dap_diff::{Entry, match_records};
 use dap_input::Limits;
-use dap_rename::{Mode, index_tables};
+use dap_message::{AnyMessage, Message};
+use dap_normalise::{read_message, read_session};
+use dap_rename::Mode;
+use dap_tree::Scratch;
 use std::alloc::Global;
 use std::collections::BTreeMap;
 
 /// Two recordings whose records are matched, without the events that are dropped.
 #[derive(Drop)]
 pub struct Matched {
-    pub a: Recording,
-    pub b: Recording,
+    pub a: Vec<Entry<Message>>,
+    pub b: Vec<Entry<Message>>,
     /// The rules that drop these events.
     pub drops: Vec<u8>,
 }
@@ -24,33 +26,38 @@ pub struct Matched {
 /// A record of A and its counterpart in B, with its place in B.
 #[derive(Clone, Copy)]
 pub struct Pair<'m> {
-    pub a: &'m Entry,
-    pub b: &'m Entry,
+    pub a: &'m Entry<Message>,
+    pub b: &'m Entry<Message>,
     pub place: usize,
 }
 
-/// Reads the recording of a session that is accepted.
-fn read_session(
+/// Returns the records of the normal form of a session.
+fn read_entries(
     alloc: Global,
     which: Which,
     session: &Session,
     limits: Limits,
-) -> Result<Recording, CompareRefused>
+) -> Result<Vec<Entry<Message>>, Unsolved>
     requires { AreSound limits }
 {
-    let mut reader = MemorySource::new(session.bytes.as_slice());
-    let mut recording = Recording::new(alloc);
-    let tables = index_tables(alloc, limits.ids);
-    read_recording(
-        alloc,
-        which,
-        &mut reader,
-        limits,
-        tables,
-        Mode::Whole,
-        &mut recording,
+    let stored = read_session(alloc, session.normal.bytes(), limits, Mode::Whole).map_err(
+        |refused| CompareRefused::of(which, refused),
     )?;
-    Ok(recording)
+    let mut scratch = Scratch::new(alloc);
+    let mut entries = Vec::with_capacity(alloc, stored.len())?;
+    let mut number = 0u64;
+    for view in stored.views(alloc)? {
+        number = number.saturating_add(1);
+        let message = read_message(
+            alloc,
+            number,
+            view.side(),
+            view.content(),
+            &mut scratch,
+        ).map_err(|refused| CompareRefused::of(which, refused))?;
+        entries.push(Entry::new(alloc, number, 0, message)?)?;
+    }
+    Ok(entries)
 }
 
 /// Reads and matches the recordings of two sessions that are accepted. Events that they have in
@@ -63,20 +70,20 @@ pub fn read_matched(
 ) -> Result<Matched, Unsolved>
     requires { AreSound limits }
 {
-    let mut a = read_session(alloc, Which::A, &sessions.a, limits)?;
-    let mut b = read_session(alloc, Which::B, &sessions.b, limits)?;
+    let mut a = read_entries(alloc, Which::A, &sessions.a, limits)?;
+    let mut b = read_entries(alloc, Which::B, &sessions.b, limits)?;
     let mut events = BTreeMap::new(alloc);
-    count_events(alloc, Which::A, &a, by_category, &mut events)?;
-    count_events(alloc, Which::B, &b, by_category, &mut events)?;
-    a.entries.retain(|entry| !is_dropped(entry, &events));
-    b.entries.retain(|entry| !is_dropped(entry, &events));
-    match_records(alloc, a.entries.as_mut_slice(), b.entries.as_mut_slice())?;
+    count_events(alloc, Which::A, a.as_slice(), by_category, &mut events)?;
+    count_events(alloc, Which::B, b.as_slice(), by_category, &mut events)?;
+    a.retain(|entry| !is_dropped(entry, &events));
+    b.retain(|entry| !is_dropped(entry, &events));
+    match_records(alloc, a.as_mut_slice(), b.as_mut_slice())?;
     let drops = drops(alloc, &events)?;
     Ok(Matched { a, b, drops })
 }
 
 /// Returns a record of A with its counterpart.
-fn pair_of<'m>(a: &'m Entry, others: &'m [Entry]) -> Option<Pair<'m>> {
+fn pair_of<'m>(a: &'m Entry<Message>, others: &'m [Entry<Message>]) -> Option<Pair<'m>> {
     let place = a.counterpart?;
     let b = others.get(place)?;
     Some(Pair { a, b, place })
@@ -89,18 +96,13 @@ fn pair_of<'m>(a: &'m Entry, others: &'m [Entry]) -> Option<Pair<'m>> {
 /// A record lacks a counterpart, or an allocation failed.
 pub fn pairs_of<'m>(alloc: Global, matched: &'m Matched) -> Result<Vec<Pair<'m>>, Unsolved> {
     let mut pairs = Vec::new(alloc);
-    for entry in matched.a.entries.iter() {
-        match pair_of(entry, matched.b.entries.as_slice()) {
+    for entry in matched.a.iter() {
+        match pair_of(entry, matched.b.as_slice()) {
             Some(pair) => pairs.push(pair)?,
             None => return Err(unsolved_at(Reason::NoCounterpart, Which::A, entry)),
         }
     }
-    match matched
-        .b
-        .entries
-        .iter()
-        .find(|entry| entry.counterpart.is_none())
-    {
+    match matched.b.iter().find(|entry| entry.counterpart.is_none()) {
         Some(entry) => Err(unsolved_at(Reason::NoCounterpart, Which::B, entry)),
         None => Ok(pairs),
     }

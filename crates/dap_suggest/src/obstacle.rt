@@ -2,6 +2,7 @@
 use dap_compare::{CompareRefused, Which};
 use dap_diff::Entry;
 use dap_mask::{RulesCause, RulesFault};
+use dap_message::Message;
 use dap_rules::ApplyRefused;
 use std::alloc::{AllocError, AllocFailed};
 use std::fmt::{self, Display, Formatter, Write};
@@ -124,7 +125,7 @@ impl From<CompareRefused> for Unsolved {
 }
 
 /// Returns that a record of a recording is the reason.
-pub fn unsolved_at(reason: Reason, which: Which, entry: &Entry) -> Unsolved {
+pub fn unsolved_at(reason: Reason, which: Which, entry: &Entry<Message>) -> Unsolved {
     match entry.head.clone() {
         Ok(head) => Unsolved::NoRules(Obstacle::Record {
             reason,

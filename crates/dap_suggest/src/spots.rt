@@ -8,6 +8,7 @@ use crate::words::{class_of, json_of, parts_of};
 use dap_compare::Which;
 use dap_diff::Entry;
 use dap_mask::MaskRules;
+use dap_message::Message;
 use dap_tree::Tree;
 use std::alloc::{AllocError, Global};
 use std::collections::BTreeMap;
@@ -49,7 +50,7 @@ type Parts = BTreeMap<Vec<u8>, Part>;
 struct Spot<'m> {
     whole: Trial,
     /// The record of A in the first pair.
-    first: &'m Entry,
+    first: &'m Entry<Message>,
     /// The elements at which the pairs differ, if each differs at an element with a name, and these
     /// are few.
     parts: Option<Parts>,
