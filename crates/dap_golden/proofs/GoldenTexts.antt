@@ -121,7 +121,7 @@ module _ (limits : Limits) (mode : Mode) (mask : Option Mask) (allow_open : Bool
       of_session = is;
     }
 
-  -- If a session has no golden text, neither has its input.
+  -- If a session lacks a golden text, so does its input.
   pub session_refused : (session : List ℕ) → IsSessionOf limits mode mask input session
       → (refused : GoldenRefused) → RefusesGolden limits mode allow_open session refused
       → IsRefusedGolden limits mode mask allow_open input refused

@@ -1,6 +1,6 @@
 -- Checking the records that a masked session contains.
-use Rattle.std.proofs.Common.{◌≡◌, ℕ, ◌+◌, List, [], ◌∷◌, ◌++◌, length, map, Option, Some, None}
-use Rattle.std.proofs.Common.{Result, Ok, Err, refl, sym, ◌∙◌, ap, subst, append-nil}
+use Rattle.std.proofs.Common.{◌≡◌, ℕ, ◌+◌, List, [], ◌∷◌, ◌++◌, length, Option, Some, None}
+use Rattle.std.proofs.Common.{Ok, refl, sym, ◌∙◌, ap, subst, append-nil}
 use Rattle.std.specs.Prelude.{IfErr, IfOk}
 use Rattle.std.specs.List.{AllByRecursion}
 use Rattle.dap_frame.specs.Grammar.{IsItem}
@@ -14,7 +14,6 @@ use Rattle.dap_input.specs.Limits.{AreSound}
 use Rattle.dap_input.specs.Validation.{no_message, objected}
 use Rattle.dap_input.specs.Refusals.{IsRefused}
 use Rattle.dap_input.specs.declared.limits.Limits.{Limits}
-use Rattle.dap_input.specs.declared.refused.Refused.{Refused}
 use Rattle.dap_input.specs.declared.refused.Refused.TheVariants.{Message}
 use Rattle.dap_input.proofs.InputLoop.{first_objected}
 use Rattle.dap_input.proofs.Refusals.{refused_as}

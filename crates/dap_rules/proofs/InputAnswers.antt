@@ -1,8 +1,7 @@
 -- The result of applying rules to an input.
 use Rattle.std.proofs.Common.{◌≡◌, inl, inr, ℕ, ◌+◌, List, length, Result, Ok, Err, refl, sym}
 use Rattle.std.proofs.Common.{ap, subst, arith, length-append}
-use Rattle.std.specs.Prelude.{IfErr, IfOk, Vec}
-use Rattle.std.specs.declared.alloc.Global.{Global}
+use Rattle.std.specs.Prelude.{IfErr, IfOk}
 use Rattle.dap_device.specs.declared.device.Source.{Ghosts as Source}
 use Rattle.dap_device.specs.Reading.{HasReadInput}
 use Rattle.dap_device.specs.declared.reading.Stop.{Stop}
@@ -13,9 +12,10 @@ use Rattle.dap_rename.specs.declared.mode.Mode.{Mode}
 use Rattle.dap_input.specs.declared.limits.Limits.{Limits}
 use Rattle.dap_input.specs.declared.refused.Refused.{Refused}
 use Rattle.dap_input.specs.declared.refused.Refused.TheVariants.{Record}
-use Rattle.dap_rules.specs.Applying.{AppliesRules, IsRefusedByRules}
+use Rattle.dap_stored.specs.{Sessions.messages_of, declared.session.StoredSession.StoredSession}
+use Rattle.dap_rules.specs.Applying.{IsNotNormalised, IsRefusedByRules, MakesSession}
 use Rattle.dap_rules.specs.ApplyingSteps.{result_of_input}
-use Rattle.dap_rules.specs.Inputs.{ReadsByRules}
+use Rattle.dap_rules.specs.Inputs.{ReadsSessionByRules}
 use Rattle.dap_rules.specs.declared.fault.ApplyRefused.{ApplyRefused}
 use Rattle.dap_rules.specs.declared.fault.ApplyRefused.TheVariants as because
 
@@ -24,8 +24,8 @@ module _ {R : Type 0} (source : Source R) (limits : Limits) (mode : Mode) (mask 
   abbrev Came : Stop → Type 0
   Came stop = HasReadInput source old new limits.input bytes stop
 
-  abbrev Returns : Result (Vec ℕ Global) ApplyRefused → Type 0
-  Returns = ReadsByRules source limits mode mask old new
+  abbrev Returns : Result StoredSession ApplyRefused → Type 0
+  Returns = ReadsSessionByRules source limits mode mask old new
 
   -- An input that exceeds its limit is not incomplete.
   not_cut : (n : ℕ) → IsRefusedByRules limits mode mask bytes (because.Mask (Record n Cut))
@@ -40,18 +40,18 @@ module _ {R : Type 0} (source : Source R) (limits : Limits) (mode : Mode) (mask 
   refuses why stop came is cut =
       record { bytes = bytes; stop = stop; came = came; is_refused = is; cut = cut }
 
-  returned : (made : Result (Vec ℕ Global) ApplyRefused) (stop : Stop) → Came stop
-      → IfOk made (λ written. AppliesRules limits mode mask bytes written.items)
-      → IfErr made (IsRefusedByRules limits mode mask bytes)
+  returned : (made : Result StoredSession ApplyRefused) (stop : Stop) → Came stop
+      → IfOk made (λ session. MakesSession limits mode mask bytes (messages_of session))
+      → IfErr made (IsNotNormalised limits mode mask bytes)
       → Returns (result_of_input made stop)
-  returned (Ok made) End came applies none =
-      record { whole = bytes; came = came; gives = applies }
-  returned (Ok made) Full came applies none =
-      let short = applies.masks.masks.accepts.short in
+  returned (Ok made) End came makes none =
+      record { whole = bytes; came = came; gives = makes }
+  returned (Ok made) Full came makes none =
+      let short = makes.applies.masks.masks.accepts.short in
       let long = came.has_length in
       absurd (omega (arith, short, long))
-  returned (Ok made) Failed came applies none =
-      record { bytes = bytes; came = came; not_refused = inl (made.items, applies) }
+  returned (Ok made) Failed came makes none =
+      record { bytes = bytes; came = came; not_refused = inl (messages_of made, makes) }
   returned (Err (because.Mask (Record n Cut))) End came none is =
       refuses (Record n Cut) End came is (λ m e. refl)
   returned (Err (because.Mask (Record n Cut))) Full came none is =
@@ -66,9 +66,9 @@ module _ {R : Type 0} (source : Source R) (limits : Limits) (mode : Mode) (mask 
   returned (Err because.Memory) stop came none is = inr (bytes, stop, came)
 
   -- The result, if it follows from the result for the bytes.
-  pub answers : (made given : Result (Vec ℕ Global) ApplyRefused) (stop : Stop) → Came stop
-      → IfOk made (λ written. AppliesRules limits mode mask bytes written.items)
-      → IfErr made (IsRefusedByRules limits mode mask bytes)
+  pub answers : (made given : Result StoredSession ApplyRefused) (stop : Stop) → Came stop
+      → IfOk made (λ session. MakesSession limits mode mask bytes (messages_of session))
+      → IfErr made (IsNotNormalised limits mode mask bytes)
       → given ≡ result_of_input made stop → Returns given
-  answers made given stop came applies is same =
-      subst Returns (sym same) (returned made stop came applies is)
+  answers made given stop came makes is same =
+      subst Returns (sym same) (returned made stop came makes is)

@@ -1,9 +1,8 @@
 -- The session of the masked messages of a recording.
-use Rattle.std.proofs.Common.{◌≡◌, ◌≤◌, ℕ, true, false, List, [], ◌∷◌, ◌++◌, length, map, Option, Some}
-use Rattle.std.proofs.Common.{None, is_some, Ok, Err, refl, sym, ◌∙◌, ap, subst, append_assoc}
+use Rattle.std.proofs.Common.{◌≡◌, ◌≤◌, ℕ, true, false, List, [], ◌∷◌, ◌++◌, length, Option, Some}
+use Rattle.std.proofs.Common.{None, is_some, Ok, refl, sym, ◌∙◌, ap, subst, append_assoc}
 use Rattle.std.proofs.lemmas.Bool.{true≢false}
 use Rattle.std.proofs.lemmas.List.{map-append}
-use Rattle.std.specs.List.{AllByRecursion}
 use Rattle.dap_tree.specs.Doc.{Doc}
 use Rattle.dap_tree.specs.Json.{IsRead, text_of}
 use Rattle.dap_message.specs.Message.{Sent, HasRefusal, faulty}
@@ -18,7 +17,7 @@ use Rattle.dap_stored.specs.Sessions.{messages_of}
 use Rattle.dap_input.specs.Limits.{AreSound}
 use Rattle.dap_input.specs.declared.limits.Limits.{Limits}
 use Rattle.dap_normalise.specs.Accepting.{Payload, AreMessages, Fits, IsMessage, text}
-use Rattle.dap_normalise.specs.JudgingSteps.{Writes as WritesRecord, record_of}
+use Rattle.dap_normalise.specs.JudgingSteps.{Writes as WritesRecord}
 use Rattle.dap_normalise.specs.RecordTexts.{FitRecords, contents_of}
 use Rattle.dap_recording.specs.Recording.{recording_text}
 use Rattle.dap_normalise.proofs.RecordTexts.{recorded_contents, short_contents}
@@ -27,7 +26,7 @@ use Rattle.dap_rules.specs.MaskedRecordings.{IsMaskedTo}
 use Rattle.dap_rules.specs.MaskedSessions.{Adds, HoldUpTo, Holds, IsMaskedSession, IsPushed}
 use Rattle.dap_rules.specs.MaskedSessions.{RepresentsMasked}
 use Rattle.dap_rules.specs.declared.masked_session.MaskedSession.{MaskedSession}
-use Rattle.dap_rules.proofs.MaskedRecords.{all_left, left, message, next_left, none_left}
+use Rattle.dap_rules.proofs.MaskedRecords.{all_left, message, next_left, none_left}
 use Rattle.dap_rules.proofs.MaskingLoop.{promised}
 
 -- ---- one more record

@@ -1,6 +1,6 @@
 -- A masked text masks to itself, and determines the messages except for the values that the rules
 -- remove.
-use Rattle.std.proofs.Common.{◌≡◌, ℕ, ◌≤◌, Bool, true, false, not, List, [], ◌∷◌, length, map}
+use Rattle.std.proofs.Common.{◌≡◌, ℕ, Bool, true, false, not, List, [], ◌∷◌, map}
 use Rattle.std.proofs.Common.{refl, sym, ◌∙◌, ap, ap₂, subst}
 use Rattle.std.specs.List.{AllByRecursion, AllZip}
 use Rattle.dap_tree.specs.Doc.{is_ordered}
@@ -8,9 +8,7 @@ use Rattle.dap_tree.specs.Json.{text_of}
 use Rattle.dap_frame.proofs.Ends.{not_empty}
 use Rattle.dap_frame.proofs.ItemStreams as items
 use Rattle.dap_message.specs.Message.{Sent, IsTyped}
-use Rattle.dap_recording.specs.Recording.{IsRecording, record_text}
 use Rattle.dap_recording.proofs.Records.{readable, record_grammar}
-use Rattle.dap_recording.proofs.RecordsWritten.{written_is_record}
 use Rattle.dap_input.specs.declared.limits.Limits.{Limits}
 use Rattle.dap_input.specs.Limits.{AreSound}
 use Rattle.dap_input.proofs.Outcomes.{one_list}

@@ -31,7 +31,7 @@ front_of (x ∷ short) (y ∷ long) rest more same le =
     let later = front_of short long rest more tails (omega (arith, le)) in
     (later.0, ap (λ z. z ∷ long) (sym head) ∙ ap (λ t. x ∷ t) later.1)
 
-outcome : (limits : Limits) (mode : Mode) → HasOneOutcome (accepting limits mode)
+pub outcome : (limits : Limits) (mode : Mode) → HasOneOutcome (accepting limits mode)
 outcome limits mode =
     has_one_outcome (accepting limits mode) (shown_cause limits.frame) (readable limits.frame)
     (value_facts limits mode) (accepted_facts limits mode)

@@ -13,19 +13,20 @@ use Rattle.dap_recording.specs.declared.record_fault.RecordCause.TheVariants.{Cu
 use Rattle.dap_rename.specs.declared.mode.Mode.{Mode}
 use Rattle.dap_message.specs.SwapRules.{SwapRule}
 use Rattle.dap_input.specs.Engine.{Accepts, Answers}
-use Rattle.dap_input.specs.Refusals.{IsRefused}
+use Rattle.dap_input.specs.{Limits.AreSound, Refusals.IsRefused}
 use Rattle.dap_input.specs.declared.limits.Limits.{Limits}
 use Rattle.dap_input.specs.declared.refused.Refused.{Refused}
 use Rattle.dap_input.specs.declared.refused.Refused.TheVariants.{Grew, Memory, ReadFault, Record}
 use Rattle.dap_input.specs.declared.refused.Refused.TheVariants.{WriteFault}
-use Rattle.dap_normalise.specs.Accepting.{Fits, IsAccepted, accepting, text}
+use Rattle.dap_normalise.specs.Accepting.{IsAccepted, accepting, text}
 use Rattle.dap_normalise.specs.Normalising.{RefusesBytes}
 use Rattle.dap_normalise.specs.RecordTexts.{Contain, contents_of}
 use Rattle.dap_recording.specs.Recording.{recording_text}
 use Rattle.dap_normalise.proofs.RecordTexts.{own_contents, recorded_contents}
 use Rattle.dap_order.specs.MessageOrder.{ordered}
-use Rattle.dap_rules.specs.Ordering.{IsNotOrdered, IsTextError, Orders, RefusesToOrder}
-use Rattle.dap_rules.specs.OrderingSteps.{Measures, result_of_input}
+use Rattle.dap_rules.specs.Ordering.{IsNotOrdered, Orders, RefusesToOrder}
+use Rattle.dap_rules.specs.OrderingSteps.{Arranges, AreWithin, Measures, result_of_input}
+use Rattle.dap_rules.proofs.{OrderedTexts.one_accepted, TextErrors.text_error}
 use Rattle.dap_rules.proofs.WrittenTexts.{ordered_own}
 
 abbrev failure : Refused → Result (Vec ℕ Global) Refused
@@ -46,37 +47,61 @@ module _ (limits : Limits) (mode : Mode) (rules : List SwapRule) (bytes : List �
     not_counted Memory is = tt
     not_counted because is = absurd is
 
-    pub text_refused : Fits limits (ordered rules ms) → (because : Refused)
-        → RefusesBytes limits mode (text (ordered rules ms)) because
-        → ((why : Refused) → IsRefused (accepting limits mode) (text (ordered rules ms)) why
-        → IsTextError mode why)
-        → RefusesToOrder limits mode rules bytes because
-    text_refused fits Memory is errors = tt
-    text_refused fits because is errors =
-        inr (ms, accepted, inr (fits, is, errors because is))
+    -- These are the messages in order, and their text is within the limits.
+    module _ (sound : AreSound limits) (all : List Sent)
+        (within : AreWithin limits (ordered rules ms) all) where
+      -- The records of their own contents.
+      abbrev own : List ℕ
+      own = recording_text (contents_of all)
 
-    -- Messages that are those in order, and the records of their own contents.
-    module _ (all : List Sent) (same : all ≡ ordered rules ms) where
-      pub own_records : Fits limits (ordered rules ms) → Contain limits all (contents_of all)
-      own_records fits =
-          subst (λ (ns : List Sent). Contain limits ns (contents_of ns)) (sym same)
-          (own_contents limits (ordered rules ms) fits
+      own_text : own ≡ text (ordered rules ms)
+      own_text = recorded_contents all ∙ ap text within.same
+
+      pub own_records : Contain limits all (contents_of all)
+      own_records =
+          subst (λ (ns : List Sent). Contain limits ns (contents_of ns)) (sym within.same)
+          (own_contents limits (ordered rules ms) within.fits
           (ordered_own rules ms accepted.records accepted.typed))
 
-      pub own_recorded : recording_text (contents_of all) ≡ text (ordered rules ms)
-      own_recorded = recorded_contents all ∙ ap text same
+      pub orders : IsAccepted limits mode own all → Orders limits mode rules bytes own
+      orders is = record {
+        messages = ms;
+        accepts = accepted;
+        text_is = own_text;
+        fits = within.fits;
+        accepted = subst (IsAccepted limits mode own) within.same is;
+      }
 
-      pub accepted_in_order : IsAccepted limits mode (recording_text (contents_of all)) all
-          → IsAccepted limits mode (text (ordered rules ms)) (ordered rules ms)
-      accepted_in_order is =
-          subst (λ (ns : List Sent). IsAccepted limits mode (text ns) ns) same
-          (subst (λ (t : List ℕ). IsAccepted limits mode t all) (recorded_contents all) is)
+      text_refused : (because : Refused)
+          → RefusesBytes limits mode (text (ordered rules ms)) because
+          → RefusesToOrder limits mode rules bytes because
+      text_refused Memory is = tt
+      text_refused because is =
+          let error = text_error limits mode sound rules bytes ms accepted within.fits because is in
+          inr (ms, accepted, inr (within.fits, is, error))
 
-    pub orders : Fits limits (ordered rules ms)
-        → IsAccepted limits mode (text (ordered rules ms)) (ordered rules ms)
-        → Orders limits mode rules bytes (text (ordered rules ms))
-    orders fits in_order =
-        record { messages = ms; accepts = accepted; text_is = refl; fits = fits; accepted = in_order }
+      pub own_refused : (because : Refused) → RefusesBytes limits mode own because
+          → RefusesToOrder limits mode rules bytes because
+      own_refused because is =
+          text_refused because (subst (λ t. RefusesBytes limits mode t because) own_text is)
+
+  -- The messages of the text in order, and their text.
+  module _ (messages : List Sent) (is : Arranges limits mode rules bytes messages) where
+    arranged_are : messages ≡ ordered rules is.1.messages
+    arranged_are =
+        one_accepted limits mode is.0 messages (ordered rules is.1.messages) is.2 is.1.accepted
+
+    pub arranged_text : (written : List ℕ) → written ≡ text messages
+        → Orders limits mode rules bytes written
+    arranged_text written same =
+        subst (Orders limits mode rules bytes) (is.1.text_is ∙ sym (same ∙ ap text arranged_are))
+        is.1
+
+    pub not_written : (because : Refused) → Measures limits messages (Err because)
+        → RefusesToOrder limits mode rules bytes because
+    not_written because long =
+        not_counted is.1.messages is.1.accepts because
+        (subst (λ (all : List Sent). Measures limits all (Err because)) arranged_are long)
 
   -- ---- errors that no input has
 

@@ -1,12 +1,13 @@
--- The text into which the rules of a file turn a recording, and the errors for which they cannot.
--- Source: own, over masks and the order of messages.
+-- The text into which the rules of a file turn a recording, its messages, and the errors for which
+-- they cannot. Source: own, over masks and the order of messages.
 use Rattle.std.specs.Prelude.{◌≡◌, ◌⊎◌, ℕ, List, [], ◌∷◌}
 use Rattle.dap_mask.specs.Mask.{Mask}
-use Rattle.dap_message.specs.SwapRules.{SwapRule}
+use Rattle.dap_message.specs.{Message.Sent, SwapRules.SwapRule}
 use Rattle.dap_rename.specs.declared.mode.Mode.{Mode}
 use Rattle.dap_input.specs.{declared.limits.Limits.Limits, declared.refused.Refused.Refused}
 use Rattle.dap_input.specs.{declared.refused.Refused.TheVariants.Memory, Refusals.IsRefused}
-use Rattle.dap_normalise.specs.{Accepting.accepting, NormalSession.IsNormalSession}
+use Rattle.dap_normalise.specs.Accepting.{IsAccepted, accepting}
+use Rattle.dap_normalise.specs.NormalSession.{IsNormalSession}
 use Rattle.dap_normalise.specs.Normalising.{RefusesBytes}
 use Rattle.dap_normalise.specs.declared.normal_session.NormalSession.{NormalSession}
 use Rattle.dap_rules.specs.{MaskedRecordings.IsMaskedTo, Masking.masking}
@@ -28,6 +29,13 @@ pub record AppliesRules (limits : Limits) (mode : Mode) (mask : Mask)
   pub masked : List ℕ
   pub masks : IsMaskedTo limits mask recording masked
   pub orders : OrdersBy limits mode mask.swaps masked written
+
+-- The rules turn the recording into a text, which is accepted, and these are its messages.
+pub record MakesSession (limits : Limits) (mode : Mode) (mask : Mask) (recording : List ℕ)
+    (messages : List Sent) : Type 0 where
+  pub written : List ℕ
+  pub applies : AppliesRules limits mode mask recording written
+  pub accepted : IsAccepted limits mode written messages
 
 -- The rules for the order put the recording in order, and this is the normal text of the result,
 -- with its counts.

@@ -1,9 +1,13 @@
 -- What the steps of applying rules do, for private clauses.
-use Rattle.std.specs.{Prelude.{ℕ, Result, Ok, Err, Vec}, declared.alloc.Global.Global}
+use Rattle.std.specs.Prelude.{ℕ, List, Result, Ok, Err}
 use Rattle.dap_device.specs.{declared.reading.Stop.Stop, declared.reading.Stop.TheVariants.Failed}
-use Rattle.dap_input.specs.declared.refused.Refused.{Refused}
+use Rattle.dap_message.specs.{Message.Sent, SwapRules.SwapRule}
+use Rattle.dap_rename.specs.declared.mode.Mode.{Mode}
+use Rattle.dap_input.specs.{declared.limits.Limits.Limits, declared.refused.Refused.Refused}
 use Rattle.dap_input.specs.declared.refused.Refused.TheVariants.{Memory, Record}
+use Rattle.dap_normalise.specs.Accepting.{IsAccepted}
 use Rattle.dap_recording.specs.declared.record_fault.RecordCause.TheVariants.{Cut}
+use Rattle.dap_rules.specs.Applying.{OrdersBy}
 use Rattle.dap_rules.specs.declared.fault.ApplyRefused.{ApplyRefused}
 use Rattle.dap_rules.specs.declared.fault.ApplyRefused.TheVariants as because
 
@@ -17,10 +21,15 @@ abbrev pub order_refusal : Refused → ApplyRefused
 order_refusal Memory = because.Memory
 order_refusal refused = because.Order refused
 
--- The result of `read_by_rules` for an input whose reader stopped for this reason, given the result
--- of applying the rules to the bytes read.
-abbrev pub result_of_input : Result (Vec ℕ Global) ApplyRefused → Stop
-    → Result (Vec ℕ Global) ApplyRefused
-result_of_input (Ok text) Failed = Err because.ReadFault
+-- The rules for the order put the recording in order, and these are the messages of the result,
+-- which is accepted.
+abbrev pub MakesSessionBy : Limits → Mode → List SwapRule → List ℕ → List Sent → Type 0
+MakesSessionBy limits mode rules recording messages = (written : List ℕ)
+    × OrdersBy limits mode rules recording written × IsAccepted limits mode written messages
+
+-- The result of `read_session_by_rules` for an input whose reader stopped for this reason, given the
+-- result for the bytes read.
+abbrev pub result_of_input : {T : Type 0} → Result T ApplyRefused → Stop → Result T ApplyRefused
+result_of_input (Ok made) Failed = Err because.ReadFault
 result_of_input (Err (because.Mask (Record n Cut))) Failed = Err because.ReadFault
 result_of_input result stop = result

@@ -6,43 +6,24 @@ ghost use Rattle.dap_mask.specs.KeptRules.{mask_of};
 ghost use Rattle.dap_normalise.specs.{Accepting.Payload, RecordTexts.FitRecords};
 ghost use Rattle.dap_recording.specs.Recording.{recording_text};
 ghost use Rattle.dap_rules.specs.Applying.{AppliesRules, IsNotNormalised, IsRefusedByRules};
-ghost use Rattle.dap_rules.specs.Applying.{NormalisesBy, NormalisesByRules, RefusesNormalBy};
+ghost use Rattle.dap_rules.specs.Applying.{MakesSession, NormalisesBy, NormalisesByRules};
+ghost use Rattle.dap_rules.specs.{Applying.RefusesNormalBy, ApplyingSteps.MakesSessionBy};
 ghost use Rattle.dap_rules.specs.ApplyingSteps.{mask_refusal, order_refusal};
-ghost use Rattle.dap_rules.specs.{MaskedSessions.Holds, Ordering.{Orders, RefusesToOrder}};
+ghost use Rattle.dap_rules.specs.MaskedSessions.{Holds};
+ghost use Rattle.dap_stored.specs.Sessions.{messages_of};
 
 use crate::fault::ApplyRefused;
 use crate::masked_session::{MaskedSession, check_masked, normalise_masked, read_masked_session};
 use crate::masking::mask_bytes;
-use crate::ordering::{normalise_in_order, order_session};
+use crate::ordering::{arranged, normalise_in_order};
+use crate::writing::text_of_session;
 use dap_input::{Limits, Refused};
 use dap_mask::MaskRules;
 use dap_message::SwapRule;
 use dap_normalise::NormalSession;
 use dap_rename::Mode;
+use dap_stored::StoredSession;
 use std::alloc::Global;
-
-/// Puts the records of a masked session in order, as [`order_bytes`](crate::order_bytes) does.
-///
-/// # Errors
-///
-/// Those of [`order_bytes`](crate::order_bytes).
-fn order_masked(
-    alloc: Global,
-    swaps: &[SwapRule],
-    masked: MaskedSession,
-    limits: Limits,
-    mode: Mode,
-) -> Result<Vec<u8>, Refused>
-    requires limits { AreSound limits }
-    ensures ok { (records : List Payload) → FitRecords limits records → Holds masked records
-        → IfOk result
-        (λ text. Orders limits mode (swaps_of swaps.now) (recording_text records) text.items) }
-    ensures err { (records : List Payload) → FitRecords limits records → Holds masked records
-        → IfErr result (RefusesToOrder limits mode (swaps_of swaps.now) (recording_text records)) }
-{
-    check_masked(alloc, &masked, limits, mode)?;
-    order_session(alloc, swaps, masked.messages, limits, mode)
-}
 
 /// Normalises the records of a masked session, in order if some rules are for the order.
 ///
@@ -68,6 +49,33 @@ fn normalise_by(
     }
     check_masked(alloc, &masked, limits, mode)?;
     normalise_in_order(alloc, swaps, masked.messages, limits, mode)
+}
+
+/// Returns the messages of a masked session, in order if some rules are for the order. They are
+/// checked.
+///
+/// # Errors
+///
+/// Those of [`check_masked`], and of [`arranged`] if some rules are for the order.
+fn session_by(
+    alloc: Global,
+    swaps: &[SwapRule],
+    masked: MaskedSession,
+    limits: Limits,
+    mode: Mode,
+) -> Result<StoredSession, Refused>
+    requires limits { AreSound limits }
+    ensures ok { (records : List Payload) → FitRecords limits records → Holds masked records
+        → IfOk result (λ session. MakesSessionBy limits mode (swaps_of swaps.now)
+        (recording_text records) (messages_of session)) }
+    ensures err { (records : List Payload) → FitRecords limits records → Holds masked records
+        → IfErr result (RefusesNormalBy limits mode (swaps_of swaps.now) (recording_text records)) }
+{
+    check_masked(alloc, &masked, limits, mode)?;
+    if swaps.is_empty() {
+        return Ok(masked.messages);
+    }
+    arranged(alloc, swaps, masked.messages, limits, mode)
 }
 
 /// Returns the error of the step that masks a recording.
@@ -119,8 +127,7 @@ pub fn apply_rules(
     ensures err { IfErr result (IsRefusedByRules limits mode (mask_of rules.now) recording.now) }
     ensures empty { recording.now ≡ [] → IsOk result }
 {
-    let swaps = rules.swaps();
-    if swaps.is_empty() {
+    if rules.swaps().is_empty() {
         return match mask_bytes(alloc, rules, recording, limits) {
             Ok(masked) => Ok(masked),
             Err(refused) => Err(mask_refusal(refused)),
@@ -129,11 +136,8 @@ pub fn apply_rules(
     if recording.is_empty() {
         return Ok(Vec::new(alloc));
     }
-    let masked = match read_masked_session(alloc, rules, recording, limits) {
-        Ok(masked) => masked,
-        Err(refused) => return Err(mask_refusal(refused)),
-    };
-    match order_masked(alloc, swaps, masked, limits, mode) {
+    let session = session_by_rules(alloc, rules, recording, limits, mode)?;
+    match text_of_session(alloc, &session, limits) {
         Ok(text) => Ok(text),
         Err(refused) => Err(order_refusal(refused)),
     }
@@ -165,6 +169,35 @@ pub fn normalise_by_rules(
     };
     match normalise_by(alloc, rules.swaps(), masked, limits, mode) {
         Ok(normal) => Ok(normal),
+        Err(refused) => Err(order_refusal(refused)),
+    }
+}
+
+/// Masks a recording and, if some of the rules are for the order, puts it in order. Returns the
+/// messages of the result, which is checked in the same way as by [`check`](dap_normalise::check) in
+/// this mode. Reads the recording once, and creates no text.
+///
+/// # Errors
+///
+/// Those of [`normalise_by_rules`].
+pub fn session_by_rules(
+    alloc: Global,
+    rules: &MaskRules,
+    recording: &[u8],
+    limits: Limits,
+    mode: Mode,
+) -> Result<StoredSession, ApplyRefused>
+    requires limits { AreSound limits }
+    ensures ok { IfOk result (λ session. MakesSession limits mode (mask_of rules.now) recording.now
+        (messages_of session)) }
+    ensures err { IfErr result (IsNotNormalised limits mode (mask_of rules.now) recording.now) }
+{
+    let masked = match read_masked_session(alloc, rules, recording, limits) {
+        Ok(masked) => masked,
+        Err(refused) => return Err(mask_refusal(refused)),
+    };
+    match session_by(alloc, rules.swaps(), masked, limits, mode) {
+        Ok(session) => Ok(session),
         Err(refused) => Err(order_refusal(refused)),
     }
 }

@@ -3,8 +3,9 @@
 //! [`mask`] removes from each message the values that change from run to run. [`order`] and
 //! [`order_bytes`] write the records in the order that [`dap_order::put_in_order`] defines for their
 //! messages. [`apply_rules`] masks a recording and then puts it in order, if some of the rules are for
-//! the order. [`read_by_rules`] does this for a complete input. [`mode_by`] is the mode in which ids
-//! are numbered then. `specs/` defines the terms, and the modules `laws` contain the theorems.
+//! the order. [`session_by_rules`] returns the messages of the result, and [`read_session_by_rules`]
+//! does this for a complete input. [`mode_by`] is the mode in which ids are numbered then. `specs/`
+//! defines the terms, and the modules `laws` contain the theorems.
 #![tactic(auto)]
 
 mod applying;
@@ -21,11 +22,11 @@ mod reading;
 mod text_sink;
 mod writing;
 
-pub use applying::{apply_rules, normalise_by_rules};
+pub use applying::{apply_rules, normalise_by_rules, session_by_rules};
 pub use fault::ApplyRefused;
 pub use mask_records::mask;
 pub use masking::mask_bytes;
 pub use modes::mode_by;
 pub use ordering::{order, order_bytes};
-pub use reading::read_by_rules;
+pub use reading::read_session_by_rules;
 pub use text_sink::{TextSink, is_out_of_memory};

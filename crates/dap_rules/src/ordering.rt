@@ -6,11 +6,11 @@ ghost use Rattle.dap_input.specs.{Engine.Answers, Limits.AreSound};
 ghost use Rattle.dap_normalise.specs.Accepting.{IsAccepted};
 ghost use Rattle.dap_rules.specs.Ordering.{IsNotOrdered, NormalisesInOrder, Orders, ReadsSomeOrAll};
 ghost use Rattle.dap_rules.specs.Ordering.{RefusesToOrder};
-ghost use Rattle.dap_rules.specs.OrderingSteps.{result_of_input};
+ghost use Rattle.dap_rules.specs.OrderingSteps.{Arranges, AreWithin, Measures, result_of_input};
 ghost use Rattle.dap_order.specs.MessageOrder.{ordered};
-ghost use Rattle.dap_stored.specs.Sessions.{AreAt, messages_of};
+ghost use Rattle.dap_stored.specs.Sessions.{AreAt, messages_of, stored_sent};
 
-use crate::writing::{length_of_text, text_of_messages};
+use crate::writing::{length_of_text, text_of_session};
 use dap_device::{Sink, Source, Stop, read_all, write_and_flush};
 use dap_input::{Limits, Refused};
 use dap_message::SwapRule;
@@ -18,7 +18,7 @@ use dap_normalise::{NormalSession, check_messages, normalise_messages, read_sess
 use dap_order::put_in_order;
 use dap_recording::RecordCause;
 use dap_rename::Mode;
-use dap_stored::StoredSession;
+use dap_stored::{StoredMessage, StoredSession};
 use std::alloc::{AllocError, Global};
 
 /// Returns the text of the records of a recording in order.
@@ -28,8 +28,8 @@ use std::alloc::{AllocError, Global};
 /// as by [`check`](dap_normalise::check) in this mode.
 ///
 /// Reads the recording once. Buffers the canonical contents and the ids of its messages, and the
-/// text. The text is checked without being read, because its messages are known. An empty recording
-/// does not allocate.
+/// text. The text is checked before it is created, because its messages are known. An empty
+/// recording does not allocate.
 ///
 /// # Errors
 ///
@@ -58,26 +58,28 @@ pub fn order_bytes(
         return Ok(Vec::new(alloc));
     }
     let session = read_session(alloc, recording, limits, mode)?;
-    order_session(alloc, rules, session, limits, mode)
+    let in_order = arranged(alloc, rules, session, limits, mode)?;
+    text_of_session(alloc, &in_order, limits)
 }
 
-/// Returns the text in order of the messages of an accepted recording.
+/// Returns the messages of an accepted recording in order. Their text is checked in the same way as
+/// by [`check`](dap_normalise::check) in this mode, and is not created.
 ///
 /// # Errors
 ///
 /// Those of [`order_bytes`] that concern the text in order.
-pub(crate) fn order_session(
+pub(crate) fn arranged(
     alloc: Global,
     rules: &[SwapRule],
     session: StoredSession,
     limits: Limits,
     mode: Mode,
-) -> Result<Vec<u8>, Refused>
+) -> Result<StoredSession, Refused>
     requires limits { AreSound limits }
     ensures ok { (recording : List ℕ)
         → IsAccepted limits mode recording (messages_of session)
-        → IfOk result
-        (λ text. Orders limits mode (swaps_of rules.now) recording text.items) }
+        → IfOk result (λ arranged_session. Arranges limits mode (swaps_of rules.now) recording
+        (messages_of arranged_session)) }
     ensures err { (recording : List ℕ)
         → IsAccepted limits mode recording (messages_of session)
         → IfErr result (RefusesToOrder limits mode (swaps_of rules.now) recording) }
@@ -85,23 +87,17 @@ pub(crate) fn order_session(
     let Ok(session) = in_order(alloc, rules, session) else {
         return Err(Refused::Memory);
     };
-    let Ok(messages) = session.views(alloc) else {
-        return Err(Refused::Memory);
-    };
-    let len = length_of_text(messages.as_slice(), limits)?;
-    let Ok(text) = text_of_messages(alloc, messages.as_slice(), len as usize, limits.frame) else {
-        return Err(Refused::Memory);
-    };
+    let messages = views_within(alloc, &session, limits)?;
     check_messages(alloc, messages, limits, mode)?;
-    Ok(text)
+    Ok(session)
 }
 
-/// Returns the normal form of the text that [`order_session`] returns, and its counts. Does not
-/// create that text.
+/// Returns the normal form of the text of the messages that [`arranged`] returns, and its counts.
+/// Does not create that text.
 ///
 /// # Errors
 ///
-/// Those of [`order_session`].
+/// Those of [`arranged`].
 pub(crate) fn normalise_in_order(
     alloc: Global,
     rules: &[SwapRule],
@@ -120,11 +116,31 @@ pub(crate) fn normalise_in_order(
     let Ok(session) = in_order(alloc, rules, session) else {
         return Err(Refused::Memory);
     };
+    let messages = views_within(alloc, &session, limits)?;
+    normalise_messages(alloc, messages, limits, mode)
+}
+
+/// Returns the messages of a session.
+///
+/// # Errors
+///
+/// - `Grew`: their text exceeds `limits`. Records are numbered from 1.
+/// - `Memory`: an allocation failed.
+fn views_within(
+    alloc: Global,
+    session: &StoredSession,
+    limits: Limits,
+) -> Result<Vec<StoredMessage<'_>>, Refused>
+    requires { AreSound limits }
+    ensures ok { IfOk result (λ views. AreWithin limits (messages_of session.now)
+        (map stored_sent views.items)) }
+    ensures err { IfErr result (λ because. Measures limits (messages_of session.now) (Err because)) }
+{
     let Ok(messages) = session.views(alloc) else {
         return Err(Refused::Memory);
     };
     length_of_text(messages.as_slice(), limits)?;
-    normalise_messages(alloc, messages, limits, mode)
+    Ok(messages)
 }
 
 /// Returns a session with its messages in order.

@@ -1,8 +1,8 @@
 //! Counts and writes the text of messages, which has the record of the canonical content of each
 //! message.
-ghost use Rattle.std.specs.Prelude.{◌≡◌, IfOk, map};
+ghost use Rattle.std.specs.Prelude.{◌≡◌, IfErr, IfOk, map};
 ghost use Rattle.dap_frame.specs.Limits.{IsSound};
-ghost use Rattle.dap_stored.specs.Sessions.{stored_sent};
+ghost use Rattle.dap_stored.specs.Sessions.{messages_of, stored_sent};
 ghost use Rattle.dap_input.specs.Limits.{AreSound};
 ghost use Rattle.dap_normalise.specs.Accepting.{text};
 ghost use Rattle.dap_rules.specs.OrderingSteps.{Measures};
@@ -12,7 +12,7 @@ use dap_input::{Limits, Refused};
 use dap_message::AnyMessage;
 use dap_normalise::count_record;
 use dap_recording::write_record;
-use dap_stored::StoredMessage;
+use dap_stored::{StoredMessage, StoredSession};
 use std::alloc::{AllocError, Global};
 
 /// Returns the length of the text of messages.
@@ -33,8 +33,33 @@ pub fn length_of_text(messages: &[StoredMessage<'_>], limits: Limits) -> Result<
     Ok(len)
 }
 
+/// Returns the text of the messages of a session.
+///
+/// # Errors
+///
+/// - Those of [`length_of_text`].
+/// - `Memory`: an allocation failed.
+pub fn text_of_session(
+    alloc: Global,
+    session: &StoredSession,
+    limits: Limits,
+) -> Result<Vec<u8>, Refused>
+    requires { AreSound limits }
+    ensures ok { IfOk result (λ written. written.items ≡ text (messages_of session.now)) }
+    ensures err { IfErr result (λ because. Measures limits (messages_of session.now) (Err because)) }
+{
+    let Ok(messages) = session.views(alloc) else {
+        return Err(Refused::Memory);
+    };
+    let len = length_of_text(messages.as_slice(), limits)?;
+    match text_of_messages(alloc, messages.as_slice(), len as usize, limits.frame) {
+        Ok(text) => Ok(text),
+        Err(_) => Err(Refused::Memory),
+    }
+}
+
 /// Returns the text of messages. Reserves `len` bytes for it.
-pub fn text_of_messages(
+fn text_of_messages(
     alloc: Global,
     messages: &[StoredMessage<'_>],
     len: usize,

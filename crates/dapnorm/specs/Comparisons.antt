@@ -1,18 +1,21 @@
 -- What the program finds about two recordings that are given by their names. Source: own.
-use Rattle.std.specs.Prelude.{◌≡◌, ◌⊎◌, ◌&&◌, ℕ, Bool, true, false, List, [], Option, Some, None}
-use Rattle.std.specs.{Prelude.{Result, Ok, Err, Vec}, declared.alloc.Global.Global}
+use Rattle.std.specs.Prelude.{◌≡◌, ◌⊎◌, ◌&&◌, ℕ, Bool, true, false, List, Option, Some, None}
+use Rattle.std.specs.Prelude.{Result, Ok, Err}
 use Rattle.dap_commands.specs.declared.commands.Printed.{Printed}
-use Rattle.dap_compare.specs.Verdicts.{Compares}
+use Rattle.dap_compare.specs.{Sessions.IsVerdictOn, Verdicts.Compares}
+use Rattle.dap_compare.specs.declared.verdict.CompareRefused.{CompareRefused}
 use Rattle.dap_compare.specs.declared.verdict.Which.TheVariants.{A, B}
-use Rattle.dap_device.specs.{Memory.GivenBytes, declared.device.Source.Ghosts as Source}
+use Rattle.dap_device.specs.declared.device.Source.{Ghosts as Source}
 use Rattle.dap_diff.specs.{Diffs.DescribesDifference, Matching.DiffersAll}
+use Rattle.dap_diff.specs.Sessions.{AreDifferencesOn, IsDifferenceOn}
 use Rattle.dap_host.specs.{Files.is_standard, declared.host.Purpose.Purpose}
 use Rattle.dap_host.specs.declared.limits.TheConstants.{LIMITS}
-use Rattle.dap_mask.specs.{KeptRules.mask_of, Mask.Mask, declared.mask_rules.MaskRules.MaskRules}
-use Rattle.dap_normalise.specs.{Checking.Checks, declared.checked.Checked.Checked}
+use Rattle.dap_mask.specs.{KeptRules.mask_of, declared.mask_rules.MaskRules.MaskRules}
+use Rattle.dap_message.specs.Message.{Sent}
 use Rattle.dap_rename.specs.declared.mode.Mode.{Mode}
-use Rattle.dap_rules.specs.{Inputs.ReadsByRules, Modes.mode_by}
+use Rattle.dap_rules.specs.{Inputs.ReadsSessionByRules, Modes.mode_by}
 use Rattle.dap_rules.specs.declared.fault.ApplyRefused.{ApplyRefused}
+use Rattle.dap_stored.specs.{Sessions.messages_of, declared.session.StoredSession.StoredSession}
 use Rattle.dapnorm.specs.{Desks.{IsLeft, IsUnused, Place, empty}, Rules.AreGivenRules}
 use Rattle.dapnorm.specs.declared.{answer.Answer.Answer, desk.Desk.Desk}
 use Rattle.dapnorm.specs.declared.{reading.Unread.TheVariants.Unopened, rules.NoRules.NoRules}
@@ -38,68 +41,47 @@ module _ {R S : Type 0} (source_a : Source R) (source_b : Source S) (mode : Mode
       DiffersAll source_a source_b LIMITS mode old_a new_a old_b new_b (Err refused)
   Finds other outcome = ⊥
 
--- ---- the text that rules make of an input
+-- ---- two sessions
 
--- a reader of bytes in memory
-abbrev pub memory : Source GivenBytes
-memory = record { left = λ s. Some s.left; given = λ s. s.given; failures = λ s. 0 }
-
-abbrev pub bytes_of : List ℕ → GivenBytes
-bytes_of bytes = record { left = bytes; given = 0 }
-
--- `check` accepts these bytes, or refuses them for this.
-abbrev pub ChecksText : Mode → List ℕ → Result (Unit {0}) ApplyRefused → Type 0
-ChecksText mode bytes (Ok done) = (after : GivenBytes) × (checked : Checked)
-    × Checks memory LIMITS mode false (bytes_of bytes) after (Ok checked)
-ChecksText mode bytes (Err (ApplyRefused.Order why)) = (after : GivenBytes)
-    × Checks memory LIMITS mode false (bytes_of bytes) after (Err why)
-ChecksText mode bytes (Err ApplyRefused.Memory) = Unit {0}
-ChecksText mode bytes (Err why) = ⊥
-
-module _ {R : Type 0} (source : Source R) (mode : Mode) (mask : Mask) (old new : R) where
-  -- The rules make this text of the input. Without rules for the order, `check` accepts it.
-  pub record HasAccepted (text : Vec ℕ Global) : Type 0 where
-    pub reads : ReadsByRules source LIMITS mode mask old new (Ok text)
-    pub accepted : mask.swaps ≡ [] → ChecksText mode text.items (Ok tt)
-
-  -- None of the rules is for the order, and `check` refuses the text that they make of the input.
-  pub record HasRefused (why : ApplyRefused) : Type 0 where
-    pub text : Vec ℕ Global
-    pub reads : ReadsByRules source LIMITS mode mask old new (Ok text)
-    pub no_order : mask.swaps ≡ []
-    pub refuses : ChecksText mode text.items (Err why)
-
-  abbrev pub HasText : Result (Vec ℕ Global) ApplyRefused → Type 0
-  HasText (Ok text) = HasAccepted text
-  HasText (Err why) = ReadsByRules source LIMITS mode mask old new (Err why) ⊎ HasRefused why
+module _ (mode : Mode) (of_a of_b : List Sent) where
+  -- The command finds this about the messages of two sessions.
+  abbrev pub FindsOn : Printed → Result (Option Answer) Why → Type 0
+  FindsOn Printed.Verdict (Ok (Some (Answer.Verdict used found))) = (used ≡ mode)
+      × IsVerdictOn mode of_a of_b found
+  FindsOn Printed.FirstDifference (Ok (Some (Answer.Difference found))) =
+      IsDifferenceOn mode of_a of_b found
+  FindsOn Printed.AllDifferences (Ok (Some (Answer.Differences found))) =
+      AreDifferencesOn mode of_a of_b found
+  FindsOn one (Err (Why.Pair CompareRefused.Memory)) = Unit {0}
+  FindsOn other outcome = ⊥
 
 module _ {R : Type 0} (source : Source R) (one : Printed) (mode : Mode) (rules : MaskRules)
     (old_a new_a old_b new_b : R) where
-  -- The rules make this text of an input, or cannot be applied to it.
-  abbrev pub Makes : R → R → Result (Vec ℕ Global) ApplyRefused → Type 0
-  Makes old new = HasText source (mode_by (mask_of rules) mode) (mask_of rules) old new
+  -- The rules make this session of an input, or cannot be applied to it.
+  abbrev pub Makes : R → R → Result StoredSession ApplyRefused → Type 0
+  Makes old new outcome = ReadsSessionByRules source LIMITS (mode_by (mask_of rules) mode)
+      (mask_of rules) old new outcome
 
-  -- The rules make texts of both inputs, and this is found about them.
-  pub record FindsTexts (outcome : Result (Option Answer) Why) : Type 0 where
-    pub text_a : Vec ℕ Global
-    pub text_b : Vec ℕ Global
-    pub makes_a : Makes old_a new_a (Ok text_a)
-    pub makes_b : Makes old_b new_b (Ok text_b)
-    pub rest_a : GivenBytes
-    pub rest_b : GivenBytes
-    pub finds : Finds memory memory (mode_by (mask_of rules) mode) (bytes_of text_a.items) rest_a
-        (bytes_of text_b.items) rest_b one outcome
+  -- The rules make sessions of both inputs, and this is found about their messages.
+  pub record FindsSessions (outcome : Result (Option Answer) Why) : Type 0 where
+    pub session_a : StoredSession
+    pub session_b : StoredSession
+    pub makes_a : Makes old_a new_a (Ok session_a)
+    pub makes_b : Makes old_b new_b (Ok session_b)
+    pub finds : FindsOn (mode_by (mask_of rules) mode) (messages_of session_a)
+        (messages_of session_b) one outcome
 
   -- The rules cannot be applied to an input. A is read before B.
   abbrev pub IsUnapplied : Result (Option Answer) Why → Type 0
   IsUnapplied (Err (Why.Unapplied A refused used)) =
       (used ≡ rules) × Makes old_a new_a (Err refused) × IsUnused old_b new_b
   IsUnapplied (Err (Why.Unapplied B refused used)) = (used ≡ rules)
-      × ((text : Vec ℕ Global) × Makes old_a new_a (Ok text)) × Makes old_b new_b (Err refused)
+      × ((session : StoredSession) × Makes old_a new_a (Ok session))
+      × Makes old_b new_b (Err refused)
   IsUnapplied outcome = ⊥
 
   abbrev pub FindsByRules : Result (Option Answer) Why → Type 0
-  FindsByRules outcome = IsUnapplied outcome ⊎ FindsTexts outcome
+  FindsByRules outcome = IsUnapplied outcome ⊎ FindsSessions outcome
 
 -- ---- two inputs, by their names
 

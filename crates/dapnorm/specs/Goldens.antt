@@ -3,6 +3,7 @@ use Rattle.std.specs.Prelude.{◌≡◌, ◌⊎◌, ℕ, true, false, List, [], 
 use Rattle.std.specs.{Prelude.{Err, Vec, option_map}, declared.alloc.Global.Global}
 use Rattle.dap_commands.specs.declared.commands.Golden.{Golden}
 use Rattle.dap_device.specs.{Crash.LeavesOnly, Devices.reads, Memory.GivenBytes}
+use Rattle.dap_device.specs.declared.device.Source.{Ghosts as Source}
 use Rattle.dap_device.specs.declared.file.Replaceable.{Ghosts as Replaceable}
 use Rattle.dap_golden.specs.GoldenUpdates.{Answers, MayBeLeft}
 use Rattle.dap_golden.specs.declared.updates.{GoldenDone.GoldenDone, GoldenRequest.GoldenRequest}
@@ -10,8 +11,8 @@ use Rattle.dap_golden.specs.declared.updates.GoldenStop.{GoldenStop}
 use Rattle.dap_host.specs.{Files.Files, declared.host.Purpose.Purpose}
 use Rattle.dap_host.specs.declared.limits.TheConstants.{LIMITS}
 use Rattle.dap_mask.specs.{KeptRules.mask_of, declared.mask_rules.MaskRules.MaskRules}
-use Rattle.dapnorm.specs.{Comparisons.{bytes_of, memory}, Desks.{IsLeft, Place, empty, inputs}}
-use Rattle.dapnorm.specs.{Readings.IsFileRead, Rules.AreGivenRules, declared.answer.Answer.Answer}
+use Rattle.dapnorm.specs.{Desks.{IsLeft, Place, empty, inputs}, Readings.IsFileRead}
+use Rattle.dapnorm.specs.{Rules.AreGivenRules, declared.answer.Answer.Answer}
 use Rattle.dapnorm.specs.declared.{desk.Desk.Desk, reading.Unread.Unread, rules.NoRules.NoRules}
 use Rattle.dapnorm.specs.declared.why.{Overlap.Overlap, Why.Why}
 
@@ -37,6 +38,13 @@ Replaces files golden name (Some Overlap.GoldenAndRules) = (golden.update ≡ tr
 Replaces files golden name (Some other) = ⊥
 Replaces files golden name None = golden.update ≡ true
     → files.are_same golden.golden name false × AreApart files golden.golden golden.rules
+
+-- a reader of bytes in memory
+abbrev pub memory : Source GivenBytes
+memory = record { left = λ s. Some s.left; given = λ s. s.given; failures = λ s. 0 }
+
+abbrev pub bytes_of : List ℕ → GivenBytes
+bytes_of bytes = record { left = bytes; given = 0 }
 
 module _ {T : Type 0} (file : Replaceable T) (golden : Golden) (rules : Option MaskRules)
     (session : Vec ℕ Global) (old new : T) where

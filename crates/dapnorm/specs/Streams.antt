@@ -46,7 +46,7 @@ abbrev pub RequestsLines : Show → Bool → Bool → Type 0
 RequestsLines show full faulty =
     (show.record ≡ None) × (show.full ≡ full) × (show.faulty ≡ faulty)
 
--- Without an option, the lists of each record are printed. Another task has no options.
+-- Without an option, the lists of each record are printed. Other tasks take no options.
 abbrev pub TaskRequests : Task → Result (Option ShowRequest) Mistake → Type 0
 TaskRequests (Task.Show show) (Ok None) = RequestsLines show false false
 TaskRequests (Task.Show show) (Ok (Some (ShowRequest.Lines detail))) =

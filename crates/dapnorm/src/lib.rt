@@ -15,7 +15,6 @@ mod run_job;
 mod running;
 mod stream;
 mod suggest;
-mod texts;
 mod why;
 mod words;
 
@@ -34,12 +33,14 @@ pub use dap_commands::{
     Command, Golden, Job, Name, Printed, Request, Show, Task, UsageFault, command, job,
 };
 pub use dap_compact::compact;
-pub use dap_compare::{CompareRefused, Verdict, Which, compare, compare_with};
+pub use dap_compare::{CompareRefused, Verdict, Which, compare, compare_sessions, compare_with};
 pub use dap_device::{
     DeviceFault, FileAt, Input, MemoryFile, MemorySink, MemorySource, ReadFault, ReplaceFault,
     Replaceable, Sink, Source, StdSink, StdSource, Step, Stop, read_all, replace,
 };
-pub use dap_diff::{Diff, diff, diff_all_with, diff_with};
+pub use dap_diff::{
+    AllDifferences, Diff, diff, diff_all_sessions, diff_all_with, diff_sessions, diff_with,
+};
 pub use dap_golden::{
     GoldenDone, GoldenFault, GoldenRefused, GoldenRequest, GoldenStop, GoldenText, GoldenVerdict,
     TextSink, compare_golden, golden_file, golden_text, recording_of,
@@ -54,6 +55,7 @@ pub use dap_normalise::{
 pub use dap_record::record;
 pub use dap_recording::{RecordCause, RecorderFault, TraceCause};
 pub use dap_rename::{IndexNames, Mode, NameTable, Pair, Renaming, Tables};
-pub use dap_rules::{ApplyRefused, mask, mode_by, order, order_bytes, read_by_rules};
+pub use dap_rules::{ApplyRefused, mask, mode_by, order, order_bytes, read_session_by_rules};
 pub use dap_session::Rule;
 pub use dap_show::{Detail, RecordShown, ShowRequest, show, show_faulty, show_record, show_with};
+pub use dap_stored::StoredSession;

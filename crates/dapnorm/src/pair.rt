@@ -1,10 +1,13 @@
 //! Compares two recordings: readers, or the files that names lead to.
 ghost use Rattle.std.specs.Prelude.{◌≡◌, ◌+◌, ◌≤◌};
 ghost use Rattle.dap_commands.specs.Reading.{text_in};
+ghost use Rattle.dap_compare.specs.Sessions.{AreAccepted};
 ghost use Rattle.dap_host.specs.declared.limits.TheConstants.{LIMITS};
 ghost use Rattle.dap_input.specs.Limits.{AreSound};
 ghost use Rattle.dap_normalise.specs.NameTables.{AreReady};
-ghost use Rattle.dapnorm.specs.Comparisons.{Finds, FindsByRules, PairIsRun, are_both_standard};
+ghost use Rattle.dap_stored.specs.Sessions.{messages_of};
+ghost use Rattle.dapnorm.specs.Comparisons.{Finds, FindsByRules, FindsOn, PairIsRun};
+ghost use Rattle.dapnorm.specs.Comparisons.{are_both_standard};
 ghost use Rattle.dapnorm.specs.{Desks.{TakesAtMost, empty, here}, Pairs.CompareIsReported};
 ghost use Rattle.dap_device.specs.Devices.{CanRead, CanWrite, reads, writes};
 
@@ -14,17 +17,17 @@ use crate::line::{Part, fault, report_line};
 use crate::reading::Unread;
 use crate::reporting::refusal_status;
 use crate::rules::given_rules;
-use crate::texts::text_by_rules;
 use crate::why::{Mistake, Why};
 use dap_commands::{Name, Printed};
-use dap_compare::{Which, compare_with};
-use dap_device::{MemorySource, Sink, Source};
-use dap_diff::{diff_all_with, diff_with};
+use dap_compare::{CompareRefused, Which, compare_sessions, compare_with};
+use dap_device::{Sink, Source};
+use dap_diff::{diff_all_sessions, diff_all_with, diff_sessions, diff_with};
 use dap_host::{Host, LIMITS, Purpose, is_standard};
 use dap_input::Limits;
 use dap_mask::MaskRules;
 use dap_rename::{Mode, NameTable, Tables, index_tables};
-use dap_rules::mode_by;
+use dap_rules::{mode_by, read_session_by_rules};
+use dap_stored::StoredSession;
 use std::alloc::Global;
 
 /// Compares two recordings, and returns the status of the program. An error is reported on
@@ -161,26 +164,69 @@ fn found_by_rules<'a, H: Host>(
     ensures taken_b { H.Input.given reader_b.new ≤ H.Input.given reader_b.old + LIMITS.input + 1 }
 {
     let used = mode_by(&rules, mode);
-    let text_a = match text_by_rules(alloc, &rules, reader_a, host.tables(alloc), used) {
-        Ok(text) => text,
+    let session_a = match read_session_by_rules(alloc, &rules, reader_a, LIMITS, used) {
+        Ok(session) => session,
         Err(refused) => return Err(Why::Unapplied(Which::A, refused, rules)),
     };
-    let text_b = match text_by_rules(alloc, &rules, reader_b, host.tables(alloc), used) {
-        Ok(text) => text,
+    let session_b = match read_session_by_rules(alloc, &rules, reader_b, LIMITS, used) {
+        Ok(session) => session,
         Err(refused) => return Err(Why::Unapplied(Which::B, refused, rules)),
     };
-    let mut bytes_a = MemorySource::new(text_a.as_slice());
-    let mut bytes_b = MemorySource::new(text_b.as_slice());
     let (tables_a, tables_b) = (host.tables(alloc), host.tables(alloc));
-    found(
-        alloc,
-        printed,
-        used,
-        &mut bytes_a,
-        &mut bytes_b,
-        tables_a,
-        tables_b,
+    found_on(
+        alloc, printed, used, &session_a, &session_b, tables_a, tables_b,
     )
+}
+
+/// Compares the messages of two accepted recordings, and returns what the command finds. The tables
+/// must be empty, each with the limit of ids of the program.
+fn found_on<'a, T: NameTable + Drop>(
+    alloc: Global,
+    printed: Printed,
+    mode: Mode,
+    a: &StoredSession,
+    b: &StoredSession,
+    tables_a: Tables<T>,
+    tables_b: Tables<T>,
+) -> Result<Option<Answer<'a>>, Why<'a>>
+    requires tables_a { AreReady T.numbers T.limit LIMITS tables_a }
+    requires tables_b { AreReady T.numbers T.limit LIMITS tables_b }
+    requires accepted_a { AreAccepted LIMITS mode (messages_of a.now) }
+    requires accepted_b { AreAccepted LIMITS mode (messages_of b.now) }
+    ensures { FindsOn mode (messages_of a.now) (messages_of b.now) printed result }
+{
+    match printed {
+        Printed::Verdict => {
+            let mut text_a = Vec::new(alloc);
+            let mut text_b = Vec::new(alloc);
+            match compare_sessions(
+                alloc,
+                a,
+                b,
+                LIMITS,
+                tables_a,
+                tables_b,
+                mode,
+                &mut text_a,
+                &mut text_b,
+            ) {
+                Ok(verdict) => Ok(Some(Answer::Verdict(mode, verdict))),
+                Err(_) => Err(Why::Pair(CompareRefused::Memory)),
+            }
+        }
+        Printed::FirstDifference => {
+            match diff_sessions(alloc, a, b, LIMITS, tables_a, tables_b, mode) {
+                Ok(diff) => Ok(Some(Answer::Difference(diff))),
+                Err(_) => Err(Why::Pair(CompareRefused::Memory)),
+            }
+        }
+        Printed::AllDifferences => {
+            match diff_all_sessions(alloc, a, b, LIMITS, tables_a, tables_b, mode) {
+                Ok(all) => Ok(Some(Answer::Differences(all))),
+                Err(_) => Err(Why::Pair(CompareRefused::Memory)),
+            }
+        }
+    }
 }
 
 /// Returns whether both inputs are standard input.

@@ -2,16 +2,16 @@
 ghost use Rattle.std.specs.Prelude.{◌≡◌};
 ghost use Rattle.dap_device.specs.Devices.{CanWrite};
 ghost use Rattle.dapnorm.specs.Lines.{line_text};
-ghost use Rattle.dapnorm.specs.Reasons.{lost_words, mistake_line, overlap_words, unread_line};
+ghost use Rattle.dapnorm.specs.Reasons.{lost_words, mistake_line, overlap_words, unapplied_line};
+ghost use Rattle.dapnorm.specs.Reasons.{unapplied_status, unread_line};
 ghost use Rattle.dapnorm.specs.{Reasons.{why_line, why_status}, Reporting.HasSent};
 
 use crate::golden_lines::{golden_line, stop_line, unsaved_words};
 use crate::line::{Line, Part, fault, fault_of, report_line};
 use crate::reading::Unread;
-use crate::reporting::{DIFFERENT, FAULT, USAGE, pair_line, refused_line};
+use crate::reporting::{DIFFERENT, FAULT, USAGE, pair_line, refused_line, refused_status};
 use crate::rules::NoRules;
 use crate::stream::Unstreamed;
-use crate::texts::unapplied_line;
 use dap_commands::Name;
 use dap_compare::{CompareRefused, Which};
 use dap_device::{ReplaceFault, Sink};
@@ -115,6 +115,25 @@ fn unread_line<'a>(which: Option<Which>) -> Line<'a>
         None => Part::Refused(Refused::ReadFault),
         Some(which) => Part::Pair(CompareRefused::Input(which, Refused::ReadFault)),
     })
+}
+
+/// Returns the line that reports why rules cannot be applied to one of two inputs, and the status
+/// of the program.
+fn unapplied_line<'a>(which: Which, refused: ApplyRefused) -> (Line<'a>, u8)
+    ensures line { line_text result.0 ≡ unapplied_line which refused }
+    ensures status { result.1 ≡ unapplied_status refused }
+{
+    match refused {
+        ApplyRefused::Mask(refused) => pair_line(CompareRefused::Input(which, refused)),
+        ApplyRefused::Order(refused) => {
+            let (letter, why) = (Part::Text(which.letter()), Part::Refused(refused));
+            let (words, none) = (Part::Text(": after the rules: "), Part::Text(""));
+            let line = Line::Fault(letter, words, why, none);
+            (line, refused_status(refused))
+        }
+        ApplyRefused::ReadFault => pair_line(CompareRefused::Input(which, Refused::ReadFault)),
+        ApplyRefused::Memory => refused_line(Refused::Memory),
+    }
 }
 
 /// Returns what is reported of a golden file that was not found.

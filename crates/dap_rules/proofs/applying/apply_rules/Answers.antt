@@ -1,12 +1,11 @@
-use Rattle.std.proofs.Common.{◌∙◌, List, [], sym, subst}
+use Rattle.std.proofs.Common.{◌∙◌, [], sym, subst}
+use Rattle.std.proofs.lemmas.Result.{err_from_is_err_and}
 use Rattle.dap_mask.specs.KeptRules.{mask_of}
-use Rattle.dap_message.specs.SwapRules.{SwapRule}
-use Rattle.dap_recording.specs.Recording.{recording_text}
+use Rattle.dap_stored.specs.Sessions.{messages_of}
 use Rattle.dap_rules.specs.Applying.{IsRefusedByRules}
-use Rattle.dap_rules.specs.Ordering.{Orders, RefusesToOrder}
-use Rattle.dap_rules.proofs.Applied.{applies, cannot_order, not_empty, orders}
+use Rattle.dap_rules.proofs.Applied.{applies, not_made, orders, some_are, text_applied}
+use Rattle.dap_rules.proofs.Applied.{text_refused}
 use Rattle.dap_rules.proofs.EmptyRecordings.{no_bytes, none_masked, none_ordered}
-use Rattle.dap_rules.proofs.MaskedSessions.{fit, masks, records}
 use Rattle.dap_rules.proofs.applying.apply_rules.Goals as goal
 
 pub returns-then-is_empty-2-clause-ok : goal.returns-then-is_empty-2-clause-ok
@@ -17,45 +16,35 @@ returns-then-is_empty-2-clause-ok c =
     (applies c.args.limits c.args.mode [] mask [] (none_masked c.args.limits c.requires.limits
     c.args.rules.now) []
     (orders c.args.limits c.args.mode [] mask.swaps
-    (λ is. not_empty c.swaps-swaps.result.now (sym c.is_empty.ensures ∙ c.if-is_empty.false)
-    (c.swaps-swaps.ensures ∙ is)) []
+    (some_are c.swaps.result.now mask.swaps c.swaps.ensures
+    (sym c.is_empty.ensures ∙ c.if-is_empty.false)) []
     (none_ordered c.args.limits c.requires.limits c.args.mode mask.swaps)))
 
-pub returns-in-Ok-order_masked-clause-ok : goal.returns-in-Ok-order_masked-clause-ok
-returns-in-Ok-order_masked-clause-ok c =
+pub returns-in_err-session-clause-err : goal.returns-in_err-session-clause-err
+returns-in_err-session-clause-err c =
+    let because = err_from_is_err_and c.from_residual.result c.from_residual.ensures.1 in
     let mask = mask_of c.args.rules.now in
-    let is = c.in-Ok-read_masked_session.ensures.ok in
-    let session = c.in-Ok-read_masked_session.masked in
-    let held = records c.args.limits c.requires.limits c.args.rules.now c.args.recording.now session
-    is in
-    let written = c.in-Ok-order_masked.text.items in
-    let made : Orders c.args.limits c.args.mode mask.swaps (recording_text held) written =
-    subst (λ (rules : List SwapRule). Orders c.args.limits c.args.mode rules (recording_text held)
-    written) c.swaps-swaps.ensures
-    (c.in-Ok-order_masked.ensures.ok held
-    (fit c.args.limits c.requires.limits c.args.rules.now c.args.recording.now session is)
-    is.holds) in
-    applies c.args.limits c.args.mode c.args.recording.now mask (recording_text held)
-    (masks c.args.limits c.requires.limits c.args.rules.now c.args.recording.now session is) written
-    (orders c.args.limits c.args.mode (recording_text held) mask.swaps
-    (λ none. not_empty c.swaps-swaps.result.now (sym c.is_empty.ensures ∙ c.if-is_empty.false)
-    (c.swaps-swaps.ensures ∙ none)) written made)
+    rw (because.1, because.2)
+    (not_made c.args.limits c.args.mode mask (some_are c.swaps.result.now mask.swaps c.swaps.ensures
+    (sym c.is_empty.ensures ∙ c.if-is_empty.false)) c.args.recording.now _
+    c.in_err-session.ensures.err)
 
-pub returns-in-Err-order_masked-clause-err : goal.returns-in-Err-order_masked-clause-err
-returns-in-Err-order_masked-clause-err c =
+pub returns-in-Ok-text_of_session-clause-ok : goal.returns-in-Ok-text_of_session-clause-ok
+returns-in-Ok-text_of_session-clause-ok c =
     let mask = mask_of c.args.rules.now in
-    let is = c.in-Ok-read_masked_session.ensures.ok in
-    let session = c.in-Ok-read_masked_session.masked in
-    let held = records c.args.limits c.requires.limits c.args.rules.now c.args.recording.now session
-    is in
+    text_applied c.args.limits c.args.mode mask
+    (some_are c.swaps.result.now mask.swaps c.swaps.ensures
+    (sym c.is_empty.ensures ∙ c.if-is_empty.false)) c.args.recording.now
+    (messages_of c.in_ok-session.session) c.in_ok-session.ensures.ok _
+    c.in-Ok-text_of_session.ensures.ok
+
+pub returns-clause-err : goal.returns-clause-err
+returns-clause-err c =
+    let mask = mask_of c.args.rules.now in
     subst (IsRefusedByRules c.args.limits c.args.mode mask c.args.recording.now)
     (sym c.order_refusal.ensures)
-    (cannot_order c.args.limits c.args.mode c.args.recording.now mask (recording_text held)
-    (masks c.args.limits c.requires.limits c.args.rules.now c.args.recording.now session is)
-    (λ none. not_empty c.swaps-swaps.result.now (sym c.is_empty.ensures ∙ c.if-is_empty.false)
-    (c.swaps-swaps.ensures ∙ none)) c.in-Err-order_masked.refused
-    (subst (λ (rules : List SwapRule). RefusesToOrder c.args.limits c.args.mode rules
-    (recording_text held) c.in-Err-order_masked.refused) c.swaps-swaps.ensures
-    (c.in-Err-order_masked.ensures.err held
-    (fit c.args.limits c.requires.limits c.args.rules.now c.args.recording.now session is)
-    is.holds)))
+    (text_refused c.args.limits c.args.mode mask
+    (some_are c.swaps.result.now mask.swaps c.swaps.ensures
+    (sym c.is_empty.ensures ∙ c.if-is_empty.false)) c.args.recording.now
+    (messages_of c.in_ok-session.session) c.in_ok-session.ensures.ok _
+    c.in-Err-text_of_session.ensures.err)

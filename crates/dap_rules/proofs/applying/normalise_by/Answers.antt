@@ -2,8 +2,7 @@ use Rattle.std.proofs.Common.{◌∙◌, refl, sym}
 use Rattle.std.proofs.lemmas.Result.{IfErr-weaker, IfOk-weaker, err_from_is_err_and}
 use Rattle.dap_message.specs.SwapRules.{swaps_of}
 use Rattle.dap_recording.specs.Recording.{recording_text}
-use Rattle.dap_rules.proofs.Applied.{is_empty, normalises, not_empty, refuses_normal}
-use Rattle.dap_rules.proofs.OrderAnswers.{recording_refused}
+use Rattle.dap_rules.proofs.Applied.{is_empty, normalises, not_accepted, not_empty, refuses_normal}
 use Rattle.dap_rules.proofs.applying.normalise_by.Goals as goal
 
 pub returns-then-is_empty-clause-ok : goal.returns-then-is_empty-clause-ok
@@ -20,12 +19,9 @@ returns-then-is_empty-clause-err c records fit holds =
 pub returns-in_err-check_masked-clause-err : goal.returns-in_err-check_masked-clause-err
 returns-in_err-check_masked-clause-err c records fit holds =
     let because = err_from_is_err_and c.from_residual.result c.from_residual.ensures.1 in
-    let rules = swaps_of c.args.swaps.now in
     rw (because.1, because.2)
-    (refuses_normal c.args.limits c.args.mode (recording_text records) rules
-    (not_empty c.args.swaps.now (sym c.is_empty.ensures ∙ c.if-is_empty.false)) _
-    (recording_refused c.args.limits c.args.mode rules (recording_text records) _
-    (c.in_err-check_masked.ensures.err records fit holds)))
+    (not_accepted c.args.limits c.args.mode (recording_text records) (swaps_of c.args.swaps.now) _
+    (c.in_err-check_masked.ensures.err records fit holds))
 
 pub returns-clause-ok : goal.returns-clause-ok
 returns-clause-ok c records fit holds =

@@ -1,9 +1,8 @@
-use Rattle.std.proofs.Common.{◌≡◌, ◌+◌, ◌∙◌, ap, length, map, sym, subst, vec_len}
-use Rattle.std.specs.Prelude.{IfErr, IfOk}
+use Rattle.std.proofs.Common.{◌≡◌, ◌+◌, ◌∙◌, ap, length, sym, subst, vec_len}
 use Rattle.std.proofs.lemmas.List.{length-map}
 use Rattle.std.proofs.lemmas.Result.{err_from_is_err_and}
 use Rattle.dap_stored.specs.Sessions.{messages_of, stored_sent}
-use Rattle.dap_normalise.specs.{Accepting.IsAccepted, Normalising.RefusesBytes}
+use Rattle.dap_normalise.specs.{Accepting.IsAccepted}
 use Rattle.dap_normalise.specs.RecordTexts.{BeginWith, Contain}
 use Rattle.dap_recording.specs.Recording.{recording_text}
 use Rattle.dap_rules.proofs.CheckedSessions.{begin, ends_accepted, ends_refused}

@@ -1,8 +1,8 @@
-use Rattle.std.proofs.Common.{◌≡◌, ◌≤◌, ◌<◌, ◌∙◌, [], None, Some, ap, inl, length, refl, sym}
+use Rattle.std.proofs.Common.{◌≡◌, ◌<◌, ◌∙◌, [], None, Some, ap, inl, length, refl, sym}
 use Rattle.std.proofs.Common.{subst}
 use Rattle.std.proofs.lemmas.Result.{err_from_is_err_and}
 use Rattle.dap_tree.specs.{Doc.Doc, Ids.with_ids, Json.text_of}
-use Rattle.dap_flat.specs.{Lengths.IsLengthWithin, Pieces.Represents, Reading.ReadsDocument}
+use Rattle.dap_flat.specs.{Pieces.Represents, Reading.ReadsDocument}
 use Rattle.dap_mask.specs.{KeptRules.mask_of, Loose.IsLeftOf}
 use Rattle.dap_mask.specs.FlatMasking.{IsLeftFlat}
 use Rattle.dap_message.specs.Message.{Sent}

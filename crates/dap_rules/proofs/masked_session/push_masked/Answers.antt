@@ -1,4 +1,4 @@
-use Rattle.std.proofs.Common.{Some, None, Ok, subst}
+use Rattle.std.proofs.Common.{Ok, subst}
 use Rattle.std.proofs.lemmas.Result.{err_from_is_err_and}
 use Rattle.dap_mask.specs.KeptRules.{mask_of}
 use Rattle.dap_normalise.specs.JudgingSteps.{payload_of}

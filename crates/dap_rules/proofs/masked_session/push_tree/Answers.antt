@@ -1,4 +1,4 @@
-use Rattle.std.proofs.Common.{◌≡◌, ◌++◌, ◌∙◌, [], None, Some, ap, length, refl, sym, vec_len}
+use Rattle.std.proofs.Common.{◌≡◌, ◌++◌, ◌∙◌, [], None, Some, ap, length, sym, vec_len}
 use Rattle.std.proofs.lemmas.Result.{err_from_is_err_and}
 use Rattle.dap_tree.specs.{Json.text_of, View.view}
 use Rattle.dap_mask.specs.{KeptRules.mask_of, Loose.{IsLeftOf, LeavesFraction}}

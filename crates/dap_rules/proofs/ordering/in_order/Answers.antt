@@ -1,4 +1,4 @@
-use Rattle.std.proofs.Common.{◌≡◌, ◌∙◌, List, ℕ, sym, subst}
+use Rattle.std.proofs.Common.{◌∙◌, List, ℕ, sym, subst}
 use Rattle.dap_message.specs.SwapRules.{swaps_of}
 use Rattle.dap_order.specs.MessageOrder.{ordered}
 use Rattle.dap_stored.specs.Sessions.{AreAt, messages_of}

@@ -1,9 +1,8 @@
-use Rattle.std.proofs.Common.{◌≡◌, suc, ◌+◌, ◌<◌, ◌≤◌, [], ◌∷◌, ◌++◌, ◌∙◌, ap, sym, subst, arith, drop}
-use Rattle.std.proofs.Common.{length, map, take, inl, refl}
+use Rattle.std.proofs.Common.{◌≡◌, suc, ◌+◌, ◌<◌, [], ◌∷◌, ◌++◌, ◌∙◌, ap, sym, subst, arith, drop}
+use Rattle.std.proofs.Common.{length, map, take, refl}
 use Rattle.std.proofs.lemmas.List.{length-map, length-take-le, map-append, map_more}
 use Rattle.std.proofs.Math.Seq.{split_at}
 use Rattle.std.proofs.lemmas.Result.{err_from_is_err_and}
-use Rattle.dap_tree.specs.Json.{text_of}
 use Rattle.dap_stored.specs.Sessions.{stored_sent}
 use Rattle.dap_rules.specs.OrderingSteps.{IsLengthOf}
 use Rattle.dap_rules.proofs.WrittenTexts.{none_counted, not_counted, one_more}

@@ -8,7 +8,7 @@ use Rattle.dap_golden.specs.{Golden.mask_given, GoldenUpdates.{Answers, MayBeLef
 use Rattle.dap_golden.specs.declared.updates.{GoldenDone.GoldenDone, GoldenStop.GoldenStop}
 use Rattle.dap_host.specs.declared.limits.TheConstants.{LIMITS}
 use Rattle.dap_mask.specs.{KeptRules.mask_of, Mask.Mask, declared.mask_rules.MaskRules.MaskRules}
-use Rattle.dapnorm.specs.{Comparisons.{bytes_of, memory}, Goldens.{Keeps, request_of}}
+use Rattle.dapnorm.specs.Goldens.{Keeps, bytes_of, memory, request_of}
 use Rattle.dapnorm.proofs.golden.kept.Goals as goal
 
 -- `golden_file` ran on a reader of the bytes of the session.

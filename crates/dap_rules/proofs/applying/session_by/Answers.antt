@@ -1,0 +1,36 @@
+use Rattle.std.proofs.Common.{◌∙◌, refl, sym}
+use Rattle.std.proofs.lemmas.Result.{IfErr-weaker, IfOk-weaker, err_from_is_err_and}
+use Rattle.dap_message.specs.SwapRules.{swaps_of}
+use Rattle.dap_recording.specs.Recording.{recording_text}
+use Rattle.dap_stored.specs.Sessions.{messages_of}
+use Rattle.dap_rules.proofs.Applied.{is_empty, makes, not_accepted, not_empty, refuses_normal}
+use Rattle.dap_rules.proofs.applying.session_by.Goals as goal
+
+pub returns-in_err-check_masked-clause-err : goal.returns-in_err-check_masked-clause-err
+returns-in_err-check_masked-clause-err c records fit holds =
+    let because = err_from_is_err_and c.from_residual.result c.from_residual.ensures.1 in
+    rw (because.1, because.2)
+    (not_accepted c.args.limits c.args.mode (recording_text records) (swaps_of c.args.swaps.now) _
+    (c.in_err-check_masked.ensures.err records fit holds))
+
+pub returns-then-is_empty-clause-ok : goal.returns-then-is_empty-clause-ok
+returns-then-is_empty-clause-ok c records fit holds =
+    rw (is_empty c.args.swaps.now (sym c.is_empty.ensures ∙ c.if-is_empty.true))
+    (recording_text records, refl, c.in_ok-check_masked.ensures.ok records fit holds)
+
+pub returns-clause-ok : goal.returns-clause-ok
+returns-clause-ok c records fit holds =
+    IfOk-weaker c.arranged.result _ _
+    (λ session. makes c.args.limits c.args.mode (recording_text records) (swaps_of c.args.swaps.now)
+    (not_empty c.args.swaps.now (sym c.is_empty.ensures ∙ c.if-is_empty.false))
+    (messages_of session))
+    (c.arranged.ensures.ok (recording_text records)
+    (c.in_ok-check_masked.ensures.ok records fit holds))
+
+pub returns-clause-err : goal.returns-clause-err
+returns-clause-err c records fit holds =
+    IfErr-weaker c.arranged.result _ _
+    (refuses_normal c.args.limits c.args.mode (recording_text records) (swaps_of c.args.swaps.now)
+    (not_empty c.args.swaps.now (sym c.is_empty.ensures ∙ c.if-is_empty.false)))
+    (c.arranged.ensures.err (recording_text records)
+    (c.in_ok-check_masked.ensures.ok records fit holds))
