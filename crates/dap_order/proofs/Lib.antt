@@ -19,6 +19,7 @@ pub mod Lists
 pub mod PreviousPlaces
 pub mod KeyEquality
 pub mod Conversations
+pub mod LastResponses
 pub mod Covering
 pub mod SameLooks
 pub mod Planning

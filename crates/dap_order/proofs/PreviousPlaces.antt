@@ -8,7 +8,7 @@ use Rattle.std.specs.Ordering.{is_eq}
 use Rattle.dap_order.specs.Keys.{key_of}
 use Rattle.dap_order.specs.declared.keys.Key.{Key as ReadKey}
 use Rattle.dap_order.proofs.KeyEquality.{key_cmp, one_key, equal_key}
-use Rattle.dap_order.proofs.Lists.{get_below, get_old, get_new, get_cases, got, len_map}
+use Rattle.dap_order.proofs.Lists.{there, get_below, get_old, get_new, get_cases, got, len_map}
 
 -- Later keys do not matter.
 pub last_kept : (own : List Key) (x k : Key) (n : ℕ) (o : Option ℕ) → n ≤ length own
@@ -48,29 +48,27 @@ last_more own x k false (Some p) n long there back last =
     )
 
 -- One more place.
-pub previous_more : (own sought : List Key) (previous : List (Option ℕ)) (x k : Key) (o : Option ℕ)
-    → length sought ≡ length own → ArePrevious own sought previous
-    → IsLastBelow (IsKeyAt own k) (length own) o
-    → ArePrevious (own ++ x ∷ []) (sought ++ k ∷ []) (previous ++ o ∷ [])
-previous_more own sought previous x k o long are last = record {
+pub previous_more : (ks : List Key) (previous : List (Option ℕ)) (k : Key) (o : Option ℕ)
+    → ArePrevious ks ks previous → IsLastBelow (IsKeyAt ks k) (length ks) o
+    → ArePrevious (ks ++ k ∷ []) (ks ++ k ∷ []) (previous ++ o ∷ [])
+previous_more ks previous k o are last = record {
   len = length-append previous (o ∷ []) ∙ ap (λ z. z + 1) are.len
-      ∙ sym (length-append sought (k ∷ []));
-  each = λ j l p at found. elim (get_cases sought k j l at) [
+      ∙ sym (length-append ks (k ∷ []));
+  each = λ j l p at found. elim (get_cases ks k j l at) [
     | inl old ↦ (
-        let low = get_below sought j l old in
+        let low = get_below ks j l old in
         let was : slice_get previous j ≡ Some p =
         sym (get_old previous o j (omega (arith, are.len))) ∙ found in
-        last_kept own x l j p (omega arith) (are.each j l p old was)
+        last_kept ks k l j p (omega arith) (are.each j l p old was)
         )
     | inr new ↦ (
-        let place : j ≡ length own = new.0 ∙ long in
         let same : Some o ≡ Some p =
         sym (get_new previous o j (new.0 ∙ sym are.len)) ∙ found in
         let it : o ≡ p = cc in
-        subst (λ (l : Key). IsLastBelow (IsKeyAt (own ++ x ∷ []) l) j p) new.1
-        (subst (λ (q : Option ℕ). IsLastBelow (IsKeyAt (own ++ x ∷ []) k) j q) it
-        (subst (λ (m : ℕ). IsLastBelow (IsKeyAt (own ++ x ∷ []) k) m o) (sym place)
-        (last_kept own x k (length own) o (omega arith) last)))
+        subst (λ (l : Key). IsLastBelow (IsKeyAt (ks ++ k ∷ []) l) j p) new.1
+        (subst (λ (q : Option ℕ). IsLastBelow (IsKeyAt (ks ++ k ∷ []) k) j q) it
+        (subst (λ (m : ℕ). IsLastBelow (IsKeyAt (ks ++ k ∷ []) k) m o) (sym new.0)
+        (last_kept ks k k (length ks) o (omega arith) last)))
         )
   ];
 }
@@ -87,30 +85,39 @@ module _ {A : Type 0} (own : List Key) (f : A → Key) (ms : List A) (previous :
       let low : j < length (map f ms) = get_below (map f ms) j k at in
       are.each j k o at (got previous j o (omega (arith, are.len)) read)
 
+-- The earlier place that was read has the same key.
+pub earlier_is : {A : Type 0} (f : A → Key) (ms : List A) (previous : List (Option ℕ))
+    → ArePrevious (map f ms) (map f ms) previous → (j : ℕ) (o : Option ℕ) (p : ℕ) → j < length ms
+    → o ≡ get_or previous j o → o ≡ Some p
+    → (p < j) × (slice_get (map f ms) p ≡ slice_get (map f ms) j)
+earlier_is f ms previous are j o p low read e =
+    let k = there (map f ms) j (omega (arith, len_map f ms)) in
+    let last = subst (λ (q : Option ℕ). IsLastBelow (IsKeyAt (map f ms) k.0) j q) e
+    (previous_at (map f ms) f ms previous are j k.0 o k.1 read) in
+    (last.0, last.1 ∙ sym k.1)
+
 -- The map finds for each key the last place below n with this key.
 pub record HasLast (own : List Key) (n : ℕ) (find : ReadKey → Option ℕ) : Type 0 where
   pub last : (q : ReadKey) → IsLastBelow (IsKeyAt own (key_of q)) n (find q)
 
--- One more message, which has the key x and searches for the key k.
-pub one_more : (own sought : List Key) (previous : List (Option ℕ)) (x k : Key) (n place : ℕ)
-    (own_read sought_read : ReadKey) (old new : ReadKey → Option ℕ) (o : Option ℕ)
-    → length own ≡ n → length sought ≡ n → place ≡ n → key_of own_read ≡ x → key_of sought_read ≡ k
-    → o ≡ old sought_read
-    → ((q : ReadKey) → new q ≡ cond (is_eq (key_cmp own_read q)) (Some place) (old q))
-    → ArePrevious own sought previous → HasLast own n old
-    → ArePrevious (own ++ x ∷ []) (sought ++ k ∷ []) (previous ++ o ∷ [])
-    × HasLast (own ++ x ∷ []) (n + 1) new
-one_more own sought previous x k n place r t old new o own_len sought_len at x_is k_is found more
-    are has = (
-      previous_more own sought previous x k o (sought_len ∙ sym own_len) are
-          (subst (λ (m : ℕ). IsLastBelow (IsKeyAt own k) m o) (sym own_len)
-          (subst (λ (q : Option ℕ). IsLastBelow (IsKeyAt own k) n q) (sym found)
-          (subst (λ (l : Key). IsLastBelow (IsKeyAt own l) n (old t)) k_is (has.last t)))),
-      record {
-        last = λ q.
-            subst (IsLastBelow (IsKeyAt (own ++ x ∷ []) (key_of q)) (n + 1))
-            (sym (more q ∙ ap (λ p. cond (is_eq (key_cmp r q)) (Some p) (old q)) at))
-            (last_more own x (key_of q) (is_eq (key_cmp r q)) (old q) n (sym own_len)
-            (λ h. sym x_is ∙ one_key r q h) (λ e. equal_key r q (x_is ∙ e)) (has.last q));
-      },
-    )
+-- One more message, which has the key k.
+pub one_more : (ks : List Key) (previous : List (Option ℕ)) (k : Key) (n place : ℕ)
+    (read : ReadKey) (old new : ReadKey → Option ℕ) (o : Option ℕ)
+    → length ks ≡ n → place ≡ n → key_of read ≡ k → o ≡ old read
+    → ((q : ReadKey) → new q ≡ cond (is_eq (key_cmp read q)) (Some place) (old q))
+    → ArePrevious ks ks previous → HasLast ks n old
+    → ArePrevious (ks ++ k ∷ []) (ks ++ k ∷ []) (previous ++ o ∷ [])
+    × HasLast (ks ++ k ∷ []) (n + 1) new
+one_more ks previous k n place r old new o long at k_is found more are has = (
+  previous_more ks previous k o are
+      (subst (λ (m : ℕ). IsLastBelow (IsKeyAt ks k) m o) (sym long)
+      (subst (λ (q : Option ℕ). IsLastBelow (IsKeyAt ks k) n q) (sym found)
+      (subst (λ (l : Key). IsLastBelow (IsKeyAt ks l) n (old r)) k_is (has.last r)))),
+  record {
+    last = λ q.
+        subst (IsLastBelow (IsKeyAt (ks ++ k ∷ []) (key_of q)) (n + 1))
+        (sym (more q ∙ ap (λ p. cond (is_eq (key_cmp r q)) (Some p) (old q)) at))
+        (last_more ks k (key_of q) (is_eq (key_cmp r q)) (old q) n (sym long)
+        (λ h. sym k_is ∙ one_key r q h) (λ e. equal_key r q (k_is ∙ e)) (has.last q));
+  },
+)

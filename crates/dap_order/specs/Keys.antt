@@ -13,9 +13,8 @@ use Rattle.dap_session.specs.Messages.{is_configuration_done, is_initialized, is
 use Rattle.dap_order.specs.Free.{class_of, class_rank, class_number, class_name, begins}
 use Rattle.dap_order.specs.Free.{is_client_request}
 use Rattle.dap_order.specs.declared.keys.Key.{Key as ReadKey}
-use Rattle.dap_order.specs.{declared.keys.By.By, declared.keys.By.TheVariants.{Class, Conversation}}
-use Rattle.dap_order.specs.declared.keys.By.TheVariants.{Response as OfResponse}
-use Rattle.dap_order.specs.declared.keys.By.TheVariants.{Look}
+use Rattle.dap_order.specs.declared.keys.By.{By}
+use Rattle.dap_order.specs.declared.keys.By.TheVariants.{Class, Conversation, Look}
 
 pub record Key : Type 0 where
   pub code : ℕ
@@ -116,19 +115,11 @@ look_key rules m = record {
 
 -- ---- keys selected by `By`
 
--- The key of a message itself.
+-- The key of a message.
 abbrev pub own_key : By → Sent → Key
 own_key Class m = class_key m
 own_key Conversation m = conversation_key m
-own_key OfResponse m = response_key m
 own_key (Look rules) m = look_key (swaps_of rules.now) m
-
--- The key of the messages that a message searches for.
-abbrev pub sought_key : By → Sent → Key
-sought_key Class m = class_key m
-sought_key Conversation m = conversation_key m
-sought_key OfResponse m = conversation_key m
-sought_key (Look rules) m = look_key (swaps_of rules.now) m
 
 -- ---- places
 

@@ -1,7 +1,7 @@
 -- The earlier messages that a message must follow because of its class or its conversation, for
 -- private clauses.
 use Rattle.std.specs.Prelude.{◌≡◌, ℕ, ◌<◌, Bool, true, ◌||◌, ◌⊎◌, List, Some, map, slice_get}
-use Rattle.std.specs.Prelude.{Contains}
+use Rattle.std.specs.Prelude.{Option, Contains}
 use Rattle.dap_message.specs.Message.{Sent}
 use Rattle.dap_order.specs.{ByPlace.passes_both, Free.{of_one_class, answers}}
 use Rattle.dap_order.specs.Keys.{Key, class_key, conversation_key, response_key, ArePrevious}
@@ -41,6 +41,13 @@ pub record AreBack (ms : List Sent) (k : Key) (j : ℕ) (waits : List ℕ) : Typ
       → (a < j) × IsKeyAt (map conversation_key ms) k a
   pub all : (i : ℕ) → i < j → IsKeyAt (map conversation_key ms) k i
       → Contains waits i ⊎ ((a : ℕ) × Contains waits a × (i < a) × IsResponseAt ms a)
+
+-- The last earlier place in the conversation of each message, and which messages are responses with
+-- a `request_seq`.
+pub record AreConversations (ms : List Sent) (previous : List (Option ℕ)) (tests : List Bool)
+    : Type 0 where
+  pub are_previous : ArePrevious (map conversation_key ms) (map conversation_key ms) previous
+  pub are_tests : tests ≡ map is_numbered_response ms
 
 pub record IsEarlier (ms : List Sent) (e : Earlier) : Type 0 where
   pub in_class : ArePrevious (map class_key ms) (map class_key ms) e.in_class.items

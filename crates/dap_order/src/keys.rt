@@ -30,8 +30,6 @@ pub enum By<'r> {
     Class,
     /// The requests of one side with the same sequence number, and the responses to them.
     Conversation,
-    /// The responses of a conversation, for the messages of that conversation.
-    Response,
     /// Messages that the user's rules and the session rules treat alike, except for ids and for
     /// names that no rule mentions.
     Look(&'r [SwapRule]),
@@ -92,15 +90,6 @@ fn conversation_key<'m, M: AnyMessage>(message: &Envelope<'m, M>) -> Key<'m>
     } else {
         numbered(2, None)
     }
-}
-
-fn response_key<'m, M: AnyMessage>(message: &Envelope<'m, M>) -> Key<'m>
-    ensures { keys.key_of result ≡ keys.response_key (message_of message.now) }
-{
-    if is_numbered_response(message) {
-        return conversation_key(message);
-    }
-    numbered(3, None)
 }
 
 fn has_name<M: AnyMessage>(half: &Half, message: &Envelope<'_, M>) -> bool
@@ -184,25 +173,13 @@ pub fn half_key(kind: Kind, name: Option<&str>) -> Key<'_>
     }
 }
 
-/// Returns the key of the message itself.
+/// Returns the key of the message.
 pub fn own_key<'m, M: AnyMessage>(by: By<'_>, message: &Envelope<'m, M>) -> Key<'m>
     ensures { keys.key_of result ≡ keys.own_key by.entry (message_of message.now) }
 {
     match by {
         By::Class => class_key(message),
         By::Conversation => conversation_key(message),
-        By::Response => response_key(message),
-        By::Look(rules) => look_key(rules, message),
-    }
-}
-
-/// Returns the key of the messages that the message searches for.
-pub fn sought_key<'m, M: AnyMessage>(by: By<'_>, message: &Envelope<'m, M>) -> Key<'m>
-    ensures { keys.key_of result ≡ keys.sought_key by.entry (message_of message.now) }
-{
-    match by {
-        By::Class => class_key(message),
-        By::Conversation | By::Response => conversation_key(message),
         By::Look(rules) => look_key(rules, message),
     }
 }

@@ -1,8 +1,10 @@
 //! Finds the earlier messages that a message must follow because of its class or its conversation.
-ghost use Rattle.std.specs.Prelude.{◌≡◌, ◌<◌, List, IfOk, map, length};
+ghost use Rattle.std.specs.Prelude.{◌≡◌, ◌<◌, true, false, List, IfOk, map, length, slice_get};
+ghost use Rattle.std.specs.List.{slice_index_or};
 ghost use Rattle.dap_message.specs.Message.{Sent};
 ghost use Rattle.dap_order.specs.Entries.{sent_by};
-ghost use Rattle.dap_order.specs.Keys.{Key as ModelKey, IsKeyAt, conversation_key};
+ghost use Rattle.dap_order.specs.Keys.{Key as ModelKey, IsKeyAt, ArePrevious};
+ghost use Rattle.dap_order.specs.Keys.{conversation_key, response_key};
 ghost use Rattle.dap_order.specs.Keys as keys;
 ghost use Rattle.dap_order.specs.Waits as words;
 
@@ -39,6 +41,45 @@ fn are_responses<M: AnyMessage>(
     Ok(found)
 }
 
+/// Returns the last response of a conversation, up to the place `last` of that conversation.
+/// `responses` has the last earlier response for each place up to `last`.
+fn response_up_to(are_responses: &[bool], responses: &[Option<usize>], last: usize) -> Option<usize>
+    requires in_range { last < length are_responses.now }
+    requires known { last < length responses.now }
+    ensures itself { slice_index_or are_responses.now last false ≡ true → result ≡ Some last }
+    ensures earlier { slice_index_or are_responses.now last false ≡ false
+        → slice_get responses.now last ≡ Some result }
+{
+    if are_responses[last] {
+        return Some(last);
+    }
+    responses[last]
+}
+
+/// Returns for each place the last earlier response in its conversation.
+fn last_responses(
+    alloc: Global,
+    in_conversation: &Vec<Option<usize>>,
+    are_responses: &[bool],
+) -> Result<Vec<Option<usize>>, AllocError>
+    requires { (ms : List Sent)
+        × words.AreConversations ms in_conversation.now.items are_responses.now }
+    ensures { (ms : List Sent)
+        → words.AreConversations ms in_conversation.now.items are_responses.now
+        → IfOk result (λ responses.
+        ArePrevious (map response_key ms) (map conversation_key ms) responses.items) }
+{
+    let mut responses: Vec<Option<usize>> = Vec::new(alloc);
+    for place in 0..in_conversation.len() {
+        let response = match in_conversation[place] {
+            Some(last) => response_up_to(are_responses, &responses, last),
+            None => None,
+        };
+        responses.push(response)?;
+    }
+    Ok(responses)
+}
+
 impl Earlier {
     pub fn new<M: AnyMessage>(
         alloc: Global,
@@ -46,11 +87,15 @@ impl Earlier {
     ) -> Result<Earlier, AllocError>
         ensures { IfOk result (words.IsEarlier (map sent_by entries.now)) }
     {
+        let in_class = previous_of(alloc, entries, By::Class)?;
+        let in_conversation = previous_of(alloc, entries, By::Conversation)?;
+        let is_response = are_responses(alloc, entries)?;
+        let responses = last_responses(alloc, &in_conversation, &is_response)?;
         Ok(Earlier {
-            in_class: previous_of(alloc, entries, By::Class)?,
-            in_conversation: previous_of(alloc, entries, By::Conversation)?,
-            responses: previous_of(alloc, entries, By::Response)?,
-            are_responses: are_responses(alloc, entries)?,
+            in_class,
+            in_conversation,
+            responses,
+            are_responses: is_response,
         })
     }
 

@@ -1,28 +1,14 @@
-use Rattle.std.proofs.Common.{◌≡◌, ℕ, ◌+◌, ◌<◌, List, [], ◌∷◌, ◌++◌, map, length, Option, Some}
-use Rattle.std.proofs.Common.{sym, ap}
+use Rattle.std.proofs.Common.{◌≡◌, ℕ, ◌+◌, List, [], ◌∷◌, ◌++◌, map, length, sym, ap}
 use Rattle.std.proofs.Common.{◌∙◌, subst, arith, get_or, length-append, Vec, Global}
-use Rattle.std.specs.Prelude.{slice_get}
 use Rattle.dap_message.specs.SwapRules.{swaps_of}
-use Rattle.dap_message.specs.Message.{Sent}
 use Rattle.dap_order.specs.Entries.{sent_by}
-use Rattle.dap_order.specs.Keys.{Key, look_key, ArePrevious, IsLastBelow, IsKeyAt}
+use Rattle.dap_order.specs.Keys.{look_key}
 use Rattle.dap_order.specs.Looks.{AreGroups}
-use Rattle.dap_order.proofs.Lists.{there, len_map, one_item, got, get_at}
-use Rattle.dap_order.proofs.PreviousPlaces.{previous_at}
+use Rattle.dap_order.proofs.Lists.{len_map, one_item, got, get_at}
+use Rattle.dap_order.proofs.PreviousPlaces.{earlier_is}
 use Rattle.dap_order.proofs.Grouping.{group_again, group_begun}
 use Rattle.dap_order.proofs.looks.groups_of.Goals as goal
 use Rattle.dap_order.proofs.looks.groups_of.Goals.{in-Some, in-None+in_ok-push-in-None}
-
--- The earlier place that was read has the same key.
-earlier_is : (f : Sent → Key) (ms : List Sent) (previous : List (Option ℕ))
-    → ArePrevious (map f ms) (map f ms) previous → (j : ℕ) (o : Option ℕ) (p : ℕ) → j < length ms
-    → o ≡ get_or previous j o → o ≡ Some p
-    → (p < j) × (slice_get (map f ms) p ≡ slice_get (map f ms) j)
-earlier_is f ms previous are j o p low read e =
-    let k = there (map f ms) j (omega (arith, len_map f ms)) in
-    let last = subst (λ (q : Option ℕ). IsLastBelow (IsKeyAt (map f ms) k.0) j q) e
-    (previous_at (map f ms) f ms previous are j k.0 o k.1 read) in
-    (last.0, last.1 ∙ sym k.1)
 
 pub index-requires-in-Some : goal.index-requires-in-Some
 index-requires-in-Some g c =
