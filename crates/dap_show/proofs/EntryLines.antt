@@ -1,7 +1,7 @@
 -- The lines of entries, the messages that obey the rules among them, and their first rejection,
 -- after one more entry.
-use Rattle.std.proofs.Common.{◌≡◌, ◌≢◌, ℕ, ◌+◌, ◌<◌, ◌≤◌, true, false, List, [], ◌∷◌, ◌++◌}
-use Rattle.std.proofs.Common.{length, Option, Some, None, refl, sym, ◌∙◌, ap, subst}
+use Rattle.std.proofs.Common.{◌≡◌, ◌≢◌, ℕ, ◌+◌, ◌<◌, Bool, true, false, List, [], ◌∷◌, ◌++◌}
+use Rattle.std.proofs.Common.{length, inl, inr, Option, Some, None, refl, sym, ◌∙◌, ap, subst}
 use Rattle.std.proofs.Common.{arith, append_assoc, append-nil, length-append}
 use Rattle.std.proofs.lemmas.Bool.Decides.{nat_tests}
 use Rattle.std.proofs.lemmas.List.Concat.{flat_map-append}
@@ -23,7 +23,8 @@ use Rattle.dap_show.specs.Viewing.{Entry, Fits, Rejects, entry_lines, first_refu
 use Rattle.dap_show.specs.Viewing.{IsEntry, detail_lines, fault_words, head_lines, kept_of}
 use Rattle.dap_show.specs.Viewing.{lines_of, refusal_at, refusal_of}
 use Rattle.dap_show.specs.Viewing.{rule_refusal, typed, untyped}
-use Rattle.dap_show.specs.ViewingSteps.{IsEntered, IsJudged, StandsIf}
+use Rattle.dap_show.specs.Leaves.{Lengthens, leaf_lines}
+use Rattle.dap_show.specs.ViewingSteps.{AreDetail, IsEntered, IsJudged, StandsIf}
 use Rattle.dap_show.specs.declared.detail.Detail.{Detail}
 use Rattle.dap_show.specs.declared.detail.Detail.TheVariants.{Lists, Leaves}
 use Rattle.dap_show.specs.declared.detail.View.{View}
@@ -65,14 +66,48 @@ kept_push entries e =
 -- ---- the limit
 
 -- An output longer than the limit does not fit.
-pub not_within : (limit n : ℕ) → limit < n → fits_in Leaves limit n ≡ false
+not_within : (limit n : ℕ) → limit < n → fits_in Leaves limit n ≡ false
 not_within limit n past = grind (arith, nat_tests)
 
--- If a part of an output does not fit, the output does not fit.
-pub part_fits : (detail : Detail) (limit m n : ℕ) → m ≤ n → fits_in detail limit m ≡ false
-    → fits_in detail limit n ≡ false
-part_fits Lists limit m n le past = past
-part_fits Leaves limit m n le past = grind (arith, nat_tests)
+not_both : (b : Bool) → b ≡ true → b ≡ false → ⊥
+not_both b on off = cc
+
+all_leaves : (limit : ℕ) (lines mid new leaves : List ℕ) → Lengthens limit [] lines leaves
+    → new ≡ mid ++ lines → fits_in Leaves limit (length new) ≡ true → new ≡ mid ++ leaves
+all_leaves limit lines mid new leaves (inl same) is fits = is ∙ ap (λ t. mid ++ t) same
+all_leaves limit lines mid new leaves (inr past) is fits =
+    absurd (not_both (fits_in Leaves limit (length new)) fits
+    (not_within limit (length new) (omega (arith, past.0, ap length is, length-append mid lines))))
+
+leaves_exceed : (limit : ℕ) (lines mid new leaves : List ℕ) → Lengthens limit [] lines leaves
+    → new ≡ mid ++ lines → fits_in Leaves limit (length new) ≡ false
+    → fits_in Leaves limit (length mid + length leaves) ≡ false
+leaves_exceed limit lines mid new leaves (inl same) is past =
+    ap (fits_in Leaves limit)
+    (sym (length-append mid leaves) ∙ ap (λ t. length (mid ++ t)) (sym same) ∙ ap length (sym is))
+    ∙ past
+leaves_exceed limit lines mid new leaves (inr long) is past =
+    not_within limit (length mid + length leaves) (omega (arith, long.1))
+
+-- If an output fits, all detail lines were appended.
+pub all_detail : (detail : Detail) (limit : ℕ) (message : Sent) (bytes : List ℕ) (d : Doc)
+    → IsRead bytes d → (lines mid new : List ℕ) → AreDetail detail limit message bytes lines
+    → new ≡ mid ++ lines → fits_in detail limit (length new) ≡ true
+    → new ≡ mid ++ detail_lines detail message d
+all_detail Lists limit message bytes d reads lines mid new listed is fits =
+    is ∙ ap (λ t. mid ++ t) listed
+all_detail Leaves limit message bytes d reads lines mid new are is fits =
+    all_leaves limit lines mid new (leaf_lines [] d) (are d reads) is fits
+
+-- If it does not fit, the output with all detail lines does not fit.
+pub detail_exceeds : (detail : Detail) (limit : ℕ) (message : Sent) (bytes : List ℕ) (d : Doc)
+    → IsRead bytes d → (lines mid new : List ℕ) → AreDetail detail limit message bytes lines
+    → new ≡ mid ++ lines → fits_in detail limit (length new) ≡ false
+    → fits_in detail limit (length mid + length (detail_lines detail message d)) ≡ false
+detail_exceeds Lists limit message bytes d reads lines mid new listed is past =
+    let clash : true ≡ false = past in absurd (cc)
+detail_exceeds Leaves limit message bytes d reads lines mid new are is past =
+    leaves_exceed limit lines mid new (leaf_lines [] d) (are d reads) is past
 
 -- ---- why a record is rejected
 
@@ -223,21 +258,19 @@ module _ (view : View) (before : List Entry) (number : ℕ)
       refusal_is = refl;
     }
 
-    pub grown_typed : (new : List ℕ) → new ≡ mid ++ detail_lines view.detail message d
-        → fits_in view.detail view.limits.input (length new) ≡ false
-        → (number ≡ number) × ((e : Entry) × IsEntry view before held e
-        × (Fits view (before ++ e ∷ []) → ⊥))
-    grown_typed new new_is past = (
-      refl,
-      (this, is_entry, not_fitting this new (message_lines_are new new_is) past),
-    )
-
-    -- The detail lines were not appended completely.
+    -- The output with the lines of the record exceeds the limit.
     pub grown_detail : fits_in view.detail view.limits.input
         (length mid + length (detail_lines view.detail message d)) ≡ false
         → (number ≡ number) × ((e : Entry) × IsEntry view before held e
         × (Fits view (before ++ e ∷ []) → ⊥))
     grown_detail past =
-        grown_typed (mid ++ detail_lines view.detail message d) refl
-        (ap (fits_in view.detail view.limits.input)
-        (length-append mid (detail_lines view.detail message d)) ∙ past)
+        let new = mid ++ detail_lines view.detail message d in (
+          refl,
+          (
+            this,
+            is_entry,
+            not_fitting this new (message_lines_are new refl)
+                (ap (fits_in view.detail view.limits.input)
+                (length-append mid (detail_lines view.detail message d)) ∙ past),
+          ),
+        )

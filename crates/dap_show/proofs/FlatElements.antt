@@ -232,7 +232,7 @@ reference_there ns at k n (Some z) starts is =
 
 -- ---- an array
 
-array_there : (ns : List Node) (at : ℕ) (d : Doc) (n x : Node) (i : ℕ) → Holds ns at d
+pub array_there : (ns : List Node) (at : ℕ) (d : Doc) (n x : Node) (i : ℕ) → Holds ns at d
     → get_or ns at x ≡ n → piece_of n ≡ begin_list i
     → (ds : Items) × (d ≡ list ds) × AreElements ns (at + 1) ds
 array_there ns at null n x i h there begun =

@@ -2,6 +2,7 @@ pub mod AppendedLines
 pub mod EntryLines
 pub mod FlatElements
 pub mod Framing
+pub mod LeafLines
 pub mod RecordAnswers
 pub mod ShownInputs
 pub mod Stopping

@@ -1,25 +1,17 @@
--- The lines of trees with parts, and the lines that remain after one part.
-use Rattle.std.proofs.Common.{◌≡◌, ℕ, zero, suc, ◌+◌, ◌<◌, Bool, true, false, nat_eq, List, []}
-use Rattle.std.proofs.Common.{◌∷◌, ◌++◌, length, codes, String, refl, sym, ◌∙◌, ap, arith}
-use Rattle.std.proofs.Common.{append_assoc, append-nil, length-append, ap₂, drop, take, ◌-◌, ◌≤◌}
-use Rattle.std.proofs.Common.{◌↔◌, IsTrue, string_bytes, subst}
-use Rattle.std.proofs.lemmas.List.{drop_all, map-append}
-use Rattle.std.specs.Borrow.{Bor}
+-- The text of trees with parts, and the text that remains after one part.
+use Rattle.std.proofs.Common.{◌≡◌, ℕ, zero, suc, ◌<◌, ◌≤◌, Bool, true, false, nat_eq, List}
+use Rattle.std.proofs.Common.{[], ◌∷◌, ◌++◌, length, codes, String, refl, sym, ◌∙◌, ap, ap₂}
+use Rattle.std.proofs.Common.{arith, append_assoc, append-nil, drop, ◌↔◌, IsTrue, string_bytes}
+use Rattle.std.proofs.lemmas.List.{drop_all}
 use Rattle.std.specs.declared.alloc.Global.{Global}
 use Rattle.dap_tree.proofs.Booleans.{and_right}
-use Rattle.dap_tree.specs.Doc.{Doc, null, boolean, whole, text, list, object, id, no_items, item}
-use Rattle.dap_tree.specs.Doc.{no_members, member, all_in_range, items_in_range, members_in_range}
+use Rattle.dap_tree.specs.Doc.{Doc, text, list, object, all_in_range, items_in_range}
+use Rattle.dap_tree.specs.Doc.{members_in_range}
 use Rattle.dap_tree.specs.Json.{text_of}
-use Rattle.dap_tree.specs.Path.{Step, name, place}
 use Rattle.dap_tree.specs.View.{items_view, members_view, view}
 use Rattle.dap_tree.specs.declared.tree.Tree.{Tree}
-use Rattle.dap_difference.proofs.TreeSteps.{popped}
-use Rattle.dap_difference.specs.Shown.{path_of, step_of}
-use Rattle.dap_difference.specs.declared.difference.Step.{Step as CodeStep}
-use Rattle.dap_difference.specs.declared.difference.Step.TheVariants.{Member, Item}
 use Rattle.dap_show.specs.Indented.{indented, inner, item_texts, member_texts, next_line}
 use Rattle.dap_show.specs.Indented.{part_text}
-use Rattle.dap_show.specs.Leaves.{has_parts, item_lines, leaf_line, leaf_lines, member_lines}
 
 -- A nonempty list has a positive length.
 pub not_none : (b : Bool) (m n : ℕ) → b ≡ nat_eq m 0 → b ≡ false → m ≡ n → 0 < n
@@ -30,128 +22,11 @@ pub not_none_if : (b : Bool) (n : ℕ) → IsTrue b ↔ (n ≡ 0) → b ≡ fals
 not_none_if b zero iff other = absurd (let e : false ≡ true = sym other ∙ iff.1 refl in cc)
 not_none_if b (suc n) iff other = omega arith
 
--- A document without parts has one line.
-pub line_of_leaf : (p : List Step) (d : Doc) → has_parts d ≡ false → leaf_lines p d ≡ leaf_line p d
-line_of_leaf p null leaf = refl
-line_of_leaf p (boolean b) leaf = refl
-line_of_leaf p (whole z) leaf = refl
-line_of_leaf p (text s) leaf = refl
-line_of_leaf p (list no_items) leaf = refl
-line_of_leaf p (list (item d ds)) leaf = cc
-line_of_leaf p (object no_members) leaf = refl
-line_of_leaf p (object (member k d ms)) leaf = cc
-line_of_leaf p (id s z) leaf = refl
-
--- A nonempty array has the lines of its elements.
-pub list_lines : (p : List Step) (xs : List Tree) → 0 < length xs
-    → leaf_lines p (list (items_view xs)) ≡ item_lines p 0 (items_view xs)
-list_lines p [] some = absurd (omega arith)
-list_lines p (x ∷ xs) some = refl
-
-pub object_lines : (p : List Step) (ms : List (String Global × Tree)) → 0 < length ms
-    → leaf_lines p (object (members_view ms)) ≡ member_lines p (members_view ms)
-object_lines p [] some = absurd (omega arith)
-object_lines p (m ∷ ms) some = refl
-
-pub longer_path : (steps root : List CodeStep) (s : CodeStep) → steps ≡ root
-    → path_of (steps ++ s ∷ []) ≡ path_of root ++ step_of s ∷ []
-longer_path steps root s same =
-    map-append step_of steps (s ∷ []) ∙ ap (λ r. path_of r ++ step_of s ∷ []) same
-
 -- The text of one part was appended to the text before it, and the rest remains.
 pub one_part : (before after part rest left all : List ℕ) → after ≡ before ++ part
     → left ≡ part ++ rest → before ++ left ≡ all → after ++ rest ≡ all
 one_part before after part rest left all is split was =
     ap (λ t. t ++ rest) is ∙ append_assoc before part rest ∙ ap (λ t. before ++ t) (sym split) ∙ was
-
--- An output that exceeds the limit with one part exceeds it with all parts.
-pub full_part : (limit : ℕ) (before part rest left old all : List ℕ)
-    → limit < length before + length part → left ≡ part ++ rest → before ++ left ≡ old ++ all
-    → limit < length old + length all
-full_part limit before part rest left old all full split was =
-    omega (
-      arith,
-      full,
-      ap length split,
-      length-append part rest,
-      ap length was,
-      length-append before left,
-      length-append old all,
-    )
-
--- An output that exceeds the limit with the lines of one element exceeds it with those of all
--- elements.
-pub items_full : (limit : ℕ) (root steps pushed : List CodeStep) (xs : List Tree) (i : ℕ) (t : Tree)
-    (before old : List ℕ) → steps ≡ root → pushed ≡ steps ++ Item i ∷ []
-    → drop i xs ≡ t ∷ drop (suc i) xs
-    → before ++ item_lines (path_of root) i (items_view (drop i xs))
-    ≡ old ++ item_lines (path_of root) 0 (items_view xs)
-    → limit < length before + length (leaf_lines (path_of pushed) (view t))
-    → limit < length old + length (item_lines (path_of root) 0 (items_view xs))
-items_full limit root steps pushed xs i t before old same is there was full =
-    let p = path_of root in
-    full_part limit before (leaf_lines (p ++ place i ∷ []) (view t))
-    (item_lines p (suc i) (items_view (drop (suc i) xs))) (item_lines p i (items_view (drop i xs)))
-    old (item_lines p 0 (items_view xs))
-    (subst (λ q. limit < length before + length (leaf_lines q (view t)))
-    (ap path_of is ∙ longer_path steps root (Item i) same) full)
-    (ap (λ ts. item_lines p i (items_view ts)) there) was
-
-pub members_full : (limit : ℕ) (root steps pushed : List CodeStep) (s : Bor (List ℕ))
-    (key : String Global) (t : Tree) (all left more : List (String Global × Tree))
-    (before old : List ℕ) → steps ≡ root → pushed ≡ steps ++ Member s ∷ []
-    → s.now ≡ string_bytes key → left ≡ (key, t) ∷ more
-    → before ++ member_lines (path_of root) (members_view left)
-    ≡ old ++ member_lines (path_of root) (members_view all)
-    → limit < length before + length (leaf_lines (path_of pushed) (view t))
-    → limit < length old + length (member_lines (path_of root) (members_view all))
-members_full limit root steps pushed s key t all left more before old same is named next was full =
-    let p = path_of root in
-    full_part limit before (leaf_lines (p ++ name (string_bytes key) ∷ []) (view t))
-    (member_lines p (members_view more)) (member_lines p (members_view left)) old
-    (member_lines p (members_view all))
-    (subst (λ q. limit < length before + length (leaf_lines q (view t)))
-    (ap path_of is ∙ longer_path steps root (Member s) same
-    ∙ ap (λ k. p ++ name k ∷ []) named) full)
-    (ap (λ ms. member_lines p (members_view ms)) next) was
-
--- The lines that remain after those of one element were appended.
-pub items_kept : (root steps pushed : List CodeStep) (xs : List Tree) (i j : ℕ) (t : Tree)
-    (before after all : List ℕ) → j ≡ suc i → steps ≡ root → pushed ≡ steps ++ Item i ∷ []
-    → drop i xs ≡ t ∷ drop (suc i) xs
-    → before ++ item_lines (path_of root) i (items_view (drop i xs)) ≡ all
-    → after ≡ before ++ leaf_lines (path_of pushed) (view t)
-    → after ++ item_lines (path_of root) j (items_view (drop j xs)) ≡ all
-items_kept root steps pushed xs i j t before after all next same is there was appended =
-    let p = path_of root in
-    rw next (one_part before after (leaf_lines (p ++ place i ∷ []) (view t))
-    (item_lines p (suc i) (items_view (drop (suc i) xs))) (item_lines p i (items_view (drop i xs)))
-    all
-    (appended ∙ ap (λ q. before ++ leaf_lines q (view t))
-    (ap path_of is ∙ longer_path steps root (Item i) same))
-    (ap (λ ts. item_lines p i (items_view ts)) there) was)
-
-pub members_kept : (root steps pushed : List CodeStep) (s : Bor (List ℕ)) (key : String Global)
-    (t : Tree) (left more : List (String Global × Tree)) (before after all : List ℕ)
-    → steps ≡ root → pushed ≡ steps ++ Member s ∷ [] → s.now ≡ string_bytes key
-    → left ≡ (key, t) ∷ more → before ++ member_lines (path_of root) (members_view left) ≡ all
-    → after ≡ before ++ leaf_lines (path_of pushed) (view t)
-    → after ++ member_lines (path_of root) (members_view more) ≡ all
-members_kept root steps pushed s key t left more before after all same is named next was appended =
-    let p = path_of root in
-    one_part before after (leaf_lines (p ++ name (string_bytes key) ∷ []) (view t))
-    (member_lines p (members_view more)) (member_lines p (members_view left)) all
-    (appended ∙ ap (λ q. before ++ leaf_lines q (view t))
-    (ap path_of is ∙ longer_path steps root (Member s) same
-    ∙ ap (λ k. p ++ name k ∷ []) named))
-    (ap (λ ms. member_lines p (members_view ms)) next) was
-
--- The path is unchanged after the step that was pushed is popped.
-pub path_kept : (root steps pushed after left : List CodeStep) (s : CodeStep) (n : ℕ)
-    → steps ≡ root → pushed ≡ steps ++ s ∷ [] → after ≡ pushed → n ≡ length after
-    → left ≡ take (n - 1) after → left ≡ root
-path_kept root steps pushed after left s n same is kept count cut =
-    popped steps after left s (kept ∙ is) (cut ∙ ap (λ k. take (k - 1) after) count) ∙ same
 
 -- The elements after one element are in range if all are.
 pub items_rest : (xs : List Tree) (i j : ℕ) (t : Tree) → j ≡ suc i

@@ -1,5 +1,6 @@
 pub mod FlatElements
 pub mod Indented
+pub mod LeafWalk
 pub mod Leaves
 pub mod OneRecord
 pub mod OneRecordSteps

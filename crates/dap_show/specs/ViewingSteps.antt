@@ -10,7 +10,7 @@ use Rattle.dap_normalise.specs.Accepting.{Payload}
 use Rattle.dap_recording.specs.RecordReading.{RecordReading}
 use Rattle.dap_session.specs.{SessionState.SessionState, Representation.Represents}
 use Rattle.dap_session.specs.declared.rule.Rule.{Rule}
-use Rattle.dap_show.specs.{Showing.listed_lines, Stopping.StopsAt}
+use Rattle.dap_show.specs.{Leaves.AreLeaves, Showing.listed_lines, Stopping.StopsAt}
 use Rattle.dap_show.specs.Viewing.{Entry, IsFraming, IsNext, Rejects, first_refusal, kept, kept_if}
 use Rattle.dap_show.specs.Viewing.{lines_of, refusal_at, broken_rule, stop_line, viewing}
 use Rattle.dap_show.specs.declared.detail.Detail.{Detail}
@@ -27,10 +27,11 @@ abbrev pub IsJudged : Bool → List Sent → Sent → Option Rule → SessionSta
 IsJudged marks_faults before message rule session = (rule ≡ broken_rule marks_faults before message)
     × StandsIf marks_faults session (before ++ kept_if rule message)
 
--- With `Lists`, these are the lines of what the message lists.
-abbrev pub AreListed : Detail → Sent → List ℕ → Type 0
-AreListed Lists message lines = lines ≡ listed_lines message.doc
-AreListed Leaves message lines = Unit {0}
+-- These are the detail lines of a message with this content. With `Leaves`, they may also be longer
+-- than the limit if the detail lines are.
+abbrev pub AreDetail : Detail → ℕ → Sent → List ℕ → List ℕ → Type 0
+AreDetail Lists limit message bytes lines = lines ≡ listed_lines message.doc
+AreDetail Leaves limit message bytes lines = AreLeaves limit bytes lines
 
 module _ (view : View) where
   -- Record n has this entry, whose lines were appended.

@@ -1,26 +1,21 @@
 //! Formats one record, and returns the error that it is marked with.
-ghost use Rattle.std.specs.Prelude.{◌≡◌, ◌+◌, ◌++◌, List, false, IfOk, IfSome, IsErrOf, None, OnOk};
+ghost use Rattle.std.specs.Prelude.{◌≡◌, ◌++◌, List, IfOk, IfSome, None, OnOk};
 ghost use Rattle.std.specs.Prelude.{length};
 ghost use Rattle.dap_input.specs.Refusals.{RejectsPayload};
-ghost use Rattle.dap_flat_message.specs.FlatMessages.{flat_sent};
-ghost use Rattle.dap_message.specs.Message.{Sent, sent};
+ghost use Rattle.dap_message.specs.Message.{Sent};
 ghost use Rattle.dap_normalise.specs.Accepting.{HoldsNoMessage, IsMessage};
 ghost use Rattle.dap_normalise.specs.JudgingSteps.{payload_of};
-ghost use Rattle.dap_show.specs.Viewing.{detail_lines, fits_in, head_lines, rule_refusal};
-ghost use Rattle.dap_show.specs.ViewingSteps.{AppendsEntry, AreListed, IsJudged, StandsIf};
 ghost use Rattle.dap_session.specs.SessionState.{SessionState};
-ghost use Rattle.dap_tree.specs.{Doc.Doc, Json.IsRead};
+ghost use Rattle.dap_show.specs.Viewing.{fits_in, head_lines, rule_refusal};
+ghost use Rattle.dap_show.specs.ViewingSteps.{AppendsEntry, AreDetail, IsJudged, StandsIf};
 
 use crate::detail::{Detail, View};
 use crate::fault_words::{push_fault, push_untyped};
-use crate::flat_lines::flat_lines;
-use crate::leaves::{Buffers, LeafFault, push_content};
-use crate::message_lines::{push_message, tree_lines};
-use dap_flat::Unread;
-use dap_flat_message::FlatMessage;
+use crate::leaves::Buffers;
+use crate::message_lines::push_message;
+use crate::reading::{read_as_flat, read_as_tree};
 use dap_input::Refused;
-use dap_message::{AnyMessage, Message};
-use dap_normalise::{read_flat, read_message};
+use dap_message::AnyMessage;
 use dap_recording::Record;
 use dap_session::{Rule, Session, SessionFault};
 use dap_tree::Scratch;
@@ -66,33 +61,6 @@ fn push_head<M: AnyMessage>(
     Ok(())
 }
 
-/// Appends the detail lines of a record. With `Detail::Lists` these are the lines `listed`. With
-/// `Detail::Leaves`, returns `Full` if the output exceeds the limit.
-fn push_detail(
-    alloc: Global,
-    view: View,
-    content: &[u8],
-    listed: &[u8],
-    buffers: &mut Buffers,
-    lines: &mut Vec<u8>,
-) -> Result<(), LeafFault>
-    requires { (d : Doc) × IsRead content.now d }
-    ensures lines { (d : Doc) (message : Sent) → IsRead content.now d
-        → AreListed view.detail message listed.now
-        → OnOk result (lines.new.items ≡ lines.old.items ++ detail_lines view.detail message d) }
-    ensures full { (d : Doc) (message : Sent) → IsRead content.now d
-        → IsErrOf result LeafFault.Full → fits_in view.detail view.limits.input
-        (length lines.old.items + length (detail_lines view.detail message d)) ≡ false }
-{
-    match view.detail {
-        Detail::Lists => match lines.extend_from_slice(listed) {
-            Ok(()) => Ok(()),
-            Err(_) => Err(LeafFault::Memory),
-        },
-        Detail::Leaves => push_content(alloc, content, view.limits.input, buffers, lines),
-    }
-}
-
 /// Returns whether an output of this length is within the limit. Only the lines of leaves have a
 /// limit.
 fn fits(view: View, lines: &Vec<u8>) -> bool
@@ -114,20 +82,20 @@ fn rule_refusal(number: u64, rule: Option<Rule>) -> Option<Refused>
     }
 }
 
-/// Appends the lines of a record that contains this message.
+/// Appends the lines of a record that contains this message and has these detail lines.
 fn append_message<M: AnyMessage>(
     alloc: Global,
     view: View,
     number: u64,
     whole: &Record,
     message: &M,
-    listed: &[u8],
+    detail: &[u8],
     session: &mut Session,
-    buffers: &mut Buffers,
     lines: &mut Vec<u8>,
 ) -> Result<Option<Refused>, Refused>
     requires message { IsMessage (payload_of whole.now) (M.sent message.now) }
-    requires listed { AreListed view.detail (M.sent message.now) listed.now }
+    requires detail { AreDetail view.detail view.limits.input (M.sent message.now)
+        (payload_of whole.now).1 detail.now }
     ensures { AppendsEntry view number (payload_of whole.now) session.old session.new
         lines.old.items lines.new.items result }
 {
@@ -137,12 +105,9 @@ fn append_message<M: AnyMessage>(
     let Ok(()) = push_head(alloc, number, message, rule, lines) else {
         return Err(Refused::Memory);
     };
-    let content = whole.content.as_slice();
-    match push_detail(alloc, view, content, listed, buffers, lines) {
-        Ok(()) => {}
-        Err(LeafFault::Full) => return Err(Refused::Grew(number)),
-        Err(LeafFault::Memory) => return Err(Refused::Memory),
-    }
+    let Ok(()) = lines.extend_from_slice(detail) else {
+        return Err(Refused::Memory);
+    };
     if !fits(view, lines) {
         return Err(Refused::Grew(number));
     }
@@ -177,16 +142,6 @@ fn append_refused(
     Ok(Some(refused))
 }
 
-/// Returns the lines of what a flat message lists, if the detail requires them.
-fn flat_listed(alloc: Global, detail: Detail, message: &FlatMessage<'_>) -> Result<Vec<u8>, Unread>
-    ensures { IfOk result (λ lines. AreListed detail (flat_sent message.now) lines.items) }
-{
-    match detail {
-        Detail::Lists => flat_lines(alloc, message),
-        Detail::Leaves => Ok(Vec::new(alloc)),
-    }
-}
-
 /// Appends the lines of a record whose content is read as a flat document. Returns `None`, and
 /// changes nothing, if the content must be read as a tree.
 fn append_flat(
@@ -204,32 +159,13 @@ fn append_flat(
     ensures unchanged { result ≡ None
         → (session.new ≡ session.old) × (lines.new.items ≡ lines.old.items) }
 {
-    let content = whole.content.as_slice();
-    let message = match read_flat(alloc, number, whole.side, content, scratch) {
+    let message = match read_as_flat(alloc, view, number, whole, scratch, buffers) {
         Ok(Some(message)) => message,
         Ok(None) => return None,
         Err(refused) => return Some(append_refused(view, number, whole, refused, lines)),
     };
-    match flat_listed(alloc, view.detail, &message) {
-        Ok(listed) => {
-            let listed = listed.as_slice();
-            Some(append_message(
-                alloc, view, number, whole, &message, listed, session, buffers, lines,
-            ))
-        }
-        Err(Unread::Unclear) => None,
-        Err(Unread::Memory) => Some(Err(Refused::Memory)),
-    }
-}
-
-/// Returns the lines of what a message lists, if the detail requires them.
-fn tree_listed(alloc: Global, detail: Detail, message: &Message) -> Result<Vec<u8>, AllocError>
-    ensures { IfOk result (λ lines. AreListed detail (sent message.now) lines.items) }
-{
-    match detail {
-        Detail::Lists => tree_lines(alloc, message),
-        Detail::Leaves => Ok(Vec::new(alloc)),
-    }
+    let detail = buffers.lines.as_slice();
+    Some(append_message(alloc, view, number, whole, &message, detail, session, lines))
 }
 
 /// Appends the lines of a record to those of the records before it. Returns the error that the
@@ -241,7 +177,7 @@ fn tree_listed(alloc: Global, detail: Detail, message: &Message) -> Result<Vec<u
 ///   marked.
 /// - `Grew`: the output exceeds the limit.
 /// - `Memory`: an allocation failed.
-pub fn append_entry(
+pub(crate) fn append_entry(
     alloc: Global,
     view: View,
     number: u64,
@@ -258,16 +194,10 @@ pub fn append_entry(
     if let Some(outcome) = flat {
         return outcome;
     }
-    let content = whole.content.as_slice();
-    let message = match read_message(alloc, number, whole.side, content, scratch) {
+    let message = match read_as_tree(alloc, view, number, whole, scratch, buffers) {
         Ok(message) => message,
         Err(refused) => return append_refused(view, number, whole, refused, lines),
     };
-    let Ok(listed) = tree_listed(alloc, view.detail, &message) else {
-        return Err(Refused::Memory);
-    };
-    let listed = listed.as_slice();
-    append_message(
-        alloc, view, number, whole, &message, listed, session, buffers, lines,
-    )
+    let detail = buffers.lines.as_slice();
+    append_message(alloc, view, number, whole, &message, detail, session, lines)
 }

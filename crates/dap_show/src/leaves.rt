@@ -1,211 +1,334 @@
-//! Formats the leaves of a tree, one line each.
-ghost use Rattle.std.specs.Prelude.{◌≡◌, ◌+◌, ◌<◌, ◌∷◌, ◌++◌, [], true, false, length, IfErr};
-ghost use Rattle.std.specs.Prelude.{IsErrOf, OnOk};
-ghost use Rattle.dap_difference.specs.Shown.{path_of};
-ghost use Rattle.dap_show.specs.Leaves.{has_parts, item_lines, leaf_line, leaf_lines, member_lines};
-ghost use Rattle.dap_tree.specs.Doc.{Doc, all_in_range, items_in_range, members_in_range};
-ghost use Rattle.dap_tree.specs.{Json.IsRead, View.{items_view, members_view, view}};
+//! Formats the leaves of a document, one line each.
+ghost use Rattle.std.specs.Prelude.{◌≡◌, ◌<◌, ◌≤◌, ◌++◌, [], length, IfOk, OnOk};
+ghost use Rattle.dap_difference.specs.{Lines.step_text, Shown.step_of};
+ghost use Rattle.dap_flat.specs.{Pieces.{Represents, piece_of}, Reading.ReadsDocument};
+ghost use Rattle.dap_flat_message.specs.Judging.{top_of};
+ghost use Rattle.dap_show.specs.Leaves.{AreLeaves, Lengthens, leaf_lines, line_of, printed_path};
+ghost use Rattle.dap_show.specs.LeafWalk.{PushesDocument, PushesItems, PushesMembers, PushesPart};
+ghost use Rattle.dap_show.specs.Showing.{in_quotes};
+ghost use Rattle.dap_tree.specs.{Doc.Doc, Json.{IsRead, text_of}};
 
+use crate::message_lines::push_number;
 use dap_difference::{Step, push_path};
-use dap_tree::{Scratch, Tree, TreeFault, read_tree_with, write_tree_to};
+use dap_flat::{Node, Unread, nodes_of, read_flat, write_flat};
+use dap_tree::{Scratch, TreeFault, read_tree_with};
 use std::alloc::{AllocError, Global};
-use std::collections::BTreeMap;
+
+/// The number of bytes per node of a document that most contents have at least. It is an estimate,
+/// which only affects how often the vector of nodes is reallocated.
+const BYTES_A_NODE: usize = 8;
 
 /// Buffers that are reused for each content.
 #[derive(Drop)]
-pub struct Buffers {
-    scratch: Scratch,
-    /// The text of one leaf. The writer of `json` initializes a part of its buffer ahead that grows
-    /// with the text before, so it does not write to the output.
-    value: Vec<u8>,
+pub(crate) struct Buffers {
+    /// The steps of the current path, each with its dot or brackets.
+    path: Vec<u8>,
+    /// The text of one string.
+    quoted: Vec<u8>,
+    /// The detail lines of one record.
+    pub(crate) lines: Vec<u8>,
 }
 
 impl Buffers {
     /// Creates empty buffers. Does not allocate.
-    pub fn new(alloc: Global) -> Buffers {
+    pub(crate) fn new(alloc: Global) -> Buffers {
         Buffers {
-            scratch: Scratch::new(alloc),
-            value: Vec::new(alloc),
+            path: Vec::new(alloc),
+            quoted: Vec::new(alloc),
+            lines: Vec::new(alloc),
         }
     }
 }
 
-/// Why lines were not appended.
-#[derive(Clone, Copy, Debug, PartialEq, Eq, Drop)]
-pub enum LeafFault {
-    /// The output would exceed its limit.
-    Full,
-    /// An allocation failed.
-    Memory,
-}
-
-/// Appends the line of a leaf.
-fn push_line(
+/// Reads the nodes of a content, and replaces the lines in the buffers by those of its leaves.
+/// Stops after the first lines that together exceed the limit.
+///
+/// # Errors
+///
+/// - `Unclear`: the content has to be read as a tree.
+/// - `Memory`: an allocation failed.
+pub(crate) fn read_leaves<'a>(
     alloc: Global,
-    path: &[Step<'_>],
-    leaf: &Tree,
-    value: &mut Vec<u8>,
-    out: &mut Vec<u8>,
-) -> Result<(), AllocError>
-    requires leaf { has_parts (view leaf.now) ≡ false }
-    requires in_range { all_in_range (view leaf.now) ≡ true }
-    ensures { OnOk result
-        (out.new.items ≡ out.old.items ++ leaf_line (path_of path.now) (view leaf.now)) }
-{
-    value.clear();
-    if write_tree_to(alloc, leaf, value).is_err() {
-        return Err(AllocError);
-    }
-    out.extend_from_slice(b"  ")?;
-    push_path(alloc, path, out)?;
-    out.extend_from_slice(b" ")?;
-    out.extend_from_slice(value.as_slice())?;
-    out.extend_from_slice(b"\n")
-}
-
-/// Appends the line of a leaf, or returns `Full` if the output exceeds the limit.
-fn push_leaf(
-    alloc: Global,
-    path: &[Step<'_>],
-    leaf: &Tree,
+    content: &'a [u8],
     limit: u64,
-    value: &mut Vec<u8>,
-    out: &mut Vec<u8>,
-) -> Result<(), LeafFault>
-    requires leaf { has_parts (view leaf.now) ≡ false }
-    requires in_range { all_in_range (view leaf.now) ≡ true }
-    ensures lines { OnOk result
-        (out.new.items ≡ out.old.items ++ leaf_lines (path_of path.now) (view leaf.now)) }
-    ensures full { IsErrOf result LeafFault.Full → limit
-        < length out.old.items + length (leaf_lines (path_of path.now) (view leaf.now)) }
+    scratch: &'a mut Scratch,
+    buffers: &mut Buffers,
+) -> Result<Vec<Node<'a>>, Unread>
+    ensures nodes { IfOk result (λ ns. ReadsDocument content.now ns.items) }
+    ensures lines { OnOk result (AreLeaves limit content.now buffers.new.lines.items) }
 {
-    let Ok(()) = push_line(alloc, path, leaf, value, out) else {
-        return Err(LeafFault::Memory);
-    };
-    if limit < out.len() as u64 {
-        return Err(LeafFault::Full);
-    }
-    Ok(())
+    let empty = Vec::with_capacity(alloc, content.len() / BYTES_A_NODE + 8)?;
+    let nodes = read_flat(content, scratch, empty)?;
+    write_leaves(alloc, &nodes, limit, buffers)?;
+    Ok(nodes)
 }
 
-/// Appends a step to a path.
-fn push_step<'t>(path: &mut Vec<Step<'t>>, step: Step<'t>) -> Result<(), LeafFault>
-    ensures pushed { OnOk result (path.new.items ≡ path.old.items ++ step.entry ∷ []) }
-    ensures memory { IfErr result (λ fault. fault ≡ LeafFault.Memory) }
-{
-    match path.push(step) {
-        Ok(()) => Ok(()),
-        Err(_) => Err(LeafFault::Memory),
-    }
-}
-
-/// Appends the lines of the leaves of a tree at `path`, unless the output would exceed the limit.
-/// On success, leaves the path unchanged.
-#[cycle(push_leaves)]
-fn push_leaves<'t>(
-    alloc: Global,
-    tree: &'t Tree,
-    path: &mut Vec<Step<'t>>,
-    limit: u64,
-    value: &mut Vec<u8>,
-    out: &mut Vec<u8>,
-) -> Result<(), LeafFault>
-    requires { all_in_range (view tree.now) ≡ true }
-    ensures lines { OnOk result
-        (out.new.items ≡ out.old.items ++ leaf_lines (path_of path.old.items) (view tree.now)) }
-    ensures path { OnOk result (path.new.items ≡ path.old.items) }
-    ensures full { IsErrOf result LeafFault.Full → limit
-        < length out.old.items + length (leaf_lines (path_of path.old.items) (view tree.now)) }
-{
-    match tree {
-        Tree::List(items) => {
-            if items.is_empty() {
-                return push_leaf(alloc, path.as_slice(), tree, limit, value, out);
-            }
-            push_items(alloc, items, path, limit, value, out)
-        }
-        Tree::Object(members) => {
-            if members.is_empty() {
-                return push_leaf(alloc, path.as_slice(), tree, limit, value, out);
-            }
-            push_members(alloc, members, path, limit, value, out)
-        }
-        Tree::Null | Tree::Bool(_) | Tree::Whole(_) | Tree::Text(_) | Tree::Id(..) => {
-            push_leaf(alloc, path.as_slice(), tree, limit, value, out)
-        }
-    }
-}
-
-#[cycle(push_leaves)]
-fn push_items<'t>(
-    alloc: Global,
-    items: &'t Vec<Tree>,
-    path: &mut Vec<Step<'t>>,
-    limit: u64,
-    value: &mut Vec<u8>,
-    out: &mut Vec<u8>,
-) -> Result<(), LeafFault>
-    requires { items_in_range (items_view items.now.items) ≡ true }
-    ensures lines { OnOk result (out.new.items ≡ out.old.items
-        ++ item_lines (path_of path.old.items) 0 (items_view items.now.items)) }
-    ensures path { OnOk result (path.new.items ≡ path.old.items) }
-    ensures full { IsErrOf result LeafFault.Full → limit < length out.old.items
-        + length (item_lines (path_of path.old.items) 0 (items_view items.now.items)) }
-{
-    for (place, item) in items.iter().enumerate() {
-        push_step(path, Step::Item(place))?;
-        push_leaves(alloc, item, path, limit, value, out)?;
-        path.pop();
-    }
-    Ok(())
-}
-
-#[cycle(push_leaves)]
-fn push_members<'t>(
-    alloc: Global,
-    members: &'t BTreeMap<String, Tree>,
-    path: &mut Vec<Step<'t>>,
-    limit: u64,
-    value: &mut Vec<u8>,
-    out: &mut Vec<u8>,
-) -> Result<(), LeafFault>
-    requires { members_in_range (members_view members.now.entries) ≡ true }
-    ensures lines { OnOk result (out.new.items ≡ out.old.items
-        ++ member_lines (path_of path.old.items) (members_view members.now.entries)) }
-    ensures path { OnOk result (path.new.items ≡ path.old.items) }
-    ensures full { IsErrOf result LeafFault.Full → limit < length out.old.items
-        + length (member_lines (path_of path.old.items) (members_view members.now.entries)) }
-{
-    for (name, member) in members.iter() {
-        push_step(path, Step::Member(name.as_str()))?;
-        push_leaves(alloc, member, path, limit, value, out)?;
-        path.pop();
-    }
-    Ok(())
-}
-
-/// Appends the lines of the leaves of a content that is JSON, unless the output would exceed the
-/// limit.
-pub fn push_content(
+/// Does the same for a content that is JSON and that is read as a tree.
+pub(crate) fn read_tree_leaves(
     alloc: Global,
     content: &[u8],
     limit: u64,
+    scratch: &mut Scratch,
     buffers: &mut Buffers,
-    out: &mut Vec<u8>,
-) -> Result<(), LeafFault>
+) -> Result<(), AllocError>
     requires { (d : Doc) × IsRead content.now d }
-    ensures lines { (d : Doc) → IsRead content.now d → OnOk result
-        (out.new.items ≡ out.old.items ++ leaf_lines [] d) }
-    ensures full { (d : Doc) → IsRead content.now d → IsErrOf result LeafFault.Full → limit
-        < length out.old.items + length (leaf_lines [] d) }
+    ensures { OnOk result (AreLeaves limit content.now buffers.new.lines.items) }
 {
-    match read_tree_with(alloc, content, &mut buffers.scratch) {
+    match read_tree_with(alloc, content, scratch) {
         Ok(tree) => {
-            let mut path = Vec::new(alloc);
-            push_leaves(alloc, &tree, &mut path, limit, &mut buffers.value, out)
+            let mut nodes = Vec::new(alloc);
+            nodes_of(&tree, &mut nodes)?;
+            write_leaves(alloc, &nodes, limit, buffers)
         }
-        Err(TreeFault::Memory) => Err(LeafFault::Memory),
+        Err(TreeFault::Memory) => Err(AllocError),
         Err(TreeFault::Json) => unreachable!(),
         Err(TreeFault::Fraction) => unreachable!(),
     }
+}
+
+/// Replaces the lines in the buffers by those of the leaves of the document that the nodes
+/// represent.
+fn write_leaves(
+    alloc: Global,
+    nodes: &[Node<'_>],
+    limit: u64,
+    buffers: &mut Buffers,
+) -> Result<(), AllocError>
+    ensures { OnOk result ((d : Doc) → Represents nodes.now d
+        → Lengthens limit [] buffers.new.lines.items (leaf_lines [] d)) }
+{
+    buffers.path.clear();
+    buffers.lines.clear();
+    if nodes.is_empty() {
+        return Ok(());
+    }
+    push_document(alloc, nodes, 0, limit, buffers)?;
+    Ok(())
+}
+
+/// Appends the lines of the leaves of the document that starts at `at`, and returns the place after
+/// it. Leaves the path unchanged.
+#[cycle(push_leaves)]
+fn push_document(
+    alloc: Global,
+    nodes: &[Node<'_>],
+    at: usize,
+    limit: u64,
+    buffers: &mut Buffers,
+) -> Result<usize, AllocError>
+    requires { at < length nodes.now }
+    ensures lines { IfOk result (PushesDocument limit nodes.now at buffers.old.path.items
+        buffers.old.lines.items buffers.new.lines.items) }
+    ensures path { OnOk result (buffers.new.path.items ≡ buffers.old.path.items) }
+    ensures end { IfOk result (λ end. at < end) }
+{
+    match nodes[at] {
+        Node::List(inside) => {
+            push_if_empty(alloc, &nodes[at], inside, limit, buffers)?;
+            push_items(alloc, nodes, at + 1, limit, buffers)
+        }
+        Node::Object(inside) => {
+            push_if_empty(alloc, &nodes[at], inside, limit, buffers)?;
+            push_members(alloc, nodes, at + 1, limit, buffers)
+        }
+        _ => {
+            push_leaf(alloc, &nodes[at], limit, buffers)?;
+            Ok(at + 1)
+        }
+    }
+}
+
+/// Appends the lines of the leaves of the items that start at `from`, and returns the place after
+/// the end of their list.
+#[cycle(push_leaves)]
+fn push_items(
+    alloc: Global,
+    nodes: &[Node<'_>],
+    from: usize,
+    limit: u64,
+    buffers: &mut Buffers,
+) -> Result<usize, AllocError>
+    ensures lines { IfOk result (PushesItems limit nodes.now from buffers.old.path.items
+        buffers.old.lines.items buffers.new.lines.items) }
+    ensures path { OnOk result (buffers.new.path.items ≡ buffers.old.path.items) }
+    ensures end { IfOk result (λ end. from ≤ end) }
+{
+    let mut p = from;
+    let mut place = 0;
+    while p < nodes.len() {
+        if let Node::EndList = nodes[p] {
+            return Ok(p + 1);
+        }
+        let end = push_part(alloc, nodes, p, Step::Item(place), limit, buffers)?;
+        place += 1;
+        p = end;
+    }
+    Ok(p)
+}
+
+/// Appends the lines of the leaves of the members that start at `from`, and returns the place after
+/// the end of their object.
+#[cycle(push_leaves)]
+fn push_members(
+    alloc: Global,
+    nodes: &[Node<'_>],
+    from: usize,
+    limit: u64,
+    buffers: &mut Buffers,
+) -> Result<usize, AllocError>
+    ensures lines { IfOk result (PushesMembers limit nodes.now from buffers.old.path.items
+        buffers.old.lines.items buffers.new.lines.items) }
+    ensures path { OnOk result (buffers.new.path.items ≡ buffers.old.path.items) }
+    ensures end { IfOk result (λ end. from ≤ end) }
+{
+    let mut p = from;
+    while p < nodes.len() {
+        let Node::Name(name) = nodes[p] else {
+            return Ok(p + 1);
+        };
+        if p + 1 >= nodes.len() {
+            return Ok(p + 1);
+        }
+        let end = push_part(alloc, nodes, p + 1, Step::Member(name), limit, buffers)?;
+        p = end;
+    }
+    Ok(p)
+}
+
+/// Appends the lines of the leaves of the document that starts at `at`, to which this step leads.
+#[cycle(push_leaves)]
+fn push_part(
+    alloc: Global,
+    nodes: &[Node<'_>],
+    at: usize,
+    step: Step<'_>,
+    limit: u64,
+    buffers: &mut Buffers,
+) -> Result<usize, AllocError>
+    requires { at < length nodes.now }
+    ensures lines { IfOk result (PushesPart limit nodes.now at (step_of step.entry)
+        buffers.old.path.items buffers.old.lines.items buffers.new.lines.items) }
+    ensures path { OnOk result (buffers.new.path.items ≡ buffers.old.path.items) }
+    ensures end { IfOk result (λ end. at < end) }
+{
+    let len = buffers.path.len();
+    push_step(alloc, step, &mut buffers.path)?;
+    let end = push_document(alloc, nodes, at, limit, buffers)?;
+    buffers.path.truncate(len);
+    Ok(end)
+}
+
+/// Appends a step to the text of a path.
+fn push_step(alloc: Global, step: Step<'_>, path: &mut Vec<u8>) -> Result<(), AllocError>
+    ensures { OnOk result (path.new.items ≡ path.old.items ++ step_text (step_of step.entry)) }
+{
+    match step {
+        Step::Member(_) => {
+            path.extend_from_slice(b".")?;
+            push_path(alloc, &[step], path)
+        }
+        Step::Item(_) => push_path(alloc, &[step], path),
+    }
+}
+
+/// Appends the line of a list or an object, if it has no nodes inside.
+fn push_if_empty(
+    alloc: Global,
+    node: &Node<'_>,
+    inside: usize,
+    limit: u64,
+    buffers: &mut Buffers,
+) -> Result<(), AllocError>
+    ensures line { OnOk result (inside ≡ 0
+        → Lengthens limit buffers.old.lines.items buffers.new.lines.items
+        (line_of buffers.old.path.items (top_of (piece_of node.now)))) }
+    ensures unchanged { 0 < inside → buffers.new.lines.items ≡ buffers.old.lines.items }
+    ensures path { buffers.new.path.items ≡ buffers.old.path.items }
+{
+    if inside > 0 {
+        return Ok(());
+    }
+    push_leaf(alloc, node, limit, buffers)
+}
+
+/// Appends the line of a leaf, unless the lines exceed the limit already.
+fn push_leaf(
+    alloc: Global,
+    node: &Node<'_>,
+    limit: u64,
+    buffers: &mut Buffers,
+) -> Result<(), AllocError>
+    ensures lines { OnOk result (Lengthens limit buffers.old.lines.items buffers.new.lines.items
+        (line_of buffers.old.path.items (top_of (piece_of node.now)))) }
+    ensures path { buffers.new.path.items ≡ buffers.old.path.items }
+{
+    if limit < buffers.lines.len() as u64 {
+        return Ok(());
+    }
+    push_line(alloc, node, buffers)
+}
+
+/// Appends the line of a leaf.
+fn push_line(alloc: Global, node: &Node<'_>, buffers: &mut Buffers) -> Result<(), AllocError>
+    ensures lines { OnOk result (buffers.new.lines.items ≡ buffers.old.lines.items
+        ++ line_of buffers.old.path.items (top_of (piece_of node.now))) }
+    ensures path { buffers.new.path.items ≡ buffers.old.path.items }
+{
+    buffers.lines.extend_from_slice(b"  ")?;
+    let path = printed(buffers.path.as_slice());
+    buffers.lines.extend_from_slice(path)?;
+    buffers.lines.extend_from_slice(b" ")?;
+    push_scalar(alloc, node, &mut buffers.quoted, &mut buffers.lines)?;
+    buffers.lines.extend_from_slice(b"\n")
+}
+
+/// Returns a path as it is printed: without the dot of its first step. The path of the entire
+/// document is `.`.
+fn printed(path: &[u8]) -> &[u8]
+    ensures { result.now ≡ printed_path path.now }
+{
+    match path {
+        [] => b".",
+        [first, rest @ ..] => { if *first == b'.' { rest } else { path } }
+    }
+}
+
+/// Appends the text of a scalar, or of an empty list or object.
+fn push_scalar(
+    alloc: Global,
+    node: &Node<'_>,
+    quoted: &mut Vec<u8>,
+    out: &mut Vec<u8>,
+) -> Result<(), AllocError>
+    ensures { OnOk result
+        (out.new.items ≡ out.old.items ++ text_of (top_of (piece_of node.now))) }
+{
+    match *node {
+        Node::Bool(true) => out.extend_from_slice(b"true"),
+        Node::Bool(false) => out.extend_from_slice(b"false"),
+        Node::Unsigned(number) => push_number(out, "", number),
+        Node::Negative(number) => push_number(out, "", number),
+        Node::Id(_, number) => push_number(out, "", number),
+        Node::Text(text) => push_text(alloc, text, quoted, out),
+        Node::List(_) => out.extend_from_slice(b"[]"),
+        Node::Object(_) => out.extend_from_slice(b"{}"),
+        Node::Null | Node::EndList | Node::EndObject | Node::Name(_) => {
+            out.extend_from_slice(b"null")
+        }
+    }
+}
+
+/// Appends a string as JSON, in quotes. The writer of `json` initializes a part of its buffer ahead
+/// that grows with the text before, so it does not write to the output.
+fn push_text(
+    alloc: Global,
+    text: &str,
+    quoted: &mut Vec<u8>,
+    out: &mut Vec<u8>,
+) -> Result<(), AllocError>
+    ensures { OnOk result (out.new.items ≡ out.old.items ++ in_quotes text.now) }
+{
+    quoted.clear();
+    write_flat(alloc, &[Node::Text(text)], quoted)?;
+    out.extend_from_slice(quoted.as_slice())
 }

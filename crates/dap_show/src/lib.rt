@@ -13,6 +13,7 @@ pub mod laws;
 mod leaves;
 mod message_lines;
 mod one_record;
+mod reading;
 mod viewing;
 
 pub use detail::{Detail, ShowRequest};

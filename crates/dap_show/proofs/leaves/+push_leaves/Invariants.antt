@@ -1,27 +1,38 @@
-use Rattle.std.proofs.Common.{◌≡◌, ◌++◌, drop, true}
-use Rattle.dap_difference.specs.Shown.{path_of}
-use Rattle.dap_show.specs.Leaves.{item_lines, member_lines}
-use Rattle.dap_tree.specs.Doc.{items_in_range, members_in_range}
-use Rattle.dap_tree.specs.View.{items_view, members_view}
+use Rattle.std.proofs.Common.{◌≡◌, ◌+◌, ◌*◌, ◌-◌, ◌≤◌, length}
+use Rattle.dap_show.specs.LeafWalk.{AreItemsLeft, AreMembersLeft}
 use Rattle.dap_show.proofs.leaves.+push_leaves.Given as goal
 
--- The lines so far, followed by those of the remaining elements, are all lines.
-abbrev pub invariant-push_items-loop-place : goal.invariant-push_items-loop-place
-invariant-push_items-loop-place l = record {
-  lines : l.out.items
-      ++ item_lines (path_of l.initial.path.items) l.place (items_view (drop l.place l.items.items))
-      ≡ l.initial.out.items
-      ++ item_lines (path_of l.initial.path.items) 0 (items_view l.items.items);
-  path : l.path.items ≡ l.initial.path.items;
-  in_range : items_in_range (items_view (drop l.place l.items.items)) ≡ true;
+abbrev pub decreases-push_document : goal.decreases-push_document
+decreases-push_document l = 3 * (length l.nodes.now - l.at)
+
+abbrev pub decreases-push_part : goal.decreases-push_part
+decreases-push_part l = 3 * (length l.nodes.now - l.at) + 1
+
+abbrev pub decreases-push_items : goal.decreases-push_items
+decreases-push_items l = 3 * (length l.nodes.now - l.from) + 2
+
+abbrev pub decreases-push_members : goal.decreases-push_members
+decreases-push_members l = 3 * (length l.nodes.now - l.from) + 2
+
+-- The lines of the parts before p were appended.
+abbrev pub invariant-push_items-loop-p : goal.invariant-push_items-loop-p
+invariant-push_items-loop-p l = record {
+  lines : AreItemsLeft l.limit l.nodes l.from l.p l.place l.initial.buffers.path.items
+      l.initial.buffers.lines.items l.buffers.lines.items;
+  path : l.buffers.path.items ≡ l.initial.buffers.path.items;
+  place : l.from + l.place ≤ l.p;
 }
 
-abbrev pub invariant-push_members-loop-name : goal.invariant-push_members-loop-name
-invariant-push_members-loop-name l = record {
-  lines : l.out.items
-      ++ member_lines (path_of l.initial.path.items) (members_view l.name-iterator)
-      ≡ l.initial.out.items
-      ++ member_lines (path_of l.initial.path.items) (members_view l.members.entries);
-  path : l.path.items ≡ l.initial.path.items;
-  in_range : members_in_range (members_view l.name-iterator) ≡ true;
+abbrev pub decreases-push_items-loop-p : goal.decreases-push_items-loop-p
+decreases-push_items-loop-p l = length l.nodes - l.p
+
+abbrev pub invariant-push_members-loop-p : goal.invariant-push_members-loop-p
+invariant-push_members-loop-p l = record {
+  lines : AreMembersLeft l.limit l.nodes l.from l.p l.initial.buffers.path.items
+      l.initial.buffers.lines.items l.buffers.lines.items;
+  path : l.buffers.path.items ≡ l.initial.buffers.path.items;
+  from : l.from ≤ l.p;
 }
+
+abbrev pub decreases-push_members-loop-p : goal.decreases-push_members-loop-p
+decreases-push_members-loop-p l = length l.nodes - l.p
