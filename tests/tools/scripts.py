@@ -227,7 +227,7 @@ def first_look(report, scratch):
 
 def clean(report, scratch):
     """`make clean` removes what is built and no source."""
-    sources = {path for path in files_of(scratch.tree) if not path.startswith("bin/") and "/out/" not in path}
+    sources = {path for path in files_of(scratch.tree) if not path.startswith(("bin/", "docs/reference/")) and "/out/" not in path}
     for folder in (("bin",), ("dist",), ("crates", "dap_device", "out", "incremental")):
         os.makedirs(scratch.path(*folder), exist_ok=True)
         write(scratch.path(*folder, "built"))
