@@ -13,8 +13,8 @@ abbrev pub agree_from : List ℕ → List ℕ → Bool
 agree_from [] t = false
 agree_from (b ∷ s) t = agree (b ∷ s) t || agree_from s t
 
--- The text and the word can overlap (own): one contains the other, or a suffix of one is a prefix of
--- the other. An empty word meets every text.
+-- The text and the word can overlap (own): one contains the other, or a suffix of one is a prefix
+-- of the other. An empty word meets every text.
 abbrev pub meet : List ℕ → List ℕ → Bool
 meet text word = agree_from text word || agree_from word text
 

@@ -1,35 +1,9 @@
 //! Conditions on a list of words.
 ghost use Rattle.std.specs.Prelude.{◌≡◌};
-ghost use Rattle.dap_words.specs.Words.{pair_of, pairs_of, have_own_texts, is_text_among};
-ghost use Rattle.dap_words.specs.Apart.{agree, agree_from, meet, meets_any, are_apart, is_met};
-ghost use Rattle.dap_words.specs.Apart.{stays_apart};
+ghost use Rattle.dap_words.specs.Apart.{agree, agree_from, meet, meets_any, is_met, stays_apart};
+ghost use Rattle.dap_words.specs.Words.{pair_of, pairs_of, is_text_among};
 
 use crate::words::Word;
-
-/// Returns whether no word meets a text: neither contains the other, and no suffix of either is a
-/// prefix of the other. Then a second pass changes nothing.
-pub fn are_apart(words: &[Word]) -> bool
-    ensures { result ≡ are_apart (pairs_of words.now) }
-{
-    for word in words {
-        if meets_any(words, word.word.as_bytes()) {
-            return false;
-        }
-    }
-    true
-}
-
-/// Returns whether no two words replace the same text.
-pub fn have_own_texts(words: &[Word]) -> bool
-    ensures { result ≡ have_own_texts (pairs_of words.now) }
-{
-    for (i, word) in words.iter().enumerate() {
-        if is_text_among(word.text.as_str(), &words[i + 1..]) {
-            return false;
-        }
-    }
-    true
-}
 
 /// Returns whether one of the words replaces the text.
 pub fn is_text_among(text: &str, words: &[Word]) -> bool

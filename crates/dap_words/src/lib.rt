@@ -16,7 +16,6 @@ mod uuids;
 mod word_list;
 mod words;
 
-pub use apart::{are_apart, have_own_texts, is_text_among, stays_apart};
 pub use long_runs::long;
 pub use putting::put_words;
 pub use uuids::uuid;

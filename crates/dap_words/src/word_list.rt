@@ -1,10 +1,9 @@
 //! A list of texts and their words.
-ghost use Rattle.std.specs.Prelude.{◌≡◌, ◌<◌, ◌++◌, ◌∷◌, [], IfOk, IfErr, OnErr, OnOk, IsTrue};
-ghost use Rattle.std.specs.Prelude.{length, true, None, IsErrOf};
+ghost use Rattle.std.specs.Prelude.{◌≡◌, ◌++◌, ◌∷◌, [], OnErr, OnOk, IsTrue, length, true, None};
 ghost use Rattle.dap_words.specs.Apart.{are_apart};
 ghost use Rattle.dap_words.specs.Words.{pair_of, pairs_of, have_own_texts};
 
-use crate::apart::{are_apart, have_own_texts, is_text_among, stays_apart};
+use crate::apart::{is_text_among, stays_apart};
 use crate::words::Word;
 use std::alloc::{AllocError, AllocFailed, Global};
 use thiserror::Error;
@@ -47,7 +46,7 @@ pub struct Words {
 }
 
 impl Words {
-    ghost use Rattle.dap_words.specs.Kept.{pairs_in, AreSettled, Explains, cause_against};
+    ghost use Rattle.dap_words.specs.Kept.{pairs_in, AreSettled, cause_against};
     ghost use Rattle.std.specs.Prelude.{◌↔◌};
 
     /// Returns a list without words. Does not allocate.
@@ -57,40 +56,6 @@ impl Words {
         Words {
             list: Vec::new(alloc),
         }
-    }
-
-    /// Returns the list with one more word, after the others.
-    ///
-    /// # Errors
-    ///
-    /// The first of these that holds:
-    ///
-    /// - `Empty`: the text is empty. Does not allocate.
-    /// - `Memory`: an allocation failed.
-    /// - `Repeated`: a word of the list replaces the same text.
-    /// - `Meets`: a word overlaps a text.
-    pub fn with(self, word: Word) -> Result<Words, WordCause>
-        ensures ok { IfOk result (λ w. pairs_in w ≡ pairs_in self ++ pair_of word ∷ []) }
-        ensures some { IfOk result (λ _. 0 < length (pair_of word).text) }
-        ensures settled { IfOk result (λ w. AreSettled (pairs_in w)) }
-        ensures err { IfErr result (Explains (pairs_in self) (pair_of word)) }
-        ensures memory { IsErrOf result WordCause.Memory → 0 < length (pair_of word).text }
-    {
-        if word.text.is_empty() {
-            return Err(WordCause::Empty);
-        }
-        let mut list = self.list;
-        match list.push(word) {
-            Ok(()) => {}
-            Err(_) => return Err(WordCause::Memory),
-        }
-        if !have_own_texts(list.as_slice()) {
-            return Err(WordCause::Repeated);
-        }
-        if !are_apart(list.as_slice()) {
-            return Err(WordCause::Meets);
-        }
-        Ok(Words { list })
     }
 
     /// Returns why the word may not be the next one of the list; `None` if it may. Does not
@@ -117,6 +82,7 @@ impl Words {
     pub fn push(&mut self, word: Word) -> Result<(), AllocError>
         requires { cause_against (pairs_in self.old) (pair_of word) ≡ None }
         ensures ok { OnOk result (pairs_in self.new ≡ pairs_in self.old ++ pair_of word ∷ []) }
+        ensures settled { OnOk result (AreSettled (pairs_in self.new)) }
         ensures err { OnErr result (pairs_in self.new ≡ pairs_in self.old) }
     {
         self.list.push(word)?;
