@@ -432,16 +432,13 @@ RULES = {
         b"swap response a event b\n\nswap event b response a\n", "line 3: Repeated",
         ["line 3 is: swap event b response a", "line 1 has the same rule", "leave one of them out"],
     ),
-    "digits after hex": (
-        b"# x\nhex event output body.output\ndigits event * body.output\n", "line 3: DigitsBehindHex",
-        ["line 3 is: digits event * body.output", "line 2 has a hex rule for the same place", "write the digits rule before the hex rule"],
+    "digits and uuid": (
+        b"# x\nuuid event output body.output\ndigits event * body.output\n", "line 3: Clash",
+        ["line 3 is: digits event * body.output", "line 2 has a uuid rule for the same place", "no place has both: leave one of them out"],
     ),
-    "uuid after digits": (
+    "uuid and digits": (
         b"digits event output body.output\nuuid event * body.output\n", "line 2: Clash",
-        [
-            "line 2 is: uuid event * body.output", "line 1 has another action for the same place",
-            "write uuid before long and hex last, and do not join uuid and digits",
-        ],
+        ["line 2 is: uuid event * body.output", "line 1 has a digits rule for the same place", "no place has both: leave one of them out"],
     ),
     "long without a place": (b"long event stopped\n", "line 1: BadRule", ["line 1 is: long event stopped", "after the name comes a place, such as body.reason"]),
     "no category": (
@@ -478,26 +475,9 @@ RULES = {
             '"v[\\"a b\\"].name" is the name by which the rule finds its element: leave the rule out',
         ],
     ),
-    "a name by which another rule finds elements": (
-        b'hex event * v["a"].y\ndigits event x v[].name # x\n', "line 2: Clash",
-        [
-            "line 2 is: digits event x v[].name # x", "line 1 is about the same elements",
-            "no rule changes the names by which a rule finds elements: leave one of them out",
-        ],
-    ),
-    "elements whose names a rule changes": (
-        b'drop event output\ndigits event x v[].name\n\nhex event * v["a"].y\n', "line 4: Clash",
-        [
-            'line 4 is: hex event * v["a"].y', "line 2 is about the same elements",
-            "no rule changes the names by which a rule finds elements: leave one of them out",
-        ],
-    ),
-    "two actions at one element": (
-        b'hex event x v["a"].y\nuuid event x v[].y\n', "line 2: Clash",
-        [
-            "line 2 is: uuid event x v[].y", "line 1 has another action for the same place",
-            "write uuid before long and hex last, and do not join uuid and digits",
-        ],
+    "uuid and digits at one element": (
+        b'digits event x v["a"].y\nuuid event x v[].y\n', "line 2: Clash",
+        ["line 2 is: uuid event x v[].y", "line 1 has a digits rule for the same place", "no place has both: leave one of them out"],
     ),
     "a bracket that is not closed": (
         b'blank event x v["a".y\n', "line 1: BadRule",

@@ -1,4 +1,5 @@
 """Checks which files of rules are refused, and what rules make of contents and of recordings, by the command `mask`."""
+import itertools
 import sys
 
 from tests.program.asked import asks_of_files, judged
@@ -20,15 +21,11 @@ REFUSED = [
     (b'blank event process body.id\n\nblank event process "body" . id\n', "line 3: BadRule"),
     (b'blank event process body.id\n\nblank event "process" body."i\\u0064" # again\n', "line 3: Repeated"),
     (b"drop event *\r\ndrop event *\r\n", "line 2: Repeated"),
-    (b"hex event output body.output\ndigits event * body.output\n", "line 2: DigitsBehindHex"),
-    (b"hex event output body.output\nlong event output body.output\n", "line 2: Clash"),
-    (b"hex event * body.output\n\nuuid event output body.output\n", "line 3: Clash"),
+    # Two actions that exclude each other, in either order.
     (b"digits event output body.output\nuuid event output body.output\n", "line 2: Clash"),
     (b"uuid event output body.output\ndigits event output body.output\n", "line 2: Clash"),
-    (b"long event output body.output\nuuid event * body.output\n", "line 2: Clash"),
-    # The first of two that clash decides.
     (b"uuid event a x\nhex event a x\ndigits event a x\n", "line 3: Clash"),
-    (b"hex event a x\nuuid event b x\ndigits event * x\n", "line 3: DigitsBehindHex"),
+    (b"hex event a x\nuuid event b x\ndigits event * x\n", "line 3: Clash"),
     (b"drop event output category", "line 1: BadRule"),
     (b"drop event output category=", "line 1: BadRule"),
     (b"drop event output category= telemetry", "line 1: BadRule"),
@@ -63,16 +60,10 @@ REFUSED = [
     (b'blank response threads body.threads["main"].id', "line 1: BadPlace"),
     (b'blank event a v["x"].name', "line 1: BadPlace"),
     (b'blank event a v["x"].w[].y\nhex event a v["x"].w["y"]."name"\n', "line 2: BadPlace"),
-    # A change of a name by which another rule finds elements, in either order.
-    (b'blank event a v["x"].y\nblank event a v[].name\n', "line 2: Clash"),
-    (b'hex event * v[].name\n\nblank event a v["x"].y\n', "line 3: Clash"),
-    (b'blank event a v["x"].w["z"].y\nblank event * v[].w[].name\n', "line 2: Clash"),
-    (b'digits event a v["x"].w[].name\nblank event a v["x"].w["z"].y\n', "line 2: Clash"),
-    (b'digits event a v["x"].w[].name\n\nblank event a v[].w["z"].y\n', "line 3: Clash"),
     # A change of one name may make it another one.
     (b'blank event a v["x"].y\nblank event a v["z"].name\n', "line 2: BadPlace"),
-    (b'hex event a v["x"].y\ndigits event a v["x"].y\n', "line 2: DigitsBehindHex"),
-    (b'hex event a v["x"].y\nuuid event a v[].y\n', "line 2: Clash"),
+    (b'digits event a v["x"].y\nuuid event a v["x"].y\n', "line 2: Clash"),
+    (b'digits event a v["x"].y\nuuid event a v[].y\n', "line 2: Clash"),
     (b"per-stop\n# again\n\tper-stop # the same\n", "line 3: Repeated"),
     (b"swap event a event b\nper-stop\nper-stop\n", "line 3: Repeated"),
     (b"per-stop event stopped", "line 1: BadRule"),
@@ -179,10 +170,47 @@ SWAPS = [
     b"swap event " + b"n" * 30_000 + b" event " + b"m" * 30_000,
 ]
 
-# Pairs of actions that may have one place, in this order.
+# Actions at one place, a text, and what they make of it in whatever order their lines are.
 TOGETHER = [
-    b"digits hex", b"digits long", b"long digits", b"long hex", b"uuid hex", b"uuid long", b"blank uuid",
-    b"hex blank", b"long blank", b"digits long hex", b"uuid long hex",
+    (b"hex digits", "0x1f 17", "0x0 0"),
+    (b"hex long", "0x7ffd5e8a 7ffd5e8a", "0x0 0"),
+    (b"hex uuid", "0x1f 6e8bc430-9c3a-11d9-9669-0800200c9a66", "0x0 00000000-0000-0000-0000-000000000000"),
+    (b"long digits", "123456ab 17ab", "0 0ab"),
+    (b"long uuid", "6e8bc430-9c3a-11d9-9669-0800200c9a66", "0-0000-0000-0000-0"),
+    (b"long digits hex", "0x1f 123456ab 17", "0x0 0 0"),
+    (b"long uuid hex", "0x1f 6e8bc430-9c3a-11d9-9669-0800200c9a66", "0x0 0-0000-0000-0000-0"),
+    (b"blank digits", "17", ""),
+    (b"blank hex", "0x1f", ""),
+    (b"blank long", "123456ab", ""),
+    (b"blank uuid", "6e8bc430-9c3a-11d9-9669-0800200c9a66", ""),
+]
+
+# Rules for the names of elements beside rules for elements by their name, a content, and what they
+# make of it in whatever order their lines are.
+NAMES_FIRST = [
+    (
+        [b"long event a v[].name", b'blank event a v["0"].y'],
+        '{"v":[{"name":"7f3a1c2","y":"1"},{"name":"b","y":"2"},{"name":"0","y":"3"}]}',
+        '{"v":[{"name":"0","y":""},{"name":"b","y":"2"},{"name":"0","y":""}]}',
+    ),
+    # No element has the old name.
+    (
+        [b"digits event a v[].name", b'blank event a v["a1"].y'],
+        '{"v":[{"name":"a1","y":"1"}]}',
+        '{"v":[{"name":"a0","y":"1"}]}',
+    ),
+    # Names of outer elements come before those of inner ones.
+    (
+        [b"digits event a v[].name", b'long event a v["f0"].w[].name', b'hex event a v["f0"].w["0"].y'],
+        '{"v":[{"name":"f17","w":[{"name":"123456a","y":"0x1f"},{"name":"b","y":"0x1f"}]},{"name":"g","w":[{"name":"123456a","y":"0x1f"}]}]}',
+        '{"v":[{"name":"f0","w":[{"name":"0","y":"0x0"},{"name":"b","y":"0x1f"}]},{"name":"g","w":[{"name":"123456a","y":"0x1f"}]}]}',
+    ),
+    # A list that is blanked loses its elements.
+    (
+        [b"digits event a v[].name", b"blank event a v", b'blank event a v["a0"].y'],
+        '{"v":[{"name":"a1","y":"1"}]}',
+        '{"v":[]}',
+    ),
 ]
 
 # Rules that are accepted beside rules that drop events by their category.
@@ -220,7 +248,13 @@ CATEGORISED = [
 # Rules for elements by their name that are accepted beside one another.
 BESIDE_ELEMENTS = [
     # Two actions that exclude each other, at elements of two names.
-    b'hex event a v["x"].y\ndigits event a v["z"].y\nuuid event a v["w"].y\n',
+    b'digits event a v["z"].y\nuuid event a v["w"].y\n',
+    # Names by which other rules find elements.
+    b'blank event a v["x"].y\nblank event a v[].name\n',
+    b'hex event * v[].name\n\nblank event a v["x"].y\n',
+    b'blank event a v["x"].w["z"].y\nblank event * v[].w[].name\n',
+    b'digits event a v["x"].w[].name\nblank event a v["x"].w["z"].y\n',
+    b'digits event a v["x"].w[].name\n\nblank event a v[].w["z"].y\n',
     b'blank event a v["x"].y\nblank event a v[].y\nblank event a v["x"]\nblank event a v[]\nblank event a v\n',
     # Names of other messages, of other lists, and members of other names.
     b'blank event a v["x"].y\nblank event b v[].name\nblank response a v[].name\nblank event a w[].name\nblank event a v[].names\n',
@@ -376,10 +410,27 @@ def accepted_swaps(report):
         masks(report, f"accepted rules for the order, row {number}", swap, OUTPUT, record('<{"event":"output","type":"event"}'))
 
 
+def event_with(members):
+    """An event a with a body or other members, as text in order."""
+    return '{"event":"a","type":"event",' + members[1:]
+
+
 def actions_together(report):
-    for verbs in TOGETHER:
-        rules = b"".join(verb + b" event output body.output\n" for verb in verbs.split())
-        masks(report, f"actions at one place: {verbs.decode()}", rules, OUTPUT, record('<{"event":"output","type":"event"}'))
+    for verbs, text, masked in TOGETHER:
+        given, written = (record("<" + event_with('{"x":"%s"}' % it)) for it in (text, masked))
+        for order in itertools.permutations(verbs.split()):
+            rules = b"".join(verb + b" event a x\n" for verb in order)
+            masks(report, f"actions at one place: {b' '.join(order).decode()}", rules, given, written)
+            masks(report, f"actions at one place, masked again: {b' '.join(order).decode()}", rules, written, written)
+
+
+def names_first(report):
+    for number, (lines, content, masked) in enumerate(NAMES_FIRST, 1):
+        given, written = (record("<" + event_with(it)) for it in (content, masked))
+        for order in itertools.permutations(lines):
+            rules = b"".join(line + b"\n" for line in order)
+            masks(report, f"names of elements first, row {number}", rules, given, written)
+            masks(report, f"names of elements first, masked again, row {number}", rules, written, written)
 
 
 def categories(report):
@@ -463,4 +514,4 @@ def masked_recordings(report):
 
 
 if __name__ == "__main__":
-    sys.exit(judged(refused_rules, accepted_swaps, actions_together, categories, elements, a_thousand_rules, words, masked_contents, masked_recordings))
+    sys.exit(judged(refused_rules, accepted_swaps, actions_together, names_first, categories, elements, a_thousand_rules, words, masked_contents, masked_recordings))

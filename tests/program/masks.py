@@ -31,7 +31,7 @@ REFUSED = [
     (b"# ids stay\nblank response stackTrace body.stackFrames[].id\n", b"dapnorm: rules: line 2: BadPlace\n"),
     (b"\n\nblank request * seq\n", b"dapnorm: rules: line 3: BadPlace\n"),
     (b"blank event process body.name\nblank event process body.name\n", b"dapnorm: rules: line 2: Repeated\n"),
-    (b"hex response evaluate body.result\ndigits response evaluate body.result\n", b"dapnorm: rules: line 2: DigitsBehindHex\n"),
+    (b"uuid response evaluate body.result\ndigits response evaluate body.result\n", b"dapnorm: rules: line 2: Clash\n"),
     (b"drop event \xff\n", b"dapnorm: rules: line 1: NotUtf8\n"),
     (b"# \n" * 21_846, b"dapnorm: rules: line 21846: TooLong\n"),
     (b"".join(b"drop event e%d\n" % number for number in range(1001)), b"dapnorm: rules: line 1001: TooMany\n"),

@@ -161,7 +161,10 @@ def worked(report):
     answer = asked(started(1, "red"), started(1, "blue"), "--rules", "given", given=b"blank event process body.name")
     report.check("what was given is not suggested again", answer == (0, b"\n" + same.encode(), b""), repr(answer))
     answer = asked(started(1, "1 0xa"), started(1, "2 0xb"), "--rules", "given", given=b"hex event process body.name\n")
-    wanted = (head % ('"1 0x0"', '"2 0x0"', "blank ", "name") + same).encode()
+    wanted = (head % ('"1 0x0"', '"2 0x0"', "digits", "name") + same).encode()
+    report.check("an action that comes before a given one", answer == (0, wanted, b""), repr(answer))
+    answer = asked(started(1, "run 1"), started(1, "run 22"), "--rules", "given", given=b"uuid event process body.name\n")
+    wanted = (head % ('"run 1"', '"run 22"', "blank ", "name") + same).encode()
     report.check("what the given rules contradict is not suggested", answer == (0, wanted, b""), repr(answer))
     answer = asked(started(1, "a"), started(1, "a"))
     report.check("two equal recordings need no rule", answer == (0, same.encode(), b""), repr(answer))
@@ -254,10 +257,10 @@ def elements(report):
         "another name in the list", [("a1", 1), ("b", 1)], [("a22", 1), ("b", 2)],
         ("a1", "a22", f"digits{place}[].name"), (1, 2, f"blank {place}[].y"),
     )
-    check("names that a given rule changes", [("a", 1)], [("a", 2)], (1, 2, f"blank {place}[].y"), given=b"hex event * body.x[].name\n")
+    check("names that a given rule changes", [("a", 1)], [("a", 2)], (1, 2, f'blank {place}["a"].y'), given=b"hex event * body.x[].name\n")
     check(
-        "an action that a given rule excludes", [("a", "1 0xa")], [("a", "2 0xb")],
-        ("1 0x0", "2 0x0", f'blank {place}["a"].y'), given=b"hex event process body.x[].y\n",
+        "an action that a given rule excludes", [("a", "run 1")], [("a", "run 22")],
+        ("run 1", "run 22", f'blank {place}["a"].y'), given=b"uuid event process body.x[].y\n",
     )
     fields = [f"f{number:03}" for number in range(130)]
     one, other = ([{"name": it, **{field: value for field in fields}} for it in eight] for value in (1, 2))

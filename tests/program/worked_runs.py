@@ -236,7 +236,7 @@ REFUSED_RULES = {
     "an id": (b"# ids stay\nblank response stackTrace body.stackFrames[].id\n", "line 2: BadPlace"),
     "the envelope": (b"\n\nblank request * seq\n", "line 3: BadPlace"),
     "a rule twice": (b"drop event *\r\ndrop event *\r\n", "line 2: Repeated"),
-    "digits behind hex": (b"hex event output body.output\ndigits event * body.output\n", "line 2: DigitsBehindHex"),
+    "digits and uuid at one place": (b"uuid event output body.output\ndigits event * body.output\n", "line 2: Clash"),
     "no text": (b"\n# \xff\n", "line 2: NotUtf8"),
 }
 

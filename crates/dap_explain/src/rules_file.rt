@@ -17,6 +17,9 @@ const CATEGORY_ADVICE: &str =
 const WORD_ADVICE: &str =
     "choose a word that shares no start or end with a text, such as \"<home>\"";
 
+/// What to do about a `uuid` and a `digits` rule for one place.
+const UUID_ADVICE: &str = "no place has both: leave one of them out";
+
 /// Returns the line of a file with this number, counted from 1, without its LF.
 fn line_of(rules: &[u8], number: usize) -> &[u8] {
     let mut lines = rules.split(is_lf);
@@ -72,14 +75,6 @@ fn is_second_refused(lines: &mut Lines, parts: &[&[u8]], cause: RulesCause) -> b
     rules.is_some_and(|rules| fault_in(lines, rules.as_slice()) == fault)
 }
 
-/// Returns whether one of two changes changes the names by which the other finds elements: with
-/// `blank` as their verbs, two lines clash only then.
-fn is_renaming(lines: &mut Lines, earlier: &[u8], line: &[u8]) -> bool {
-    let (first, second) = (split_verb(earlier).1, split_verb(line).1);
-    let parts = [b"blank".as_slice(), first, b"\nblank".as_slice(), second];
-    is_second_refused(lines, &parts, RulesCause::Clash)
-}
-
 /// Adds the lines about an earlier line that excludes a line for this reason, and what to do.
 fn add_earlier(lines: &mut Lines, number: usize, earlier: &[u8], line: &[u8], cause: RulesCause) {
     let (what, advice) = match cause {
@@ -91,20 +86,10 @@ fn add_earlier(lines: &mut Lines, number: usize, earlier: &[u8], line: &[u8], ca
             "has a text or a word that can overlap those of this line",
             WORD_ADVICE,
         ),
-        RulesCause::DigitsBehindHex => (
-            "has a hex rule for the same place",
-            "write the digits rule before the hex rule",
-        ),
         _ if has_verb(line, "drop") => ("changes the category", CATEGORY_ADVICE),
         _ if has_verb(earlier, "drop") => ("drops events by this category", CATEGORY_ADVICE),
-        _ if is_renaming(lines, earlier, line) => (
-            "is about the same elements",
-            "no rule changes the names by which a rule finds elements: leave one of them out",
-        ),
-        _ => (
-            "has another action for the same place",
-            "write uuid before long and hex last, and do not join uuid and digits",
-        ),
+        _ if has_verb(line, "uuid") => ("has a digits rule for the same place", UUID_ADVICE),
+        _ => ("has a uuid rule for the same place", UUID_ADVICE),
     };
     lines.write(format_args!("line {number} {what}"));
     lines.add(advice);

@@ -6,13 +6,14 @@ use Rattle.std.proofs.Common.{Ordering, Less, Equal, Greater, nat_cmp}
 use Rattle.std.proofs.lemmas.Slice.Eq.{bytes_eq-Decides}
 use Rattle.std.specs.Cmp.Lexicographic.{slice_cmp}
 use Rattle.std.specs.Ordering.{match_ordering, is_lt}
+use Rattle.std.specs.List.{list_any, filter}
 use Rattle.std.proofs.lemmas.Bool.{not-true}
 use Rattle.dap_tree.specs.Doc.{Doc, null, boolean, whole, text, list, object, id, Items, no_items}
 use Rattle.dap_tree.specs.Doc.{item, Members, no_members, member, get, change_member, change_child}
 use Rattle.dap_tree.specs.Doc.{map_items, change_items, is_below_all, is_ordered, items_ordered}
 use Rattle.dap_tree.specs.Doc.{members_ordered}
 use Rattle.dap_tree.specs.Path.{Step, name, at}
-use Rattle.dap_tree.proofs.Booleans.{and_left, and_right, and_both, or_left, or_right}
+use Rattle.dap_tree.proofs.Booleans.{and_left, and_right, and_both, or_left, or_right, or_both}
 use Rattle.dap_profile.specs.PlaceSteps.{PlaceStep}
 use Rattle.dap_message.specs.Places.{fits_place}
 use Rattle.dap_message.specs.Marks.{top}
@@ -25,16 +26,19 @@ use Rattle.dap_mask.specs.RuleSteps.{RuleStep, named, elements, plain_place, has
 use Rattle.dap_mask.specs.RuleSteps.{is_called, change_called, change_at_place}
 use Rattle.dap_mask.specs.Rules.{Rule, change_text, of_verb, takes_parts, has_name, rule_applies}
 use Rattle.dap_mask.specs.Rules.{is_event_of, applies_at, plain_place_of, blank, renames}
-use Rattle.dap_mask.specs.Rules.{renames_among, is_name_in, same_kind, share_name}
-use Rattle.dap_mask.specs.Rules.{is_dropped, is_telling, is_telling_place, are_safe}
+use Rattle.dap_mask.specs.Rules.{is_name_in, is_for_names, comes_before, same_kind, share_name}
+use Rattle.dap_mask.specs.Rules.{is_dropped, is_telling, is_telling_place, is_misplaced, is_late}
+use Rattle.dap_mask.specs.Rules.{are_safe}
 use Rattle.dap_mask.specs.Masked.{is_below, left_at, left_by, left, IsMasked, AgreeBut, is_apart}
-use Rattle.dap_mask.specs.Masked.{mask_by, masked}
+use Rattle.dap_mask.specs.Masked.{mask_by, masked, named_by}
 use Rattle.dap_mask.specs.Texts.{digits, hex}
 use Rattle.dap_words.specs.Long.{long}
 use Rattle.dap_words.specs.Uuids.{uuid}
 use Rattle.dap_mask.specs.declared.rules.Verb.{Verb, TheVariants.{Blank, Digits, Hex, Long, Uuid}}
 use Rattle.dap_mask.proofs.Edited.{top-verb, at-edit, left-none}
-use Rattle.dap_mask.proofs.ElementNames.{same_names}
+use Rattle.dap_mask.proofs.ElementNames.{same_names, deep_names, and_first}
+use Rattle.dap_mask.proofs.RuleOrder.{names_end_in_member, no_shorter, renames_no_earlier}
+use Rattle.dap_mask.proofs.RuleOrder.{renames_none, none_for_names, not_before_itself}
 use Rattle.dap_mask.proofs.Matches.{both_apply}
 
 -- ---- a rule applies to a masked document if and only if it applies to the original document
@@ -121,29 +125,28 @@ dropped-mask_by r ns d h = go (rule_applies r d)
         d h)
     go false = refl
 
+pub first_placed : (r : Rule) (rs : List Rule) → are_safe (r ∷ rs) ≡ true → is_misplaced r ≡ false
+first_placed r rs h = not-true (is_misplaced r) (and_left (not (is_misplaced r))
+    (not (is_late r rs) && are_safe rs) h)
+
 pub first_safe : (r : Rule) (rs : List Rule) → are_safe (r ∷ rs) ≡ true → is_telling_place r.place
     ≡ false
-first_safe r rs h = not-true (is_telling_place r.place) (and_left (not (is_telling_place r.place))
-    (not (renames r r || renames_among r rs) && are_safe rs) h)
+first_safe r rs h = or_left (is_telling_place r.place) (renames r r) (first_placed r rs h)
 
--- the rules leave the names of elements, and the rest is safe
+pub first_renames : (r : Rule) (rs : List Rule) → are_safe (r ∷ rs) ≡ true → renames r r ≡ false
+first_renames r rs h = or_right (is_telling_place r.place) (renames r r) (first_placed r rs h)
+
+-- no later rule comes before the first one, and the rest is safe
 later_safe : (r : Rule) (rs : List Rule) → are_safe (r ∷ rs) ≡ true
-    → (not (renames r r || renames_among r rs) && are_safe rs) ≡ true
-later_safe r rs h = and_right (not (is_telling_place r.place))
-    (not (renames r r || renames_among r rs) && are_safe rs) h
+    → (not (is_late r rs) && are_safe rs) ≡ true
+later_safe r rs h = and_right (not (is_misplaced r)) (not (is_late r rs) && are_safe rs) h
+
+pub first_early : (r : Rule) (rs : List Rule) → are_safe (r ∷ rs) ≡ true → is_late r rs ≡ false
+first_early r rs h =
+    not-true (is_late r rs) (and_left (not (is_late r rs)) (are_safe rs) (later_safe r rs h))
 
 pub rest_safe : (r : Rule) (rs : List Rule) → are_safe (r ∷ rs) ≡ true → are_safe rs ≡ true
-rest_safe r rs h =
-    and_right (not (renames r r || renames_among r rs)) (are_safe rs) (later_safe r rs h)
-
-pub first_renames : (r : Rule) (rs : List Rule) → are_safe (r ∷ rs) ≡ true
-    → (renames r r ≡ false) × (renames_among r rs ≡ false)
-first_renames r rs h =
-    let none = not-true (renames r r || renames_among r rs)
-    (and_left (not (renames r r || renames_among r rs)) (are_safe rs) (later_safe r rs h)) in (
-      or_left (renames r r) (renames_among r rs) none,
-      or_right (renames r r) (renames_among r rs) none,
-    )
+rest_safe r rs h = and_right (not (is_late r rs)) (are_safe rs) (later_safe r rs h)
 
 pub spoken-masked : (rs : List Rule) (q : Rule) (d : Doc) → are_safe rs ≡ true
     → rule_applies q (masked rs d) ≡ rule_applies q d
@@ -174,7 +177,7 @@ top-left_at v ps p o = go (fits_place ps p) (is_below ps p && takes_parts v)
     go false true = refl
     go false false = refl
 
-top-left_by : (r : Rule) (d : Doc) (p : List Step) (o : Option Doc)
+pub top-left_by : (r : Rule) (d : Doc) (p : List Step) (o : Option Doc)
     → option_map top (left_by r d p o) ≡ left_by r d p (option_map top o)
 top-left_by r d p o = go (applies_at r d p)
   where
@@ -318,15 +321,6 @@ left-same rs e d p (inr s) =
     rules_same rs e d p (option_map top (at p e))
     (λ x is v. ap (option_map (of_verb v)) is ∙ blank_fixed x v ∙ sym is) s
 
--- one of these rules may rename an element that the rule selects
-abbrev pub is_renamed_by : List Rule → Rule → Bool
-is_renamed_by [] q = false
-is_renamed_by (r ∷ rs) q = renames r q || is_renamed_by rs q
-
-pub and_first : (a b : Bool) → b ≡ true → (a && b) ≡ false → a ≡ false
-and_first true b e h = absurd (true≢false (sym e ∙ h))
-and_first false b e h = refl
-
 top_blank : (x : Doc) → top (blank x) ≡ blank x
 top_blank null = refl
 top_blank (boolean b) = refl
@@ -368,33 +362,123 @@ same_by r q d p y safe h there = go (rule_applies r d) refl there
     go false a k = inl refl
 
 all_same_by : (r : Rule) (qs : List Rule) (d : Doc) (p : List Step) (y : Doc)
-    → is_telling_place r.place ≡ false → renames_among r qs ≡ false → at p (mask_by r d) ≡ Some y
-    → AreSame qs (mask_by r d) d p
+    → is_telling_place r.place ≡ false → list_any (renames r) qs ≡ false
+    → at p (mask_by r d) ≡ Some y → AreSame qs (mask_by r d) d p
 all_same_by r [] d p y safe h there = tt
 all_same_by r (q ∷ qs) d p y safe h there = (
-  same_by r q d p y safe (or_left (renames r q) (renames q r)
-      (or_left (renames r q || renames q r) (renames_among r qs) h)) there,
-  all_same_by r qs d p y safe (or_right (renames r q || renames q r) (renames_among r qs) h)
-      there,
+  same_by r q d p y safe (or_left (renames r q) (list_any (renames r) qs) h) there,
+  all_same_by r qs d p y safe (or_right (renames r q) (list_any (renames r) qs) h) there,
 )
 
-same_after : (r : Rule) (qs : List Rule) (d : Doc) (p : List Step) → is_telling_place r.place ≡ false
-    → renames_among r qs ≡ false → (o : Option Doc) → at p (mask_by r d) ≡ o
-    → (at p (mask_by r d) ≡ None) ⊎ AreSame qs (mask_by r d) d p
-same_after r qs d p safe h None is = inl is
-same_after r qs d p safe h (Some y) is = inr (all_same_by r qs d p y safe h is)
+same_or_none : (r : Rule) (qs : List Rule) (d : Doc) (p : List Step)
+    → is_telling_place r.place ≡ false → list_any (renames r) qs ≡ false → (o : Option Doc)
+    → at p (mask_by r d) ≡ o → (at p (mask_by r d) ≡ None) ⊎ AreSame qs (mask_by r d) d p
+same_or_none r qs d p safe h None is = inl is
+same_or_none r qs d p safe h (Some y) is = inr (all_same_by r qs d p y safe h is)
+
+-- a rule that renames no element that the other rules select leaves their effect
+pub same_after : (r : Rule) (qs : List Rule) (d : Doc) (p : List Step)
+    → is_telling_place r.place ≡ false → list_any (renames r) qs ≡ false
+    → left qs (mask_by r d) p (option_map top (at p (mask_by r d)))
+    ≡ left qs d p (option_map top (at p (mask_by r d)))
+same_after r qs d p safe h =
+    left-same qs (mask_by r d) d p (same_or_none r qs d p safe h (at p (mask_by r d)) refl)
+
+-- ---- the names of elements after the rules for names
+
+-- a later rule for names leaves the names by which a rule for names selects
+names_stay : (t q : Rule) (d : Doc) (p : List Step) → is_telling_place t.place ≡ false
+    → is_for_names t.place ≡ true → is_for_names q.place ≡ true → renames q q ≡ false
+    → comes_before t q ≡ false → applies_at q (mask_by t d) p ≡ applies_at q d p
+names_stay t q d p safe e f own late = go (rule_applies t d) refl
+  where
+    changed : Doc
+    changed = change_at_place t.place (of_verb t.verb) d
+
+    both : rule_applies t d ≡ true → rule_applies q d ≡ true
+        → has_names q.place (Some changed) p ≡ has_names q.place (Some d) p
+    both a b = deep_names t.verb t.place q.place (Some d) p (no_shorter q t f e late)
+        (names_end_in_member q.place f)
+        (and_first (is_name_in t.place q.place)
+        (same_kind t.kind q.kind && share_name t.name q.name) (both_apply t q d a b)
+        (renames_no_earlier t q own late))
+
+    go : (a : Bool) → rule_applies t d ≡ a
+        → (rule_applies q (cond a changed d) && has_names q.place (Some (cond a changed d)) p)
+        ≡ (rule_applies q d && has_names q.place (Some d) p)
+    go false a = refl
+    go true a =
+        let spoken = spoken-edit t.verb t.place q d safe in
+        by_bool (rule_applies q d)
+        (λ b. ap₂ (λ x y. x && y) spoken (both a b))
+        (λ b. ap (λ x. x && has_names q.place (Some changed) p) (spoken ∙ b)
+        ∙ sym (ap (λ x. x && has_names q.place (Some d) p) b))
+
+all_names_stay : (q : Rule) (ts : List Rule) (d : Doc) (p : List Step) → are_safe ts ≡ true
+    → is_for_names q.place ≡ true → renames q q ≡ false → is_late q ts ≡ false
+    → applies_at q (named_by ts d) p ≡ applies_at q d p
+all_names_stay q [] d p safe f own late = refl
+all_names_stay q (t ∷ ts) d p safe f own late =
+    go (λ e. all_names_stay q ts e p (rest_safe t ts safe) f own
+    (or_right (comes_before t q) (is_late q ts) late)) (is_for_names t.place) refl
+  where
+    others : List Rule
+    others = filter (λ u. is_for_names u.place) ts
+
+    go : ((e : Doc) → applies_at q (named_by ts e) p ≡ applies_at q e p)
+        → (a : Bool) → is_for_names t.place ≡ a
+        → applies_at q (masked (cond a (t ∷ others) others) d) p ≡ applies_at q d p
+    go rest true e = rest (mask_by t d) ∙ names_stay t q d p (first_safe t ts safe) e f own
+        (or_left (comes_before t q) (is_late q ts) late)
+    go rest false e = rest d
+
+-- without rules for names, the document has the names
+pub unnamed_by : (r : Rule) (ts : List Rule) (d : Doc) → is_for_names r.place ≡ false
+    → is_late r ts ≡ false → named_by ts d ≡ d
+unnamed_by r ts d e h = ap (λ us. masked us d) (none_for_names r ts e h)
+
+renames_none_of : (r : Rule) (qs : List Rule) → is_for_names r.place ≡ false
+    → list_any (renames r) qs ≡ false
+renames_none_of r [] e = refl
+renames_none_of r (q ∷ qs) e = or_both _ _ (renames_none r q e) (renames_none_of r qs e)
 
 pub at-masked : (rs : List Rule) (d : Doc) → are_safe rs ≡ true → (p : List Step)
-    → Alike (at p (masked rs d)) (left rs d p (at p d))
+    → Alike (at p (masked rs d)) (left rs (named_by rs d) p (at p d))
 at-masked [] d h p = refl
 at-masked (r ∷ rs) d h p =
-    let e = mask_by r d in
-    let none = first_renames r rs h in
-    at-masked rs e (rest_safe r rs h) p
-    ∙ top-left rs e p (at p e)
-    ∙ left-same rs e d p (same_after r rs d p (first_safe r rs h) none.1 (at p e) refl)
-    ∙ sym (top-left rs d p (at p e))
-    ∙ left-alike rs d p (at p e) (left_by r d p (at p d)) (at-mask_by r d p)
+    go (at-masked rs (mask_by r d) (rest_safe r rs h) p) (is_for_names r.place) refl
+  where
+    e : Doc
+    e = mask_by r d
+
+    others : List Rule
+    others = filter (λ u. is_for_names u.place) rs
+
+    early : is_late r rs ≡ false
+    early = first_early r rs h
+
+    go : Alike (at p (masked rs e)) (left rs (named_by rs e) p (at p e))
+        → (b : Bool) → is_for_names r.place ≡ b
+        → Alike (at p (masked rs e)) (left (r ∷ rs) (masked (cond b (r ∷ others) others) d) p
+        (at p d))
+    go later true f =
+        let now = named_by rs e in
+        let own = first_renames r rs h in
+        let stays : applies_at r now p ≡ applies_at r d p =
+        all_names_stay r rs e p (rest_safe r rs h) f own early
+        ∙ names_stay r r d p (first_safe r rs h) f f own (not_before_itself r) in
+        later
+        ∙ left-alike rs now p (at p e) (left_by r now p (at p d))
+        (at-mask_by r d p ∙ sym (ap (λ b. option_map top (cond b
+        (left_at r.verb (plain_place_of r) p (at p d)) (at p d))) stays))
+    go later false f =
+        later
+        ∙ ap (λ x. option_map top (left rs x p (at p e))) (unnamed_by r rs e f early)
+        ∙ top-left rs e p (at p e)
+        ∙ same_after r rs d p (first_safe r rs h) (renames_none_of r rs f)
+        ∙ sym (top-left rs d p (at p e))
+        ∙ left-alike rs d p (at p e) (left_by r d p (at p d)) (at-mask_by r d p)
+        ∙ sym (ap (λ x. option_map top (left (r ∷ rs) x p (at p d))) (unnamed_by r rs d f early))
 
 pub masked_by_path : (rs : List Rule) (d : Doc) → are_safe rs ≡ true → IsMasked rs d (masked rs d)
 unfolding IsMasked
@@ -417,9 +501,11 @@ left_apart (r ∷ rs) d p o h =
     go later true false true h = cc
     go later true false false h = later h
 
-pub keeps_others : (rs : List Rule) (d : Doc) (p : List Step) → are_safe rs ≡ true → is_apart rs d p
-    ≡ true → option_map top (at p (masked rs d)) ≡ option_map top (at p d)
-keeps_others rs d p h a = at-masked rs d h p ∙ ap (option_map top) (left_apart rs d p (at p d) a)
+pub keeps_others : (rs : List Rule) (d : Doc) (p : List Step) → are_safe rs ≡ true
+    → is_apart rs (named_by rs d) p ≡ true
+    → option_map top (at p (masked rs d)) ≡ option_map top (at p d)
+keeps_others rs d p h a =
+    at-masked rs d h p ∙ ap (option_map top) (left_apart rs (named_by rs d) p (at p d) a)
 
 pub none_from : (o : Option Doc) → option_map top o ≡ None → o ≡ None
 none_from None h = refl
@@ -427,8 +513,10 @@ none_from (Some x) h = cc
 
 pub none_new : (rs : List Rule) (d : Doc) (p : List Step) → are_safe rs ≡ true → at p d ≡ None
     → at p (masked rs d) ≡ None
-none_new rs d p h n = none_from _ (at-masked rs d h p ∙ ap (λ o. option_map top (left rs d p o)) n
-    ∙ ap (option_map top) (left_nothing rs d p))
+none_new rs d p h n =
+    let now = named_by rs d in
+    none_from _ (at-masked rs d h p ∙ ap (λ o. option_map top (left rs now p o)) n
+    ∙ ap (option_map top) (left_nothing rs now p))
 
 -- ---- members stay in order
 
@@ -543,14 +631,17 @@ ordered-edit v (elements n ∷ ss) =
     ordered-items (change_called n (change_at_place ss (of_verb v)))
     (ordered-called n (change_at_place ss (of_verb v)) (ordered-edit v ss))
 
-pub ordered-masked : (rs : List Rule) (d : Doc) → is_ordered d ≡ true → is_ordered (masked rs d)
-    ≡ true
-ordered-masked [] d h = h
-ordered-masked (r ∷ rs) d h = ordered-masked rs (mask_by r d) (go (rule_applies r d))
+pub ordered-mask_by : (r : Rule) (d : Doc) → is_ordered d ≡ true → is_ordered (mask_by r d) ≡ true
+ordered-mask_by r d h = go (rule_applies r d)
   where
     go : (b : Bool) → is_ordered (cond b (change_at_place r.place (of_verb r.verb) d) d) ≡ true
     go true = ordered-edit r.verb r.place d h
     go false = h
+
+pub ordered-masked : (rs : List Rule) (d : Doc) → is_ordered d ≡ true → is_ordered (masked rs d)
+    ≡ true
+ordered-masked [] d h = h
+ordered-masked (r ∷ rs) d h = ordered-masked rs (mask_by r d) (ordered-mask_by r d h)
 
 -- ---- the values at all paths determine the document
 

@@ -1,4 +1,5 @@
--- Why rules must be settled and safe: with these rules, masking a document again changes it.
+-- Why rules must be in order, and none misplaced: with these rules, masking a document again
+-- changes it.
 use Rattle.std.proofs.Common.{◌≡◌, ℕ, List, [], ◌∷◌, Some, None, refl}
 use Rattle.std.specs.Prelude.{codes}
 use Rattle.dap_tree.specs.Doc.{Doc, text, list, object, no_items, item, no_members, member}

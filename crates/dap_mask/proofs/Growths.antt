@@ -8,6 +8,7 @@ use Rattle.std.specs.Str.{is_utf8}
 use Rattle.dap_mask.specs.Mask.{Mask, no_rules, rule_count, with_rule, Statement, change, leave_out}
 use Rattle.dap_mask.specs.Mask.{leave_out_category, swap, restart, put, Line, nothing, rule, bad}
 use Rattle.dap_mask.specs.RuleText.{line_said, statement_at, reported}
+use Rattle.dap_mask.specs.Rules.{Rule, comes_before, inserted}
 use Rattle.dap_mask.specs.RulesFile.{cause_against, outcome_unless, outcome_of, line_outcome}
 use Rattle.dap_mask.specs.RulesFile.{outcome_then, rules_from, last_line, rules_said}
 use Rattle.dap_mask.specs.Runs.{has_class, is_blank, front, behind, lines_of, is_end}
@@ -40,9 +41,18 @@ first_restart m h = go (nat_le 1000 (rule_count m)) m.per_stop h
     go false true k = cc
     go false false k = refl
 
+length-inserted : (r : Rule) (rs : List Rule) → length (inserted r rs) ≡ suc (length rs)
+length-inserted r [] = refl
+length-inserted r (t ∷ ts) = go (length-inserted r ts) (comes_before r t)
+  where
+    go : length (inserted r ts) ≡ suc (length ts) → (b : Bool)
+        → length (cond b (r ∷ t ∷ ts) (t ∷ inserted r ts)) ≡ suc (length (t ∷ ts))
+    go more true = refl
+    go more false = ap suc more
+
 one_more : (m : Mask) (st : Statement) → cause_against m st ≡ None
     → rule_count (with_rule m st) ≡ suc (rule_count m)
-one_more m (change r) h = let more = length_push m.changes r in omega arith
+one_more m (change r) h = let more = length-inserted r m.changes in omega arith
 one_more m (leave_out n) h = let more = length_push m.dropped n in omega arith
 one_more m (leave_out_category c) h = let more = length_push m.categories c in omega arith
 one_more m (swap s) h = let more = length_push m.swaps s in omega arith

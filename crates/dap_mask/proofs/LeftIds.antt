@@ -12,15 +12,16 @@ use Rattle.dap_message.specs.Rows.{row_applies, is_text, is_of_kind, name_key, m
 use Rattle.dap_profile.specs.declared.profile.Kind.{Kind}
 use Rattle.dap_mask.specs.Rules.{Rule, of_verb, takes_parts, has_name, rule_applies}
 use Rattle.dap_mask.specs.RuleSteps.{has_names}
-use Rattle.dap_mask.specs.Rules.{are_safe, applies_at, plain_place_of}
-use Rattle.dap_mask.specs.Masked.{is_below, left_by, left, masked}
+use Rattle.dap_mask.specs.Rules.{are_safe, applies_at, plain_place_of, is_for_names}
+use Rattle.dap_mask.specs.Masked.{is_below, left_by, left, mask_by, masked, named_by}
 use Rattle.dap_mask.specs.Ids.{meets, takes_id, leave_row, takes_id_of}
 use Rattle.dap_mask.specs.Ids.{takes_profile_id, leave_ids, KeepsIds}
 use Rattle.dap_message.specs.Marks.{top}
 use Rattle.dap_profile.specs.Profile.{profile, wants_id}
 use Rattle.std.specs.Prelude.{Contains}
-use Rattle.std.specs.List.{slice_index_or}
-use Rattle.dap_mask.proofs.ByPath.{left_nothing, at-masked, none_from}
+use Rattle.std.specs.List.{slice_index_or, filter}
+use Rattle.dap_mask.proofs.ByPath.{left_nothing, at-masked, none_from, spoken-mask_by}
+use Rattle.dap_mask.proofs.ByPath.{first_safe, rest_safe}
 use Rattle.dap_mask.proofs.Matches.{fits_same, kind_alike, name_alike}
 
 -- if a rule and a row both apply to a document, they may apply to the same message
@@ -43,22 +44,27 @@ both_meet r (Some k) (Some n) d h g =
     (has_name r.kind r.name d) h) (subst (λ j. has_name j (Some n) d ≡ true) (sym kinds.1)
     row_name))
 
+-- rules apply to both documents, or to none of them
+abbrev ApplyAlike : Doc → Doc → Type 0
+ApplyAlike e d = (r : Rule) → rule_applies r e ≡ rule_applies r d
+
 -- a rule that does not take the id of a row keeps the id, or removes it with a value that contains
--- it
-one_left : (r : Rule) (row : ProfileRow) (d : Doc) (p : List Step) (o : Option Doc) → takes_id r row
-    ≡ false → wants_id row.want ≡ true → row_applies row.kind row.name d ≡ true
-    → fits_place row.place p ≡ true
-    → (left_by r d p o ≡ o) ⊎ (left_by r d p o ≡ None)
-one_left r row d p o free wants asked fits =
-    go (applies_at r d p) (fits_place (plain_place_of r) p)
+-- it, also with the names of another document to which the same rules apply
+one_left : (r : Rule) (row : ProfileRow) (e d : Doc) (p : List Step) (o : Option Doc)
+    → ApplyAlike e d → takes_id r row ≡ false → wants_id row.want ≡ true
+    → row_applies row.kind row.name d ≡ true → fits_place row.place p ≡ true
+    → (left_by r e p o ≡ o) ⊎ (left_by r e p o ≡ None)
+one_left r row e d p o alike free wants asked fits =
+    go (applies_at r e p) (fits_place (plain_place_of r) p)
     (is_below (plain_place_of r) p && takes_parts r.verb)
     (λ s f. true≢false (sym (and_both _ _ wants (and_both _ _
     (fits_same (plain_place_of r) row.place p f fits)
     (both_meet r row.kind row.name d
-    (and_left (rule_applies r d) (has_names r.place (Some d) p) s) asked))) ∙ free)) refl refl
+    (sym (alike r) ∙ and_left (rule_applies r e) (has_names r.place (Some e) p) s) asked)))
+    ∙ free)) refl refl
   where
-    go : (a b c : Bool) → (applies_at r d p ≡ true → fits_place (plain_place_of r) p ≡ true → ⊥)
-        → applies_at r d p ≡ a → fits_place (plain_place_of r) p ≡ b
+    go : (a b c : Bool) → (applies_at r e p ≡ true → fits_place (plain_place_of r) p ≡ true → ⊥)
+        → applies_at r e p ≡ a → fits_place (plain_place_of r) p ≡ b
         → (cond a (cond b (option_map (of_verb r.verb) o) (cond c None o)) o ≡ o)
         ⊎ (cond a (cond b (option_map (of_verb r.verb) o) (cond c None o)) o ≡ None)
     go false b c not_both s f = inl refl
@@ -66,17 +72,17 @@ one_left r row d p o free wants asked fits =
     go true false true not_both s f = inr refl
     go true false false not_both s f = inl refl
 
-leaves_row : (rules : List Rule) (d : Doc) (p : List Step) (o : Option Doc) (row : ProfileRow)
-    → leave_row rules row ≡ true → wants_id row.want ≡ true → row_applies row.kind row.name d ≡ true
-    → fits_place row.place p ≡ true
-    → (left rules d p o ≡ o) ⊎ (left rules d p o ≡ None)
-leaves_row [] d p o row h wants asked fits = inl refl
-leaves_row (r ∷ rs) d p o row h wants asked fits =
-    elim (one_left r row d p o (not-true (takes_id r row) (and_left (not (takes_id r row))
+leaves_row : (rules : List Rule) (e d : Doc) (p : List Step) (o : Option Doc) (row : ProfileRow)
+    → ApplyAlike e d → leave_row rules row ≡ true → wants_id row.want ≡ true
+    → row_applies row.kind row.name d ≡ true → fits_place row.place p ≡ true
+    → (left rules e p o ≡ o) ⊎ (left rules e p o ≡ None)
+leaves_row [] e d p o row alike h wants asked fits = inl refl
+leaves_row (r ∷ rs) e d p o row alike h wants asked fits =
+    elim (one_left r row e d p o alike (not-true (takes_id r row) (and_left (not (takes_id r row))
     (leave_row rs row) h)) wants asked fits) [
-      | inl e ↦ (rw e (leaves_row rs d p o row (and_right (not (takes_id r row)) (leave_row rs row)
-          h) wants asked fits))
-      | inr e ↦ (inr (ap (left rs d p) e ∙ left_nothing rs d p))
+      | inl k ↦ (rw k (leaves_row rs e d p o row alike (and_right (not (takes_id r row))
+          (leave_row rs row) h) wants asked fits))
+      | inr k ↦ (inr (ap (left rs e p) k ∙ left_nothing rs e p))
     ]
 
 -- ---- rules without the place of an id of the profile, for each row
@@ -108,13 +114,29 @@ pub leaves_ids : (rules : List Rule) (d : Doc) (p : List Step) (o : Option Doc) 
     → row_applies row.kind row.name d ≡ true → fits_place row.place p ≡ true
     → (left rules d p o ≡ o) ⊎ (left rules d p o ≡ None)
 leaves_ids rules d p o row h among wants asked fits =
-    leaves_row rules d p o row (leave_row_of rules row h among) wants asked fits
+    leaves_row rules d d p o row (λ r. refl) (leave_row_of rules row h among) wants asked fits
+
+-- rules apply to a document before and after the rules for names
+named_alike : (rules : List Rule) (d : Doc) → are_safe rules ≡ true
+    → ApplyAlike (named_by rules d) d
+named_alike [] d safe r = refl
+named_alike (t ∷ ts) d safe r =
+    go (λ e. named_alike ts e (rest_safe t ts safe) r) (is_for_names t.place)
+  where
+    others : List Rule
+    others = filter (λ u. is_for_names u.place) ts
+
+    go : ((e : Doc) → rule_applies r (named_by ts e) ≡ rule_applies r e) → (b : Bool)
+        → rule_applies r (masked (cond b (t ∷ others) others) d) ≡ rule_applies r d
+    go rest true = rest (mask_by t d) ∙ spoken-mask_by t r d (first_safe t ts safe)
+    go rest false = rest d
 
 pub keeps_ids : (rules : List Rule) (d : Doc) → are_safe rules ≡ true → leave_ids rules ≡ true
     → KeepsIds d (masked rules d)
 unfolding KeepsIds
 keeps_ids rules d safe h p row among wants asked fits =
-    elim (leaves_ids rules d p (at p d) row h among wants asked fits) [
+    elim (leaves_row rules (named_by rules d) d p (at p d) row (named_alike rules d safe)
+    (leave_row_of rules row h among) wants asked fits) [
       | inl e ↦ inl (at-masked rules d safe p ∙ ap (option_map top) e)
       | inr e ↦ inr (none_from (at p (masked rules d)) (at-masked rules d safe p
           ∙ ap (option_map top) e))

@@ -3,9 +3,11 @@ pub mod Utf8
 pub mod Edited
 pub mod Matches
 pub mod ElementNames
+pub mod RuleOrder
 pub mod Relations
 pub mod ByPath
 pub mod Settled
+pub mod AnyOrder
 pub mod Dropping
 pub mod Loosening
 pub mod LooseReading
@@ -26,4 +28,5 @@ pub mod Quoted
 pub mod Parsing
 pub mod Parsed
 pub mod WorkedRules
+pub mod WorkedOrder
 pub mod WordLines

@@ -1,30 +1,34 @@
 -- Rules followed by one more rule.
-use Rattle.std.proofs.Common.{◌≡◌, Bool, true, false, cond, not, ◌&&◌, ◌||◌, List, [], ◌∷◌, ◌++◌}
-use Rattle.std.proofs.Common.{Option, Some, None, map, option_map, string_bytes, refl, ap, nat_le}
-use Rattle.std.proofs.Common.{String, ◌∙◌}
+use Rattle.std.proofs.Common.{◌≡◌, ℕ, Bool, true, false, cond, not, ◌&&◌, ◌||◌, List, [], ◌∷◌, ◌++◌}
+use Rattle.std.proofs.Common.{Option, Some, None, map, option_map, string_bytes, refl, ap, ap₂, sym}
+use Rattle.std.proofs.Common.{String, ◌∙◌, ◌≤◌, nat_le, nat_lt, bytes_eq, take, drop, length, arith}
+use Rattle.std.proofs.Common.{true≢false, suc, ◌+◌}
+use Rattle.std.specs.Prelude.{insert}
+use Rattle.std.specs.List.{list_any, position_or_len, position}
 use Rattle.std.specs.declared.alloc.Global.{Global}
-use Rattle.std.proofs.lemmas.Bool.{not-true}
+use Rattle.std.proofs.lemmas.Bool.{not-true, ltb-false}
+use Rattle.std.proofs.lemmas.List.{map-append, take-map, drop-map}
+use Rattle.std.proofs.lemmas.Slice.Eq.{bytes_eq-Decides}
 use Rattle.dap_tree.proofs.Booleans.{and_left, and_right, and_both, or_left, or_right, or_both}
+use Rattle.dap_message.proofs.Edits.{by_bool}
+use Rattle.dap_profile.specs.declared.profile.Kind.{Kind, TheVariants.{Request, Response, Event}}
 use Rattle.dap_mask.specs.Ids.{takes_profile_id, leave_ids}
 use Rattle.dap_mask.specs.Categories.{CategoryRule, category_of, categories_of, moves, moves_one_of}
 use Rattle.dap_mask.specs.Categories.{is_moved_by, keep_categories, is_category_among}
 use Rattle.dap_mask.specs.Mask.{Mask, change, leave_out_category, rule_count}
-use Rattle.dap_mask.specs.Rules.{Rule, rule_of, rules_of, is_telling_place, are_safe}
-use Rattle.dap_mask.specs.Rules.{are_idempotent, renames, renames_among}
-use Rattle.dap_mask.specs.Rules.{clash, clashes_with, is_clashed_with, is_among}
-use Rattle.dap_mask.specs.RulesFile.{clash_cause, cause_of_pair, change_cause, or_clash}
+use Rattle.dap_mask.specs.RuleSteps.{RuleStep, named, elements}
+use Rattle.dap_mask.specs.Rules.{Rule, rule_of, rules_of, share_name, share_step, share_place}
+use Rattle.dap_mask.specs.Rules.{same_kind, excludes, clash, clashes_with, is_among, are_idempotent}
+use Rattle.dap_mask.specs.Rules.{comes_before, is_late, inserted, is_misplaced, are_safe}
 use Rattle.dap_mask.specs.RulesFile.{cause_against}
 use Rattle.dap_mask.specs.declared.rules.MaskRule.{MaskRule}
+use Rattle.dap_mask.specs.declared.rules.Verb.{Verb, TheVariants.{Blank, Digits, Hex, Long, Uuid}}
 use Rattle.dap_mask.specs.declared.categories.CategoryRule.{CategoryRule as ReadCategoryRule}
 use Rattle.dap_mask.specs.declared.fault.RulesCause.TheVariants.{TooMany, BadPlace, Repeated, Clash}
-use Rattle.dap_mask.specs.declared.fault.RulesCause.{RulesCause}
+use Rattle.dap_mask.proofs.ByPath.{first_early, rest_safe}
+use Rattle.dap_mask.proofs.RuleOrder.{late_earlier, not_after}
 
 -- ---- lists of the program's rules
-
-pub rules_push : (xs : List MaskRule) (x : MaskRule)
-    → rules_of (xs ++ x ∷ []) ≡ rules_of xs ++ rule_of x ∷ []
-rules_push [] x = refl
-rules_push (y ∷ xs) x = ap (λ rs. rule_of y ∷ rs) (rules_push xs x)
 
 pub names_push : (xs : List (Option (String Global))) (x : Option (String Global))
     → map (option_map string_bytes) (xs ++ x ∷ []) ≡ map (option_map string_bytes) xs
@@ -32,12 +36,70 @@ pub names_push : (xs : List (Option (String Global))) (x : Option (String Global
 names_push [] x = refl
 names_push (y ∷ xs) x = ap (λ ns. option_map string_bytes y ∷ ns) (names_push xs x)
 
--- a test of rules holds after a push, whether or not its allocation succeeded
-pub pushed_keeps : (b : Bool) (xs : List MaskRule) (x : MaskRule) (ys : List MaskRule)
-    → ys ≡ cond b (xs ++ x ∷ []) xs → (test : List Rule → Bool) → test (rules_of xs) ≡ true
-    → test (rules_of xs ++ rule_of x ∷ []) ≡ true → test (rules_of ys) ≡ true
-pushed_keeps true xs x ys e test h more = ap test (ap rules_of e ∙ rules_push xs x) ∙ more
-pushed_keeps false xs x ys e test h more = ap (λ zs. test (rules_of zs)) e ∙ h
+pub rules_inserted : (xs : List MaskRule) (i : ℕ) (x : MaskRule)
+    → rules_of (insert xs i x) ≡ insert (rules_of xs) i (rule_of x)
+rules_inserted xs i x =
+    map-append rule_of (take i xs) (x ∷ drop i xs)
+    ∙ ap₂ (λ ys zs. ys ++ rule_of x ∷ zs) (sym (take-map rule_of i xs))
+    (sym (drop-map rule_of i xs))
+
+insert_behind : (x : Rule) (xs : List Rule) (n : ℕ) (r : Rule)
+    → insert (x ∷ xs) (1 + n) r ≡ x ∷ insert xs n r
+insert_behind x xs n r = let e : 1 + n ≡ suc n = omega arith in rw e refl
+
+-- the index before the first rule that applies after the rule is its place
+pub inserted_at : (xs : List MaskRule) (r : Rule)
+    → insert (rules_of xs) (position_or_len (λ x. comes_before r (rule_of x)) xs) r
+    ≡ inserted r (rules_of xs)
+inserted_at [] r = refl
+inserted_at (x ∷ xs) r = by_bool (comes_before r (rule_of x))
+    (λ h. rw h refl)
+    (λ h. rw h (insert_behind (rule_of x) (rules_of xs)
+    (position_or_len (λ y. comes_before r (rule_of y)) xs) r
+    ∙ ap (λ rs. rule_of x ∷ rs) (inserted_at xs r)))
+
+found_within : (test : MaskRule → Bool) (xs : List MaskRule) → position_or_len test xs ≤ length xs
+found_within test [] = omega arith
+found_within test (x ∷ xs) = by_bool (test x)
+    (λ h. rw h (omega arith))
+    (λ h. rw h (omega (arith, found_within test xs)))
+
+-- the index that `position` returns, or the length if it returns none
+pub found_at : (test : MaskRule → Bool) (xs : List MaskRule) (i : ℕ)
+    → position test xs ≡ Some i → (i ≤ length xs) × (i ≡ position_or_len test xs)
+found_at test xs i h =
+    go (nat_lt (position_or_len test xs) (length xs)) (found_within test xs) h
+  where
+    go : (b : Bool) → position_or_len test xs ≤ length xs
+        → cond b (Some (position_or_len test xs)) None ≡ Some i
+        → (i ≤ length xs) × (i ≡ position_or_len test xs)
+    go false within k = cc
+    go true within k =
+        let same : i ≡ position_or_len test xs = cc in (omega (arith, within, same), same)
+
+pub found_none : (test : MaskRule → Bool) (xs : List MaskRule) → position test xs ≡ None
+    → length xs ≡ position_or_len test xs
+found_none test xs h =
+    go (nat_lt (position_or_len test xs) (length xs)) refl h
+  where
+    go : (b : Bool) → nat_lt (position_or_len test xs) (length xs) ≡ b
+        → cond b (Some (position_or_len test xs)) None ≡ None
+        → length xs ≡ position_or_len test xs
+    go true e k = cc
+    go false e k =
+        let most = found_within test xs in
+        let least = ltb-false (position_or_len test xs) (length xs) e in
+        omega (arith, most, least)
+
+-- a test of rules holds after an insertion, whether or not its allocation succeeded
+pub inserted_keeps : (b : Bool) (xs : List MaskRule) (i : ℕ) (x : MaskRule) (ys : List MaskRule)
+    → ys ≡ cond b (insert xs i x) xs
+    → insert (rules_of xs) i (rule_of x) ≡ inserted (rule_of x) (rules_of xs)
+    → (test : List Rule → Bool) → test (rules_of xs) ≡ true
+    → test (inserted (rule_of x) (rules_of xs)) ≡ true → test (rules_of ys) ≡ true
+inserted_keeps true xs i x ys e is test h more =
+    ap test (ap rules_of e ∙ rules_inserted xs i x ∙ is) ∙ more
+inserted_keeps false xs i x ys e is test h more = ap (λ zs. test (rules_of zs)) e ∙ h
 
 pub categories_push : (xs : List ReadCategoryRule) (x : ReadCategoryRule)
     → categories_of (xs ++ x ∷ []) ≡ categories_of xs ++ category_of x ∷ []
@@ -53,76 +115,151 @@ pushed_category_keeps true xs x ys e test h more =
     ap test (ap categories_of e ∙ categories_push xs x) ∙ more
 pushed_category_keeps false xs x ys e test h more = ap (λ zs. test (categories_of zs)) e ∙ h
 
--- ---- the invariants hold after adding a rule that has no error
+-- ---- the invariants hold after inserting a rule that is accepted
 
-renames_more : (q r : Rule) (rs : List Rule) → renames_among q rs ≡ false → renames q r ≡ false
-    → renames r q ≡ false → renames_among q (rs ++ r ∷ []) ≡ false
-renames_more q r [] h a b = or_both _ _ (or_both _ _ a b) refl
-renames_more q r (t ∷ ts) h a b =
-    or_both _ _ (or_left (renames q t || renames t q) (renames_among q ts) h)
-    (renames_more q r ts (or_right (renames q t || renames t q) (renames_among q ts) h) a b)
+none_inserted : (test : Rule → Bool) (r : Rule) (rs : List Rule) → test r ≡ false
+    → list_any test rs ≡ false → list_any test (inserted r rs) ≡ false
+none_inserted test r [] h k = or_both _ _ h refl
+none_inserted test r (t ∷ ts) h k =
+    go (none_inserted test r ts h (or_right (test t) (list_any test ts) k)) (comes_before r t)
+  where
+    go : list_any test (inserted r ts) ≡ false
+        → (b : Bool) → list_any test (cond b (r ∷ t ∷ ts) (t ∷ inserted r ts)) ≡ false
+    go rest true = or_both _ _ h k
+    go rest false = or_both _ _ (or_left (test t) (list_any test ts) k) rest
 
-pub safe_more : (rs : List Rule) (r : Rule) → are_safe rs ≡ true → is_telling_place r.place ≡ false
-    → renames r r ≡ false → renames_among r rs ≡ false → are_safe (rs ++ r ∷ []) ≡ true
-safe_more [] r h t own among = and_both _ _ (ap not t) (and_both _ _
-    (ap not (or_both _ _ own refl)) refl)
-safe_more (q ∷ rs) r h t own among =
-    let later = and_right (not (is_telling_place q.place))
-    (not (renames q q || renames_among q rs) && are_safe rs) h in
-    let none = not-true (renames q q || renames_among q rs)
-    (and_left (not (renames q q || renames_among q rs)) (are_safe rs) later) in
-    let both = or_left (renames r q || renames q r) (renames_among r rs) among in
-    and_both _ _ (and_left (not (is_telling_place q.place))
-    (not (renames q q || renames_among q rs) && are_safe rs) h)
-    (and_both _ _
-    (ap not (or_both _ _ (or_left (renames q q) (renames_among q rs) none)
-    (renames_more q r rs (or_right (renames q q) (renames_among q rs) none)
-    (or_right (renames r q) (renames q r) both) (or_left (renames r q) (renames q r) both))))
-    (safe_more rs r (and_right (not (renames q q || renames_among q rs)) (are_safe rs) later) t own
-    (or_right (renames r q || renames q r) (renames_among r rs) among)))
+pub safe_inserted : (rs : List Rule) (r : Rule) → are_safe rs ≡ true → is_misplaced r ≡ false
+    → are_safe (inserted r rs) ≡ true
+safe_inserted [] r h m = and_both _ _ (ap not m) refl
+safe_inserted (t ∷ ts) r h m =
+    go (safe_inserted ts r (rest_safe t ts h) m) (comes_before r t) refl
+  where
+    early : is_late t ts ≡ false
+    early = first_early t ts h
 
-pub leave_more : (rs : List Rule) (r : Rule) → leave_ids rs ≡ true → takes_profile_id r ≡ false
-    → leave_ids (rs ++ r ∷ []) ≡ true
-leave_more [] r h t = and_both _ _ (ap not t) refl
-leave_more (q ∷ rs) r h t =
-    and_both _ _ (and_left (not (takes_profile_id q)) (leave_ids rs) h)
-    (leave_more rs r (and_right (not (takes_profile_id q)) (leave_ids rs) h) t)
+    go : are_safe (inserted r ts) ≡ true → (b : Bool) → comes_before r t ≡ b
+        → are_safe (cond b (r ∷ t ∷ ts) (t ∷ inserted r ts)) ≡ true
+    go rest true e = and_both _ _ (ap not m)
+        (and_both _ _ (ap not (or_both _ _ (not_after r t e) (late_earlier r t ts e early))) h)
+    go rest false e = and_both _ _
+        (and_left (not (is_misplaced t)) (not (is_late t ts) && are_safe ts) h)
+        (and_both _ _ (ap not (none_inserted (λ u. comes_before u t) r ts e early)) rest)
 
-clash_more : (q r : Rule) (rs : List Rule) → clashes_with q rs ≡ false → clash q r ≡ false
-    → clashes_with q (rs ++ r ∷ []) ≡ false
-clash_more q r [] h g = or_both _ _ g refl
-clash_more q r (t ∷ ts) h g =
-    or_both _ _ (or_left (clash q t) (clashes_with q ts) h)
-    (clash_more q r ts (or_right (clash q t) (clashes_with q ts) h) g)
+pub leave_inserted : (rs : List Rule) (r : Rule) → leave_ids rs ≡ true
+    → takes_profile_id r ≡ false → leave_ids (inserted r rs) ≡ true
+leave_inserted [] r h t = and_both _ _ (ap not t) refl
+leave_inserted (q ∷ rs) r h t =
+    go (leave_inserted rs r (and_right (not (takes_profile_id q)) (leave_ids rs) h) t)
+    (comes_before r q)
+  where
+    go : leave_ids (inserted r rs) ≡ true
+        → (b : Bool) → leave_ids (cond b (r ∷ q ∷ rs) (q ∷ inserted r rs)) ≡ true
+    go rest true = and_both _ _ (ap not t) h
+    go rest false =
+        and_both _ _ (and_left (not (takes_profile_id q)) (leave_ids rs) h) rest
 
-pub settled_more : (rs : List Rule) (r : Rule) → are_idempotent rs ≡ true
-    → is_clashed_with rs r ≡ false → are_idempotent (rs ++ r ∷ []) ≡ true
-settled_more [] r h g = refl
-settled_more (q ∷ rs) r h g =
-    let earlier = not-true (clashes_with q rs)
-    (and_left (not (clashes_with q rs)) (are_idempotent rs) h) in
-    let apart = or_left (clash q r) (is_clashed_with rs r) g in
-    and_both _ _ (ap not (clash_more q r rs earlier apart))
-    (settled_more rs r (and_right (not (clashes_with q rs)) (are_idempotent rs) h)
-    (or_right (clash q r) (is_clashed_with rs r) g))
+-- ---- two rules clash in either order
 
-moved_more : (rs : List Rule) (r : Rule) (c : CategoryRule) → is_moved_by rs c ≡ false
-    → moves r c ≡ false → is_moved_by (rs ++ r ∷ []) c ≡ false
-moved_more [] r c h g = or_both _ _ g refl
-moved_more (q ∷ rs) r c h g =
-    or_both _ _ (or_left (moves q c) (is_moved_by rs c) h)
-    (moved_more rs r c (or_right (moves q c) (is_moved_by rs c) h) g)
+same_bytes : (m n : List ℕ) → bytes_eq m n ≡ bytes_eq n m
+same_bytes m n = by_bool (bytes_eq n m)
+    (λ h. (bytes_eq-Decides m n).1 (sym ((bytes_eq-Decides n m).0 h)) ∙ sym h)
+    (λ h. by_bool (bytes_eq m n)
+    (λ k. absurd (true≢false (sym ((bytes_eq-Decides n m).1 (sym ((bytes_eq-Decides m n).0 k)))
+    ∙ h)))
+    (λ k. k ∙ sym h))
 
-pub kept_more : (rs : List Rule) (r : Rule) (cs : List CategoryRule)
+same_names : (n m : Option (List ℕ)) → share_name n m ≡ share_name m n
+same_names None None = refl
+same_names None (Some m) = refl
+same_names (Some n) None = refl
+same_names (Some n) (Some m) = same_bytes n m
+
+same_steps : (p q : RuleStep) → share_step p q ≡ share_step q p
+same_steps (named k) (named l) = same_bytes k l
+same_steps (named k) (elements m) = refl
+same_steps (elements n) (named l) = refl
+same_steps (elements n) (elements m) = same_names n m
+
+same_places : (ps qs : List RuleStep) → share_place ps qs ≡ share_place qs ps
+same_places [] [] = refl
+same_places [] (q ∷ qs) = refl
+same_places (p ∷ ps) [] = refl
+same_places (p ∷ ps) (q ∷ qs) = ap₂ (λ a b. a && b) (same_steps p q) (same_places ps qs)
+
+same_kinds : (k l : Kind) → same_kind k l ≡ same_kind l k
+same_kinds Request Request = refl
+same_kinds Request Response = refl
+same_kinds Request Event = refl
+same_kinds Response Request = refl
+same_kinds Response Response = refl
+same_kinds Response Event = refl
+same_kinds Event Request = refl
+same_kinds Event Response = refl
+same_kinds Event Event = refl
+
+excludes_both : (v w : Verb) → excludes v w ≡ excludes w v
+excludes_both Blank Blank = refl
+excludes_both Blank Digits = refl
+excludes_both Blank Hex = refl
+excludes_both Blank Long = refl
+excludes_both Blank Uuid = refl
+excludes_both Digits Blank = refl
+excludes_both Digits Digits = refl
+excludes_both Digits Hex = refl
+excludes_both Digits Long = refl
+excludes_both Digits Uuid = refl
+excludes_both Hex Blank = refl
+excludes_both Hex Digits = refl
+excludes_both Hex Hex = refl
+excludes_both Hex Long = refl
+excludes_both Hex Uuid = refl
+excludes_both Long Blank = refl
+excludes_both Long Digits = refl
+excludes_both Long Hex = refl
+excludes_both Long Long = refl
+excludes_both Long Uuid = refl
+excludes_both Uuid Blank = refl
+excludes_both Uuid Digits = refl
+excludes_both Uuid Hex = refl
+excludes_both Uuid Long = refl
+excludes_both Uuid Uuid = refl
+
+clash_both : (r t : Rule) → clash r t ≡ clash t r
+clash_both r t =
+    ap₂ (λ a b. a && b) (excludes_both r.verb t.verb)
+    (ap₂ (λ a b. a && b) (same_places r.place t.place)
+    (ap₂ (λ a b. a && b) (same_kinds r.kind t.kind) (same_names r.name t.name)))
+
+pub settled_inserted : (rs : List Rule) (r : Rule) → are_idempotent rs ≡ true
+    → clashes_with r rs ≡ false → are_idempotent (inserted r rs) ≡ true
+settled_inserted [] r h g = refl
+settled_inserted (t ∷ ts) r h g =
+    go (settled_inserted ts r (and_right (not (clashes_with t ts)) (are_idempotent ts) h)
+    (or_right (clash r t) (clashes_with r ts) g)) (comes_before r t)
+  where
+    apart : clash r t ≡ false
+    apart = or_left (clash r t) (clashes_with r ts) g
+
+    go : are_idempotent (inserted r ts) ≡ true
+        → (b : Bool) → are_idempotent (cond b (r ∷ t ∷ ts) (t ∷ inserted r ts)) ≡ true
+    go rest true = and_both _ _ (ap not g) h
+    go rest false = and_both _ _
+        (ap not (none_inserted (clash t) r ts (clash_both t r ∙ apart)
+        (not-true (clashes_with t ts)
+        (and_left (not (clashes_with t ts)) (are_idempotent ts) h)))) rest
+
+-- ---- categories
+
+pub kept_inserted : (rs : List Rule) (r : Rule) (cs : List CategoryRule)
     → keep_categories rs cs ≡ true → moves_one_of r cs ≡ false
-    → keep_categories (rs ++ r ∷ []) cs ≡ true
-kept_more rs r [] h g = refl
-kept_more rs r (c ∷ cs) h g =
+    → keep_categories (inserted r rs) cs ≡ true
+kept_inserted rs r [] h g = refl
+kept_inserted rs r (c ∷ cs) h g =
     let free = not-true (is_moved_by rs c)
     (and_left (not (is_moved_by rs c)) (keep_categories rs cs) h) in
     and_both _ _
-    (ap not (moved_more rs r c free (or_left (moves r c) (moves_one_of r cs) g)))
-    (kept_more rs r cs (and_right (not (is_moved_by rs c)) (keep_categories rs cs) h)
+    (ap not (none_inserted (λ q. moves q c) r rs (or_left (moves r c) (moves_one_of r cs) g) free))
+    (kept_inserted rs r cs (and_right (not (is_moved_by rs c)) (keep_categories rs cs) h)
     (or_right (moves r c) (moves_one_of r cs) g))
 
 pub category_kept : (rs : List Rule) (cs : List CategoryRule) (c : CategoryRule)
@@ -135,72 +272,30 @@ category_kept rs (e ∷ es) c h g =
 
 -- ---- a rule that has no error
 
-pub record MayStand (rs : List Rule) (r : Rule) : Type 0 where
-  pub safe : is_telling_place r.place ≡ false
+pub record MayStand (m : Mask) (r : Rule) : Type 0 where
+  pub safe : is_misplaced r ≡ false
   pub leaves : takes_profile_id r ≡ false
-  pub own : renames r r ≡ false
-  pub settled : is_clashed_with rs r ≡ false
+  pub settled : clashes_with r m.changes ≡ false
+  pub moves : moves_one_of r m.categories ≡ false
 
--- if `clash_cause` returns `None` for a rule, no rule clashes with it
-no_clash : (rs : List Rule) (r : Rule) → clash_cause rs r ≡ None → is_clashed_with rs r ≡ false
-no_clash [] r h = refl
-no_clash (q ∷ rs) r h = go (clash q r) (cause_of_pair q.verb r.verb) (no_clash rs r) h
+pub change_may_stand : (m : Mask) (r : Rule) → cause_against m (change r) ≡ None → MayStand m r
+change_may_stand m r h =
+    go (nat_le 1000 (rule_count m)) (is_misplaced r) (takes_profile_id r) (is_among r m.changes)
+    (clashes_with r m.changes) (moves_one_of r m.categories) refl refl refl refl h
   where
-    go : (a : Bool) (c : RulesCause)
-        → (clash_cause rs r ≡ None → is_clashed_with rs r ≡ false)
-        → cond a (Some c) (clash_cause rs r) ≡ None → (a || is_clashed_with rs r) ≡ false
-    go true c more k = cc
-    go false c more k = more k
-
-may_stand : (rs : List Rule) (r : Rule) → change_cause rs r ≡ None → MayStand rs r
-may_stand rs r h =
-    go (is_telling_place r.place) (takes_profile_id r) (renames r r) (is_among r rs) refl refl refl h
-  where
-    go : (a b d c : Bool) → is_telling_place r.place ≡ a → takes_profile_id r ≡ b
-        → renames r r ≡ d
-        → cond (a || (b || d)) (Some BadPlace) (cond c (Some Repeated) (clash_cause rs r)) ≡ None
-        → MayStand rs r
-    go true b d c p q o k = cc
-    go false true d c p q o k = cc
-    go false false true c p q o k = cc
-    go false false false true p q o k = cc
-    go false false false false p q o k =
-        record { safe = p; leaves = q; own = o; settled = no_clash rs r k }
-
-or_none : (o : Option RulesCause) (b : Bool) → or_clash o b ≡ None → (o ≡ None) × (b ≡ false)
-or_none None true h = cc
-or_none None false h = (refl, refl)
-or_none (Some c) b h = cc
-
-no_cause : (m : Mask) (r : Rule) → cause_against m (change r) ≡ None
-    → (change_cause m.changes r ≡ None)
-    × ((moves_one_of r m.categories || renames_among r m.changes) ≡ false)
-no_cause m r h = go (nat_le 1000 (rule_count m)) h
-  where
-    go : (b : Bool)
-        → cond b (Some TooMany) (or_clash (change_cause m.changes r)
-        (moves_one_of r m.categories || renames_among r m.changes)) ≡ None
-        → (change_cause m.changes r ≡ None)
-        × ((moves_one_of r m.categories || renames_among r m.changes) ≡ false)
-    go true k = cc
-    go false k = or_none (change_cause m.changes r)
-        (moves_one_of r m.categories || renames_among r m.changes) k
-
-pub change_may_stand : (m : Mask) (r : Rule) → cause_against m (change r) ≡ None
-    → MayStand m.changes r
-change_may_stand m r h = let none = no_cause m r h in may_stand m.changes r none.0
-
-pub change_moves_none : (m : Mask) (r : Rule) → cause_against m (change r) ≡ None
-    → moves_one_of r m.categories ≡ false
-change_moves_none m r h =
-    let none = no_cause m r h in
-    or_left (moves_one_of r m.categories) (renames_among r m.changes) none.1
-
-pub change_renames_none : (m : Mask) (r : Rule) → cause_against m (change r) ≡ None
-    → renames_among r m.changes ≡ false
-change_renames_none m r h =
-    let none = no_cause m r h in
-    or_right (moves_one_of r m.categories) (renames_among r m.changes) none.1
+    go : (many a b among c d : Bool) → is_misplaced r ≡ a → takes_profile_id r ≡ b
+        → clashes_with r m.changes ≡ c → moves_one_of r m.categories ≡ d
+        → cond many (Some TooMany) (cond (a || b) (Some BadPlace)
+        (cond among (Some Repeated) (cond (c || d) (Some Clash) None))) ≡ None
+        → MayStand m r
+    go true a b among c d p q s t k = cc
+    go false true b among c d p q s t k = cc
+    go false false true among c d p q s t k = cc
+    go false false false true c d p q s t k = cc
+    go false false false false true d p q s t k = cc
+    go false false false false false true p q s t k = cc
+    go false false false false false false p q s t k =
+        record { safe = p; leaves = q; settled = s; moves = t }
 
 pub category_not_moved : (m : Mask) (c : CategoryRule)
     → cause_against m (leave_out_category c) ≡ None → is_moved_by m.changes c ≡ false

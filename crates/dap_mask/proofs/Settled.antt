@@ -1,18 +1,17 @@
 -- Masking a masked document again does not change it.
 use Rattle.std.proofs.Common.{◌≡◌, ℕ, Bool, true, false, cond, not, ◌&&◌, List, [], ◌∷◌, Option}
-use Rattle.std.proofs.Common.{Some, None, option_map, refl, sym, ◌∙◌, ap, ◌⊎◌, inl, inr, ◌||◌}
-use Rattle.std.proofs.lemmas.Option.{none-some}
+use Rattle.std.proofs.Common.{Some, None, option_map, refl, sym, ◌∙◌, ap, arith, true≢false}
 use Rattle.std.proofs.lemmas.Bool.{not-true}
 use Rattle.dap_tree.specs.Doc.{Doc, null, boolean, whole, text, list, object, id, is_ordered}
 use Rattle.dap_tree.specs.Path.{Step, at}
-use Rattle.dap_tree.proofs.Booleans.{and_left, and_right, and_both, or_left, or_right, or_both}
+use Rattle.dap_tree.proofs.Booleans.{and_left, and_right, or_left, or_right, or_both}
 use Rattle.dap_message.specs.Places.{fits_place}
 use Rattle.dap_message.specs.Marks.{top}
 use Rattle.dap_mask.specs.RuleSteps.{has_names}
 use Rattle.dap_mask.specs.Rules.{Rule, blank, change_text, of_verb, takes_parts, plain_place_of}
-use Rattle.dap_mask.specs.Rules.{rule_applies, applies_at, unsettles, renames, renames_among}
-use Rattle.dap_mask.specs.Rules.{clash, clashes_with, are_safe, are_idempotent}
-use Rattle.dap_mask.specs.Masked.{is_below, left_by, left, mask_by, masked}
+use Rattle.dap_mask.specs.Rules.{rule_applies, applies_at, renames, comes_before, is_late, clash}
+use Rattle.dap_mask.specs.Rules.{clashes_with, is_telling_place, are_safe, are_idempotent}
+use Rattle.dap_mask.specs.Masked.{is_below, left_by, mask_by, masked}
 use Rattle.dap_mask.specs.Texts.{digits, hex}
 use Rattle.dap_words.specs.Long.{long}
 use Rattle.dap_words.specs.Uuids.{uuid}
@@ -23,11 +22,10 @@ use Rattle.dap_words.proofs.LongRuns.{long_twice}
 use Rattle.dap_words.proofs.Settled.{digits_after_long, long_after_digits}
 use Rattle.dap_mask.specs.declared.rules.Verb.{Verb, TheVariants.{Blank, Digits, Hex, Long, Uuid}}
 use Rattle.dap_mask.proofs.Squeezed.{digits_twice, hex_twice, digits_behind_hex}
-use Rattle.dap_mask.proofs.ByPath.{at-masked, top-left, left-same, left-alike, left_nothing}
-use Rattle.dap_mask.proofs.ByPath.{ordered-masked, same_paths, none_new, first_safe, rest_safe}
-use Rattle.dap_mask.proofs.ByPath.{first_renames, is_renamed_by, Same, AreSame, same_by}
-use Rattle.dap_mask.proofs.ByPath.{blank_fixed, blank_twice, and_first}
+use Rattle.dap_mask.proofs.ByPath.{top-left_by, at-mask_by, ordered-mask_by, same_after, same_paths}
+use Rattle.dap_mask.proofs.ByPath.{first_safe, first_renames, first_early, rest_safe, blank_twice}
 use Rattle.dap_mask.proofs.Matches.{fits_share, both_apply}
+use Rattle.dap_mask.proofs.RuleOrder.{MayFollow, later_follows, renames_no_earlier}
 
 -- ---- one value
 
@@ -83,9 +81,8 @@ text_stays f g k (list ds) h = refl
 text_stays f g k (object ms) h = refl
 text_stays f g k (id s z) h = refl
 
--- if a verb does not change a value, it does not change the result of another verb that does not
--- unsettle it
-verb_stays : (v w : Verb) (d : Doc) → unsettles v w ≡ false → of_verb v d ≡ d
+-- if a verb does not change a value, it does not change the result of a verb that may follow it
+verb_stays : (v w : Verb) (d : Doc) → MayFollow v w → of_verb v d ≡ d
     → of_verb v (of_verb w d) ≡ of_verb w d
 verb_stays Blank Blank d h k = blank_twice d
 verb_stays Blank Digits d h k = blank_behind digits refl d k
@@ -96,24 +93,24 @@ verb_stays Digits Blank d h k = text_behind digits refl d
 verb_stays Digits Digits d h k = verb_twice Digits d
 verb_stays Digits Hex d h k = text_stays digits hex digits_behind_hex d k
 verb_stays Digits Long d h k = text_stays digits long digits_after_long d k
-verb_stays Digits Uuid d h k = cc
+verb_stays Digits Uuid d h k = absurd (true≢false h.1)
 verb_stays Hex Blank d h k = text_behind hex refl d
-verb_stays Hex Digits d h k = cc
+verb_stays Hex Digits d h k = absurd (omega (arith, h.0))
 verb_stays Hex Hex d h k = verb_twice Hex d
-verb_stays Hex Long d h k = cc
-verb_stays Hex Uuid d h k = cc
+verb_stays Hex Long d h k = absurd (omega (arith, h.0))
+verb_stays Hex Uuid d h k = absurd (omega (arith, h.0))
 verb_stays Long Blank d h k = text_behind long refl d
 verb_stays Long Digits d h k = text_stays long digits long_after_digits d k
 verb_stays Long Hex d h k = text_stays long hex long_after_hex d k
 verb_stays Long Long d h k = verb_twice Long d
-verb_stays Long Uuid d h k = cc
+verb_stays Long Uuid d h k = absurd (omega (arith, h.0))
 verb_stays Uuid Blank d h k = text_behind uuid refl d
-verb_stays Uuid Digits d h k = cc
+verb_stays Uuid Digits d h k = absurd (true≢false h.1)
 verb_stays Uuid Hex d h k = text_stays uuid hex uuid_after_hex d k
 verb_stays Uuid Long d h k = text_stays uuid long uuid_after_long d k
 verb_stays Uuid Uuid d h k = verb_twice Uuid d
 
-map_stays : (v w : Verb) (o : Option Doc) → unsettles v w ≡ false → option_map (of_verb v) o ≡ o
+map_stays : (v w : Verb) (o : Option Doc) → MayFollow v w → option_map (of_verb v) o ≡ o
     → option_map (of_verb v) (option_map (of_verb w) o) ≡ option_map (of_verb w) o
 map_stays v w None h k = refl
 map_stays v w (Some d) h k = let same : of_verb v d ≡ d = cc in ap Some (verb_stays v w d h same)
@@ -123,24 +120,25 @@ map_twice : (v : Verb) (o : Option Doc) → option_map (of_verb v) (option_map (
 map_twice v None = refl
 map_twice v (Some d) = ap Some (verb_twice v d)
 
--- ---- two rules for the same place of a document clash if the later one unsettles the earlier one
+-- ---- the later of two rules for the same place of a document may follow the earlier one
 
-does_not_unsettle : (r t : Rule) (d : Doc) (p : List Step) → clash r t ≡ false → applies_at r d p
-    ≡ true → applies_at t d p ≡ true → fits_place (plain_place_of r) p ≡ true
-    → fits_place (plain_place_of t) p ≡ true → unsettles r.verb t.verb ≡ false
-does_not_unsettle r t d p h rs ts rp tp =
-    and_first (unsettles r.verb t.verb) _ (and_both _ _
+follows : (r t : Rule) (d : Doc) (p : List Step) → comes_before t r ≡ false
+    → clash r t ≡ false → applies_at r d p ≡ true → applies_at t d p ≡ true
+    → fits_place (plain_place_of r) p ≡ true → fits_place (plain_place_of t) p ≡ true
+    → MayFollow r.verb t.verb
+follows r t d p late h rs ts rp tp =
+    later_follows r t late h
     (fits_share r.place t.place (Some d) p rp tp
     (and_right (rule_applies r d) (has_names r.place (Some d) p) rs)
     (and_right (rule_applies t d) (has_names t.place (Some d) p) ts))
     (both_apply r t d (and_left (rule_applies r d) (has_names r.place (Some d) p) rs)
-    (and_left (rule_applies t d) (has_names t.place (Some d) p) ts))) h
+    (and_left (rule_applies t d) (has_names t.place (Some d) p) ts))
 
 -- ---- the values after rules
 
 -- `left_by` as a function of its conditions: the rule applies along the path, its place is at the
 -- path, and it removes the value because the path is below the place
-abbrev by : Verb → Bool → Bool → Bool → Option Doc → Option Doc
+abbrev pub by : Verb → Bool → Bool → Bool → Option Doc → Option Doc
 by v a b c o = cond a (cond b (option_map (of_verb v) o) (cond c None o)) o
 
 twice_by : (v : Verb) (a b c : Bool) (o : Option Doc) → by v a b c (by v a b c o) ≡ by v a b c o
@@ -156,7 +154,7 @@ by_none v true false true = refl
 by_none v true false false = refl
 
 stays_by : (v w : Verb) (a b c d e f : Bool) (o : Option Doc) → (a ≡ true → d ≡ true → b ≡ true → e
-    ≡ true → unsettles v w ≡ false) → by v a b c o ≡ o → by v a b c (by w d e f o) ≡ by w d e f o
+    ≡ true → MayFollow v w) → by v a b c o ≡ o → by v a b c (by w d e f o) ≡ by w d e f o
 stays_by v w a b c false e f o h k = k
 stays_by v w a b c true false true o h k = by_none v a b c
 stays_by v w a b c true false false o h k = k
@@ -170,149 +168,68 @@ by_twice : (r : Rule) (d : Doc) (p : List Step) (o : Option Doc) → left_by r d
 by_twice r d p o = twice_by r.verb (applies_at r d p) (fits_place (plain_place_of r) p)
     (is_below (plain_place_of r) p && takes_parts r.verb) o
 
-by_stays : (r t : Rule) (d : Doc) (p : List Step) (o : Option Doc) → clash r t ≡ false
-    → left_by r d p o ≡ o → left_by r d p (left_by t d p o) ≡ left_by t d p o
-by_stays r t d p o h k =
+by_stays : (r t : Rule) (d : Doc) (p : List Step) (o : Option Doc) → comes_before t r ≡ false
+    → clash r t ≡ false → left_by r d p o ≡ o → left_by r d p (left_by t d p o) ≡ left_by t d p o
+by_stays r t d p o late h k =
     stays_by r.verb t.verb (applies_at r d p) (fits_place (plain_place_of r) p)
     (is_below (plain_place_of r) p && takes_parts r.verb) (applies_at t d p)
     (fits_place (plain_place_of t) p) (is_below (plain_place_of t) p && takes_parts t.verb) o
-    (does_not_unsettle r t d p h) k
+    (follows r t d p late h) k
 
-left_stays : (r : Rule) (rs : List Rule) (d : Doc) (p : List Step) (o : Option Doc)
-    → clashes_with r rs ≡ false → left_by r d p o ≡ o → left_by r d p (left rs d p o)
-    ≡ left rs d p o
-left_stays r [] d p o h k = k
-left_stays r (t ∷ ts) d p o h k =
-    left_stays r ts d p (left_by t d p o) (or_right (clash r t) (clashes_with r ts) h)
-    (by_stays r t d p o (or_left (clash r t) (clashes_with r ts) h) k)
+-- ---- a rule that does not change a document
 
-left_twice : (rs : List Rule) (d : Doc) (p : List Step) (o : Option Doc) → are_idempotent rs ≡ true
-    → left rs d p (left rs d p o) ≡ left rs d p o
-left_twice [] d p o h = refl
-left_twice (r ∷ rs) d p o h =
-    ap (left rs d p) (left_stays r rs d p (left_by r d p o) (not-true (clashes_with r rs)
-    (and_left (not (clashes_with r rs)) (are_idempotent rs) h)) (by_twice r d p o))
-    ∙ left_twice rs d p (left_by r d p o)
-    (and_right (not (clashes_with r rs)) (are_idempotent rs) h)
+-- the rule does not change the document after another rule that renames no element that it selects,
+-- if it does not change the values after that rule
+stable_after : (r t : Rule) (d : Doc) → is_ordered d ≡ true → is_telling_place t.place ≡ false
+    → renames t r ≡ false
+    → ((p : List Step) → left_by r d p (left_by t d p (option_map top (at p d)))
+    ≡ left_by t d p (option_map top (at p d)))
+    → mask_by r (mask_by t d) ≡ mask_by t d
+stable_after r t d o safe h same =
+    let e = mask_by t d in
+    same_paths e (mask_by r e) (ordered-mask_by t d o) (λ p.
+    let now : option_map top (at p e) ≡ left_by t d p (option_map top (at p d)) =
+    at-mask_by t d p ∙ top-left_by t d p (at p d) in
+    at-mask_by r e p ∙ top-left_by r e p (at p e)
+    ∙ same_after t (r ∷ []) d p safe (or_both _ _ h refl)
+    ∙ ap (left_by r d p) now ∙ same p ∙ sym now)
 
--- ---- the masked document has the names by which the rules select elements
+stable_itself : (r : Rule) (d : Doc) → is_ordered d ≡ true → is_telling_place r.place ≡ false
+    → renames r r ≡ false → mask_by r (mask_by r d) ≡ mask_by r d
+stable_itself r d o safe own =
+    stable_after r r d o safe own (λ p. by_twice r d p (option_map top (at p d)))
 
--- each rule renames no element that one of these selects
-abbrev AreKept : List Rule → List Rule → Type 0
-AreKept rs [] = Unit {0}
-AreKept rs (q ∷ qs) = (is_renamed_by rs q ≡ false) × AreKept rs qs
+stays_stable : (r t : Rule) (d : Doc) → is_ordered d ≡ true → is_telling_place t.place ≡ false
+    → renames r r ≡ false → comes_before t r ≡ false → clash r t ≡ false → mask_by r d ≡ d
+    → mask_by r (mask_by t d) ≡ mask_by t d
+stays_stable r t d o safe own late apart stable =
+    stable_after r t d o safe (renames_no_earlier t r own late) (λ p.
+    by_stays r t d p (option_map top (at p d)) late apart
+    (sym (top-left_by r d p (at p d)) ∙ sym (at-mask_by r d p)
+    ∙ ap (λ x. option_map top (at p x)) stable))
 
-kept_by_more : (r : Rule) (rs qs : List Rule) → renames_among r qs ≡ false → AreKept rs qs
-    → AreKept (r ∷ rs) qs
-kept_by_more r rs [] h k = tt
-kept_by_more r rs (q ∷ qs) h k = (
-  or_both _ _ (or_left (renames r q) (renames q r)
-      (or_left (renames r q || renames q r) (renames_among r qs) h)) k.0,
-  kept_by_more r rs qs (or_right (renames r q || renames q r) (renames_among r qs) h) k.1,
-)
-
-not_renamed : (r : Rule) (rs : List Rule) → renames_among r rs ≡ false
-    → is_renamed_by rs r ≡ false
-not_renamed r [] h = refl
-not_renamed r (q ∷ qs) h =
-    or_both _ _ (or_right (renames r q) (renames q r)
-    (or_left (renames r q || renames q r) (renames_among r qs) h))
-    (not_renamed r qs (or_right (renames r q || renames q r) (renames_among r qs) h))
-
-all_kept : (rs : List Rule) → are_safe rs ≡ true → AreKept rs rs
-all_kept [] h = tt
-all_kept (r ∷ rs) h =
-    let none = first_renames r rs h in (
-      or_both _ _ none.0 (not_renamed r rs none.1),
-      kept_by_more r rs rs none.1 (all_kept rs (rest_safe r rs h)),
-    )
-
--- a blank value stays, or is removed with a value that contains it
-blank_left_by : (r : Rule) (d : Doc) (p : List Step) (x : Doc)
-    → (left_by r d p (Some (blank x)) ≡ Some (blank x)) ⊎ (left_by r d p (Some (blank x)) ≡ None)
-blank_left_by r d p x =
-    go (applies_at r d p) (fits_place (plain_place_of r) p)
-    (is_below (plain_place_of r) p && takes_parts r.verb)
-  where
-    go : (a b c : Bool)
-        → (by r.verb a b c (Some (blank x)) ≡ Some (blank x))
-        ⊎ (by r.verb a b c (Some (blank x)) ≡ None)
-    go false b c = inl refl
-    go true true c = inl (blank_fixed x r.verb)
-    go true false true = inr refl
-    go true false false = inl refl
-
-blank_left : (rs : List Rule) (d : Doc) (p : List Step) (x : Doc)
-    → (left rs d p (Some (blank x)) ≡ Some (blank x)) ⊎ (left rs d p (Some (blank x)) ≡ None)
-blank_left [] d p x = inl refl
-blank_left (r ∷ rs) d p x =
-    elim (blank_left_by r d p x) [
-      | inl e ↦ elim (blank_left rs d p x) [
-        | inl k ↦ inl (ap (left rs d p) e ∙ k)
-        | inr k ↦ inr (ap (left rs d p) e ∙ k)
-      ]
-      | inr e ↦ inr (ap (left rs d p) e ∙ left_nothing rs d p)
-    ]
-
--- a blank value at the path before the later rules is there after them
-still_blank : (rs : List Rule) (d : Doc) (p : List Step) (x y : Doc) → are_safe rs ≡ true
-    → option_map top (at p d) ≡ Some (blank x) → at p (masked rs d) ≡ Some y
-    → option_map top (at p (masked rs d)) ≡ Some (blank x)
-still_blank rs d p x y safe is there =
-    let now : option_map top (at p (masked rs d)) ≡ left rs d p (Some (blank x)) =
-    at-masked rs d safe p ∙ top-left rs d p (at p d) ∙ ap (left rs d p) is in
-    elim (blank_left rs d p x) [
-      | inl e ↦ (now ∙ e)
-      | inr e ↦ absurd (none-some (top y) (sym (now ∙ e) ∙ ap (option_map top) there))
-    ]
-
--- the value before the later rules, if there is one after them
-was_there : (rs : List Rule) (d : Doc) (p : List Step) (y : Doc) → are_safe rs ≡ true
-    → at p (masked rs d) ≡ Some y → (o : Option Doc) → at p d ≡ o → (x : Doc) × (at p d ≡ Some x)
-was_there rs d p y safe there None e =
-    absurd (none-some y (sym (none_new rs d p safe e) ∙ there))
-was_there rs d p y safe there (Some x) e = (x, e)
-
-same_masked : (rs : List Rule) (q : Rule) (d : Doc) (p : List Step) (y : Doc) → are_safe rs ≡ true
-    → is_renamed_by rs q ≡ false → at p (masked rs d) ≡ Some y → Same q (masked rs d) d p
-same_masked [] q d p y safe h there = inl refl
-same_masked (r ∷ rs) q d p y safe h there =
-    let e = mask_by r d in
-    let later = rest_safe r rs safe in
-    let before = was_there rs e p y later there (at p e) refl in
-    elim (same_masked rs q e p y later (or_right (renames r q) (is_renamed_by rs q) h) there) [
-      | inr b ↦ inr b
-      | inl s ↦ elim (same_by r q d p before.0 (first_safe r rs safe)
-          (or_left (renames r q) (is_renamed_by rs q) h) before.1) [
-            | inl t ↦ inl (s ∙ t)
-            | inr b ↦ inr (record {
-              value = b.value;
-              is = still_blank rs e p b.value y later b.is there;
-              ends = b.ends;
-            })
-          ]
-    ]
-
-all_same_masked : (rs qs : List Rule) (d : Doc) (p : List Step) (y : Doc) → are_safe rs ≡ true
-    → AreKept rs qs → at p (masked rs d) ≡ Some y → AreSame qs (masked rs d) d p
-all_same_masked rs [] d p y safe k there = tt
-all_same_masked rs (q ∷ qs) d p y safe k there =
-    (same_masked rs q d p y safe k.0 there, all_same_masked rs qs d p y safe k.1 there)
-
-same_or_none : (rs : List Rule) (d : Doc) (p : List Step) → are_safe rs ≡ true → (o : Option Doc)
-    → at p (masked rs d) ≡ o → (at p (masked rs d) ≡ None) ⊎ AreSame rs (masked rs d) d p
-same_or_none rs d p safe None e = inl e
-same_or_none rs d p safe (Some y) e = inr (all_same_masked rs rs d p y safe (all_kept rs safe) e)
+stable_to_end : (r : Rule) (ts : List Rule) (d : Doc) → is_ordered d ≡ true → are_safe ts ≡ true
+    → renames r r ≡ false → is_late r ts ≡ false → clashes_with r ts ≡ false → mask_by r d ≡ d
+    → mask_by r (masked ts d) ≡ masked ts d
+stable_to_end r [] d o safe own late apart stable = stable
+stable_to_end r (t ∷ ts) d o safe own late apart stable =
+    stable_to_end r ts (mask_by t d) (ordered-mask_by t d o) (rest_safe t ts safe) own
+    (or_right (comes_before t r) (is_late r ts) late)
+    (or_right (clash r t) (clashes_with r ts) apart)
+    (stays_stable r t d o (first_safe t ts safe) own
+    (or_left (comes_before t r) (is_late r ts) late)
+    (or_left (clash r t) (clashes_with r ts) apart) stable)
 
 pub masked_once : (rs : List Rule) (d : Doc) → are_safe rs ≡ true → are_idempotent rs ≡ true
     → is_ordered d ≡ true → masked rs (masked rs d) ≡ masked rs d
-masked_once rs d safe settled o =
-    let m = masked rs d in
-    same_paths m (masked rs m) (ordered-masked rs d o) (λ p.
-    at-masked rs m safe p
-    ∙ top-left rs m p (at p m)
-    ∙ left-same rs m d p (same_or_none rs d p safe (at p m) refl)
-    ∙ sym (top-left rs d p (at p m))
-    ∙ left-alike rs d p (at p m) (left rs d p (at p d)) (at-masked rs d safe p)
-    ∙ ap (option_map top) (left_twice rs d p (at p d) settled)
-    ∙ sym (at-masked rs d safe p))
+masked_once [] d safe settled o = refl
+masked_once (r ∷ rs) d safe settled o =
+    let e = mask_by r d in
+    let ordered = ordered-mask_by r d o in
+    let own = first_renames r rs safe in
+    let apart = not-true (clashes_with r rs)
+    (and_left (not (clashes_with r rs)) (are_idempotent rs) settled) in
+    ap (masked rs) (stable_to_end r rs e ordered (rest_safe r rs safe) own
+    (first_early r rs safe) apart (stable_itself r d o (first_safe r rs safe) own))
+    ∙ masked_once rs e (rest_safe r rs safe)
+    (and_right (not (clashes_with r rs)) (are_idempotent rs) settled) ordered

@@ -102,9 +102,9 @@ kind_word Request = codes "request"
 kind_word Response = codes "response"
 kind_word Event = codes "event"
 
--- The words represent this rule: `VERB KIND NAME PLACE`, `drop event NAME`,
--- `drop event NAME category=TEXT`, `swap KIND NAME KIND NAME`, `per-stop`, or `word TEXT WORD`. TEXT
--- and WORD are written as names are.
+-- The words represent this rule: `VERB KIND NAME PLACE`, `drop event NAME`, `drop event NAME
+-- category=TEXT`, `swap KIND NAME KIND NAME`, `per-stop`, or `word TEXT WORD`. TEXT and WORD are
+-- written as names are.
 abbrev pub AreWordsOf : List (List ℕ) → Statement → Type 0
 AreWordsOf ws (change r) = (n : List ℕ) × (p : List ℕ)
     × (ws ≡ verb_word r.verb ∷ kind_word r.kind ∷ n ∷ p ∷ []) × IsNameOrAny n r.name

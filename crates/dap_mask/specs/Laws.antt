@@ -1,11 +1,12 @@
 -- The theorems that the functions of `laws` state.
 use Rattle.std.specs.Prelude.{◌≡◌, ◌↔◌, ℕ, true, false, List, Option, Some, None, option_map}
+use Rattle.std.specs.Prelude.{IsPermutation}
 use Rattle.dap_tree.specs.{Doc.{Doc, is_ordered, is_sound, all_utf8}, Path.{Step, at}}
 use Rattle.dap_message.specs.Marks.{top, edit}
 use Rattle.dap_mask.specs.RuleSteps.{RuleStep, plain_place, is_unnamed, has_names, change_at_place}
 use Rattle.dap_mask.specs.Rules.{Rule, are_safe, are_idempotent, is_dropped}
 use Rattle.dap_mask.specs.{Categories.keep_categories, Mask.{Mask, leaves_out}}
-use Rattle.dap_mask.specs.Masked.{IsMasked, AgreeBut, is_apart, masked}
+use Rattle.dap_mask.specs.Masked.{IsMasked, AgreeBut, is_apart, masked, named_by}
 use Rattle.dap_mask.specs.Texts.{AreDigitsOf, IsHexOf, digits, hex}
 
 -- ---- only the places of the rules change
@@ -23,7 +24,8 @@ OneMasked = (rules : List Rule) (d e : Doc) → are_safe rules ≡ true → is_o
 -- The values at paths that the rules do not affect are unchanged.
 abbrev pub KeepsOthers : Type 0
 KeepsOthers = (rules : List Rule) (d : Doc) (p : List Step) → are_safe rules ≡ true
-    → is_apart rules d p ≡ true → option_map top (at p (masked rules d)) ≡ option_map top (at p d)
+    → is_apart rules (named_by rules d) p ≡ true
+    → option_map top (at p (masked rules d)) ≡ option_map top (at p d)
 
 -- No path is new.
 abbrev pub NoneNew : Type 0
@@ -48,6 +50,15 @@ StaysIn = (mask : Mask) (d : Doc) → are_safe mask.changes ≡ true
 abbrev pub MaskedOnce : Type 0
 MaskedOnce = (rules : List Rule) (d : Doc) → are_safe rules ≡ true → are_idempotent rules ≡ true
     → is_ordered d ≡ true → masked rules (masked rules d) ≡ masked rules d
+
+-- ---- in any order
+
+-- Two lists of the same rules, both in the order in which rules apply, mask each document alike, if
+-- its members are in order. So the order of rules that are equal in this order has no effect.
+abbrev pub InAnyOrder : Type 0
+InAnyOrder = (rules others : List Rule) (d : Doc) → IsPermutation rules others
+    → are_safe rules ≡ true → are_safe others ≡ true → is_ordered d ≡ true
+    → masked others d ≡ masked rules d
 
 -- ---- equal if and only if equal elsewhere
 

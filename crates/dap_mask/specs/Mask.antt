@@ -6,7 +6,7 @@ use Rattle.dap_words.specs.Words.{Pair, pair_of}
 use Rattle.dap_message.specs.{Rows.is_of_kind, SwapRules.{SwapRule, swap_of}}
 use Rattle.dap_profile.specs.declared.profile.Kind.TheVariants.{Event}
 use Rattle.dap_mask.specs.Categories.{CategoryRule, category_of, is_dropped_by}
-use Rattle.dap_mask.specs.Rules.{Rule, rule_of, is_event_of}
+use Rattle.dap_mask.specs.Rules.{Rule, rule_of, is_event_of, inserted}
 use Rattle.dap_mask.specs.declared.statement.Line.{Line as ReadLine}
 use Rattle.dap_mask.specs.declared.statement.Line.TheVariants.{Nothing, Rule as ReadRule, Bad}
 use Rattle.dap_mask.specs.declared.statement.Statement.{Statement as ReadStatement}
@@ -57,9 +57,10 @@ pub data Statement : Type 0 where
   restart : Statement
   put : Pair → Statement
 
--- The mask with one more rule, after the others.
+-- The mask with one more rule: a change at its place in the order in which changes apply, another
+-- rule after the others of its kind.
 abbrev pub with_rule : Mask → Statement → Mask
-with_rule m (change r) = record m { changes = m.changes ++ r ∷ [] }
+with_rule m (change r) = record m { changes = inserted r m.changes }
 with_rule m (leave_out n) = record m { dropped = m.dropped ++ n ∷ [] }
 with_rule m (leave_out_category c) = record m { categories = m.categories ++ c ∷ [] }
 with_rule m (swap s) = record m { swaps = m.swaps ++ s ∷ [] }

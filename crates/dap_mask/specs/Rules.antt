@@ -2,6 +2,7 @@
 -- value.
 use Rattle.std.specs.Prelude.{ℕ, Bool, true, false, not, ◌&&◌, ◌||◌, pos, List, [], ◌∷◌, map}
 use Rattle.std.specs.Prelude.{Option, Some, None, option_map, codes, bytes_eq, string_bytes}
+use Rattle.std.specs.Prelude.{cond, length, nat_lt, ◌==◌}
 use Rattle.std.specs.List.{list_any}
 use Rattle.dap_tree.specs.Doc.{Doc, null, boolean, whole, text, list, object, id, no_items}
 use Rattle.dap_tree.specs.{Doc.{no_members, get}, Path.Step}
@@ -187,45 +188,42 @@ same_rule r t =
 abbrev pub is_among : Rule → List Rule → Bool
 is_among r rs = list_any (same_rule r) rs
 
--- After the later verb, applying the earlier verb again may change the text (own). For example,
--- `digits` after `hex` can create a hexadecimal number. For the other pairs, see the laws of the
--- actions on texts.
-abbrev pub unsettles : Verb → Verb → Bool
-unsettles Hex Digits = true
-unsettles Hex Long = true
-unsettles Hex Uuid = true
-unsettles Digits Uuid = true
-unsettles Long Uuid = true
-unsettles Uuid Digits = true
-unsettles _ _ = false
+-- The two actions exclude each other at one place (own): after either of them, applying the other
+-- one again may change the text. For the other pairs, see the laws of the actions on texts.
+abbrev pub excludes : Verb → Verb → Bool
+excludes Uuid Digits = true
+excludes Digits Uuid = true
+excludes _ _ = false
 
--- The two rules clash: the second rule is the later one, and its verb unsettles that of the first
--- at the same place of some message.
+-- The two rules clash: their actions exclude each other, at the same place of some message.
 abbrev pub clash : Rule → Rule → Bool
-clash r t = unsettles r.verb t.verb && (share_place r.place t.place && (same_kind r.kind t.kind
+clash r t = excludes r.verb t.verb && (share_place r.place t.place && (same_kind r.kind t.kind
     && share_name r.name t.name))
 
 abbrev pub clashes_with : Rule → List Rule → Bool
-clashes_with r [] = false
-clashes_with r (t ∷ ts) = clash r t || clashes_with r ts
+clashes_with r rs = list_any (clash r) rs
 
--- No rule clashes with a later one.
+-- No two rules clash.
 abbrev pub are_idempotent : List Rule → Bool
 are_idempotent [] = true
 are_idempotent (r ∷ rs) = not (clashes_with r rs) && are_idempotent rs
 
--- One of these rules clashes with the later one.
-abbrev pub is_clashed_with : List Rule → Rule → Bool
-is_clashed_with [] t = false
-is_clashed_with (r ∷ rs) t = clash r t || is_clashed_with rs t
-
 -- ---- the names by which rules select elements
 
--- The steps lead to elements of one array, the second step by a text, and the place leads from an
--- element to its member `name`.
-abbrev pub is_name_of : RuleStep → RuleStep → List RuleStep → Bool
-is_name_of (elements n) (elements (Some m)) (named k ∷ []) = bytes_eq (codes "name") k
-is_name_of _ _ _ = false
+-- The steps lead from an element of an array to its member `name`.
+abbrev pub leads_to_name : RuleStep → List RuleStep → Bool
+leads_to_name (elements n) (named k ∷ []) = bytes_eq (codes "name") k
+leads_to_name _ _ = false
+
+-- The place is that of the `name` of elements of an array.
+abbrev pub is_for_names : List RuleStep → Bool
+is_for_names [] = false
+is_for_names (p ∷ ps) = leads_to_name p ps || is_for_names ps
+
+-- The step selects elements by a text.
+abbrev pub has_text : RuleStep → Bool
+has_text (elements (Some m)) = true
+has_text _ = false
 
 -- The first place is that of the `name` of an element that the second place selects by a text, or
 -- of another element of the same array (own). Two different texts on the way to this array lead to
@@ -234,22 +232,56 @@ is_name_of _ _ _ = false
 abbrev pub is_name_in : List RuleStep → List RuleStep → Bool
 is_name_in ps [] = false
 is_name_in [] (q ∷ qs) = false
-is_name_in (p ∷ ps) (q ∷ qs) = is_name_of p q ps || (share_step p q && is_name_in ps qs)
+is_name_in (p ∷ ps) (q ∷ qs) =
+    (has_text q && leads_to_name p ps) || (share_step p q && is_name_in ps qs)
 
--- The first rule may change the name by which the second one selects an element (own). If both were
--- rules of one mask, masking twice could change elements that masking once leaves.
+-- The first rule may change the name by which the second one selects an element (own).
 abbrev pub renames : Rule → Rule → Bool
 renames r t = is_name_in r.place t.place && (same_kind r.kind t.kind
     && share_name r.name t.name)
 
--- The rule may change a name by which one of these selects, or one of these a name by which the
--- rule selects.
-abbrev pub renames_among : Rule → List Rule → Bool
-renames_among r rs = list_any (λ t. renames r t || renames t r) rs
+-- ---- the order in which rules apply
 
--- The place of no rule is the message itself, or its `type`, `command`, `event` or `success`, and
--- no rule changes a name by which a rule selects elements.
+-- The first number is lower, or the numbers are equal and the rest decides.
+abbrev pub lower : ℕ → ℕ → Bool → Bool
+lower a b rest = nat_lt a b || (a == b && rest)
+
+-- The rules for the names of elements are the first group.
+abbrev pub group : Rule → ℕ
+group r = cond (is_for_names r.place) 0 1
+
+-- In the first group, rules for shorter places come before others.
+abbrev pub depth : Rule → ℕ
+depth r = cond (is_for_names r.place) (length r.place) 0
+
+abbrev pub rank : Verb → ℕ
+rank Uuid = 0
+rank Long = 1
+rank Digits = 2
+rank Hex = 3
+rank Blank = 4
+
+-- The first rule applies before the second one, whatever the order of their lines (own).
+abbrev pub comes_before : Rule → Rule → Bool
+comes_before r t =
+    lower (group r) (group t) (lower (depth r) (depth t) (lower (rank r.verb) (rank t.verb) false))
+
+-- One of the later rules comes before the rule.
+abbrev pub is_late : Rule → List Rule → Bool
+is_late r rs = list_any (λ t. comes_before t r) rs
+
+-- The rules, with r before the first one that it comes before.
+abbrev pub inserted : Rule → List Rule → List Rule
+inserted r [] = r ∷ []
+inserted r (t ∷ ts) = cond (comes_before r t) (r ∷ t ∷ ts) (t ∷ inserted r ts)
+
+-- The place is the message itself, or its `type`, `command`, `event` or `success`, or the name by
+-- which the rule selects an element.
+abbrev pub is_misplaced : Rule → Bool
+is_misplaced r = is_telling_place r.place || renames r r
+
+-- The rules are in the order in which they apply, and none is misplaced. So no rule changes a name
+-- by which it or an earlier one selects elements.
 abbrev pub are_safe : List Rule → Bool
 are_safe [] = true
-are_safe (r ∷ rs) =
-    not (is_telling_place r.place) && (not (renames r r || renames_among r rs) && are_safe rs)
+are_safe (r ∷ rs) = not (is_misplaced r) && (not (is_late r rs) && are_safe rs)

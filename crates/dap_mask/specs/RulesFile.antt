@@ -7,15 +7,13 @@ use Rattle.dap_mask.specs.Ids.{takes_profile_id}
 use Rattle.dap_mask.specs.Mask.{Mask, no_rules, rule_count, with_rule, Statement, change, leave_out}
 use Rattle.dap_mask.specs.Mask.{leave_out_category, swap, restart, put, Line, nothing, rule, bad}
 use Rattle.dap_mask.specs.RuleText.{line_said}
-use Rattle.dap_mask.specs.Rules.{Rule, clash, is_among, is_telling_place, same_name, renames}
-use Rattle.dap_mask.specs.{Rules.renames_among, Runs.lines_of, Swaps.is_swap_among}
+use Rattle.dap_mask.specs.Rules.{Rule, is_among, is_misplaced, clashes_with, same_name}
+use Rattle.dap_mask.specs.{Runs.lines_of, Swaps.is_swap_among}
 use Rattle.dap_mask.specs.declared.fault.RulesCause.{RulesCause}
 use Rattle.dap_mask.specs.declared.fault.RulesCause.TheVariants.{TooLong, NotUtf8, BadRule, TooMany}
-use Rattle.dap_mask.specs.declared.fault.RulesCause.TheVariants.{BadPlace, Repeated}
-use Rattle.dap_mask.specs.declared.fault.RulesCause.TheVariants.{DigitsBehindHex, Clash, BadWord}
-use Rattle.dap_mask.specs.declared.fault.RulesCause.TheVariants.{Memory}
+use Rattle.dap_mask.specs.declared.fault.RulesCause.TheVariants.{BadPlace, Repeated, Clash}
+use Rattle.dap_mask.specs.declared.fault.RulesCause.TheVariants.{BadWord, Memory}
 use Rattle.dap_mask.specs.declared.fault.RulesFault.{RulesFault}
-use Rattle.dap_mask.specs.declared.rules.Verb.{Verb, TheVariants.{Digits, Hex}}
 use Rattle.dap_words.specs.Kept.{cause_against as word_cause}
 use Rattle.dap_words.specs.declared.word_list.WordCause.{WordCause}
 use Rattle.dap_words.specs.declared.word_list.WordCause.TheVariants as of_word
@@ -24,26 +22,12 @@ use Rattle.dap_words.specs.declared.word_list.WordCause.TheVariants as of_word
 abbrev pub is_name_among : Option (List ℕ) → List (Option (List ℕ)) → Bool
 is_name_among n ms = list_any (same_name n) ms
 
--- Why the second action may not follow the first one at one place, if it unsettles it.
-abbrev pub cause_of_pair : Verb → Verb → RulesCause
-cause_of_pair Hex Digits = DigitsBehindHex
-cause_of_pair _ _ = Clash
-
--- Why a change may not follow these, if one of them clashes with it; the first of those decides.
-abbrev pub clash_cause : List Rule → Rule → Option RulesCause
-clash_cause [] t = None
-clash_cause (r ∷ rs) t = cond (clash r t) (Some (cause_of_pair r.verb t.verb)) (clash_cause rs t)
-
--- Why a change may not follow these changes, apart from the limit on their number.
-abbrev pub change_cause : List Rule → Rule → Option RulesCause
-change_cause rs r =
-    cond (is_telling_place r.place || (takes_profile_id r || renames r r)) (Some BadPlace)
-    (cond (is_among r rs) (Some Repeated) (clash_cause rs r))
-
--- The first cause, or `Clash` if there is none and the rules clash.
-abbrev pub or_clash : Option RulesCause → Bool → Option RulesCause
-or_clash None clashes = cond clashes (Some Clash) None
-or_clash (Some c) clashes = Some c
+-- Why a change may not follow the rules of a mask, apart from the limit on their number.
+abbrev pub change_cause : Mask → Rule → Option RulesCause
+change_cause m r =
+    cond (is_misplaced r || takes_profile_id r) (Some BadPlace)
+    (cond (is_among r m.changes) (Some Repeated)
+    (cond (clashes_with r m.changes || moves_one_of r m.categories) (Some Clash) None))
 
 -- The cause, as an error of a rules file.
 abbrev pub cause_of_word : WordCause → RulesCause
@@ -54,8 +38,7 @@ cause_of_word of_word.Memory = Memory
 
 -- Why a rule may not follow the rules of a mask, apart from the limit on their number.
 abbrev pub cause_of : Mask → Statement → Option RulesCause
-cause_of m (change r) = or_clash (change_cause m.changes r)
-    (moves_one_of r m.categories || renames_among r m.changes)
+cause_of m (change r) = change_cause m r
 cause_of m (leave_out n) = cond (is_name_among n m.dropped) (Some Repeated) None
 cause_of m (leave_out_category c) = cond (is_category_among c m.categories) (Some Repeated)
     (cond (is_moved_by m.changes c) (Some Clash) None)

@@ -11,8 +11,8 @@ abbrev pub word_line : Pair → List ℕ
 word_line p =
     codes "word " ++ (text_of (text_doc p.text) ++ (codes " " ++ text_of (text_doc p.word)))
 
--- The bytes are one line of a rules file, without a line feed, and mean that the word of the pair is
--- put in the place of its text.
+-- The bytes are one line of a rules file, without a line feed, and mean that the word of the pair
+-- is put in the place of its text.
 pub record IsLineOf (p : Pair) (l : List ℕ) : Type 0 where
   pub one : all_of (has_class InLine) l ≡ true
   pub utf8 : is_utf8 l ≡ true

@@ -42,20 +42,13 @@ pub enum RulesCause {
     /// - Cause: two rules files put together.
     /// - Fix: leave it out.
     Repeated,
-    /// A `hex` rule precedes this `digits` rule for the same place of messages that may be the
-    /// same, so masking twice could differ from masking once.
+    /// This rule and an earlier one are `uuid` and `digits` at the same place of messages that may
+    /// be the same, so masking twice could change a text again. Or one of the two changes
+    /// `body.category` of events that the other drops by their category.
     ///
-    /// - Cause: the order of the two.
-    /// - Fix: write `digits` first.
-    DigitsBehindHex,
-    /// An earlier rule has another action at the same place of messages that may be the same, and
-    /// masking twice by both could change a text again. Or one of the two changes `body.category`
-    /// of events that the other drops by their category, or the `name` of the elements of an array
-    /// that the other selects by their name.
-    ///
-    /// - Cause: `hex` before `long`, `uuid` after another action, or `uuid` with `digits`.
-    /// - Fix: write `uuid` before `long` and `hex` last, and do not use `uuid` and `digits` at one
-    ///   place.
+    /// - Cause: `uuid` and `digits` at one place, or a change of a category by which events are
+    ///   dropped.
+    /// - Fix: leave one of the two out.
     Clash,
     /// The text of a `word` line is empty, or a word of the file can overlap a text of the file:
     /// one contains the other, or the end of one is the start of the other. Masking twice could
@@ -81,7 +74,6 @@ impl RulesCause {
             RulesCause::TooMany => "TooMany",
             RulesCause::BadPlace => "BadPlace",
             RulesCause::Repeated => "Repeated",
-            RulesCause::DigitsBehindHex => "DigitsBehindHex",
             RulesCause::Clash => "Clash",
             RulesCause::BadWord => "BadWord",
             RulesCause::Memory => "Memory",

@@ -3,6 +3,7 @@
 ghost use Rattle.dap_mask.specs.Grammar.{ParserFindsLine, LineSaysOne};
 ghost use Rattle.dap_mask.specs.Laws.{MaskedByPath, OneMasked, KeepsOthers, NoneNew, DropsAlike};
 ghost use Rattle.dap_mask.specs.Laws.{MaskedOnce, EqualWhereAgree, KeepsOrder, KeepsSound};
+ghost use Rattle.dap_mask.specs.Laws.{InAnyOrder};
 ghost use Rattle.dap_mask.specs.Laws.{KeepsUtf8, StaysIn, DigitsAre, HexIs, PlainPlaces};
 ghost use Rattle.dap_mask.specs.Loose.{UnmaskedIsRead, OneLooseReading, LooseIsOrdered, LeftIsRead};
 ghost use Rattle.dap_mask.specs.{Ids.LeavesIds, WordLines.OneMoreLine};
@@ -23,6 +24,12 @@ pub fn exactly_those_places()
 /// Masking a masked document again does not change it, if its members are in order.
 pub fn masked_once()
     ensures { MaskedOnce }
+{}
+
+/// The order of the lines of a rules file does not matter: two lists of the same rules, in the
+/// order in which they apply, mask each document alike, if its members are in order.
+pub fn in_any_order()
+    ensures { InAnyOrder }
 {}
 
 /// Masking two documents yields equal documents if and only if the two agree except for the parts

@@ -3,13 +3,13 @@
 //! [`MaskRules::read`] reads the rules of a file, and [`mask`] changes the values of a message at
 //! the places of the rules. [`read_masked_flat`] does the same to the nodes of a flat document, and
 //! [`write_masked`] writes the result. `specs/` defines the meaning of the rules, and [`laws`]
-//! states the theorems. The file may also contain texts and their words, [`MaskRules::words`], which
-//! [`read_masked`] puts in before the other rules apply; rules for the order of messages,
+//! states the theorems. The file may also contain texts and their words, [`MaskRules::words`],
+//! which [`read_masked`] puts in before the other rules apply; rules for the order of messages,
 //! [`MaskRules::swaps`]; and the line `per-stop`, [`MaskRules::per_stop`]. Masking does not use the
 //! last two.
 //!
-//! A program that explains why a line is not a rule parses the parts of the line with [`split_run`],
-//! [`gap`], [`is_end`], [`name_at`], [`any_name`] and [`place_at`].
+//! A program that explains why a line is not a rule parses the parts of the line with
+//! [`split_run`], [`gap`], [`is_end`], [`name_at`], [`any_name`] and [`place_at`].
 #![tactic(auto)]
 
 mod categories;
@@ -29,6 +29,7 @@ mod names;
 mod places;
 mod profile_ids;
 mod rule_list;
+mod rule_order;
 mod rules;
 mod runs;
 mod statement;

@@ -1,12 +1,10 @@
-//! Compares rules: by messages, by places, and by clashes between actions.
+//! Compares rules: by messages, by places, and by actions that exclude each other.
 ghost use Rattle.std.specs.{Prelude.{◌≡◌, option_map, string_bytes}, List.list_any};
-ghost use Rattle.dap_mask.specs.Rules.{rule_of, rules_of, step_of, place_of, same_rule_step};
+ghost use Rattle.dap_mask.specs.Rules.{rule_of, step_of, place_of, same_rule_step};
 ghost use Rattle.dap_mask.specs.Rules.{same_rule_place, share_step, share_place, same_kind};
-ghost use Rattle.dap_mask.specs.Rules.{share_name, same_name, same_verb, same_rule, unsettles};
+ghost use Rattle.dap_mask.specs.Rules.{share_name, same_name, same_verb, same_rule, excludes};
 ghost use Rattle.dap_mask.specs.Rules.{clash, is_naming, is_telling, is_telling_place};
-ghost use Rattle.dap_mask.specs.RulesFile.{cause_of_pair, clash_cause};
 
-use crate::fault::RulesCause;
 use crate::rules::{MaskRule, Step, Verb};
 use dap_message::Kind;
 
@@ -129,47 +127,30 @@ pub(crate) fn is_among(rule: &MaskRule, rules: &[MaskRule]) -> bool
     rules.iter().any(|other| same_rule(rule, other))
 }
 
-fn unsettles(verb: Verb, later: Verb) -> bool
-    ensures { result ≡ unsettles verb later }
+// Returns whether the two actions exclude each other at one place.
+fn excludes(verb: Verb, other: Verb) -> bool
+    ensures { result ≡ excludes verb other }
 {
-    match verb {
-        Verb::Hex => matches!(later, Verb::Digits | Verb::Long | Verb::Uuid),
-        Verb::Digits | Verb::Long => matches!(later, Verb::Uuid),
-        Verb::Uuid => matches!(later, Verb::Digits),
-        Verb::Blank => false,
-    }
+    matches!(
+        (verb, other),
+        (Verb::Uuid, Verb::Digits) | (Verb::Digits, Verb::Uuid)
+    )
 }
 
-fn clash(rule: &MaskRule, later: &MaskRule) -> bool
-    ensures { result ≡ clash (rule_of rule.now) (rule_of later.now) }
+fn clash(rule: &MaskRule, other: &MaskRule) -> bool
+    ensures { result ≡ clash (rule_of rule.now) (rule_of other.now) }
 {
-    unsettles(rule.verb, later.verb)
-        && share_place(&rule.place, &later.place)
-        && same_kind(rule.kind, later.kind)
-        && share_name(text_of(&rule.name), text_of(&later.name))
+    excludes(rule.verb, other.verb)
+        && share_place(&rule.place, &other.place)
+        && same_kind(rule.kind, other.kind)
+        && share_name(text_of(&rule.name), text_of(&other.name))
 }
 
-// Returns why the later action may not follow the other one, if it unsettles it.
-fn cause_of_pair(verb: Verb, later: Verb) -> RulesCause
-    ensures { result ≡ cause_of_pair verb later }
+/// Returns whether one of the others excludes the rule.
+pub(crate) fn clashes_with(rule: &MaskRule, rules: &[MaskRule]) -> bool
+    ensures { result ≡ list_any (λ r. clash (rule_of rule.now) (rule_of r)) rules.now }
 {
-    match (verb, later) {
-        (Verb::Hex, Verb::Digits) => RulesCause::DigitsBehindHex,
-        _ => RulesCause::Clash,
-    }
-}
-
-/// Returns why this later rule may not follow the rules, by the first of them that clashes with it;
-/// `None` if none does.
-pub(crate) fn clash_cause(rules: &[MaskRule], later: &MaskRule) -> Option<RulesCause>
-    ensures { result ≡ clash_cause (rules_of rules.now) (rule_of later.now) }
-{
-    for rule in rules {
-        if clash(rule, later) {
-            return Some(cause_of_pair(rule.verb, later.verb));
-        }
-    }
-    None
+    rules.iter().any(|other| clash(rule, other))
 }
 
 fn is_naming(name: &str) -> bool

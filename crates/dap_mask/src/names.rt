@@ -8,9 +8,9 @@ use crate::runs::{ByteClass, closing, split_run};
 use serde_json::Value;
 use std::alloc::{AllocError, Global};
 
-/// Parses the name with which a text starts: plain bytes (see `ByteClass::Plain`), or a JSON string.
-/// Returns the name and the rest of the text; `None` if the text starts with no name. Allocates the
-/// name.
+/// Parses the name with which a text starts: plain bytes (see `ByteClass::Plain`), or a JSON
+/// string. Returns the name and the rest of the text; `None` if the text starts with no name.
+/// Allocates the name.
 ///
 /// # Errors
 ///
@@ -26,8 +26,8 @@ pub fn name_at(alloc: Global, text: &[u8]) -> Result<Option<(String, &[u8])>, Al
 }
 
 /// Parses the name of messages with which a text starts: `*`, which is any name, or a name as
-/// [`name_at`] parses it. Returns the name, which is `None` for `*`, and the rest of the text; `None`
-/// if the text starts with neither. Allocates the name.
+/// [`name_at`] parses it. Returns the name, which is `None` for `*`, and the rest of the text;
+/// `None` if the text starts with neither. Allocates the name.
 ///
 /// # Errors
 ///
@@ -57,8 +57,8 @@ fn plain_at(alloc: Global, text: &[u8]) -> Result<Option<(String, &[u8])>, Alloc
     Ok(Some((String::from_utf8(name).unwrap(), rest)))
 }
 
-/// Returns the name in quotes with which the text starts, and the rest; `None` if no quote closes it
-/// or it is not a JSON string. The caller has checked the opening quote.
+/// Returns the name in quotes with which the text starts, and the rest; `None` if no quote closes
+/// it or it is not a JSON string. The caller has checked the opening quote.
 pub(crate) fn quoted_at(alloc: Global, text: &[u8]) -> Result<Option<(String, &[u8])>, AllocError>
     ensures { IfOk result
         (λ o. option_map (λ n. (string_bytes n.0, n.1.now)) o ≡ quoted_at text.now) }

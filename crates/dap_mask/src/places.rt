@@ -8,8 +8,8 @@ use crate::rules::Step;
 use std::alloc::{AllocError, Global};
 
 /// Parses the place with which a text starts: a name, and further steps such as `.name`, `[]` and
-/// `["name"]`. Returns the place and the rest of the text; `None` if the text starts with no name. A
-/// further step that is malformed, such as `["x"`, is the start of the rest. Allocates the place.
+/// `["name"]`. Returns the place and the rest of the text; `None` if the text starts with no name.
+/// A further step that is malformed, such as `["x"`, is the start of the rest. Allocates the place.
 ///
 /// # Errors
 ///

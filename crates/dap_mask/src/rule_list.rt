@@ -1,18 +1,20 @@
-//! Reads the rules of a mask from a file and stores them in the order of the file.
+//! Reads the rules of a mask from a file. Stores changes in the order in which they apply, and
+//! other rules in the order of the file.
 ghost use Rattle.std.specs.Prelude.{◌≡◌, ◌≢◌, ◌≤◌, true, cond, None, Some, Ok, Err, option_map};
 ghost use Rattle.std.specs.Prelude.{IfOk, IfErr, OnOk, length, string_bytes, ◌+◌, vec_len, ◌||◌};
 ghost use Rattle.std.specs.{Str.is_utf8, List.list_any};
 ghost use Rattle.dap_mask.specs.Categories.{category_of, categories_of, keep_categories};
 ghost use Rattle.dap_mask.specs.Ids.{leave_ids};
 ghost use Rattle.dap_mask.specs.Rules.{rule_of, rules_of, are_safe, are_idempotent, same_name};
-ghost use Rattle.dap_mask.specs.RulesFile.{change_cause, or_clash, last_line, cause_of_word};
+ghost use Rattle.dap_mask.specs.RulesFile.{last_line, cause_of_word};
 ghost use Rattle.dap_words.specs.{Words.pair_of, Kept.pairs_in};
 
 use crate::categories::{CategoryRule, is_category_among, is_moved_by, moves_one_of};
-use crate::element_names::{renames, renames_among};
+use crate::element_names::renames;
 use crate::fault::{RulesCause, RulesFault};
-use crate::meets::{clash_cause, is_among, is_telling_place, same_name, text_of};
+use crate::meets::{clashes_with, is_among, is_telling_place, same_name, text_of};
 use crate::profile_ids::takes_profile_id;
+use crate::rule_order::place_in;
 use crate::rules::MaskRule;
 use crate::runs::{ByteClass, split_run};
 use crate::statement::{Line, Statement, read_line};
@@ -28,7 +30,8 @@ const MAX_BYTES: usize = 65_536;
 /// The maximum number of rules of a mask.
 const MAX_RULES: usize = 1_000;
 
-/// The rules of a mask in the order of their file, at most `MAX_RULES`.
+/// The rules of a mask, at most `MAX_RULES`: the changes in the order in which they apply, the
+/// other rules in the order of their file.
 ///
 /// The place of a rule is never the message itself, its `type`, `command`, `event` or `success`, or
 /// an id that the profile renames. Masking a masked message again does not change it, if its
@@ -51,12 +54,12 @@ pub(crate) struct RuleList {
 }
 
 impl RuleList {
-    ghost use Rattle.dap_mask.specs.Categories.{moves_one_of};
+    ghost use Rattle.dap_mask.specs.{Categories.moves_one_of, Rules.clashes_with};
     ghost use Rattle.dap_mask.specs.ListedRules.{listed_mask, listed_changes, listed_categories};
-    ghost use Rattle.dap_mask.specs.Rules.{renames_among};
     ghost use Rattle.dap_mask.specs.Mask.{no_rules, rule_count, with_rule, statement_of, nothing};
-    ghost use Rattle.dap_mask.specs.{Mask.{leave_out_category, put}, RuleText.line_said};
+    ghost use Rattle.dap_mask.specs.{Mask.{change, leave_out_category, put}, RuleText.line_said};
     ghost use Rattle.dap_mask.specs.RulesFile.{cause_against, line_outcome, rules_from, rules_said};
+    ghost use Rattle.dap_mask.specs.RulesFile.{change_cause};
     ghost use Rattle.dap_mask.specs.Runs.{lines_of};
 
     /// Reads the rules of a file.
@@ -168,14 +171,28 @@ impl RuleList {
         }
     }
 
-    /// Returns whether the change may give an event the category by which a rule drops it, or an
-    /// element the name by which a rule selects it.
+    // Returns whether the change excludes one of the changes, or may give an event the category by
+    // which a rule drops it.
     #[tactic(auto, using(crate::proofs::Lists::any_mapped))]
     fn clashes(&self, rule: &MaskRule) -> bool
-        ensures { result ≡ (moves_one_of (rule_of rule.now) (listed_categories self.now)
-            || renames_among (rule_of rule.now) (listed_changes self.now)) }
+        ensures { result ≡ (clashes_with (rule_of rule.now) (listed_changes self.now)
+            || moves_one_of (rule_of rule.now) (listed_categories self.now)) }
     {
-        moves_one_of(rule, &self.categories) || renames_among(rule, &self.changes)
+        clashes_with(rule, &self.changes) || moves_one_of(rule, &self.categories)
+    }
+
+    // Returns why the change may not follow the rules read so far, apart from their number.
+    #[tactic(auto, using(crate::proofs::Lists::any_mapped))]
+    fn change_cause(&self, rule: &MaskRule) -> Option<RulesCause>
+        ensures { result ≡ change_cause (listed_mask self.now) (rule_of rule.now) }
+    {
+        if is_telling_place(&rule.place) || renames(rule, rule) || takes_profile_id(rule) {
+            Some(RulesCause::BadPlace)
+        } else if is_among(rule, &self.changes) {
+            Some(RulesCause::Repeated)
+        } else {
+            cause_if(self.clashes(rule), RulesCause::Clash)
+        }
     }
 
     /// Returns why the rule may not follow the rules read so far; `None` if it may.
@@ -187,9 +204,7 @@ impl RuleList {
             return Some(RulesCause::TooMany);
         }
         match statement {
-            Statement::Change(rule) => {
-                or_clash(change_cause(&self.changes, rule), self.clashes(rule))
-            }
+            Statement::Change(rule) => self.change_cause(rule),
             Statement::LeaveOut(name) => {
                 cause_if(is_name_among(name, &self.dropped), RulesCause::Repeated)
             }
@@ -211,6 +226,16 @@ impl RuleList {
                 }
             }
         }
+    }
+
+    fn take_change(&mut self, rule: MaskRule) -> Result<(), AllocError>
+        requires { cause_against (listed_mask self.old) (change (rule_of rule)) ≡ None }
+        ensures { OnOk result
+            (listed_mask self.new ≡ with_rule (listed_mask self.old) (change (rule_of rule))) }
+    {
+        let place = place_in(&self.changes, &rule);
+        self.changes.insert(place, rule)?;
+        Ok(())
     }
 
     fn take_category(&mut self, rule: CategoryRule) -> Result<(), AllocError>
@@ -238,7 +263,7 @@ impl RuleList {
             (listed_mask self.new ≡ with_rule (listed_mask self.old) (statement_of statement)) }
     {
         match statement {
-            Statement::Change(rule) => self.changes.push(rule)?,
+            Statement::Change(rule) => self.take_change(rule)?,
             Statement::LeaveOut(name) => self.dropped.push(name)?,
             Statement::LeaveOutCategory(rule) => self.take_category(rule)?,
             Statement::Swap(swap) => self.swaps.push(swap)?,
@@ -266,19 +291,6 @@ fn last_line(text: &[u8]) -> usize
     text.iter().filter(|byte| **byte == b'\n').count() + 1
 }
 
-#[tactic(auto, using(crate::proofs::Lists::any_mapped))]
-fn change_cause(changes: &[MaskRule], rule: &MaskRule) -> Option<RulesCause>
-    ensures { result ≡ change_cause (rules_of changes.now) (rule_of rule.now) }
-{
-    if is_telling_place(&rule.place) || takes_profile_id(rule) || renames(rule, rule) {
-        Some(RulesCause::BadPlace)
-    } else if is_among(rule, changes) {
-        Some(RulesCause::Repeated)
-    } else {
-        clash_cause(changes, rule)
-    }
-}
-
 fn cause_of_word(cause: WordCause) -> RulesCause
     ensures { result ≡ cause_of_word cause }
 {
@@ -286,16 +298,6 @@ fn cause_of_word(cause: WordCause) -> RulesCause
         WordCause::Empty | WordCause::Meets => RulesCause::BadWord,
         WordCause::Repeated => RulesCause::Repeated,
         WordCause::Memory => RulesCause::Memory,
-    }
-}
-
-// Returns the cause, or `Clash` if there is none and the rules clash.
-fn or_clash(cause: Option<RulesCause>, clashes: bool) -> Option<RulesCause>
-    ensures { result ≡ or_clash cause clashes }
-{
-    match cause {
-        Some(cause) => Some(cause),
-        None => cause_if(clashes, RulesCause::Clash),
     }
 }
 

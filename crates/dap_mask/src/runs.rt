@@ -75,8 +75,8 @@ pub fn gap(text: &[u8]) -> Option<&[u8]>
     if blanks.is_empty() { None } else { Some(rest) }
 }
 
-/// Returns whether the text contains only blanks and perhaps a comment, which starts with `#`. After
-/// the last word of a rule, only such a text may follow. Does not allocate.
+/// Returns whether the text contains only blanks and perhaps a comment, which starts with `#`.
+/// After the last word of a rule, only such a text may follow. Does not allocate.
 pub fn is_end(text: &[u8]) -> bool
     ensures { result ≡ is_end text.now }
 {
