@@ -1,70 +1,120 @@
 -- The followers of each place, after one more is added.
-use Rattle.std.proofs.Common.{◌≡◌, ◌≢◌, ℕ, ◌+◌, ◌<◌, List, [], ◌∷◌, ◌++◌, length, get_or, set}
-use Rattle.std.proofs.Common.{◌⊎◌, inl, inr, arith, sym, ap, ◌∙◌, subst}
-use Rattle.std.specs.List.{Contains}
+use Rattle.std.proofs.Common.{◌≡◌, ◌≢◌, ℕ, ◌+◌, ◌<◌, ◌≤◌, List, [], ◌∷◌, ◌++◌, length, get_or, set}
+use Rattle.std.proofs.Common.{Option, Some, None, ◌⊎◌, inl, inr, refl, arith, sym, ap, ◌∙◌, subst}
+use Rattle.std.proofs.Common.{length-append}
+use Rattle.std.specs.Prelude.{slice_get}
+use Rattle.std.specs.List.{AllWithin, Contains}
 use Rattle.std.proofs.lemmas.Bool.{cases_eq}
-use Rattle.std.proofs.lemmas.List.{get_or-set_same, get_or-set_other}
-use Rattle.std.proofs.lemmas.List.{length-set}
-use Rattle.std.proofs.lemmas.List.Elements.{Contains-append_left, Contains-push}
-use Rattle.std.proofs.lemmas.List.Elements.{Contains-push_cases}
-use Rattle.std.proofs.lemmas.List.Elements.{All-contains, All-contains_itself}
+use Rattle.std.proofs.lemmas.List.{get_or-set_same, get_or-set_other, length-set}
 use Rattle.dap_order.specs.Plan.{place_count, followed_by}
-use Rattle.dap_order.specs.Links.{entries_at, FollowBelow, AddsFollower}
+use Rattle.dap_order.specs.Links.{IsBelow, HasFrom, here, later, FollowBelow}
+use Rattle.dap_order.specs.declared.links.Cell.{Cell}
 use Rattle.dap_order.specs.declared.plan.Plan.{Plan}
+use Rattle.dap_order.proofs.Lists.{get_below, get_old, get_new, get_cases, one_item}
 
--- The list at e has one more entry, x.
-module _ (old new : List (List ℕ)) (e x : ℕ) (low : e < length old)
-    (is : new ≡ set old e (get_or old e [] ++ x ∷ [])) where
-  pushed_here : entries_at new e ≡ entries_at old e ++ x ∷ []
-  pushed_here =
-      ap (λ lists. get_or lists e []) is ∙ get_or-set_same old e (get_or old e [] ++ x ∷ []) [] low
+pub below_more : (n m : ℕ) (o : Option ℕ) → n ≤ m → IsBelow n o → IsBelow m o
+below_more n m None low h = h
+below_more n m (Some i) low h = omega arith
 
-  pushed_other : (i : ℕ) → i ≢ e → entries_at new i ≡ entries_at old i
-  pushed_other i apart =
-      ap (λ lists. get_or lists i []) is
-      ∙ get_or-set_other old e i (get_or old e [] ++ x ∷ []) [] apart
+pub no_cell : (cells : List Cell) (place : ℕ) (o : Option ℕ) → o ≡ None → HasFrom cells place o → ⊥
+no_cell cells place o e (here i cell f at is) = let bad : None ≡ Some i = sym e ∙ f in cc
+no_cell cells place o e (later i cell f at rest) = let bad : None ≡ Some i = sym e ∙ f in cc
 
-  pub pushed_len : length new ≡ length old
-  pushed_len = ap length is ∙ length-set old e (get_or old e [] ++ x ∷ [])
+module _ (cells : List Cell) (place : ℕ) where
+  -- A place of a list is in its first cell, or in the list of the next cell.
+  pub next_cell : (i : ℕ) (cell : Cell) (o : Option ℕ) → o ≡ Some i
+      → slice_get cells i ≡ Some cell → HasFrom cells place o
+      → (cell.place ≡ place) ⊎ HasFrom cells place cell.next
+  next_cell i cell o e at (here j other f there is) =
+      inl (ap (λ (z : Cell). z.place) (same i j cell other o e f at there) ∙ is)
+    where
+      same : (i j : ℕ) (cell other : Cell) (o : Option ℕ) → o ≡ Some i → o ≡ Some j
+          → slice_get cells i ≡ Some cell → slice_get cells j ≡ Some other → cell ≡ other
+      same i j cell other o e f at there =
+          let both : Some i ≡ Some j = sym e ∙ f in
+          let index : i ≡ j = cc in
+          one_item cells i cell other at (ap (slice_get cells) index ∙ there)
+  next_cell i cell o e at (later j other f there rest) =
+      let both : Some i ≡ Some j = sym e ∙ f in
+      let index : i ≡ j = cc in
+      inr (subst (λ (z : Cell). HasFrom cells place z.next)
+      (sym (one_item cells i cell other at (ap (slice_get cells) index ∙ there))) rest)
 
-  pub pushed_kept : (i y : ℕ) → Contains (entries_at old i) y → Contains (entries_at new i) y
-  pushed_kept i y h = elim (cases_eq i e) [
-    | inl same ↦ subst (λ k. Contains (entries_at new k) y) (sym same)
-        (subst (λ ys. Contains ys y) (sym pushed_here)
-        (Contains-append_left (entries_at old e) (x ∷ []) y
-        (subst (λ k. Contains (entries_at old k) y) same h)))
-    | inr apart ↦ subst (λ ys. Contains ys y) (sym (pushed_other i apart)) h
+  still : (x : Cell) (o : Option ℕ) → HasFrom cells place o → HasFrom (cells ++ x ∷ []) place o
+  still x o (here i cell e at is) =
+      here i cell e (get_old cells x i (get_below cells i cell at) ∙ at) is
+  still x o (later i cell e at rest) =
+      later i cell e (get_old cells x i (get_below cells i cell at) ∙ at)
+      (still x cell.next rest)
+
+-- The list of the place e has one more cell, which is its first one.
+module _ (plan : Plan) (place : ℕ) (firsts : List (Option ℕ)) (cells : List Cell)
+    (was : FollowBelow plan firsts cells place) (low : place < place_count plan) (e : ℕ)
+    (in_range : e < length firsts) where
+  abbrev cell : Cell
+  cell = record { place = place; next = get_or firsts e None }
+
+  abbrev new : List (Option ℕ)
+  new = set firsts e (Some (length cells))
+
+  first_is : get_or new e None ≡ Some (length cells)
+  first_is = get_or-set_same firsts e (Some (length cells)) None in_range
+
+  at_end : slice_get (cells ++ cell ∷ []) (length cells) ≡ Some cell
+  at_end = get_new cells cell (length cells) refl
+
+  long : length (cells ++ cell ∷ []) ≡ length cells + 1
+  long = length-append cells (cell ∷ [])
+
+  pub pushed_kept : (list x : ℕ) → HasFrom cells x (get_or firsts list None)
+      → HasFrom (cells ++ cell ∷ []) x (get_or new list None)
+  pushed_kept list x h = elim (cases_eq list e) [
+    | inl same ↦ subst (λ k. HasFrom (cells ++ cell ∷ []) x (get_or new k None)) (sym same)
+        (later (length cells) cell first_is at_end
+        (subst (λ k. HasFrom (cells ++ cell ∷ []) x (get_or firsts k None)) same
+        (still cells x cell (get_or firsts list None) h)))
+    | inr apart ↦ subst (HasFrom (cells ++ cell ∷ []) x)
+        (sym (get_or-set_other firsts e list (Some (length cells)) None apart))
+        (still cells x cell (get_or firsts list None) h)
   ]
 
-  pub pushed_only : (i y : ℕ) → Contains (entries_at new i) y
-      → Contains (entries_at old i) y ⊎ (x ≡ y)
-  pushed_only i y h = elim (cases_eq i e) [
-    | inl same ↦ subst (λ k. Contains (entries_at old k) y ⊎ (x ≡ y)) (sym same)
-        (Contains-push_cases (entries_at old e) x y
-        (subst (λ ys. Contains ys y) pushed_here
-        (subst (λ k. Contains (entries_at new k) y) same h)))
-    | inr apart ↦ inl (subst (λ ys. Contains ys y) (pushed_other i apart) h)
-  ]
+  pub pushed_added : HasFrom (cells ++ cell ∷ []) place (get_or new e None)
+  pushed_added = here (length cells) cell first_is at_end refl
 
-  pub pushed_added : Contains (entries_at new e) x
-  pushed_added = subst (λ ys. Contains ys x) (sym pushed_here) (Contains-push (entries_at old e) x)
-
-module _ (plan : Plan) where
-  pub follow_more : (old new : List (List ℕ)) (place : ℕ) → place < place_count plan
-      → FollowBelow plan old place → AddsFollower old new (followed_by plan place) place
-      → FollowBelow plan new (place + 1)
-  follow_more old new place low was more = record {
-    len = more.len ∙ was.len;
-    in_range = λ list k d h.
-        elim (more.only list (get_or (entries_at new list) k d)
-        (All-contains_itself (entries_at new list) k d h)) [
-          | inl there ↦ All-contains (λ follower. follower < place_count plan) (entries_at old list)
-              (get_or (entries_at new list) k d) (was.in_range list) there
-          | inr last ↦ omega (arith, last)
-        ];
-    has = λ list follower h there. elim (cases_eq follower place) [
-      | inl same ↦ subst (Contains (entries_at new list)) (sym same)
-          (more.added list (subst (λ j. Contains (followed_by plan j) list) same there))
-      | inr apart ↦ more.kept list follower (was.has list follower (omega arith) there)
+  pub pushed : FollowBelow plan new (cells ++ cell ∷ []) place
+  pushed = record {
+    len = length-set firsts e (Some (length cells)) ∙ was.len;
+    first = λ k d h. elim (cases_eq k e) [
+      | inl same ↦ subst (IsBelow (length (cells ++ cell ∷ [])))
+          (sym (ap (λ j. get_or new j d) same
+          ∙ get_or-set_same firsts e (Some (length cells)) d in_range)) (omega (arith, long))
+      | inr apart ↦ subst (IsBelow (length (cells ++ cell ∷ [])))
+          (sym (get_or-set_other firsts e k (Some (length cells)) d apart))
+          (below_more (length cells) (length (cells ++ cell ∷ [])) (get_or firsts k d)
+          (omega (arith, long)) (was.first k d
+          (omega (arith, length-set firsts e (Some (length cells))))))
     ];
+    next = λ i x at. elim (get_cases cells cell i x at) [
+      | inl old ↦ was.next i x old
+      | inr last ↦ subst (λ (z : Cell). (z.place < place_count plan) × IsBelow i z.next) last.1
+          (low, subst (λ n. IsBelow n cell.next) (sym last.0) (was.first e None in_range))
+    ];
+    has = λ list x below follows. pushed_kept list x (was.has list x below follows);
   }
+
+-- Each place that the next place follows has it in its list.
+pub follow_more : (plan : Plan) (place : ℕ) (firsts : List (Option ℕ)) (cells : List Cell)
+    → FollowBelow plan firsts cells place
+    → ((list : ℕ) → Contains (followed_by plan place) list
+    → HasFrom cells place (get_or firsts list None))
+    → FollowBelow plan firsts cells (place + 1)
+follow_more plan place firsts cells was added = record {
+  len = was.len;
+  first = was.first;
+  next = was.next;
+  has = λ list follower h there. elim (cases_eq follower place) [
+    | inl same ↦ subst (λ x. HasFrom cells x (get_or firsts list None)) (sym same)
+        (added list (subst (λ j. Contains (followed_by plan j) list) same there))
+    | inr apart ↦ was.has list follower (omega arith) there
+  ];
+}

@@ -15,9 +15,9 @@ use Rattle.dap_order.specs.Order.{order}
 use Rattle.dap_order.specs.Least.{IsLeast}
 use Rattle.dap_order.specs.Plan.{IsWellFormed, IsPlan, place_count, group_of, followed_by}
 use Rattle.dap_order.specs.Plan.{place_at_rank}
-use Rattle.dap_order.specs.Links.{AreLinks, entries_at, lists_of}
+use Rattle.dap_order.specs.Links.{AreLinks}
 use Rattle.dap_order.specs.Progress.{is_written, HasRank, IsReadyPlace, IsReleased, IsListed}
-use Rattle.dap_order.specs.Progress.{HasNoRank, Wrote, UpdatedAfter}
+use Rattle.dap_order.specs.Progress.{HasNoRank, Wrote, ConsideredFollowers, ReleasedBelow}
 use Rattle.dap_order.specs.declared.plan.Plan.{Plan}
 use Rattle.dap_order.specs.declared.links.Links.{Links}
 use Rattle.dap_order.specs.declared.progress.Progress.{Progress}
@@ -25,6 +25,7 @@ use Rattle.dap_order.proofs.Least.{order-least}
 use Rattle.dap_order.proofs.Pending.{pending, pending-none, Between, between, IsNext}
 use Rattle.dap_order.proofs.Pending.{next_from_pending}
 use Rattle.dap_order.proofs.ReadyRanks.{stays_written}
+use Rattle.dap_order.proofs.Standing.{listed_stays}
 
 module _ (plan : Plan) where
   -- A ready place is released.
@@ -40,19 +41,20 @@ module _ (plan : Plan) where
     ]
   ]
 
-  -- Each place remains listed after one is written and its followers are considered.
-  pub listed_after : (links : Links) → AreLinks plan links → (old mid new : Progress) (place : ℕ)
-      → Wrote plan old mid place → UpdatedAfter plan links mid new place
+  -- Each place remains listed after one is written, its followers are considered, and others are
+  -- released.
+  pub listed_after : (links : Links) → AreLinks plan links → (old mid seen new : Progress)
+      (place : ℕ) → Wrote plan old mid place → ConsideredFollowers plan links mid seen place
+      → ReleasedBelow plan links seen new (length plan.blocks.items)
       → (other : ℕ) → other < place_count plan → IsListed plan links old other
       → IsListed plan links new other
-  listed_after links are old mid new place wrote updated other low was =
-      elim (cases_Bool (list_any (eqb place) (followed_by plan other))) [
-        | inl there ↦ All-contains (IsListed plan links new)
-            (entries_at (lists_of links.followers) place) other updated.followers
-            (are.followers.has place other low (Contains-from_any (λ x y. eqb-true x y) place
-            (followed_by plan other) there))
-        | inr none ↦ updated.listed other low (listed_mid none)
-      ]
+  listed_after links are old mid seen new place wrote considered freed other low was =
+      freed.listed other low (elim (cases_Bool (list_any (eqb place) (followed_by plan other))) [
+        | inl there ↦ considered.listed other low
+            (Contains-from_any (λ x y. eqb-true x y) place (followed_by plan other) there)
+        | inr none ↦ listed_stays plan links mid seen other considered.written considered.released
+            considered.kept (listed_mid none)
+      ])
     where
       apart : list_any (eqb place) (followed_by plan other) ≡ false → (k d : ℕ)
           → k < length (followed_by plan other) → get_or (followed_by plan other) k d ≢ place

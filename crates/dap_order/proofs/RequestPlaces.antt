@@ -75,7 +75,7 @@ finds_no_request find ms m f finds n =
     ∙ sym (first_place_skip (is_request_of Client n) ms m
     (and_left (is_request m && is_from Client m) (int_eq n (seq_of m)) f))
 
-pub finds_known : (find : ℤ → Option ℕ) (ms : List Sent) (m : Sent) (a : ℕ)
+finds_known : (find : ℤ → Option ℕ) (ms : List Sent) (m : Sent) (a : ℕ)
     → find (seq_of m) ≡ Some a → FindsBy find ms → FindsBy find (ms ++ m ∷ [])
 finds_known find ms m a known finds n = elim (cases_Bool (int_eq n (seq_of m))) [
   | inl t ↦ (
@@ -87,6 +87,24 @@ finds_known find ms m a known finds n = elim (cases_Bool (int_eq n (seq_of m))) 
       ∙ sym (first_place_skip (is_request_of Client n) ms m
       (and_right (is_request m && is_from Client m) (int_eq n (seq_of m)) f))
 ]
+
+-- The place of a known number is put back.
+pub finds_put_back : (find new : ℤ → Option ℕ) (ms : List Sent) (m : Sent) (a at : ℕ)
+    → find (seq_of m) ≡ Some a
+    → ((n : ℤ) → new n
+    ≡ cond (int_eq (seq_of m) n) (Some a) (cond (int_eq (seq_of m) n) (Some at) (find n)))
+    → FindsBy find ms → FindsBy new (ms ++ m ∷ [])
+finds_put_back find new ms m a at known is finds n =
+    is n ∙ same ∙ finds_known find ms m a known finds n
+  where
+    same : cond (int_eq (seq_of m) n) (Some a) (cond (int_eq (seq_of m) n) (Some at) (find n))
+        ≡ find n
+    same = elim (cases_Bool (int_eq (seq_of m) n)) [
+      | inl t ↦ cond-true (int_eq (seq_of m) n) (Some a) _ t ∙ sym known
+          ∙ ap find ((Decides-int_eq (seq_of m) n).0 t)
+      | inr f ↦ cond-false (int_eq (seq_of m) n) (Some a) _ f
+          ∙ cond-false (int_eq (seq_of m) n) (Some at) (find n) f
+    ]
 
 pub finds_new : (find new : ℤ → Option ℕ) (ms : List Sent) (m : Sent) (at : ℕ)
     → (is_request m && is_from Client m) ≡ true → find (seq_of m) ≡ None → length ms ≡ at

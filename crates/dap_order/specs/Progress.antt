@@ -1,11 +1,11 @@
 -- The state while the places of a plan are written one after the other, for private clauses.
 use Rattle.std.specs.Prelude.{◌≡◌, ◌≢◌, ℕ, ◌+◌, ◌<◌, ◌≤◌, Bool, true, false, ◌⊎◌, List, [], length}
 use Rattle.std.specs.Prelude.{slice_index, nat_lt, ◌-◌, ◌&&◌, not, replicate}
-use Rattle.std.specs.{List.{All, AllWithin, slice_index_or, slice_set}, Ordering.nat_cmp}
+use Rattle.std.specs.{List.{All, AllWithin, Contains, slice_index_or, slice_set}, Ordering.nat_cmp}
 use Rattle.std.specs.BTreeSet.{BTreeSet, contains}
 use Rattle.dap_order.specs.Plan.{place_count, group_of, block_rows, followed_by, place_at_rank}
-use Rattle.dap_order.specs.{Links.{entries_at, lists_of}, declared.plan.Plan.Plan}
-use Rattle.dap_order.specs.{declared.links.Links.Links, declared.progress.Progress.Progress}
+use Rattle.dap_order.specs.{declared.plan.Plan.Plan, declared.links.Links.Links}
+use Rattle.dap_order.specs.declared.progress.Progress.{Progress}
 
 -- The place has been written.
 abbrev pub is_written : List Bool → ℕ → Bool
@@ -34,7 +34,7 @@ module _ (plan : Plan) where
   -- been written.
   abbrev pub is_held : List Bool → ℕ → ℕ → Bool
   is_held written group place = nat_lt 0 place
-      && (blocks_group (place - 1) group && not (is_written written (place - 1)))
+      && (not (is_written written (place - 1)) && blocks_group (place - 1) group)
 
   -- The place has not been written, but all places that it must follow by the plan have been.
   pub record IsReadyPlace (written : List Bool) (place : ℕ) : Type 0 where
@@ -64,6 +64,11 @@ module _ (plan : Plan) where
   IsReleased p group = (slice_index p.released.items group ≡ place_count plan)
       ⊎ ((i : ℕ) × (i + 1 ≡ slice_index p.released.items group) × (blocks_group i group ≡ true)
       × (is_written p.written.items i ≡ false))
+
+  -- Each group is released, unless its first place that is not released is `next`.
+  abbrev pub AreReleasedBut : Progress → ℕ → Type 0
+  AreReleasedBut p next = (group : ℕ) → group < length plan.blocks.items
+      → slice_index p.released.items group ≢ next → IsReleased p group
 
   -- If the place is released but not written, and its list in `after` has been written, the set
   -- contains its rank.
@@ -113,16 +118,7 @@ module _ (plan : Plan) where
     pub written : new.written.items ≡ old.written.items
     pub released : new.released.items ≡ old.released.items
     pub kept : (rank : ℕ) → HasRank old.ready rank → HasRank new.ready rank
-    pub listed : All (IsListed links new) (entries_at (lists_of links.followers) place)
-
-  -- After a place was written, its followers were considered, and places of all groups were
-  -- released. Nothing else changed.
-  pub record UpdatedAfter (links : Links) (old new : Progress) (place : ℕ) : Type 0 where
-    pub represents : Stands new
-    pub written : new.written.items ≡ old.written.items
-    pub done : (group : ℕ) → group < length plan.blocks.items → IsReleased new group
-    pub followers : All (IsListed links new) (entries_at (lists_of links.followers) place)
-    pub listed : (other : ℕ) → other < place_count plan → IsListed links old other
+    pub listed : (other : ℕ) → other < place_count plan → Contains (followed_by plan other) place
         → IsListed links new other
 
   -- The ready place with the smallest rank was written, and its rank was removed.

@@ -1,9 +1,10 @@
 -- The keys by which places are sorted, for private clauses.
-use Rattle.std.specs.Prelude.{ℕ, Bool, is_none, unwrap_or}
+use Rattle.std.specs.Prelude.{ℕ, Bool, List, ◌++◌, is_none, unwrap_or}
 use Rattle.dap_message.specs.declared.any_message.AnyMessage.{Ghosts as Form}
 use Rattle.dap_order.specs.{Keys.{Key, key_of, class_key}, Entries.{sent_by, request_by}}
 use Rattle.dap_order.specs.declared.entries.Entry.{Entry}
 use Rattle.dap_order.specs.declared.by_key.SortKey.{SortKey as ReadSortKey}
+use Rattle.dap_order.specs.declared.by_key.Parts.{Parts}
 
 pub record SortKey : Type 0 where
   pub answers_none : Bool
@@ -27,3 +28,7 @@ entry_key e place = record {
   class = class_key (sent_by e);
   place = place;
 }
+
+-- The keys of the three parts.
+abbrev pub keys_in : Parts → List ReadSortKey
+keys_in p = p.answers.items ++ (p.others.items ++ p.client.items)

@@ -28,7 +28,7 @@ pub fn order_of_places(alloc: Global, plan: &Plan) -> Result<Vec<usize>, AllocEr
     }
     let links = links_of(alloc, plan)?;
     let mut progress = Progress::new(alloc, plan)?;
-    progress.release_all(plan, &links)?;
+    progress.release_all(plan, &links, 0)?;
     places_written(alloc, plan, &links, &mut progress)
 }
 
@@ -54,7 +54,8 @@ fn places_written(
     let mut places = Vec::new(alloc);
     while let Some(place) = progress.write_next(plan) {
         places.push(place)?;
-        progress.update_after(plan, links, place)?;
+        progress.consider_followers(plan, links, place)?;
+        progress.release_all(plan, links, place + 1)?;
     }
     Ok(places)
 }

@@ -2,11 +2,11 @@
 ghost use Rattle.std.specs.Prelude.{◌≡◌, ◌≤◌, ◌<◌, true, false, length, IfOk, OnOk, MatchOption};
 ghost use Rattle.std.specs.{Prelude.slice_index, List.{All, AllWithin, HoldsAt}};
 ghost use Rattle.dap_order.specs.{Plan.{IsWellFormed, place_count, followed_by}, Links.AreLinks};
-ghost use Rattle.dap_order.specs.Progress.{is_written, Stands, is_held, Considered};
-ghost use Rattle.dap_order.specs.Progress.{ConsideredFollowers, Released, ReleasedPlace};
-ghost use Rattle.dap_order.specs.Progress.{ReleasedBelow, Wrote, UpdatedAfter, StartsAt, HasNoRank};
+ghost use Rattle.dap_order.specs.Progress.{is_written, Stands, is_held, AreReleasedBut};
+ghost use Rattle.dap_order.specs.Progress.{Considered, ConsideredFollowers, ReleasedPlace, Released};
+ghost use Rattle.dap_order.specs.Progress.{ReleasedBelow, Wrote, StartsAt, HasNoRank};
 
-use crate::links::{Links, followers_at};
+use crate::links::Links;
 use crate::plan::{Plan, blocks, followed_by};
 use std::alloc::{AllocError, Global};
 use std::collections::BTreeSet;
@@ -92,7 +92,7 @@ impl Progress {
         requires group_in_range { group < length plan.now.blocks.items }
         ensures { result ≡ is_held plan.now self.now.written.items group place }
     {
-        place > 0 && blocks(plan, place - 1, group) && !self.written[place - 1]
+        place > 0 && !self.written[place - 1] && blocks(plan, place - 1, group)
     }
 
     /// Releases the place, if it is of this group.
@@ -136,16 +136,25 @@ impl Progress {
         Ok(())
     }
 
-    /// Releases the places that no group blocks.
-    pub(crate) fn release_all(&mut self, plan: &Plan, links: &Links) -> Result<(), AllocError>
+    /// Releases the places that no group blocks. Only groups whose first place that is not released
+    /// is `next` can have such places.
+    pub(crate) fn release_all(
+        &mut self,
+        plan: &Plan,
+        links: &Links,
+        next: usize,
+    ) -> Result<(), AllocError>
         requires well_formed { IsWellFormed plan.now }
         requires links { AreLinks plan.now links.now }
         requires represents { Stands plan.now self.old }
+        requires released { AreReleasedBut plan.now self.old next }
         ensures { OnOk result (ReleasedBelow plan.now links.now self.old self.new
             (length plan.now.blocks.items)) }
     {
         for group in 0..plan.blocks.len() {
-            self.release(plan, links, group)?;
+            if self.released[group] == next {
+                self.release(plan, links, group)?;
+            }
         }
         Ok(())
     }
@@ -164,7 +173,7 @@ impl Progress {
     }
 
     /// Adds the places that are ready because this place was written.
-    fn consider_followers(
+    pub(crate) fn consider_followers(
         &mut self,
         plan: &Plan,
         links: &Links,
@@ -176,28 +185,12 @@ impl Progress {
         requires in_range { place < place_count plan.now }
         ensures { OnOk result (ConsideredFollowers plan.now links.now self.old self.new place) }
     {
-        let followers = followers_at(links, place);
-        for follower in followers {
-            self.consider(plan, links, *follower)?;
+        let mut next = links.firsts[place];
+        while let Some(index) = next {
+            let cell = &links.cells[index];
+            self.consider(plan, links, cell.place)?;
+            next = cell.next;
         }
         Ok(())
-    }
-
-    /// Releases the places that no group blocks, and adds those that are ready, after this place
-    /// was written.
-    pub(crate) fn update_after(
-        &mut self,
-        plan: &Plan,
-        links: &Links,
-        place: usize,
-    ) -> Result<(), AllocError>
-        requires well_formed { IsWellFormed plan.now }
-        requires links { AreLinks plan.now links.now }
-        requires represents { Stands plan.now self.old }
-        requires in_range { place < place_count plan.now }
-        ensures { OnOk result (UpdatedAfter plan.now links.now self.old self.new place) }
-    {
-        self.consider_followers(plan, links, place)?;
-        self.release_all(plan, links)
     }
 }

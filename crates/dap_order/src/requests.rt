@@ -4,7 +4,7 @@ ghost use Rattle.dap_message.specs.Message.{Sent};
 ghost use Rattle.dap_session.specs.EnvelopeView.{message_of};
 ghost use Rattle.dap_session.specs.Messages as tests;
 ghost use Rattle.dap_order.specs.{ByPlace.place_answered, MessageOrder.message_answers};
-ghost use Rattle.dap_order.specs.Requests.{places_found, Finds};
+ghost use Rattle.dap_order.specs.Requests.{Finds};
 
 use crate::dependence::is_client_request;
 use dap_message::{AnyMessage, Side};
@@ -29,12 +29,6 @@ impl FirstRequests {
         }
     }
 
-    fn find(&self, number: i64) -> Option<usize>
-        ensures { result ≡ places_found self.now number }
-    {
-        self.places.get(&number).copied()
-    }
-
     /// Returns the place of the request that the message answers, if any.
     pub fn answered<M: AnyMessage>(&self, message: &Envelope<'_, M>) -> Option<usize>
         ensures { (ms : List Sent) → Finds self.now ms
@@ -44,7 +38,7 @@ impl FirstRequests {
             return None;
         }
         match request_seq_of(message) {
-            Some(number) => self.find(number),
+            Some(number) => self.places.get(&number).copied(),
             None => None,
         }
     }
@@ -60,8 +54,8 @@ impl FirstRequests {
     {
         if is_client_request(message) {
             let number = seq_of(message);
-            if self.find(number).is_none() {
-                self.places.insert(number, place)?;
+            if let Some(first) = self.places.insert(number, place)? {
+                self.places.insert(number, first)?;
             }
         }
         Ok(())

@@ -2,6 +2,10 @@ use Rattle.std.proofs.Common.{arith, ◌∙◌}
 use Rattle.dap_order.specs.Plan.{group_of}
 use Rattle.dap_order.proofs.by_plan.order_of_places.Goals as goal
 
+pub release_all-requires-clause-released : goal.release_all-requires-clause-released
+release_all-requires-clause-released c =
+    λ group low apart. absurd (apart (c.in_ok-progress.ensures.starts.released group))
+
 pub places_written-requires-clause-represents : goal.places_written-requires-clause-represents
 places_written-requires-clause-represents c = c.in_ok-release_all.ensures.represents
 

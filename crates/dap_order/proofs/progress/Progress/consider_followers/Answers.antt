@@ -1,51 +1,107 @@
-use Rattle.std.proofs.Common.{◌<◌, inl, inr, get_or, arith, ap, sym, ◌∙◌, subst}
-use Rattle.std.specs.List.{All}
-use Rattle.std.proofs.lemmas.Bool.{cases_lt}
-use Rattle.std.proofs.lemmas.List.{get_or_default}
-use Rattle.dap_order.specs.Plan.{place_count}
+use Rattle.std.proofs.Common.{◌≡◌, ℕ, ◌<◌, ◌≤◌, length, Option, Some, None, get_or, inl, inr, arith}
+use Rattle.std.proofs.Common.{refl, ap, sym, ◌∙◌, subst}
+use Rattle.std.proofs.lemmas.List.{get_or_read}
+use Rattle.dap_order.specs.Links.{IsBelow, HasFrom}
 use Rattle.dap_order.specs.Progress.{IsListed}
+use Rattle.dap_order.proofs.FollowerLists.{next_cell, no_cell, below_more}
+use Rattle.dap_order.proofs.Lists.{got}
 use Rattle.dap_order.proofs.Standing.{listed_stays}
+use Rattle.dap_order.proofs.Walking.{steps}
 use Rattle.dap_order.proofs.progress.Progress.consider_followers.Goals as goal
+
+-- From an index that is less than i there are fewer steps than from i.
+falls : (i : ℕ) (o : Option ℕ) → IsBelow i o → steps o < steps (Some i)
+falls i None h = omega arith
+falls i (Some j) h = omega arith
+
+pub index-next-requires : goal.index-next-requires
+index-next-requires c =
+    omega (arith, c.requires.in_range, c.requires.links.followers.len, c.args.links.now.firsts.ok.0)
+
+pub loop-next-init : goal.loop-next-init
+loop-next-init c =
+    let lists = c.requires.links.followers in
+    let links = c.args.links.now in
+    let place = c.args.place in
+    let low : place < length links.firsts.items = omega (arith, c.requires.in_range, lists.len) in
+    let is = get_or_read links.firsts.items place c.index-next.result.now low c.index-next.ensures
+    None in
+    record {
+      represents = c.requires.represents;
+      written = refl;
+      released = refl;
+      kept = λ rank had. had;
+      next = subst (IsBelow (length links.cells.items)) (sym is) (lists.first place None low);
+      listed = λ other below follows. inr (subst (HasFrom links.cells.items other) (sym is)
+          (lists.has place other below follows));
+    }
+
+pub index-cell-requires : goal.index-cell-requires
+index-cell-requires c =
+    let cells = c.args.links.now.cells in
+    let low = subst (IsBelow (length cells.items)) c.in-Some.is c.loop-next.invariant.next in
+    omega (arith, low, cells.ok.0)
 
 pub consider-requires-clause-in_range : goal.consider-requires-clause-in_range
 consider-requires-clause-in_range c =
-    subst (All (λ follower. follower < place_count c.args.plan.now))
-    (sym c.followers_at-followers.ensures) (c.requires.links.followers.in_range c.args.place)
-    c.loop-follower.follower-index 0 (omega (arith, c.loop-follower-test.true))
+    let cells = c.args.links.now.cells.items in
+    let low = subst (IsBelow (length cells)) c.in-Some.is c.loop-next.invariant.next in
+    let cell = c.index-cell.result.now in
+    (c.requires.links.followers.next c.in-Some.index cell
+    (got cells c.in-Some.index cell low c.index-cell.ensures)).0
 
-pub loop-follower-preserved : goal.loop-follower-preserved
-loop-follower-preserved c =
+pub consider-requires-clause-represents : goal.consider-requires-clause-represents
+consider-requires-clause-represents c = c.loop-next.invariant.represents
+
+pub loop-next-smaller : goal.loop-next-smaller
+loop-next-smaller c =
+    let cells = c.args.links.now.cells.items in
+    let low = subst (IsBelow (length cells)) c.in-Some.is c.loop-next.invariant.next in
+    let cell = c.index-cell.result.now in
+    subst (λ (o : Option ℕ). steps cell.next < steps o) (sym c.in-Some.is)
+    (falls c.in-Some.index cell.next (c.requires.links.followers.next c.in-Some.index cell
+    (got cells c.in-Some.index cell low c.index-cell.ensures)).1)
+
+pub loop-next-preserved : goal.loop-next-preserved
+loop-next-preserved c =
     let plan = c.args.plan.now in
     let links = c.args.links.now in
-    let followers = c.followers_at-followers.result.now in
-    let i = c.loop-follower.follower-index in
+    let cells = links.cells.items in
     let new = c.consider.new.self in
-    let so_far = c.loop-follower.invariant in
+    let so_far = c.loop-next.invariant in
     let one = c.in_ok-consider.ensures in
+    let cell = c.index-cell.result.now in
+    let i = c.in-Some.index in
+    let low : i < length cells = subst (IsBelow (length cells)) c.in-Some.is so_far.next in
+    let at = got cells i cell low c.index-cell.ensures in
     record {
       represents = one.represents;
       written = one.written ∙ so_far.written;
       released = one.released ∙ so_far.released;
       kept = λ rank had. one.kept rank (so_far.kept rank had);
-      listed = λ k d from to. elim (cases_lt k i) [
-        | inl before ↦ listed_stays plan links c.loop-follower.self new (get_or followers k d)
-            one.written one.released one.kept (so_far.listed k d from before)
-        | inr last ↦ subst (IsListed plan links new)
-            (get_or_default followers i 0 d (omega (arith, c.loop-follower-test.true))
-            ∙ ap (λ j. get_or followers j d) (omega arith)) one.listed
+      next = below_more i (length cells) cell.next (omega arith)
+          (c.requires.links.followers.next i cell at).1;
+      listed = λ other in_range follows. elim (so_far.listed other in_range follows) [
+        | inl was ↦ inl (listed_stays plan links c.loop-next.self new other one.written
+            one.released one.kept was)
+        | inr ahead ↦ elim (next_cell cells other i cell c.loop-next.next c.in-Some.is at ahead) [
+          | inl is ↦ inl (subst (IsListed plan links new) is one.listed)
+          | inr rest ↦ inr rest
+        ]
       ];
     }
 
 pub returns : goal.returns
 returns c =
-    let so_far = c.loop-follower.invariant in
+    let so_far = c.loop-next.invariant in
     record {
       represents = so_far.represents;
       written = so_far.written;
       released = so_far.released;
       kept = so_far.kept;
-      listed = subst (All (IsListed c.args.plan.now c.args.links.now c.loop-follower.self))
-          c.followers_at-followers.ensures
-          (λ k d low. so_far.listed k d (omega arith)
-          (omega (arith, c.loop-follower-test.false)));
+      listed = λ other below follows. elim (so_far.listed other below follows) [
+        | inl was ↦ was
+        | inr ahead ↦ absurd (no_cell c.args.links.now.cells.items other c.loop-next.next
+            c.in_default.is ahead)
+      ];
     }

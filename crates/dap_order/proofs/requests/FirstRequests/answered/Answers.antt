@@ -1,4 +1,5 @@
 use Rattle.std.proofs.Common.{◌≡◌, sym, ap, ◌∙◌, ℤ, Option, ◌&&◌, w64, to_z, of_z, arith}
+use Rattle.std.specs.Option.{option_copied}
 use Rattle.std.proofs.lemmas.Bool.{and_left, and_parts, and_right}
 use Rattle.std.proofs.lemmas.Int.{to_z-of_z}
 use Rattle.dap_tree.specs.declared.side.Side.TheVariants.{Adapter}
@@ -21,7 +22,9 @@ returns-in-Some g c ms finds =
     let n : to_z w64 (of_z w64 c.in-Some.number) ≡ c.in-Some.number = grind (arith, to_z-of_z) in
     let both = and_parts (is_response m) (is_from Adapter m)
     (sym c.is_adapter_response.ensures ∙ c.if-not-is_adapter_response.false) in
-    c.find.ensures ∙ ap (places_found c.args.self.now) n ∙ finds c.in-Some.number
+    let got : option_copied c.get.result ≡ places_found c.args.self.now c.in-Some.number =
+    rw n at c.get.ensures.value in
+    c.copied.ensures ∙ got ∙ finds c.in-Some.number
     ∙ request_found ms m c.in-Some.number both.1 both.0
     (sym c.request_seq_of.ensures ∙ c.in-Some.is)
 
