@@ -36,7 +36,10 @@ const REQUEST: &[u8] =
     b">Content-Length: 82\r\n\r\n{\"arguments\":{\"adapterID\":\"mock\"},\"command\":\"initialize\",\"seq\":1,\"type\":\"request\"}\n";
 
 fn golden(alloc: Global, input: &[u8]) -> Result<GoldenText, GoldenRefused> {
-    golden_text(alloc, input, None, false, LIMITS, Mode::Whole)
+    match Vec::from_slice(alloc, input) {
+        Ok(input) => golden_text(alloc, input, None, false, LIMITS, Mode::Whole),
+        Err(_) => Err(GoldenRefused::Memory),
+    }
 }
 
 /// Returns whether the input has this golden text, of one record.
@@ -68,7 +71,8 @@ fn inputs_without_a_golden_text(rt: HostRuntime) {
 
 /// Compares a golden file with the golden text of the trace.
 fn compared(alloc: Global, file: &[u8]) -> Option<GoldenVerdict> {
-    match golden_text(alloc, TRACE, None, false, LIMITS, Mode::Whole) {
+    let trace = Vec::from_slice(alloc, TRACE).ok()?;
+    match golden_text(alloc, trace, None, false, LIMITS, Mode::Whole) {
         Ok(text) => compare_golden(alloc, file, &text, LIMITS, Mode::Whole).ok(),
         Err(_) => None,
     }

@@ -1,9 +1,6 @@
 -- The effect of `golden` on its input and its golden file, and its result. Source: own.
 use Rattle.std.specs.Prelude.{◌≡◌, ◌≢◌, ◌⊎◌, ℕ, ◌+◌, Bool, true, false, List, Option, Some, None}
 use Rattle.std.specs.Prelude.{Result, Ok, Err, if◌then◌else◌}
-use Rattle.dap_device.specs.{Devices.Read, declared.reading.Stop.Stop}
-use Rattle.dap_device.specs.declared.reading.Stop.TheVariants.{Failed}
-use Rattle.dap_device.specs.Reading.{HasReadInput, HasReadPartly}
 use Rattle.dap_device.specs.{Calls.{HasBytes, IsLonger, KeepsTarget}, Crash.Content}
 use Rattle.dap_device.specs.Replacing.{HasFailedAt, HasReplaced}
 use Rattle.dap_device.specs.declared.file.Replaceable.{Ghosts as Replaceable}
@@ -22,36 +19,17 @@ use Rattle.dap_golden.specs.declared.updates.GoldenStop.TheVariants as stop
 
 -- ---- the input
 
-module _ {I : Type 0} (input : Read I) (limits : Limits) (mask : Option Mask)
-    (request : GoldenRequest) where
-  -- These bytes are the complete input, or its first bytes up to one past the limit.
-  pub record HasRead (bytes : List ℕ) : Type 0 where
-    pub reason : Stop
-    pub came : HasReadInput input.source input.old input.new limits.input bytes reason
-    pub not_failed : reason ≢ Failed
-
+module _ (limits : Limits) (mask : Option Mask) (request : GoldenRequest) (input : List ℕ) where
   -- The input has this golden text, in the mode of the request unless the rules want another.
-  pub record HasText (text : GoldenText) : Type 0 where
-    pub bytes : List ℕ
-    pub read : HasRead bytes
-    pub is_golden :
-        IsGolden limits (mode_given mask request.mode) mask request.allow_open bytes text
+  abbrev pub HasText : GoldenText → Type 0
+  HasText = IsGolden limits (mode_given mask request.mode) mask request.allow_open input
 
-  -- The input has no golden text, for this reason. If an allocation failed, a prefix of the input
-  -- was read, and the reader did not fail; or the input was read.
+  -- The input has no golden text, for this reason, or an allocation failed.
   abbrev pub HasNoText : GoldenStop → Type 0
-  HasNoText stop.Unread =
-      (bytes : List ℕ) × HasReadInput input.source input.old input.new limits.input bytes Failed
-  HasNoText (stop.Input refused) = (bytes : List ℕ) × HasRead bytes
-      × IsRefusedGolden limits (mode_given mask request.mode) mask request.allow_open bytes refused
-  HasNoText stop.Memory =
-      HasReadPartly input.source input.old input.new limits.input
-      ⊎ ((bytes : List ℕ) × HasRead bytes)
+  HasNoText (stop.Input refused) =
+      IsRefusedGolden limits (mode_given mask request.mode) mask request.allow_open input refused
+  HasNoText stop.Memory = Unit {0}
   HasNoText _ = ⊥
-
-  abbrev pub ReadsText : Result GoldenText GoldenStop → Type 0
-  ReadsText (Ok text) = HasText text
-  ReadsText (Err why) = HasNoText why
 
 -- ---- the golden file
 
@@ -127,8 +105,8 @@ module _ {F : Type 0} (file : Replaceable F) (old new : F) where
 
 -- ---- input and golden file
 
-module _ {I F : Type 0} (input : Read I) (file : Replaceable F) (limits : Limits)
-    (mask : Option Mask) (request : GoldenRequest) where
+module _ {F : Type 0} (file : Replaceable F) (limits : Limits) (mask : Option Mask)
+    (request : GoldenRequest) (input : List ℕ) where
   -- Updates the golden file with the golden text of the input, or compares the two.
   abbrev pub RunsOn : Bool → GoldenText → F → F → Result GoldenDone GoldenStop → Type 0
   RunsOn true text old new result = Updates file old new limits.input text result
@@ -139,9 +117,9 @@ module _ {I F : Type 0} (input : Read I) (file : Replaceable F) (limits : Limits
   -- file is updated or compared.
   abbrev pub Answers : F → F → Result GoldenDone GoldenStop → Type 0
   Answers old new result =
-      ((why : GoldenStop) × (result ≡ Err why)
-      × HasNoText input limits mask request why × (new ≡ old))
-      ⊎ ((text : GoldenText) × HasText input limits mask request text
+      ((why : GoldenStop) × (result ≡ Err why) × HasNoText limits mask request input why
+      × (new ≡ old))
+      ⊎ ((text : GoldenText) × HasText limits mask request input text
       × RunsOn request.update text old new result)
 
   -- The contents that a crash during the run may leave: those that it could leave before, or, on an
@@ -150,5 +128,4 @@ module _ {I F : Type 0} (input : Read I) (file : Replaceable F) (limits : Limits
   MayBeLeft old content =
       file.may_leave old content
       ⊎ ((request.update ≡ true) × ((text : GoldenText)
-      × HasText input limits mask request text
-      × (content ≡ Some text.bytes.items)))
+      × HasText limits mask request input text × (content ≡ Some text.bytes.items)))

@@ -1,5 +1,5 @@
 //! Creates the text of a golden file.
-ghost use Rattle.std.specs.{Prelude.{◌≡◌, ◌↔◌, IfErr, IfOk, IsTrue, List, ℕ}, Cow.cow_slice_items};
+ghost use Rattle.std.specs.Prelude.{◌≡◌, ◌↔◌, IfErr, IfOk, IsTrue, List, ℕ};
 ghost use Rattle.dap_input.specs.Limits.{AreSound};
 ghost use Rattle.dap_normalise.specs.NormalSession.{IsNormalSession};
 ghost use Rattle.dap_golden.specs.Golden.{IsGolden, IsGoldenOf, IsRecordingOf};
@@ -19,7 +19,6 @@ use dap_record::record;
 use dap_rename::Mode;
 use dap_rules::{ApplyRefused, TextSink, is_out_of_memory, mode_by, normalise_by_rules};
 use std::alloc::Global;
-use std::borrow::CowSlice;
 
 /// The text of a golden file, and the number of its records.
 #[derive(Debug, Drop)]
@@ -44,45 +43,39 @@ fn record_trace(alloc: Global, trace: &[u8], limits: Limits) -> Result<Vec<u8>, 
     }
 }
 
-/// Returns the recording of an input. An input that is not a trace is its own recording, and is not
-/// copied.
+/// Returns the recording of an input. An input that is not a trace is its own recording.
 ///
 /// # Errors
 ///
 /// - `Trace`: the trace was rejected, or ends inside a piece or a frame.
 /// - `Memory`: an allocation failed. The input is a trace.
-pub fn recording_of<'a>(
-    alloc: Global,
-    input: &'a [u8],
-    limits: Limits,
-) -> Result<CowSlice<'a, u8>, GoldenRefused>
+pub fn recording_of(alloc: Global, input: Vec<u8>, limits: Limits) -> Result<Vec<u8>, GoldenRefused>
     requires { AreSound limits }
-    ensures ok { IfOk result
-        (λ recording. IsRecordingOf limits input.entry.now (cow_slice_items recording)) }
-    ensures err { IfErr result (RefusesTrace limits input.entry.now) }
+    ensures ok { IfOk result (λ recording. IsRecordingOf limits input.items recording.items) }
+    ensures err { IfErr result (RefusesTrace limits input.items) }
 {
-    if !is_trace(input) {
-        return Ok(CowSlice::Borrowed(input));
+    if is_trace(input.as_slice()) {
+        record_trace(alloc, input.as_slice(), limits)
+    } else {
+        Ok(input)
     }
-    let recording = record_trace(alloc, input, limits)?;
-    Ok(CowSlice::Owned(recording))
 }
 
 /// Normalises a recording. If there are rules, masks it before that, and then puts it in order if
 /// some of the rules are for the order.
 fn normalise_recording(
     alloc: Global,
-    recording: &[u8],
+    recording: Vec<u8>,
     rules: Option<&MaskRules>,
     limits: Limits,
     mode: Mode,
 ) -> Result<NormalSession, GoldenRefused>
     requires { AreSound limits }
-    ensures ok { IfOk result (IsNormalBy limits mode (mask_given rules.entry) recording.now) }
-    ensures err { IfErr result (RefusesNormal limits mode (mask_given rules.entry) recording.now) }
+    ensures ok { IfOk result (IsNormalBy limits mode (mask_given rules.entry) recording.items) }
+    ensures err { IfErr result (RefusesNormal limits mode (mask_given rules.entry) recording.items) }
 {
     let Some(rules) = rules else {
-        return session_of(normalise_session(alloc, recording, limits, mode));
+        return session_of(normalise_session(alloc, recording.as_slice(), limits, mode));
     };
     match normalise_by_rules(alloc, rules, recording, limits, mode) {
         Ok(session) => Ok(session),
@@ -156,8 +149,8 @@ pub(crate) fn mode_given(rules: Option<&MaskRules>, mode: Mode) -> Mode
 ///
 /// If the rules have the line `per-stop`, the mode is `PerStop`.
 ///
-/// The input is not copied. Buffers the recording of a trace, the masked messages, and the golden
-/// text.
+/// The input is not copied. Buffers the recording of a trace, and the golden text. If there are
+/// rules, the input is dropped once its masked messages are read.
 ///
 /// # Errors
 ///
@@ -171,7 +164,7 @@ pub(crate) fn mode_given(rules: Option<&MaskRules>, mode: Mode) -> Mode
 /// - `Memory`: an allocation failed.
 pub fn golden_text(
     alloc: Global,
-    input: &[u8],
+    input: Vec<u8>,
     rules: Option<&MaskRules>,
     allow_open: bool,
     limits: Limits,
@@ -182,9 +175,9 @@ pub fn golden_text(
     // The text is that of the input with its rules, in the mode that they want. An error names the
     // first step that fails.
     ensures ok { IfOk result (IsGolden limits (mode_given (mask_given rules.entry) mode)
-        (mask_given rules.entry) allow_open input.now) }
+        (mask_given rules.entry) allow_open input.items) }
     ensures err { IfErr result (IsRefusedGolden limits (mode_given (mask_given rules.entry) mode)
-        (mask_given rules.entry) allow_open input.now) }
+        (mask_given rules.entry) allow_open input.items) }
 
     // The text satisfies the precondition of `compare_golden` in that mode.
     ensures normal { IfOk result (λ text. IsNormalText limits
@@ -192,6 +185,6 @@ pub fn golden_text(
 {
     let wanted = mode_given(rules, mode);
     let recording = recording_of(alloc, input, limits)?;
-    let session = normalise_recording(alloc, recording.as_slice(), rules, limits, wanted)?;
+    let session = normalise_recording(alloc, recording, rules, limits, wanted)?;
     golden_of(session, allow_open)
 }

@@ -1,17 +1,16 @@
 //! Compares a session with its golden file, or creates or updates the golden file.
-ghost use Rattle.std.specs.Prelude.{◌≡◌, ◌↔◌, ◌+◌, ◌<◌, ◌≤◌, ◌^◌, None, IfOk, length};
-ghost use Rattle.dap_device.specs.{Devices.{CanRead, reads}, Crash.LeavesOnly};
-ghost use Rattle.dap_device.specs.Replacing.{IsOldOrNew};
+ghost use Rattle.std.specs.Prelude.{◌≡◌, ◌↔◌, ◌+◌, ◌<◌, ◌≤◌, ◌^◌, None, IfErr, IfOk, length};
+ghost use Rattle.dap_device.specs.{Crash.LeavesOnly, Replacing.IsOldOrNew};
 ghost use Rattle.dap_input.specs.Limits.{AreSound};
 ghost use Rattle.dap_golden.specs.{Golden.{mask_given, mode_given}, GoldenFiles.IsNormalText};
-ghost use Rattle.dap_golden.specs.GoldenUpdates.{Answers, Compares, Finds, MayBeLeft, ReadsText};
-ghost use Rattle.dap_golden.specs.GoldenUpdates.{Updates};
+ghost use Rattle.dap_golden.specs.GoldenUpdates.{Answers, Compares, Finds, HasNoText, HasText};
+ghost use Rattle.dap_golden.specs.GoldenUpdates.{MayBeLeft, Updates};
 
 use crate::comparing::{GoldenVerdict, compare_golden};
 use crate::fault::{GoldenFault, GoldenRefused};
 use crate::golden::{GoldenText, golden_text, mode_given};
 use crate::trace_head::can_become_golden;
-use dap_device::{ReadFault, ReplaceFault, Replaceable, Source, Stop, read_all, replace};
+use dap_device::{ReadFault, ReplaceFault, Replaceable, replace};
 use dap_input::{Limits, Refused};
 use dap_mask::MaskRules;
 use dap_rename::Mode;
@@ -44,8 +43,6 @@ pub enum GoldenDone {
 /// Why `golden` stopped.
 #[derive(Clone, Copy, Debug, PartialEq, Eq)]
 pub enum GoldenStop {
-    /// The input could not be read.
-    Unread,
     /// The input has no golden text.
     Input(GoldenRefused),
     /// The golden file does not exist.
@@ -64,34 +61,24 @@ pub enum GoldenStop {
     Memory,
 }
 
-/// Reads an input and creates its golden text.
-fn read_text<I: Source>(
+/// Creates the golden text of an input.
+fn text_of(
     alloc: Global,
-    input: &mut I,
+    input: Vec<u8>,
     rules: Option<&MaskRules>,
     request: GoldenRequest,
     limits: Limits,
 ) -> Result<GoldenText, GoldenStop>
-    requires limits { AreSound limits }
-    requires reader { CanRead I.Source input.old }
-    ensures text { ReadsText (reads I.Source input.old input.new) limits (mask_given rules.entry)
-        request result }
+    requires { AreSound limits }
+    ensures ok { IfOk result (HasText limits (mask_given rules.entry) request input.items) }
+    ensures err { IfErr result (HasNoText limits (mask_given rules.entry) request input.items) }
     ensures normal { IfOk result (λ text. IsNormalText limits
         (mode_given (mask_given rules.entry) request.mode) text.bytes.items) }
     ensures short { IfOk result (λ text. length text.bytes.items ≤ limits.input) }
-    ensures taken { I.given input.new ≤ I.given input.old + limits.input + 1 }
 {
-    let read = match read_all(alloc, input, limits.input) {
-        Ok(read) => read,
-        Err(_) => return Err(GoldenStop::Memory),
-    };
-    if let Stop::Failed = read.stop {
-        return Err(GoldenStop::Unread);
-    }
-    let bytes = read.bytes.as_slice();
     match golden_text(
         alloc,
-        bytes,
+        input,
         rules,
         request.allow_open,
         limits,
@@ -194,14 +181,12 @@ fn update_file<F: Replaceable>(
 
 /// Compares a session with its golden file, or creates or updates the golden file.
 ///
-/// The input is a trace or a recording, as [`golden_text`] describes. It is read to its end before
-/// the golden file is opened. With `update`, the golden file is replaced as a whole, as [`replace`]
-/// describes, unless it already has the text. A file that is neither empty nor a recording is not
-/// replaced: it is not a golden file.
+/// The input is a trace or a recording, as [`golden_text`] describes. With `update`, the golden
+/// file is replaced as a whole, as [`replace`] describes, unless it already has the text. A file
+/// that is neither empty nor a recording is not replaced: it is not a golden file.
 ///
 /// # Errors
 ///
-/// - `Unread`: a read of the input failed.
 /// - `Input`: the input has no golden text. The golden file is not opened.
 /// - `Missing`: the golden file does not exist, and `update` is not set.
 /// - `GoldenUnread`: a read of the golden file failed.
@@ -210,35 +195,31 @@ fn update_file<F: Replaceable>(
 /// - `NotRecording`: the golden file is neither empty nor a recording, and `update` is set.
 /// - `Unwritten`: the golden file could not be replaced.
 /// - `Memory`: an allocation failed.
-pub fn golden_file<I: Source, F: Replaceable>(
+pub fn golden_file<F: Replaceable>(
     alloc: Global,
-    input: &mut I,
+    input: Vec<u8>,
     rules: Option<&MaskRules>,
     file: &mut F,
     request: GoldenRequest,
     limits: Limits,
 ) -> Result<GoldenDone, GoldenStop>
     requires limits { AreSound limits }
-    requires reader { CanRead I.Source input.old }
     requires few { F.failures file.old < 2 ^ 61 }
     requires none { F.is_known file.old → F.temporary file.old ≡ None }
 
     // The result is determined by the text of the input, in the mode that the rules want, and the
     // golden file. The golden file is written only on an update, after the input was checked.
-    ensures outcome { Answers (reads I.Source input.old input.new) F.Replaceable limits
-        (mask_given rules.entry) request file.old file.new result }
+    ensures outcome { Answers F.Replaceable limits (mask_given rules.entry) request input.items
+        file.old file.new result }
 
     // A crash, the end of the process or a loss of power may happen at any moment. It leaves a
     // content that it could have left before the call, or, on an update, the complete text of the
     // session.
     ensures any_moment { F.is_known file.old
-        → LeavesOnly F.moment F.left_since (MayBeLeft (reads I.Source input.old input.new)
-        F.Replaceable limits (mask_given rules.entry) request file.old) file.old file.new }
-
-    // At most one byte past the limit is read.
-    ensures taken { I.given input.new ≤ I.given input.old + limits.input + 1 }
+        → LeavesOnly F.moment F.left_since (MayBeLeft F.Replaceable limits (mask_given rules.entry)
+        request input.items file.old) file.old file.new }
 {
-    let text = read_text(alloc, input, rules, request, limits)?;
+    let text = text_of(alloc, input, rules, request, limits)?;
     if request.update {
         update_file(alloc, file, &text, limits)
     } else {

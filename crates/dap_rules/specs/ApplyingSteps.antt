@@ -27,8 +27,8 @@ abbrev pub MakesSessionBy : Limits → Mode → List SwapRule → List ℕ → L
 MakesSessionBy limits mode rules recording messages = (written : List ℕ)
     × OrdersBy limits mode rules recording written × IsAccepted limits mode written messages
 
--- The result of `read_session_by_rules` for an input whose reader stopped for this reason, given the
--- result for the bytes read.
+-- The result of `read_session_by_rules` for an input whose reader stopped for this reason, given
+-- the result for the bytes read.
 abbrev pub result_of_input : {T : Type 0} → Result T ApplyRefused → Stop → Result T ApplyRefused
 result_of_input (Ok made) Failed = Err because.ReadFault
 result_of_input (Err (because.Mask (Record n Cut))) Failed = Err because.ReadFault

@@ -29,8 +29,8 @@ module _ {R : Type 0} (source : Source R) (limits : Limits) (mode : Mode) (mask 
   -- The messages are those into which the rules turn the whole input; or the first step that fails
   -- is reported. An input that cannot be masked because it is incomplete is reported only if the
   -- reader reached its end. If the reader failed, the bytes read contain no error, except that they
-  -- may be too incomplete to be masked. If an allocation failed, a prefix of the input was read, and
-  -- the reader did not fail; or the input was read until it stopped.
+  -- may be too incomplete to be masked. If an allocation failed, a prefix of the input was read,
+  -- and the reader did not fail; or the input was read until it stopped.
   abbrev pub ReadsSessionByRules : R → R → Result StoredSession ApplyRefused → Type 0
   ReadsSessionByRules old new (Ok session) =
       Accepts source limits.input (MakesSession limits mode mask) old new (messages_of session)

@@ -144,29 +144,30 @@ pub fn apply_rules(
 }
 
 /// Returns the normal form of the text that [`apply_rules`] returns, and its counts, as
-/// [`normalise_session`](dap_normalise::normalise_session) does. Reads the recording once, and
-/// creates neither the masked text nor the text in order.
+/// [`normalise_session`](dap_normalise::normalise_session) does. Reads the recording once, drops it
+/// once its messages are read, and creates neither the masked text nor the text in order.
 ///
 /// # Errors
 ///
-/// Those of [`apply_rules`]. `Order` also if no rules are for the order and the masked recording was
-/// rejected.
+/// Those of [`apply_rules`]. `Order` also if no rules are for the order and the masked recording
+/// was rejected.
 pub fn normalise_by_rules(
     alloc: Global,
     rules: &MaskRules,
-    recording: &[u8],
+    recording: Vec<u8>,
     limits: Limits,
     mode: Mode,
 ) -> Result<NormalSession, ApplyRefused>
     requires limits { AreSound limits }
     ensures ok { IfOk result
-        (NormalisesByRules limits mode (mask_of rules.now) recording.now) }
-    ensures err { IfErr result (IsNotNormalised limits mode (mask_of rules.now) recording.now) }
+        (NormalisesByRules limits mode (mask_of rules.now) recording.items) }
+    ensures err { IfErr result (IsNotNormalised limits mode (mask_of rules.now) recording.items) }
 {
-    let masked = match read_masked_session(alloc, rules, recording, limits) {
+    let masked = match read_masked_session(alloc, rules, recording.as_slice(), limits) {
         Ok(masked) => masked,
         Err(refused) => return Err(mask_refusal(refused)),
     };
+    drop(recording);
     match normalise_by(alloc, rules.swaps(), masked, limits, mode) {
         Ok(normal) => Ok(normal),
         Err(refused) => Err(order_refusal(refused)),
@@ -174,8 +175,8 @@ pub fn normalise_by_rules(
 }
 
 /// Masks a recording and, if some of the rules are for the order, puts it in order. Returns the
-/// messages of the result, which is checked in the same way as by [`check`](dap_normalise::check) in
-/// this mode. Reads the recording once, and creates no text.
+/// messages of the result, which is checked in the same way as by [`check`](dap_normalise::check)
+/// in this mode. Reads the recording once, and creates no text.
 ///
 /// # Errors
 ///

@@ -1,11 +1,11 @@
 //! Applies rules files to recordings: masks their values, and puts their messages in order.
 //!
 //! [`mask`] removes from each message the values that change from run to run. [`order`] and
-//! [`order_bytes`] write the records in the order that [`dap_order::put_in_order`] defines for their
-//! messages. [`apply_rules`] masks a recording and then puts it in order, if some of the rules are for
-//! the order. [`session_by_rules`] returns the messages of the result, and [`read_session_by_rules`]
-//! does this for a complete input. [`mode_by`] is the mode in which ids are numbered then. `specs/`
-//! defines the terms, and the modules `laws` contain the theorems.
+//! [`order_bytes`] write the records in the order that [`dap_order::put_in_order`] defines for
+//! their messages. [`apply_rules`] masks a recording and then puts it in order, if some of the
+//! rules are for the order. [`session_by_rules`] returns the messages of the result, and
+//! [`read_session_by_rules`] does this for a complete input. [`mode_by`] is the mode in which ids
+//! are numbered then. `specs/` defines the terms, and the modules `laws` contain the theorems.
 #![tactic(auto)]
 
 mod applying;

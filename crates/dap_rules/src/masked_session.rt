@@ -249,7 +249,8 @@ fn push_masked(
 ///
 /// # Errors
 ///
-/// The first error of the records, or `Memory`. Records are numbered from 1 in the masked recording.
+/// The first error of the records, or `Memory`. Records are numbered from 1 in the masked
+/// recording.
 pub(crate) fn check_masked(
     alloc: Global,
     session: &MaskedSession,

@@ -58,6 +58,47 @@ pub fn order_bytes(
         return Ok(Vec::new(alloc));
     }
     let session = read_session(alloc, recording, limits, mode)?;
+    text_in_order(alloc, rules, session, limits, mode)
+}
+
+/// Does the same as [`order_bytes`], and drops the recording once its messages are read.
+fn order_recording(
+    alloc: Global,
+    rules: &[SwapRule],
+    recording: Vec<u8>,
+    limits: Limits,
+    mode: Mode,
+) -> Result<Vec<u8>, Refused>
+    requires limits { AreSound limits }
+    ensures ok { IfOk result
+        (λ text. Orders limits mode (swaps_of rules.now) recording.items text.items) }
+    ensures err { IfErr result (RefusesToOrder limits mode (swaps_of rules.now) recording.items) }
+{
+    let session = read_session(alloc, recording.as_slice(), limits, mode)?;
+    drop(recording);
+    text_in_order(alloc, rules, session, limits, mode)
+}
+
+/// Returns the text of the messages of an accepted recording in order.
+///
+/// # Errors
+///
+/// Those of [`order_bytes`] that concern the text in order.
+fn text_in_order(
+    alloc: Global,
+    rules: &[SwapRule],
+    session: StoredSession,
+    limits: Limits,
+    mode: Mode,
+) -> Result<Vec<u8>, Refused>
+    requires limits { AreSound limits }
+    ensures ok { (recording : List ℕ)
+        → IsAccepted limits mode recording (messages_of session)
+        → IfOk result (λ text. Orders limits mode (swaps_of rules.now) recording text.items) }
+    ensures err { (recording : List ℕ)
+        → IsAccepted limits mode recording (messages_of session)
+        → IfErr result (RefusesToOrder limits mode (swaps_of rules.now) recording) }
+{
     let in_order = arranged(alloc, rules, session, limits, mode)?;
     text_of_session(alloc, &in_order, limits)
 }
@@ -213,7 +254,7 @@ pub fn order<R: Source, W: Sink>(
         Err(_) => return Err(Refused::Memory),
     };
     let text = text_of_input(
-        order_bytes(alloc, rules, input.bytes.as_slice(), limits, mode),
+        order_recording(alloc, rules, input.bytes, limits, mode),
         input.stop,
     )?;
     match write_and_flush(writer, text.as_slice()) {

@@ -24,8 +24,8 @@ use std::alloc::Global;
 ///
 /// Those of [`session_by_rules`].
 ///
-/// `ReadFault`: the reader failed, and [`session_by_rules`] finds no error in the bytes read before,
-/// except that the recording to be masked may be incomplete.
+/// `ReadFault`: the reader failed, and [`session_by_rules`] finds no error in the bytes read
+/// before, except that the recording to be masked may be incomplete.
 pub fn read_session_by_rules<R: Source>(
     alloc: Global,
     rules: &MaskRules,

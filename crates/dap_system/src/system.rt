@@ -26,7 +26,8 @@ pub struct System<'a> {
     pub rt: &'a HostRuntime,
     /// Random words for tables and for the names of temporary files.
     pub hasher: RandomState,
-    /// Whether inputs store the bytes that are read, to explain a rejection.
+    /// Whether inputs that cannot be read again store the bytes that are read, to explain a
+    /// rejection.
     pub keeps_inputs: bool,
     /// Whether a line is printed if standard input is opened and is a terminal.
     pub announces_terminal: bool,
@@ -50,17 +51,20 @@ impl<'a> System<'a> {
     /// folder is no rules file.
     fn input(&self, purpose: Purpose, name: &str) -> io::Result<OpenedInput> {
         let is_input = purpose == Purpose::Input;
-        let stored = (is_input && self.keeps_inputs).then(|| Vec::new(self.rt.alloc()));
         if is_input && is_standard(name) {
             if self.announces_terminal && self.rt.stdin().is_terminal() {
                 let _ = self.rt.stderr().write_all(READS_TERMINAL.as_bytes());
             }
+            let stored = self.keeps_inputs.then(|| Vec::new(self.rt.alloc()));
             return Ok(OpenedInput::new(Origin::Standard(self.rt.stdin()), stored));
         }
         let file = fs::open(self.rt, name)?;
         if !is_input && file.metadata()?.is_dir() {
             return Err(ErrorKind::IsADirectory.into());
         }
+        let is_file = file.metadata().is_ok_and(|data| data.is_file());
+        let is_kept = is_input && self.keeps_inputs && !is_file;
+        let stored = is_kept.then(|| Vec::new(self.rt.alloc()));
         Ok(OpenedInput::new(Origin::File(file), stored))
     }
 

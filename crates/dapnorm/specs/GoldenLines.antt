@@ -12,7 +12,6 @@ golden_line texts = fault_line (codes "golden: " ∷ texts)
 -- what the line of a stop says, with the name of the golden file if the stop is about that file;
 -- after rules, records are counted in what they leave, so it says if there are rules
 abbrev pub stop_texts : Bool → List ℕ → GoldenStop → List (List ℕ)
-stop_texts has_rules name GoldenStop.Unread = codes "read fault" ∷ []
 stop_texts has_rules name (GoldenStop.Input (GoldenRefused.Trace why)) = refused_text why ∷ []
 stop_texts has_rules name (GoldenStop.Input (GoldenRefused.Mask why)) = refused_text why ∷ []
 stop_texts has_rules name (GoldenStop.Input (GoldenRefused.Session why)) =
@@ -39,7 +38,6 @@ input_status GoldenRefused.Memory = 5
 input_status why = 2
 
 abbrev pub stop_status : GoldenStop → ℕ
-stop_status GoldenStop.Unread = 4
 stop_status (GoldenStop.Input why) = input_status why
 stop_status GoldenStop.Missing = 4
 stop_status GoldenStop.GoldenUnread = 4

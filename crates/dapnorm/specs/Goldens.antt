@@ -2,8 +2,7 @@
 use Rattle.std.specs.Prelude.{◌≡◌, ◌⊎◌, ℕ, true, false, List, [], Option, Some, None, Result, Ok}
 use Rattle.std.specs.{Prelude.{Err, Vec, option_map}, declared.alloc.Global.Global}
 use Rattle.dap_commands.specs.declared.commands.Golden.{Golden}
-use Rattle.dap_device.specs.{Crash.LeavesOnly, Devices.reads, Memory.GivenBytes}
-use Rattle.dap_device.specs.declared.device.Source.{Ghosts as Source}
+use Rattle.dap_device.specs.Crash.{LeavesOnly}
 use Rattle.dap_device.specs.declared.file.Replaceable.{Ghosts as Replaceable}
 use Rattle.dap_golden.specs.GoldenUpdates.{Answers, MayBeLeft}
 use Rattle.dap_golden.specs.declared.updates.{GoldenDone.GoldenDone, GoldenRequest.GoldenRequest}
@@ -39,31 +38,23 @@ Replaces files golden name (Some other) = ⊥
 Replaces files golden name None = golden.update ≡ true
     → files.are_same golden.golden name false × AreApart files golden.golden golden.rules
 
--- a reader of bytes in memory
-abbrev pub memory : Source GivenBytes
-memory = record { left = λ s. Some s.left; given = λ s. s.given; failures = λ s. 0 }
-
-abbrev pub bytes_of : List ℕ → GivenBytes
-bytes_of bytes = record { left = bytes; given = 0 }
-
 module _ {T : Type 0} (file : Replaceable T) (golden : Golden) (rules : Option MaskRules)
     (session : Vec ℕ Global) (old new : T) where
   -- The session is compared with the golden file, or written to it. A crash, the end of the process
   -- or a loss of power at any moment leaves the golden file that it could have left before, or, on
   -- an update, the whole text of the session.
   pub record Keeps (outcome : Result GoldenDone GoldenStop) : Type 0 where
-    pub rest : GivenBytes
-    pub answers : Answers (reads memory (bytes_of session.items) rest) file LIMITS
-        (option_map mask_of rules) (request_of golden) old new outcome
+    pub answers : Answers file LIMITS (option_map mask_of rules) (request_of golden)
+        session.items old new outcome
     pub any_moment : file.is_known old → LeavesOnly file.moment file.left_since
-        (MayBeLeft (reads memory (bytes_of session.items) rest) file LIMITS
-        (option_map mask_of rules) (request_of golden) old) old new
+        (MayBeLeft file LIMITS (option_map mask_of rules) (request_of golden) session.items old)
+        old new
 
   -- The result names the golden file.
   abbrev pub IsKept : Result (Option Answer) Why → Type 0
   IsKept (Ok (Some (Answer.Golden named done))) = (named ≡ golden.golden) × Keeps (Ok done)
-  IsKept (Err (Why.Golden named stop bytes used)) =
-      (named ≡ golden.golden) × (bytes ≡ session) × (used ≡ rules) × Keeps (Err stop)
+  IsKept (Err (Why.Golden named stop used)) =
+      (named ≡ golden.golden) × (used ≡ rules) × Keeps (Err stop)
   IsKept outcome = ⊥
 
 module _ {I O T : Type 0} (place : Place I O T) (golden : Golden) (values : List (List ℕ))

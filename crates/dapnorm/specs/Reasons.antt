@@ -116,7 +116,7 @@ why_line (Why.Unsaved name one) = fault_line (name ∷ unsaved_words one.step �
 why_line (Why.Session one) = unless_memory one unread_session_line
 why_line (Why.GoldenFile name update one) =
     unless_memory (Unopened one) (golden_line (name ∷ lost_words update ∷ []))
-why_line (Why.Golden name stop session mask) = stop_line (is_some mask) name stop
+why_line (Why.Golden name stop mask) = stop_line (is_some mask) name stop
 why_line (Why.NoSuggestion line) = string_bytes line
 
 abbrev pub why_status : Why → ℕ
@@ -132,5 +132,5 @@ why_status (Why.Output name one) = unread_status (Unopened one)
 why_status (Why.Unsaved name one) = 4
 why_status (Why.Session one) = unread_status one
 why_status (Why.GoldenFile name update one) = unread_status (Unopened one)
-why_status (Why.Golden name stop session mask) = stop_status stop
+why_status (Why.Golden name stop mask) = stop_status stop
 why_status (Why.NoSuggestion line) = 1

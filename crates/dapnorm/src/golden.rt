@@ -13,7 +13,7 @@ use crate::rules::given_rules;
 use crate::stream::{input_name, text_of};
 use crate::why::{Overlap, Why};
 use dap_commands::{Golden, Name};
-use dap_device::{MemorySource, Replaceable};
+use dap_device::Replaceable;
 use dap_golden::{GoldenRequest, golden_file};
 use dap_host::{Host, LIMITS, Purpose};
 use dap_mask::MaskRules;
@@ -60,15 +60,14 @@ fn kept<'a, T: Replaceable>(
     ensures { IsKept T.Replaceable golden.now rules session file.old file.new result }
 {
     let name = Name::new(golden.golden.as_str());
-    let mut bytes = MemorySource::new(session.as_slice());
     let request = GoldenRequest {
         update: golden.update,
         allow_open: golden.open,
         mode: golden.mode,
     };
-    match golden_file(alloc, &mut bytes, given(&rules), file, request, LIMITS) {
+    match golden_file(alloc, session, given(&rules), file, request, LIMITS) {
         Ok(done) => Ok(Some(Answer::Golden(name, done))),
-        Err(stop) => Err(Why::Golden(name, stop, session, rules)),
+        Err(stop) => Err(Why::Golden(name, stop, rules)),
     }
 }
 

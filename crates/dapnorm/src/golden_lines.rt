@@ -34,7 +34,6 @@ pub(crate) fn stop_line<'a>(has_rules: bool, name: &'a str, stop: GoldenStop) ->
 {
     let (name, none) = (Part::Text(name), Part::Text(""));
     let (first, second, status) = match stop {
-        GoldenStop::Unread => (Part::Text("read fault"), none, FAULT),
         GoldenStop::Input(GoldenRefused::Session(why)) if has_rules => {
             (Part::Text("after the rules: "), Part::Refused(why), REFUSED)
         }

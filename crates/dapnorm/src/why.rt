@@ -101,8 +101,8 @@ pub enum Why<'a> {
     Session(Unread),
     /// The golden file was not found, to be replaced or only to be read.
     GoldenFile(Name<'a>, bool, OpenFault),
-    /// The golden file was not compared or written. Has the bytes of the session and the rules.
-    Golden(Name<'a>, GoldenStop, Vec<u8>, Option<MaskRules>),
+    /// The golden file was not compared or written. Has the rules.
+    Golden(Name<'a>, GoldenStop, Option<MaskRules>),
     /// No rules make two recordings the same. Has the line that says why.
     NoSuggestion(String),
 }
@@ -180,9 +180,7 @@ impl Why<'_> {
                 let (name, words) = (Part::Text(name.as_str()), Part::Text(lost_words(*update)));
                 Unread::Unopened(*why).line_and_status(golden_line(name, words))
             }
-            Why::Golden(name, stop, _, rules) => {
-                stop_line(rules.is_some(), name.as_str(), *stop)
-            }
+            Why::Golden(name, stop, rules) => { stop_line(rules.is_some(), name.as_str(), *stop) }
             Why::NoSuggestion(line) => (Line::Whole(line), DIFFERENT),
         }
     }

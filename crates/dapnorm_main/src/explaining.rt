@@ -8,7 +8,6 @@ use dapnorm::{
     ApplyRefused, Command, CompareRefused, Ended, GoldenStop, LIMITS, Name, NoRules, OpenFault,
     Refused, Replaceable, Request, Stream, Task, Unread, Unstreamed, Which, Why,
 };
-use std::alloc::Global;
 use std::fs;
 use std::io::Error;
 
@@ -120,10 +119,35 @@ fn unopened<'a>(command: &Command<'a>, why: &'a Why<'_>) -> Option<(&'a str, &'a
     }
 }
 
-/// Explains why an input is rejected, if its bytes are stored. A recording that grew too long in
-/// order is not explained, since its records may be numbered in the text in order. What rules made
-/// of two inputs is not explained.
-fn explain_input(alloc: Global, request: &Request<'_>, run: &SystemRun<'_>) -> Option<String> {
+/// Returns the bytes of a file that can be read again.
+fn read_again(rt: &HostRuntime, name: &str) -> Option<Vec<u8>> {
+    if !fs::metadata(rt, name).ok()?.is_file() {
+        return None;
+    }
+    let Ok(mut file) = FileAt::to_read(rt.alloc(), rt, name) else {
+        return None;
+    };
+    file.read(rt.alloc(), LIMITS.input).ok()?
+}
+
+/// Returns the bytes of an input, if they are stored or can be read again.
+fn bytes_of(
+    rt: &HostRuntime,
+    command: &Command<'_>,
+    run: &SystemRun<'_>,
+    which: Which,
+) -> Option<Vec<u8>> {
+    match (opened(run, which)?.bytes(), input_name(command, which)) {
+        (Some(bytes), _) => Vec::from_slice(rt.alloc(), bytes).ok(),
+        (None, Some(name)) if !is_standard(name.as_str()) => read_again(rt, name.as_str()),
+        _ => None,
+    }
+}
+
+/// Explains why an input is rejected, if its bytes are stored or can be read again. A recording
+/// that grew too long in order is not explained, since its records may be numbered in the text in
+/// order. What rules made of two inputs is not explained.
+fn explain_input(rt: &HostRuntime, request: &Request<'_>, run: &SystemRun<'_>) -> Option<String> {
     let command = &request.command;
     let (which, refused, rules) = match run.outcome.as_ref().err()? {
         Why::Unapplied(which, refused, rules) => (*which, *refused, Some(rules)),
@@ -142,47 +166,43 @@ fn explain_input(alloc: Global, request: &Request<'_>, run: &SystemRun<'_>) -> O
         }
         _ => return None,
     };
+    let bytes = bytes_of(rt, command, run, which)?;
     let input = Input {
-        bytes: opened(run, which)?.bytes()?,
+        bytes: bytes.as_slice(),
         format: format_of(command),
         rules,
     };
-    explain_applying(alloc, input, refused, LIMITS).ok()
+    explain_applying(rt.alloc(), input, refused, LIMITS).ok()
 }
 
-/// Explains why a golden file is rejected, which is read again, unless it is a pipe.
-fn explain_golden_file(rt: &HostRuntime, name: &str, refused: Refused) -> Option<String> {
-    let alloc = rt.alloc();
-    if !fs::metadata(rt, name).ok()?.is_file() {
-        return None;
-    }
-    let Ok(mut file) = FileAt::to_read(alloc, rt, name) else {
-        return None;
-    };
-    let golden = file.read(alloc, LIMITS.input).ok()??;
-    explain(alloc, recording(golden.as_slice(), None), refused, LIMITS).ok()
-}
-
-/// Explains why a text is rejected: of rules, of a golden file, or of an input.
-fn explain_text(rt: &HostRuntime, request: &Request<'_>, run: &SystemRun<'_>) -> Option<String> {
+/// Explains why a text is rejected: of rules, of a golden file, or of an input if that is wanted.
+fn explain_text(
+    rt: &HostRuntime,
+    request: &Request<'_>,
+    run: &SystemRun<'_>,
+    explains: bool,
+) -> Option<String> {
     let alloc = rt.alloc();
     match run.outcome.as_ref().err()? {
         Why::Rules(NoRules::Line(fault, text)) => {
             explain_rules(alloc, text.as_slice(), *fault).ok()
         }
-        Why::Golden(_, GoldenStop::Input(refused), session, rules) => {
-            explain_golden(alloc, session.as_slice(), rules.as_ref(), *refused, LIMITS).ok()
+        Why::Golden(_, GoldenStop::Input(refused), rules) => {
+            let session = bytes_of(rt, &request.command, run, Which::A)?;
+            explain_golden(alloc, session, rules.as_ref(), *refused, LIMITS).ok()
         }
         Why::Golden(name, GoldenStop::Golden(refused), ..) => {
-            explain_golden_file(rt, name.as_str(), *refused)
+            let golden = read_again(rt, name.as_str())?;
+            explain(alloc, recording(golden.as_slice(), None), *refused, LIMITS).ok()
         }
-        _ => explain_input(alloc, request, run),
+        _ if explains => explain_input(rt, request, run),
+        _ => None,
     }
 }
 
 /// Explains why a command did not finish, if it did not, and reports the reasons of files that
-/// failed. If the bytes of a rejected trace are stored, an explanation says that it is one.
-pub fn explain_run(rt: &HostRuntime, request: &Request<'_>, run: &SystemRun<'_>) {
+/// failed. If rejected inputs are explained, that says if one is a trace.
+pub fn explain_run(rt: &HostRuntime, request: &Request<'_>, run: &SystemRun<'_>, explains: bool) {
     let Err(why) = &run.outcome else {
         return;
     };
@@ -195,7 +215,7 @@ pub fn explain_run(rt: &HostRuntime, request: &Request<'_>, run: &SystemRun<'_>)
         // What is wrong with the other input is not known then.
         let is_other = matches!(why, Why::Unapplied(rejected, ..) if *rejected != which);
         if !is_other && let Some(input) = opened(run, which) {
-            let is_trace = may_be_trace && input.is_trace() && input.bytes().is_none();
+            let is_trace = may_be_trace && input.is_trace() && !explains;
             let words = is_trace.then_some(IS_TRACE);
             report_file(rt, reported_name(command, which), input.failure(), words);
         }
@@ -210,5 +230,5 @@ pub fn explain_run(rt: &HostRuntime, request: &Request<'_>, run: &SystemRun<'_>)
         let words = file.is_left().then_some(LEFT);
         report_file(rt, name.as_str(), file.reason(), words);
     }
-    print(rt, explain_text(rt, request, run));
+    print(rt, explain_text(rt, request, run, explains));
 }

@@ -61,14 +61,15 @@ fn run_request(rt: &HostRuntime, request: &Request<'_>) -> u8 {
     let Ok(hasher) = RandomState::new(rt) else {
         return report_unread(rt);
     };
+    let explains = request.explain || requests_explanations(rt);
     let system = System {
         rt,
         hasher,
-        keeps_inputs: request.explain || requests_explanations(rt),
+        keeps_inputs: explains,
         announces_terminal: input_name(&request.command, Which::A).is_none(),
     };
     let run = run(rt.alloc(), &system, request);
-    explain_run(rt, request, &run);
+    explain_run(rt, request, &run, explains);
     run.status
 }
 

@@ -57,7 +57,7 @@ pub(crate) fn explain_applying(
 /// string if the session has no records, or if an allocation failed.
 pub(crate) fn explain_golden(
     alloc: Global,
-    input: &[u8],
+    input: Vec<u8>,
     rules: Option<&MaskRules>,
     refused: GoldenRefused,
     limits: Limits,
@@ -73,7 +73,7 @@ pub(crate) fn explain_golden(
         GoldenRefused::Trace(why) => {
             let trace = Input {
                 format: Format::Trace,
-                ..recording(input, None)
+                ..recording(input.as_slice(), None)
             };
             return explain(alloc, trace, why, limits);
         }

@@ -1,5 +1,5 @@
 use Rattle.std.proofs.Common.{⊎_elim, inl, inr, sym, subst, ℕ}
-use Rattle.dap_device.specs.{Crash.{Content, LeavesOnly}, Devices.reads}
+use Rattle.dap_device.specs.Crash.{Content, LeavesOnly}
 use Rattle.dap_golden.specs.Golden.{mask_given}
 use Rattle.dap_golden.specs.GoldenUpdates.{Compares, RunsOn}
 use Rattle.dap_rename.specs.declared.mode.Mode.{Mode}
@@ -18,9 +18,9 @@ leaves_either moment left_since P Q old new so_far follows = record {
 pub returns-then-request-clause-outcome : goal.returns-then-request-clause-outcome
 returns-then-request-clause-outcome g c = inr (
   c.in_ok-text.text,
-  c.in_ok-text.ensures.text,
-  subst (λ update. RunsOn (reads g.I.Source c.args.input.now c.read_text.new.input) g.F.Replaceable
-      c.args.limits (mask_given c.args.rules) c.args.request update c.in_ok-text.text
+  c.in_ok-text.ensures.ok,
+  subst (λ update. RunsOn g.F.Replaceable c.args.limits (mask_given c.args.rules)
+      c.args.request c.args.input.items update c.in_ok-text.text
       c.args.file.now c.update_file.new.file c.update_file.result) (sym c.if-request.true)
       c.update_file.ensures.updates,
 )
@@ -29,14 +29,14 @@ pub returns-then-request-clause-any_moment : goal.returns-then-request-clause-an
 returns-then-request-clause-any_moment g c = λ known. leaves_either _ _ _ _ _ _
     (c.update_file.ensures.any_moment known)
     (λ content left. ⊎_elim inl
-    (λ is. inr (c.if-request.true, (c.in_ok-text.text, c.in_ok-text.ensures.text, is))) left)
+    (λ is. inr (c.if-request.true, (c.in_ok-text.text, c.in_ok-text.ensures.ok, is))) left)
 
 pub returns-clause-outcome : goal.returns-clause-outcome
 returns-clause-outcome g c = inr (
   c.in_ok-text.text,
-  c.in_ok-text.ensures.text,
-  subst (λ update. RunsOn (reads g.I.Source c.args.input.now c.read_text.new.input) g.F.Replaceable
-      c.args.limits (mask_given c.args.rules) c.args.request update c.in_ok-text.text
+  c.in_ok-text.ensures.ok,
+  subst (λ update. RunsOn g.F.Replaceable c.args.limits (mask_given c.args.rules)
+      c.args.request c.args.input.items update c.in_ok-text.text
       c.args.file.now c.compare_file.new.file c.compare_file.result) (sym c.if-request.false)
       (subst (λ (mode : Mode). Compares g.F.Replaceable c.args.file.now c.compare_file.new.file
       c.args.limits mode c.in_ok-text.text c.compare_file.result) c.mode_given.ensures

@@ -1,8 +1,6 @@
-use Rattle.std.proofs.Common.{inl, inr, sym, ◌∙◌, subst}
-use Rattle.std.specs.Prelude.{IfErr, IfOk}
+use Rattle.std.proofs.Common.{inl, inr, sym, ◌∙◌}
 use Rattle.std.proofs.lemmas.Result.{err_from_is_err_and}
 use Rattle.dap_message.specs.SwapRules.{swaps_of}
-use Rattle.dap_rules.specs.Ordering.{Orders, RefusesToOrder}
 use Rattle.dap_rules.proofs.OrderAnswers.{returns_error}
 use Rattle.dap_rules.proofs.ordering.order.Goals as goal
 
@@ -11,13 +9,11 @@ returns-in_err-text-clause-outcome g c =
     let because = err_from_is_err_and c.from_residual.result c.from_residual.ensures.1 in
     let rules = swaps_of c.args.rules.now in
     rw (because.1, because.2)
-    (returns_error c.args.limits c.args.mode rules c.in-Ok.input.bytes.items g.R.Source c.args.reader.now
-    c.read_all.new.reader g.W.Sink c.args.writer.now c.order_bytes.result c.in-Ok.input.stop
+    (returns_error c.args.limits c.args.mode rules c.in-Ok.input.bytes.items g.R.Source
+    c.args.reader.now
+    c.read_all.new.reader g.W.Sink c.args.writer.now c.order_recording.result c.in-Ok.input.stop
     c.in-Ok.ensures.came
-    (subst (λ bytes. IfOk c.order_bytes.result (λ text. Orders c.args.limits c.args.mode rules
-    bytes text.items)) c.as_slice.ensures.value c.order_bytes.ensures.ok)
-    (subst (λ bytes. IfErr c.order_bytes.result (RefusesToOrder c.args.limits c.args.mode rules bytes))
-    c.as_slice.ensures.value c.order_bytes.ensures.err)
+    c.order_recording.ensures.ok c.order_recording.ensures.err
     c.in_err-text.field-0.0 (sym c.text_of_input.ensures ∙ c.in_err-text.was))
 
 pub returns-in_err-text-clause-memory : goal.returns-in_err-text-clause-memory
