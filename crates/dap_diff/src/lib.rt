@@ -23,6 +23,7 @@ mod rows;
 mod sessions;
 
 pub use all_differences::AllDifferences;
+pub use contents::have_one_text;
 pub use diffing::{diff, diff_with};
 pub use diffing_all::diff_all_with;
 pub use entries::entries_of;

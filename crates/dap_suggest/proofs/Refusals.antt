@@ -6,7 +6,6 @@ use Rattle.dap_mask.specs.RulesFile.{last_line, rules_from, rules_said}
 use Rattle.dap_mask.specs.Runs.{lines_of}
 use Rattle.dap_mask.specs.declared.fault.RulesCause.TheVariants as cause
 use Rattle.dap_mask.specs.declared.fault.RulesFault.{RulesFault}
-use Rattle.dap_rename.specs.declared.mode.Mode.TheVariants.{Whole}
 use Rattle.dap_input.specs.declared.limits.Limits.{Limits}
 use Rattle.dap_compare.specs.declared.verdict.Which.{Which}
 use Rattle.dap_rules.specs.declared.fault.ApplyRefused.{ApplyRefused}
@@ -55,13 +54,13 @@ module _ (limits : Limits) (given a b : List ℕ) where
     search_failed because.Memory is = accepted_are_short given mask said
 
     named : (which : Which) (refused : ApplyRefused)
-        → IsOneRejected limits Whole mask a b (which, refused)
+        → IsOneRejected limits mask a b (which, refused)
         → IsNotSuggested limits given a b (input_refusal which refused)
     named which Memory is = accepted_are_short given mask said
     named which refused is = (mask, said, is)
 
     pub one_rejected : (which : Which) (refused : ApplyRefused)
-        → IsOneRejected limits Whole mask a b (which, refused)
+        → IsOneRejected limits mask a b (which, refused)
         → (result : SuggestRefused) → result ≡ input_refusal which refused
         → IsNotSuggested limits given a b result
     one_rejected which refused is result same = subst

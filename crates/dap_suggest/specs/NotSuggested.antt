@@ -3,7 +3,6 @@ use Rattle.std.specs.Prelude.{◌≡◌, ◌≢◌, ℕ, ◌≤◌, List, length
 use Rattle.dap_mask.specs.{Mask.Mask, RulesFile.rules_said}
 use Rattle.dap_mask.specs.declared.fault.RulesCause.TheVariants as cause
 use Rattle.dap_mask.specs.declared.fault.RulesFault.{RulesFault}
-use Rattle.dap_rename.specs.declared.mode.Mode.TheVariants.{Whole}
 use Rattle.dap_input.specs.declared.limits.Limits.{Limits}
 use Rattle.dap_compare.specs.declared.verdict.Which.{Which}
 use Rattle.dap_rules.specs.declared.fault.ApplyRefused.{ApplyRefused}
@@ -20,7 +19,7 @@ AreAccepted given = (mask : Mask) × (rules_said given ≡ Ok mask)
 abbrev pub IsInputRejected : Limits → List ℕ → List ℕ → List ℕ → Which → ApplyRefused → Type 0
 IsInputRejected limits given a b which refused =
     (mask : Mask) × (rules_said given ≡ Ok mask)
-    × IsOneRejected limits Whole mask a b (which, refused)
+    × IsOneRejected limits mask a b (which, refused)
 
 -- Why no rules are suggested. A search without a result proves nothing about the recordings. Rules
 -- that are too long are rejected before any allocation.

@@ -84,8 +84,13 @@ fn has_equal_texts(event: &Tree) -> bool {
 }
 
 /// Returns whether the rules of a candidate make the texts of such an event equal.
-pub fn are_equal_by(alloc: Global, test: &MaskRules, event: &[u8]) -> Result<bool, AllocError> {
-    match read_masked(alloc, event, test, &mut Scratch::new(alloc)) {
+pub fn are_equal_by(
+    alloc: Global,
+    test: &MaskRules,
+    event: &[u8],
+    scratch: &mut Scratch,
+) -> Result<bool, AllocError> {
+    match read_masked(alloc, event, test, scratch) {
         Ok(Some(event)) => Ok(has_equal_texts(&event)),
         _ => Err(AllocError),
     }

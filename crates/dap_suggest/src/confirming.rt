@@ -2,15 +2,18 @@
 ghost use Rattle.std.specs.Prelude.{IfOk, OnOk};
 ghost use Rattle.dap_input.specs.Limits.{AreSound};
 ghost use Rattle.dap_mask.specs.KeptRules.{mask_of};
+ghost use Rattle.dap_rules.specs.Applying.{NormalisesByRules};
 ghost use Rattle.dap_suggest.specs.Suggested.{AreSameBy, HaveOneNormal, IsSuggestion};
 
 use crate::joined_rules::joined;
 use crate::obstacle::{Obstacle, Unsolved};
-use crate::sessions::sessions_by;
 use crate::suggestion::{Inputs, Suggestion};
+use dap_compare::Which;
+use dap_input::Limits;
 use dap_mask::MaskRules;
+use dap_normalise::NormalSession;
 use dap_rename::Mode;
-use dap_rules::mode_by;
+use dap_rules::{ApplyRefused, mode_by, normalise_by_rules};
 use std::alloc::Global;
 
 /// The last line of rules.
@@ -32,6 +35,31 @@ fn first_difference(text: &[u8], other: &[u8]) -> u64 {
     (ends as u64 / 3).saturating_add(1)
 }
 
+/// Returns the normal form of what the rules make of a recording.
+///
+/// # Errors
+///
+/// Those of [`normalise_by_rules`].
+fn normal_by(
+    alloc: Global,
+    rules: &MaskRules,
+    which: Which,
+    recording: &[u8],
+    limits: Limits,
+    mode: Mode,
+) -> Result<NormalSession, (Which, ApplyRefused)>
+    requires { AreSound limits }
+    ensures { IfOk result (NormalisesByRules limits mode (mask_of rules.now) recording.now) }
+{
+    let Ok(recording) = Vec::from_slice(alloc, recording) else {
+        return Err((which, ApplyRefused::Memory));
+    };
+    match normalise_by_rules(alloc, rules, recording, limits, mode) {
+        Ok(normal) => Ok(normal),
+        Err(refused) => Err((which, refused)),
+    }
+}
+
 /// Compares what the rules make of two recordings.
 ///
 /// # Errors
@@ -47,8 +75,9 @@ fn compare_by(
     ensures { OnOk result (HaveOneNormal inputs.now.limits mode (mask_of rules.now) inputs.now.a.now
         inputs.now.b.now) }
 {
-    let sessions = sessions_by(alloc, rules, inputs, mode)?;
-    let (one, other) = (sessions.a.normal.bytes(), sessions.b.normal.bytes());
+    let a = normal_by(alloc, rules, Which::A, inputs.a, inputs.limits, mode)?;
+    let b = normal_by(alloc, rules, Which::B, inputs.b, inputs.limits, mode)?;
+    let (one, other) = (a.bytes.as_slice(), b.bytes.as_slice());
     if one == other {
         return Ok(());
     }

@@ -1,13 +1,15 @@
-//! Counts the events of two recordings, and drops those of which they have different numbers.
+//! Counts the events of two sessions, and drops those of which they have different numbers.
+use crate::sessions::Sessions;
 use crate::words::{class_of, push_parts, text_at};
 use dap_compare::Which;
-use dap_diff::Entry;
 use dap_difference::{Step, push_path};
-use dap_message::{Kind, Message};
+use dap_message::{AnyMessage, Kind};
+use dap_stored::{StoredMessage, StoredSession};
+use dap_tree::{Scratch, read_tree_with};
 use std::alloc::{AllocError, Global};
 use std::collections::BTreeMap;
 
-/// How many of some events each recording has.
+/// How many of some events each session has.
 #[derive(Clone, Copy, Default)]
 struct Counts {
     a: u64,
@@ -27,7 +29,7 @@ impl Counts {
     }
 }
 
-/// How many events of one name each recording has.
+/// How many events of one name each session has, if these numbers differ.
 #[derive(Drop)]
 pub struct Events {
     all: Counts,
@@ -36,7 +38,8 @@ pub struct Events {
     by_category: BTreeMap<String, Counts>,
 }
 
-/// The events of each name that may be dropped.
+/// The events of which two sessions have different numbers, by their names. Those that explain the
+/// difference are dropped.
 pub type EventsByName = BTreeMap<String, Events>;
 
 impl Events {
@@ -48,44 +51,15 @@ impl Events {
         }
     }
 
-    fn add(
-        &mut self,
-        alloc: Global,
-        which: Which,
-        category: Option<&str>,
-    ) -> Result<(), AllocError> {
-        self.all.add(which);
-        match category {
-            Some(category) => {
-                let category = String::from_str(alloc, category)?;
-                self.by_category.entry(category)?.or_default().add(which);
-            }
-            None => self.others.add(which),
-        }
-        Ok(())
-    }
-
-    /// Returns the counts of the events of this category, or of those without one.
-    fn counts(&self, category: Option<&str>) -> &Counts {
-        category
-            .and_then(|category| self.by_category.get(category))
-            .unwrap_or(&self.others)
-    }
-
-    /// Returns whether the events that have these counts are dropped: all events of the name are,
-    /// if no categories explain the difference.
-    fn drops(&self, counts: &Counts) -> bool {
-        self.all.differ() && (self.others.differ() || counts.differ())
-    }
-
-    /// Appends the rules that drop events of this name.
+    /// Appends the rules that drop events of this name: all of them, if no categories explain the
+    /// difference.
     fn push_drops(&self, alloc: Global, name: &str, out: &mut Vec<u8>) -> Result<(), AllocError> {
         let class = class_of(alloc, Kind::Event, name)?;
-        if self.drops(&self.others) {
+        if self.others.differ() {
             return push_drop(alloc, &self.all, class.as_slice(), out);
         }
         for (category, counts) in self.by_category.iter() {
-            if self.drops(counts) {
+            if counts.differ() {
                 let mut events = class.clone()?;
                 events.extend_from_slice(b" category=")?;
                 push_path(alloc, &[Step::Member(category.as_str())], &mut events)?;
@@ -104,39 +78,111 @@ fn is_needed(name: &str) -> bool {
     )
 }
 
-/// Returns the category of a message, if that is a text.
-fn category_of(message: &Message) -> Option<&str> {
-    text_at(message.tree().child("body")?, "category")
+/// Returns the category of an event, if that is a text.
+fn category_of(
+    alloc: Global,
+    event: &StoredMessage<'_>,
+    scratch: &mut Scratch,
+) -> Result<Option<String>, AllocError> {
+    // The content was read before, so no other error is possible.
+    let content = read_tree_with(alloc, event.content(), scratch).map_err(|_| AllocError)?;
+    let body = content.child("body");
+    match body.and_then(|body| text_at(body, "category")) {
+        Some(category) => Ok(Some(String::from_str(alloc, category)?)),
+        None => Ok(None),
+    }
 }
 
-/// Returns whether a record is an event that is dropped.
-pub fn is_dropped(entry: &Entry<Message>, events: &EventsByName) -> bool {
-    let message = &entry.message;
-    message.kind() == Kind::Event
-        && events
-            .get(message.name())
-            .is_some_and(|found| found.drops(found.counts(category_of(message))))
-}
-
-/// Counts the events of a recording by their names, and by their category too if that is wanted.
-/// Those that a session needs are left out.
-pub fn count_events(
+/// Counts the events of a session by their names. Those that a session needs are left out.
+fn count_names(
     alloc: Global,
     which: Which,
-    entries: &[Entry<Message>],
-    by_category: bool,
+    session: &StoredSession,
     events: &mut EventsByName,
 ) -> Result<(), AllocError> {
-    for entry in entries {
-        let message = &entry.message;
-        if message.kind() == Kind::Event && !is_needed(message.name()) {
-            let name = String::from_str(alloc, message.name())?;
+    for place in 0..session.len() {
+        if let Some(event) = session.message(place)
+            && event.kind() == Kind::Event
+            && !is_needed(event.name())
+        {
+            let name = String::from_str(alloc, event.name())?;
             let found = events.entry(name)?.or_insert_with(|| Events::new(alloc));
-            let category = category_of(message).filter(|_| by_category);
-            found.add(alloc, which, category)?;
+            found.all.add(which);
         }
     }
     Ok(())
+}
+
+/// Counts the events of a session that have these names by their categories.
+fn count_categories(
+    alloc: Global,
+    which: Which,
+    session: &StoredSession,
+    events: &mut EventsByName,
+) -> Result<(), AllocError> {
+    let mut scratch = Scratch::new(alloc);
+    for place in 0..session.len() {
+        if let Some(event) = session.message(place)
+            && event.kind() == Kind::Event
+            && let Some(found) = events.get_mut(event.name())
+        {
+            match category_of(alloc, &event, &mut scratch)? {
+                Some(category) => found.by_category.entry(category)?.or_default().add(which),
+                None => found.others.add(which),
+            }
+        }
+    }
+    Ok(())
+}
+
+/// Returns the events of which two sessions have different numbers, counted by their categories.
+/// Those that a session needs are left out.
+pub fn differing_events(alloc: Global, sessions: &Sessions) -> Result<EventsByName, AllocError> {
+    let mut events = BTreeMap::new(alloc);
+    count_names(alloc, Which::A, &sessions.a, &mut events)?;
+    count_names(alloc, Which::B, &sessions.b, &mut events)?;
+    events.retain(|_, found| found.all.differ());
+    count_categories(alloc, Which::A, &sessions.a, &mut events)?;
+    count_categories(alloc, Which::B, &sessions.b, &mut events)?;
+    Ok(events)
+}
+
+/// Returns whether some event is counted by its category.
+pub fn have_categories(events: &EventsByName) -> bool {
+    events.values().any(|found| !found.by_category.is_empty())
+}
+
+/// Counts the events by their names alone.
+pub fn forget_categories(events: &mut EventsByName) {
+    for found in events.values_mut() {
+        found.others = found.all;
+        found.by_category.clear();
+    }
+}
+
+/// Returns whether a message is an event that is dropped.
+pub fn is_dropped(
+    alloc: Global,
+    message: &StoredMessage<'_>,
+    events: &EventsByName,
+    scratch: &mut Scratch,
+) -> Result<bool, AllocError> {
+    if message.kind() != Kind::Event {
+        return Ok(false);
+    }
+    let Some(found) = events.get(message.name()) else {
+        return Ok(false);
+    };
+    if found.others.differ() {
+        return Ok(true);
+    }
+    Ok(match category_of(alloc, message, scratch)? {
+        Some(category) => found
+            .by_category
+            .get(category.as_str())
+            .is_some_and(|counts| counts.differ()),
+        None => false,
+    })
 }
 
 /// Appends the rule that drops these events, after a comment with their counts.

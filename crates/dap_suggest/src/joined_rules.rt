@@ -1,11 +1,17 @@
 //! All rules that are suggested, as a text that can follow the rules that were given.
 ghost use Rattle.std.specs.Prelude.{◌≡◌, ◌++◌, IfOk};
+ghost use Rattle.dap_input.specs.Limits.{AreSound};
 
 use crate::candidates::target_of;
-use crate::matched::{Matched, pairs_of};
+use crate::counting::{EventsByName, drops};
+use crate::matched::{kept_entries, pairs_of};
 use crate::obstacle::{Obstacle, Unsolved};
+use crate::sessions::Sessions;
 use crate::spots::{Spots, spots_of};
+use crate::suggestion::Inputs;
 use crate::swapping::{Swaps, swaps_of};
+use crate::trees::Trees;
+use dap_diff::{StoredEntry, match_records};
 use dap_mask::{MaskRules, RulesCause, RulesFault};
 use std::alloc::{AllocError, Global};
 
@@ -68,25 +74,24 @@ impl Rules<'_> {
     }
 }
 
-/// Returns the rules for two recordings that are matched, after those `before` them. They can
+/// Returns the rules for the records of two sessions, after the rules `before` them. They can
 /// follow the rules that were given: a rule that cannot is left out.
-///
-/// # Errors
-///
-/// No rules make some record the same, or an allocation failed.
-pub fn rules_for(
+fn matched_rules<'m>(
     alloc: Global,
     given: &[u8],
     before: &[u8],
-    matched: &Matched,
+    a: &mut [StoredEntry<'m>],
+    b: &mut [StoredEntry<'m>],
+    trees: Trees,
 ) -> Result<Vec<u8>, Unsolved> {
-    let pairs = pairs_of(alloc, matched)?;
+    match_records(alloc, a, b)?;
+    let pairs = pairs_of(alloc, a, b)?;
     let mut rules = Rules {
-        spots: spots_of(alloc, pairs.as_slice())?,
+        spots: spots_of(alloc, pairs.as_slice(), trees)?,
         swaps: swaps_of(alloc, pairs.as_slice())?,
     };
     for _ in 0..ATTEMPTS {
-        let mut text = joined(alloc, before, matched.drops.as_slice())?;
+        let mut text = Vec::from_slice(alloc, before)?;
         rules.spots.push(alloc, &mut text)?;
         rules.swaps.push(&mut text)?;
         let whole = joined(alloc, given, text.as_slice())?;
@@ -96,4 +101,34 @@ pub fn rules_for(
         }
     }
     Err(Unsolved::NoRules(Obstacle::Unread))
+}
+
+/// Returns the rules for two sessions of which some events are dropped, after the rules `before`
+/// them. They can follow the rules that were given.
+///
+/// # Errors
+///
+/// No rules make some record the same, or an allocation failed.
+pub fn rules_for(
+    alloc: Global,
+    inputs: &Inputs<'_>,
+    before: &[u8],
+    sessions: &Sessions,
+    events: &EventsByName,
+) -> Result<Vec<u8>, Unsolved>
+    requires { AreSound inputs.now.limits }
+{
+    let drops = drops(alloc, events)?;
+    let before = joined(alloc, before, drops.as_slice())?;
+    let mut a = kept_entries(alloc, &sessions.a, events)?;
+    let mut b = kept_entries(alloc, &sessions.b, events)?;
+    let trees = Trees::new(alloc, sessions, inputs.limits)?;
+    matched_rules(
+        alloc,
+        inputs.given,
+        before.as_slice(),
+        a.as_mut_slice(),
+        b.as_mut_slice(),
+        trees,
+    )
 }

@@ -16,6 +16,7 @@ mod spots;
 mod suggesting;
 mod suggestion;
 mod swapping;
+mod trees;
 mod trial;
 mod walking;
 mod words;

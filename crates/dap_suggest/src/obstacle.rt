@@ -1,8 +1,7 @@
 //! Why no rules make two recordings the same.
-use dap_compare::{CompareRefused, Which};
-use dap_diff::Entry;
+use dap_compare::Which;
+use dap_diff::StoredEntry;
 use dap_mask::{RulesCause, RulesFault};
-use dap_message::Message;
 use dap_rules::ApplyRefused;
 use std::alloc::{AllocError, AllocFailed};
 use std::fmt::{self, Display, Formatter, Write};
@@ -113,19 +112,8 @@ impl From<(Which, ApplyRefused)> for Unsolved {
     }
 }
 
-impl From<CompareRefused> for Unsolved {
-    fn from(refused: CompareRefused) -> Unsolved {
-        match refused {
-            CompareRefused::Memory => Unsolved::Memory,
-            CompareRefused::Input(which, refused) => {
-                Unsolved::NoRules(Obstacle::Unapplied(which, ApplyRefused::Order(refused)))
-            }
-        }
-    }
-}
-
 /// Returns that a record of a recording is the reason.
-pub fn unsolved_at(reason: Reason, which: Which, entry: &Entry<Message>) -> Unsolved {
+pub fn unsolved_at(reason: Reason, which: Which, entry: &StoredEntry<'_>) -> Unsolved {
     match entry.head.clone() {
         Ok(head) => Unsolved::NoRules(Obstacle::Record {
             reason,

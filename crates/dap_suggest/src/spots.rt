@@ -2,13 +2,13 @@
 use crate::candidates::tests;
 use crate::matched::Pair;
 use crate::obstacle::{Reason, Unsolved, unsolved_at};
+use crate::trees::Trees;
 use crate::trial::Trial;
 use crate::walking::{Element, Found, compare_trees};
 use crate::words::{class_of, json_of, parts_of};
 use dap_compare::Which;
-use dap_diff::Entry;
+use dap_diff::{StoredEntry, have_one_text};
 use dap_mask::MaskRules;
-use dap_message::Message;
 use dap_tree::Tree;
 use std::alloc::{AllocError, Global};
 use std::collections::BTreeMap;
@@ -50,7 +50,7 @@ type Parts = BTreeMap<Vec<u8>, Part>;
 struct Spot<'m> {
     whole: Trial,
     /// The record of A in the first pair.
-    first: &'m Entry<Message>,
+    first: &'m StoredEntry<'m>,
     /// The elements at which the pairs differ, if each differs at an element with a name, and these
     /// are few.
     parts: Option<Parts>,
@@ -163,8 +163,13 @@ impl<'m> Spots<'m> {
     }
 
     /// Adds the places at which a pair differs. Returns whether rules for them make it equal.
-    fn add_pair(&mut self, alloc: Global, pair: &Pair<'m>) -> Result<bool, AllocError> {
-        let (a, b) = (&pair.a.message, &pair.b.message);
+    fn add_pair(
+        &mut self,
+        alloc: Global,
+        pair: &Pair<'m>,
+        trees: &mut Trees,
+    ) -> Result<bool, AllocError> {
+        let (a, b) = trees.read(alloc, pair)?;
         let mut target = class_of(alloc, a.kind(), a.name())?;
         target.push(b' ')?;
         let mut found = Vec::new(alloc);
@@ -247,18 +252,23 @@ impl<'m> Spots<'m> {
     }
 }
 
-/// Returns the places at which pairs differ.
+/// Returns the places at which pairs differ, whose messages `trees` reads.
 ///
 /// # Errors
 ///
 /// No rule makes some pair equal, or an allocation failed.
-pub fn spots_of<'m>(alloc: Global, pairs: &[Pair<'m>]) -> Result<Spots<'m>, Unsolved> {
+pub fn spots_of<'m>(
+    alloc: Global,
+    pairs: &[Pair<'m>],
+    mut trees: Trees,
+) -> Result<Spots<'m>, Unsolved> {
     let mut spots = Spots {
         tests: tests(alloc)?,
         by_target: BTreeMap::new(alloc),
     };
     for pair in pairs {
-        if !spots.add_pair(alloc, pair)? {
+        let is_equal = have_one_text(&pair.a.message, &pair.b.message);
+        if !is_equal && !spots.add_pair(alloc, pair, &mut trees)? {
             return Err(unsolved_at(Reason::Differs, Which::A, pair.a));
         }
     }

@@ -6,9 +6,9 @@ ghost use Rattle.dap_suggest.specs.NotSuggested.{HasNoSuggestion, IsNotSuggested
 ghost use Rattle.dap_suggest.specs.Suggested.{AreSameBy, IsSuggestion};
 
 use crate::confirming::confirm;
+use crate::counting::{EventsByName, differing_events, forget_categories, have_categories};
 use crate::fractions::fraction_rules;
 use crate::joined_rules::{joined, missing_end, rules_for};
-use crate::matched::read_matched;
 use crate::obstacle::Unsolved;
 use crate::sessions::{Sessions, sessions_by};
 use crate::suggestion::{Inputs, SuggestRefused, Suggestion};
@@ -19,38 +19,43 @@ use dap_rules::{ApplyRefused, mode_by};
 use std::alloc::Global;
 
 /// Searches rules for two recordings and their sessions, which the rules that were given and those
-/// `before` the others make, and confirms them. Events are dropped by their category only if that
-/// is wanted.
+/// `before` the others make. Some of these events are dropped. Confirms the rules, after the
+/// sessions are dropped from memory.
 fn find_by(
     alloc: Global,
     inputs: &Inputs<'_>,
     before: &[u8],
-    sessions: &Sessions,
-    by_category: bool,
+    sessions: Sessions,
+    events: &EventsByName,
 ) -> Result<Suggestion, Unsolved>
     requires { AreSound inputs.now.limits }
     ensures { IfOk result (IsSuggestion inputs.now) }
 {
-    let matched = read_matched(alloc, sessions, by_category, inputs.limits)?;
-    let rules = rules_for(alloc, inputs.given, before, &matched)?;
+    let rules = rules_for(alloc, inputs, before, &sessions, events)?;
+    drop(sessions);
     confirm(alloc, inputs, rules.as_slice())
 }
 
 /// Searches and confirms rules. Events are dropped by their category, or by their name alone if no
-/// rules are found otherwise.
+/// rules are found otherwise. The sessions are those that `rules` make of the recordings.
 fn find_confirmed(
     alloc: Global,
+    rules: &MaskRules,
     inputs: &Inputs<'_>,
     before: &[u8],
-    sessions: &Sessions,
+    sessions: Sessions,
 ) -> Result<Suggestion, Unsolved>
     requires { AreSound inputs.now.limits }
     ensures { IfOk result (IsSuggestion inputs.now) }
 {
-    match find_by(alloc, inputs, before, sessions, true) {
-        Err(Unsolved::NoRules(_)) => find_by(alloc, inputs, before, sessions, false),
-        found => found,
+    let mut events = differing_events(alloc, &sessions)?;
+    let found = find_by(alloc, inputs, before, sessions, &events);
+    if !have_categories(&events) || !matches!(&found, Err(Unsolved::NoRules(_))) {
+        return found;
     }
+    forget_categories(&mut events);
+    let sessions = sessions_by(alloc, rules, inputs)?;
+    find_by(alloc, inputs, before, sessions, &events)
 }
 
 /// Searches rules after those that blank the numbers of which no session can be made. Returns
@@ -66,9 +71,9 @@ fn find_after_fractions(
     let before = fraction_rules(alloc, rules, inputs)?;
     let known = joined(alloc, inputs.given, before.as_slice())?;
     let rules = MaskRules::read(alloc, known.as_slice())?;
-    match sessions_by(alloc, &rules, inputs, Mode::Whole) {
+    match sessions_by(alloc, &rules, inputs) {
         Ok(sessions) => {
-            let found = find_confirmed(alloc, inputs, before.as_slice(), &sessions)?;
+            let found = find_confirmed(alloc, &rules, inputs, before.as_slice(), sessions)?;
             Ok(Some(found))
         }
         Err((_, ApplyRefused::Memory)) => Err(Unsolved::Memory),
@@ -117,13 +122,13 @@ fn suggest_by(
     ensures ok { IfOk result (IsSuggestion inputs.now) }
     ensures err { IfErr result (HasNoSuggestion inputs.now) }
 {
-    let sessions = match sessions_by(alloc, rules, inputs, Mode::Whole) {
+    let sessions = match sessions_by(alloc, rules, inputs) {
         Ok(sessions) => sessions,
         Err(rejected) => {
             return suggest_after(alloc, rules, inputs, SuggestRefused::from(rejected));
         }
     };
-    let found = find_confirmed(alloc, inputs, missing_end(inputs.given), &sessions)?;
+    let found = find_confirmed(alloc, rules, inputs, missing_end(inputs.given), sessions)?;
     Ok(found)
 }
 

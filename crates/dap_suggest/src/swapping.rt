@@ -1,10 +1,12 @@
 //! The pairs that come in another order in B, and the rules that let them change places.
 use crate::matched::Pair;
 use crate::obstacle::{Reason, Unsolved, unsolved_at};
+use crate::trees::tree_of;
 use crate::words::{class_of, parts_of, push_parts};
 use dap_compare::Which;
-use dap_message::Message;
+use dap_message::{AnyMessage, Message};
 use dap_order::{Half, SwapRule, is_free};
+use dap_tree::Scratch;
 use std::alloc::{AllocError, Global};
 use std::collections::BTreeMap;
 
@@ -75,28 +77,56 @@ impl Swaps {
     }
 }
 
+/// A pair, and the message of its record of A.
+#[derive(Drop)]
+struct Late<'m> {
+    pair: Pair<'m>,
+    message: Message,
+}
+
 /// The pair of each class that comes last in B, of the pairs so far.
 #[derive(Drop)]
 struct Latest<'m> {
     /// The pairs, by their places in B.
-    by_place: BTreeMap<usize, Pair<'m>>,
+    by_place: BTreeMap<usize, Late<'m>>,
     /// The place of the pair of each class.
     places: BTreeMap<Vec<u8>, usize>,
 }
 
 impl<'m> Latest<'m> {
     /// Adds a pair, in place of the latest one of its class if it comes after that in B.
-    fn add(&mut self, alloc: Global, pair: &Pair<'m>) -> Result<(), AllocError> {
-        let class = class_of_pair(alloc, pair)?;
-        let place = self.places.entry(class)?.or_insert(pair.place);
+    fn add(&mut self, alloc: Global, late: Late<'m>) -> Result<(), AllocError> {
+        let class = class_of_pair(alloc, &late.pair)?;
+        let after = late.pair.place;
+        let place = self.places.entry(class)?.or_insert(after);
         let before = *place;
-        if before <= pair.place {
-            *place = pair.place;
+        if before <= after {
+            *place = after;
             let _ = self.by_place.remove(&before);
-            let _ = self.by_place.insert(pair.place, *pair)?;
+            let _ = self.by_place.insert(after, late)?;
         }
         Ok(())
     }
+}
+
+/// Returns the pairs that come before another one in only one recording. No other pair needs a
+/// rule.
+fn crossing<'m>(alloc: Global, pairs: &[Pair<'m>]) -> Result<Vec<Pair<'m>>, AllocError> {
+    let mut firsts = Vec::with_capacity(alloc, pairs.len())?;
+    let mut first = usize::MAX;
+    for pair in pairs.iter().rev() {
+        first = first.min(pair.place);
+        firsts.push(first)?;
+    }
+    let mut found = Vec::new(alloc);
+    let mut last = 0;
+    for (pair, first) in pairs.iter().zip(firsts.iter().rev()) {
+        if pair.place < last || *first < pair.place {
+            found.push(*pair)?;
+        }
+        last = last.max(pair.place);
+    }
+    Ok(found)
 }
 
 /// Returns the rules that let pairs change places which come in another order in B.
@@ -115,14 +145,16 @@ pub fn swaps_of(alloc: Global, pairs: &[Pair<'_>]) -> Result<Swaps, Unsolved> {
         by_place: BTreeMap::new(alloc),
         places: BTreeMap::new(alloc),
     };
-    for pair in pairs {
+    let mut scratch = Scratch::new(alloc);
+    for pair in crossing(alloc, pairs)? {
+        let message = tree_of(alloc, &pair.a.message, &mut scratch)?;
         for (_, before) in latest.by_place.range(pair.place..) {
-            if !may_pass(&before.a.message, &pair.a.message) {
+            if !may_pass(&before.message, &message) {
                 return Err(unsolved_at(Reason::OutOfOrder, Which::A, pair.a));
             }
-            swaps.add(alloc, before, pair)?;
+            swaps.add(alloc, &before.pair, &pair)?;
         }
-        latest.add(alloc, pair)?;
+        latest.add(alloc, Late { pair, message })?;
     }
     Ok(swaps)
 }

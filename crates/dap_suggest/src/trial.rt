@@ -6,7 +6,7 @@ use crate::words::json_of;
 use dap_compare::Which;
 use dap_difference::push_window;
 use dap_mask::MaskRules;
-use dap_tree::Tree;
+use dap_tree::{Scratch, Tree};
 use std::alloc::{AllocError, Global};
 
 /// How many characters of a value a comment has at most.
@@ -47,8 +47,9 @@ impl Trial {
         };
         let (a, b) = (json_of(alloc, found.a)?, json_of(alloc, found.b)?);
         let event = event_of(alloc, a.as_str(), b.as_str())?;
+        let mut scratch = Scratch::new(alloc);
         for (works, test) in self.works.iter_mut().zip(tests) {
-            *works = *works && are_equal_by(alloc, test, event.as_slice())?;
+            *works = *works && are_equal_by(alloc, test, event.as_slice(), &mut scratch)?;
         }
         Ok(())
     }

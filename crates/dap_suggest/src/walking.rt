@@ -38,15 +38,14 @@ fn element_of<'t>(
     }
 }
 
-/// Returns whether two values are equal. Two ids are equal if both are 0 or neither is: a variable
-/// without children has the reference 0.
+/// Returns whether two values are equal. Any two ids are: only their numbers can differ.
 fn are_equal(a: &Tree, b: &Tree) -> bool {
     match (a, b) {
         (Tree::Null, Tree::Null) => true,
         (Tree::Bool(a), Tree::Bool(b)) => *a == *b,
         (Tree::Whole(a), Tree::Whole(b)) => *a == *b,
         (Tree::Text(a), Tree::Text(b)) => a.as_str() == b.as_str(),
-        (Tree::Id(_, a), Tree::Id(_, b)) => (*a == 0) == (*b == 0),
+        (Tree::Id(..), Tree::Id(..)) => true,
         _ => false,
     }
 }
