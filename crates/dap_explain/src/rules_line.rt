@@ -100,8 +100,8 @@ impl RulePart {
         }
     }
 
-    /// Returns the bytes of the part after blanks, and the bytes after it. If the part is not there,
-    /// adds the line about it.
+    /// Returns the bytes of the part after blanks, and the bytes after it. If the part is not
+    /// there, adds the line about it.
     fn read<'l>(self, lines: &mut Lines, text: &'l [u8]) -> Option<(&'l [u8], &'l [u8])> {
         if is_end(text) {
             lines.add(self.missing());

@@ -8,8 +8,8 @@ use Rattle.dap_input.specs.{RefusedText.refused_text, declared.refused.Refused.R
 use Rattle.dapnorm.specs.{Desks.IsLeft, Lines.fault_line}
 use Rattle.dapnorm.specs.declared.reading.Unread.{Unread, TheVariants.{Failed, Memory, Unopened}}
 
--- These are the bytes of the file, or its first bytes up to one past the limit; or a read failed; or
--- an allocation failed, and no read did.
+-- These are the bytes of the file, or its first bytes up to one past the limit; or a read failed;
+-- or an allocation failed, and no read did.
 pub record HasWhole {R : Type 0} (source : Source R) (limit : ℕ) (old new : R) (bytes : List ℕ)
     : Type 0 where
   pub stop : Stop

@@ -60,8 +60,8 @@ module _ {W E : Type 0} (sink : Sink W) (errors : Sink E) where
 
   module _ {V F : Type 0} (text : V → List ℕ) (status_for : V → ℕ) (line : F → List ℕ)
       (fault_status : F → ℕ) where
-    -- The text of a result is printed, with the status of the result. An error is reported, with its
-    -- status, and nothing is written.
+    -- The text of a result is printed, with the status of the result. An error is reported, with
+    -- its status, and nothing is written.
     abbrev pub OutcomeIsReported : Result V F → W → W → E → E → ℕ → Type 0
     OutcomeIsReported (Ok outcome) before after old new status =
         IsPrinted (text outcome) (status_for outcome) before after old new status

@@ -9,8 +9,8 @@ use Rattle.dapnorm.specs.{Readings.IsFileRead, WordOption.{HasLinesOf, HasNoLine
 use Rattle.dapnorm.specs.declared.{reading.Unread.Unread, rules.NoRules.NoRules}
 
 module _ {I O T : Type 0} (files : Files I O T) (source : Source I) where
-  -- The text is that of the file of the name, by all of its bytes or by the first 65,537 of them, or
-  -- the file was not read. Without a name the text is empty.
+  -- The text is that of the file of the name, by all of its bytes or by the first 65,537 of them,
+  -- or the file was not read. Without a name the text is empty.
   abbrev pub IsTextOf : Option (List ℕ) → Result (Vec ℕ Global) Unread → Type 0
   IsTextOf None (Ok text) = text.items ≡ []
   IsTextOf None (Err why) = ⊥

@@ -53,7 +53,8 @@ impl NoRules {
     }
 }
 
-/// Reads the text of a rules file, with at most one byte past the limit. Without a name it is empty.
+/// Reads the text of a rules file, with at most one byte past the limit. Without a name it is
+/// empty.
 fn text_of<H: Host>(alloc: Global, host: &H, name: Option<&str>) -> Result<Vec<u8>, Unread>
     ensures { IsTextOf (H.files host.now) H.Input.Source (text_in name.entry) result }
 {
@@ -107,7 +108,8 @@ pub(crate) fn rules_of<H: Host>(
     }
 }
 
-/// Reads the rules of a command that need not have any: without a rules file and words, it has none.
+/// Reads the rules of a command that need not have any: without a rules file and words, it has
+/// none.
 pub(crate) fn given_rules<H: Host>(
     alloc: Global,
     host: &H,

@@ -60,8 +60,8 @@ fn suggestion<'a>(
     }
 }
 
-/// Suggests rules that make the recordings that two names lead to the same, in addition to the rules
-/// that are given. These are read first, then A whole, and then B.
+/// Suggests rules that make the recordings that two names lead to the same, in addition to the
+/// rules that are given. These are read first, then A whole, and then B.
 pub(crate) fn run_suggest<'a, H: Host>(
     alloc: Global,
     host: &H,

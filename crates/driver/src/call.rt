@@ -23,7 +23,8 @@ pub enum Function {
     SameTexts,
     /// `run_stream` with this job.
     RunStream(Job<'static>),
-    /// `run_compare` for a verdict without tables, and otherwise an engine, whose answer is printed.
+    /// `run_compare` for a verdict without tables, and otherwise an engine, whose answer is
+    /// printed.
     RunPair(Printed),
 }
 

@@ -141,7 +141,8 @@ fn compared(
     )
 }
 
-/// Returns whether the renaming of two recordings maps the first to the second. `None`: they differ.
+/// Returns whether the renaming of two recordings maps the first to the second. `None`: they
+/// differ.
 fn carried(
     alloc: Global,
     call: &Call<'_>,
