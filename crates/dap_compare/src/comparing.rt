@@ -3,6 +3,7 @@ ghost use Rattle.std.specs.Prelude.{◌+◌, ◌≤◌};
 ghost use Rattle.dap_device.specs.Devices.{CanRead};
 ghost use Rattle.dap_input.specs.Limits.{AreSound};
 ghost use Rattle.dap_normalise.specs.NameTables.{AreReady};
+ghost use Rattle.dap_compare.specs.ComparingSteps.{AreUnread, limits_of, mode_in};
 ghost use Rattle.dap_compare.specs.{LeftTexts.LeavesDifference, Verdicts.Compares};
 
 use crate::verdict::{CompareRefused, Verdict, Which};
@@ -136,6 +137,45 @@ pub fn compare_texts_with<A: Source, B: Source, T: NameTable + Drop>(
 {
     let mut records_a = NormalRecords::new(alloc, limits, tables_a, mode)?;
     let mut records_b = NormalRecords::new(alloc, limits, tables_b, mode)?;
+    compare_records(
+        alloc,
+        reader_a,
+        reader_b,
+        &mut records_a,
+        &mut records_b,
+        text_a,
+        text_b,
+    )
+}
+
+/// Compares the records of two inputs from which nothing was read. Both are checked within the
+/// limits and in the mode of the first one.
+fn compare_records<A: Source, B: Source, T: NameTable + Drop>(
+    alloc: Global,
+    reader_a: &mut A,
+    reader_b: &mut B,
+    records_a: &mut NormalRecords<T>,
+    records_b: &mut NormalRecords<T>,
+    text_a: &mut Vec<u8>,
+    text_b: &mut Vec<u8>,
+) -> Result<Verdict, CompareRefused>
+    requires limits { AreSound (limits_of records_a.old) }
+    requires a { AreUnread T.numbers T.limit (limits_of records_a.old) (mode_in records_a.old)
+        records_a.old }
+    requires b { AreUnread T.numbers T.limit (limits_of records_a.old) (mode_in records_a.old)
+        records_b.old }
+    requires readers { CanRead A.Source reader_a.old × CanRead B.Source reader_b.old }
+    ensures outcome { Compares A.Source B.Source (limits_of records_a.old) (mode_in records_a.old)
+        reader_a.old reader_a.new reader_b.old reader_b.new result }
+    ensures taken_a { A.given reader_a.new
+        ≤ A.given reader_a.old + (limits_of records_a.old).input + 1 }
+    ensures taken_b { B.given reader_b.new
+        ≤ B.given reader_b.old + (limits_of records_a.old).input + 1 }
+    ensures text_a { LeavesDifference A.Source (limits_of records_a.old) (mode_in records_a.old)
+        reader_a.old reader_a.new text_a.new.items result }
+    ensures text_b { LeavesDifference B.Source (limits_of records_a.old) (mode_in records_a.old)
+        reader_b.old reader_b.new text_b.new.items result }
+{
     'records: loop {
         let number = records_a.number();
         text_a.clear();
@@ -153,7 +193,7 @@ pub fn compare_texts_with<A: Source, B: Source, T: NameTable + Drop>(
             return Ok(Verdict::Differ(number));
         }
         if !some_a {
-            let Ok(renaming) = records_a.renaming_to(alloc, &records_b) else {
+            let Ok(renaming) = records_a.renaming_to(alloc, records_b) else {
                 return Err(CompareRefused::Memory);
             };
             return Ok(Verdict::Same(renaming));

@@ -1,5 +1,5 @@
 //! Compares the messages of two recordings that were read before.
-ghost use Rattle.std.specs.Prelude.{◌≡◌, ◌<◌, ◌^◌, List, IfOk, take};
+ghost use Rattle.std.specs.Prelude.{◌≡◌, ◌<◌, ◌^◌, List, [], IfOk, take};
 ghost use Rattle.dap_message.specs.Message.{Sent};
 ghost use Rattle.dap_stored.specs.Sessions.{messages_of};
 ghost use Rattle.dap_input.specs.Limits.{AreSound};
@@ -58,12 +58,41 @@ pub fn compare_sessions<T: NameTable + Drop>(
 {
     let mut judge_a = Judge::new(alloc, limits, tables_a, mode);
     let mut judge_b = Judge::new(alloc, limits, tables_b, mode);
+    compare_judged(alloc, &mut judge_a, &mut judge_b, a, b, text_a, text_b)
+}
+
+/// Compares the messages of two recordings, which two judges check that have checked nothing.
+fn compare_judged<T: NameTable + Drop>(
+    alloc: Global,
+    judge_a: &mut Judge<T>,
+    judge_b: &mut Judge<T>,
+    a: &StoredSession,
+    b: &StoredSession,
+    text_a: &mut Vec<u8>,
+    text_b: &mut Vec<u8>,
+) -> Result<Verdict, AllocError>
+    requires limits { AreSound (judge_limits judge_a.old) }
+    requires new_a { RepresentsMessages T.numbers T.limit judge_a.old [] [] }
+    requires new_b { RepresentsMessages T.numbers T.limit judge_b.old [] [] }
+    requires same_limits { judge_limits judge_b.old ≡ judge_limits judge_a.old }
+    requires same_mode { judge_mode judge_b.old ≡ judge_mode judge_a.old }
+    requires accepted_a { AreAccepted (judge_limits judge_a.old) (judge_mode judge_a.old)
+        (messages_of a.now) }
+    requires accepted_b { AreAccepted (judge_limits judge_a.old) (judge_mode judge_a.old)
+        (messages_of b.now) }
+    ensures verdict { IfOk result
+        (IsVerdictOn (judge_mode judge_a.old) (messages_of a.now) (messages_of b.now)) }
+    ensures text_a { IfOk result (λ verdict. HasText (judge_mode judge_a.old) (messages_of a.now)
+        verdict text_a.new.items) }
+    ensures text_b { IfOk result (λ verdict. HasText (judge_mode judge_a.old) (messages_of b.now)
+        verdict text_b.new.items) }
+{
     let mut place = 0;
     'records: loop {
         text_a.clear();
         text_b.clear();
-        let some_a = append_next(alloc, &mut judge_a, a, place, text_a)?;
-        append_next(alloc, &mut judge_b, b, place, text_b)?;
+        let some_a = append_next(alloc, judge_a, a, place, text_a)?;
+        append_next(alloc, judge_b, b, place, text_b)?;
         // The text of a session that has ended is empty, and no record is.
         if text_a.as_slice() != text_b.as_slice() {
             return Ok(Verdict::Differ(place as u64 + 1));

@@ -4,15 +4,14 @@ use Rattle.dap_compare.proofs.StreamComparing.{texts_equal}
 use Rattle.dap_compare.proofs.SessionComparing.{both_ended, both_next, differ_first, equal_counts}
 use Rattle.dap_compare.proofs.SessionComparing.{has_ended, has_next, on, reached_none, still_alike}
 use Rattle.dap_compare.proofs.SessionComparing.{text_at}
-use Rattle.dap_compare.proofs.sessions.compare_sessions.Goals as goal
+use Rattle.dap_compare.proofs.sessions.compare_judged.Goals as goal
 
 pub records-init : goal.records-init
 records-init g c =
     record {
-      a = reached_none (messages_of c.args.a.now) c.new-judge_a.ensures.represents
-          c.new-judge_a.ensures.limits c.new-judge_a.ensures.mode;
-      b = reached_none (messages_of c.args.b.now) c.new-judge_b.ensures.represents
-          c.new-judge_b.ensures.limits c.new-judge_b.ensures.mode;
+      a = reached_none (messages_of c.args.a.now) c.requires.new_a refl refl;
+      b = reached_none (messages_of c.args.b.now) c.requires.new_b c.requires.same_limits
+          c.requires.same_mode;
       alike = refl;
     }
 
