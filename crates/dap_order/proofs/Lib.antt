@@ -5,7 +5,7 @@ pub mod Neighbours
 pub mod SwapsKeepRules
 pub mod MessageOrder
 pub mod RenamedOrder
-pub mod Unnamed
+pub mod FirstAndParts
 pub mod RuleLists
 pub mod PartnerKeys
 pub mod FreeInWords
@@ -34,7 +34,6 @@ pub mod Kept
 pub mod Least
 pub mod Barriers
 pub mod Places
-pub mod Steps
 pub mod Ordering
 pub mod Labels
 pub mod Classes

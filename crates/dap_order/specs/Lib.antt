@@ -23,7 +23,6 @@ pub mod Answers
 pub mod Alike
 pub mod AlikeAnswers
 pub mod ByPlace
-pub mod Laws
 pub mod Plan
 pub mod Links
 pub mod Progress

@@ -1,5 +1,5 @@
 -- The statements of the functions in `message_laws`.
-use Rattle.std.specs.{Prelude.{◌≡◌, ◌↔◌, List, [], ◌∷◌, ◌++◌, false}, Bool.Decides, List.All}
+use Rattle.std.specs.{Prelude.{◌≡◌, ◌↔◌, List, [], ◌∷◌, ◌++◌, false, true}, Bool.Decides, List.All}
 use Rattle.dap_tree.specs.declared.side.Side.{Side}
 use Rattle.dap_message.specs.{Message.Sent, SwapRules.SwapRule}
 use Rattle.dap_session.specs.Laws.{Renaming, Renames}
@@ -7,7 +7,9 @@ use Rattle.dap_session.specs.RenamedLists.{IsNumbered, DifferInIds, IsOneToOne}
 use Rattle.dap_session.specs.Rules.{KeepsRules, open_requests}
 use Rattle.dap_order.specs.{Swaps.{BothWays, Reordered}, Barriers.order_by_label_after}
 use Rattle.dap_order.specs.{Free.{free, names}, SameButOrder.{SameButOrder, AreSameButOrder}}
-use Rattle.dap_order.specs.{Words.IsFree, MessageOrder.{message_labels, ordered, AreOrdered}}
+use Rattle.dap_order.specs.{Labels.items_of, Least.IsLeast, Order.{all_free, order}, Words.IsFree}
+use Rattle.dap_order.specs.MessageOrder.{AreOrdered, KeyedMessage, by_key, keyed, message_labels}
+use Rattle.dap_order.specs.MessageOrder.{ordered}
 use Rattle.dap_rename.specs.Messages.{AreSame, IsNormal, no_stop}
 
 -- ---- free messages
@@ -53,6 +55,16 @@ OneOrdered = (rules : List SwapRule) (ms ns : List Sent) → Reordered (free rul
 abbrev pub OrderedAgain : Type 0
 OrderedAgain = (rules : List SwapRule) (ms : List Sent)
     → ordered rules (ordered rules ms) ≡ ordered rules ms
+
+-- The order starts with the message that has the least key of all messages that are free with all
+-- messages before them. It continues with the order of the other messages, by the keys that they
+-- have in the complete list.
+abbrev pub OrderBegins : Type 0
+OrderBegins = (rules : List SwapRule) (ms : List Sent) (m : KeyedMessage)
+    (front back : List KeyedMessage) → keyed rules ms ≡ front ++ m ∷ back
+    → all_free (by_key rules) m front ≡ true → IsLeast (by_key rules) m (keyed rules ms)
+    → ordered rules ms
+    ≡ m.item ∷ items_of (message_labels rules) (order (by_key rules) (front ++ back))
 
 -- A message that no rule names divides the list: the messages before it and the messages after it
 -- are ordered separately, by the keys that they have in the complete list.

@@ -1,6 +1,6 @@
 -- The list in order among all lists that swaps of free neighbours lead to: the lexicographic normal
 -- form of a trace (Mazurkiewicz).
-use Rattle.std.specs.Prelude.{◌≡◌, ℕ, ◌+◌, Bool, true, cond, ◌&&◌, List, [], ◌∷◌, ◌++◌, take, drop}
+use Rattle.std.specs.Prelude.{◌≡◌, Bool, true, cond, ◌&&◌, List, [], ◌∷◌, ◌++◌}
 use Rattle.dap_order.specs.Swaps.{Swaps}
 
 module _ {X : Type 0} (s : Swaps X) where
@@ -35,7 +35,3 @@ module _ {X : Type 0} (s : Swaps X) where
   -- The items in order.
   abbrev pub order : List X → List X
   order xs = put_all [] xs
-
-  -- The list after the item at this place is moved to its place among the items before it.
-  abbrev pub put_at : List X → ℕ → List X
-  put_at xs at = put_all (take at xs) (take 1 (drop at xs)) ++ drop (at + 1) xs

@@ -17,7 +17,7 @@ use std::alloc::{AllocError, Global};
 /// # Errors
 ///
 /// `AllocError`: an allocation failed. The plan has a place.
-pub fn order_of_places(alloc: Global, plan: &Plan) -> Result<Vec<usize>, AllocError>
+pub(crate) fn order_of_places(alloc: Global, plan: &Plan) -> Result<Vec<usize>, AllocError>
     requires { IsWellFormed plan.now }
     ensures ordered { (s : Swaps ℕ) → AreSwaps s → IsPlan s plan.now
         → IfOk result (λ places. places.items ≡ order s (range_with_len 0 (place_count plan.now))) }

@@ -2,7 +2,8 @@
 //! calling it makes its clauses available to the caller's proof.
 ghost use Rattle.dap_order.specs.MessageLaws.{FreeInWords, FreeBothWays, SwapsKeepRules};
 ghost use Rattle.dap_order.specs.MessageLaws.{SwapsKeepOpen, OrderIsReached, OneOrder, OneOrdered};
-ghost use Rattle.dap_order.specs.MessageLaws.{OrderedAgain, UnnamedParts, OrderKeepsRules};
+ghost use Rattle.dap_order.specs.MessageLaws.{OrderedAgain, OrderBegins, UnnamedParts};
+ghost use Rattle.dap_order.specs.MessageLaws.{OrderKeepsRules};
 ghost use Rattle.dap_order.specs.MessageLaws.{OrderOfRenamed, OneOrderButIds, SameOrders};
 ghost use Rattle.dap_order.specs.MessageLaws.{OneNormalForm};
 
@@ -19,13 +20,15 @@ pub fn swaps_keep_rules()
     ensures open { SwapsKeepOpen }
 {}
 
-/// States that swaps lead from every list to exactly one list that is in order. That list obeys the
-/// session rules if and only if the first list does.
+/// States that swaps lead from every list to exactly one list that is in order. It starts with the
+/// message that has the least key of all that are free with all messages before them, and so on. It
+/// obeys the session rules if and only if the first list does.
 pub fn one_order_of_messages()
     ensures reached { OrderIsReached }
     ensures one { OneOrder }
     ensures only { OneOrdered }
     ensures again { OrderedAgain }
+    ensures begins { OrderBegins }
     ensures parts { UnnamedParts }
     ensures kept { OrderKeepsRules }
 {}

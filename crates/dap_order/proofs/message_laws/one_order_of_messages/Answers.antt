@@ -2,7 +2,7 @@ use Rattle.dap_order.proofs.Labels.{order_by_label_ordered, one_ordered_by_label
 use Rattle.dap_order.specs.MessageOrder.{message_labels, ordered}
 use Rattle.dap_order.proofs.MessageOrder.{are_message_labels, to_ordered, one_ordered}
 use Rattle.dap_order.proofs.MessageOrder.{from_ordered, ordered_keeps, keeps_ordered}
-use Rattle.dap_order.proofs.Unnamed.{unnamed_parts, ordered_again}
+use Rattle.dap_order.proofs.FirstAndParts.{order_begins, unnamed_parts, ordered_again}
 use Rattle.dap_order.proofs.message_laws.one_order_of_messages.Goals as goal
 
 pub returns-clause-reached : goal.returns-clause-reached
@@ -27,3 +27,6 @@ returns-clause-again c = ordered_again
 
 pub returns-clause-parts : goal.returns-clause-parts
 returns-clause-parts c = unnamed_parts
+
+pub returns-clause-begins : goal.returns-clause-begins
+returns-clause-begins c = order_begins

@@ -1,5 +1,6 @@
--- A message that no rule names divides a list; ordering twice is ordering once.
-use Rattle.std.proofs.Common.{◌≡◌, false, not, ◌&&◌, List, [], ◌∷◌, ◌++◌, sym}
+-- A message that no rule names divides a list; the first message of an ordered list; ordering twice
+-- is ordering once.
+use Rattle.std.proofs.Common.{◌≡◌, ◌∙◌, false, not, ◌&&◌, List, [], ◌∷◌, ◌++◌, ap, subst, sym}
 use Rattle.std.specs.Prelude.{◌||◌}
 use Rattle.std.specs.List.{list_any}
 use Rattle.std.proofs.lemmas.Bool.{and_left, and_right, or_from, or_parts}
@@ -8,7 +9,9 @@ use Rattle.dap_order.specs.Barriers.{IsBarrier, order_by_label_after}
 use Rattle.dap_order.proofs.Barriers.{order_by_label-barrier}
 use Rattle.dap_message.specs.SwapRules.{SwapRule}
 use Rattle.dap_order.specs.Free.{free, names, names_both, fits_half, depends}
-use Rattle.dap_order.specs.MessageOrder.{message_labels, ordered}
+use Rattle.dap_order.specs.{Labels.items_of, Least.IsLeast, MessageLaws.OrderBegins, Order.order}
+use Rattle.dap_order.specs.MessageOrder.{by_key, message_labels, ordered}
+use Rattle.dap_order.proofs.{Labels.are_swaps, Least.order-least}
 use Rattle.dap_order.proofs.MessageOrder.{are_message_labels, to_ordered, one_ordered}
 
 none_both : (rules : List SwapRule) (x b : Sent) → names rules b ≡ false
@@ -42,3 +45,11 @@ unnamed_parts rules b h =
 pub ordered_again : (rules : List SwapRule) (ms : List Sent)
     → ordered rules (ordered rules ms) ≡ ordered rules ms
 ordered_again rules ms = sym (one_ordered rules ms (ordered rules ms) (to_ordered rules ms))
+
+pub order_begins : OrderBegins
+unfolding ordered
+order_begins rules ms m front back is ready least =
+    let labels = message_labels rules in
+    ap (λ keys. items_of labels (order (by_key rules) keys)) is
+    ∙ ap (items_of labels) (order-least (by_key rules) (are_swaps labels (are_message_labels rules))
+    m front back ready (subst (IsLeast (by_key rules) m) is least))
