@@ -468,6 +468,32 @@ RULES = {
             "no rule changes the category by which a rule drops events: leave one of them out",
         ],
     ),
+    "a category of requests": (
+        b"digits request evaluate category=a arguments.x\n", "line 1: BadRule",
+        ["line 1 is: digits request evaluate category=a arguments.x", "only a rule for events has a category: leave category= out"],
+    ),
+    "a category without a place": (
+        b"digits event output category=a\n", "line 1: BadRule",
+        ["line 1 is: digits event output category=a", "after the name comes a place, such as body.reason"],
+    ),
+    "a category that is not a word": (
+        b"digits event output category=a/b body.output\n", "line 1: BadRule",
+        ["line 1 is: digits event output category=a/b body.output", '"category=a/b" is not a category: write category= and a word or a JSON string'],
+    ),
+    "a body that a rule by category needs": (
+        b"digits event output category=a body.output\nblank event * body\n", "line 2: Clash",
+        [
+            "line 2 is: blank event * body", "line 1 selects events by the category that this line changes, or the other way round",
+            "no rule changes the category by which a rule selects events: leave one of them out",
+        ],
+    ),
+    "the category by which a rule selects": (
+        b"hex event output category=a body.category\n", "line 1: BadPlace",
+        [
+            "line 1 is: hex event output category=a body.category",
+            '"body.category" is the category by which the rule finds its events, or the body that contains it: leave the rule out',
+        ],
+    ),
     "the name by which a rule finds its element": (
         b'blank event x v["a b"].name\n', "line 1: BadPlace",
         [

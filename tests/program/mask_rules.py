@@ -43,6 +43,20 @@ REFUSED = [
     (b"drop event output category=a\nblank event * body.category\n", "line 2: Clash"),
     (b"digits event output body.category\ndrop event output category=a\n", "line 2: Clash"),
     (b"hex event output body.category\n\ndrop event * category=a\n", "line 3: Clash"),
+    # An action for the events of one category.
+    (b"digits request output category=a arguments.x", "line 1: BadRule"),
+    (b"digits response output category=a body.x", "line 1: BadRule"),
+    (b"digits event output category=a", "line 1: BadRule"),
+    (b"digits event output category= body.x", "line 1: BadRule"),
+    (b"digits event output category=abody.x", "line 1: BadRule"),
+    (b"digits event output category=a category=b body.x", "line 1: BadRule"),
+    (b"digits event output body.x category=a", "line 1: BadRule"),
+    (b"blank event output category=a body", "line 1: BadPlace"),
+    (b"blank event * category=a body.category", "line 1: BadPlace"),
+    (b"blank event output category=a body.x\nblank event * body\n", "line 2: Clash"),
+    (b"digits event * body.category\nhex event output category=a body.x\n", "line 2: Clash"),
+    (b"digits event output category=a body.x\nuuid event output body.x\n", "line 2: Clash"),
+    (b'blank event output category=a body.x\nblank event output category="\\u0061" body.x\n', "line 2: Repeated"),
     # A place that no rule may have, and a rule twice, are reported first.
     (b"digits event output body.category\ndrop event a category=a\ndigits event output body.category\n", "line 3: Repeated"),
     (b"blank event a v[x].y", "line 1: BadRule"),
@@ -243,6 +257,32 @@ CATEGORISED = [
     ('{"type":"response","command":"output","body":{"category":"a b"}}', '{"body":{"category":"a b"},"command":"output","type":"response"}'),
     ('{"type":"event","event":"gone","body":{"category":""}}', None),
     ('{"type":"event","event":"gone","body":{"category":null}}', '{"body":{"category":null},"event":"gone","type":"event"}'),
+]
+
+# Actions for the events of one category, which may have any order of lines, and what they leave.
+LIMITED = [
+    b"digits event output category=stderr body.output",
+    b'uuid event output category="a b" body.output',
+    b"hex event output category=stderr body.data.x",
+    b"digits event output category=stdout body.output",
+    b"blank event other body",
+    b"blank event output body.n",
+    b"blank event output body.output.category",
+    b"drop event output category=telemetry",
+]
+OF_A_CATEGORY = [
+    ('{"category":"stderr","output":"a17"}', '{"category":"stderr","output":"a0"}'),
+    ('{"category":"stdout","output":"a17"}', '{"category":"stdout","output":"a0"}'),
+    ('{"category":"console","output":"a17"}', '{"category":"console","output":"a17"}'),
+    ('{"category":["stderr"],"output":"a17"}', '{"category":["stderr"],"output":"a17"}'),
+    ('{"output":"a17"}', '{"output":"a17"}'),
+    ('{"category":"stderr","data":{"x":"at 0x1f"},"output":"b 0x1f"}', '{"category":"stderr","data":{"x":"at 0x0"},"output":"b 0x0f"}'),
+    ('{"category":"stdout","data":{"x":"at 0x1f"}}', '{"category":"stdout","data":{"x":"at 0x1f"}}'),
+    ('{"category":"a b","output":"%s 17"}' % ("0" * 7 + "1-0000-0000-0000-" + "0" * 12), '{"category":"a b","output":"%s 17"}' % ("0" * 8 + "-0000-0000-0000-" + "0" * 12)),
+    ('{"category":"telemetry","output":"a17"}', None),
+    # A content with a fraction is read as a tree.
+    ('{"category":"stderr","n":1.5,"output":"a17"}', '{"category":"stderr","n":0,"output":"a0"}'),
+    ('{"category":"stdin","n":1.5,"output":"a17"}', '{"category":"stdin","n":0,"output":"a17"}'),
 ]
 
 # Rules for elements by their name that are accepted beside one another.
@@ -446,6 +486,19 @@ def categories(report):
     masks(report, "events of a category, one after the other", CATEGORIES, whole, written)
 
 
+def of_a_category(report):
+    def event(body):
+        return '{"body":%s,"event":"output","type":"event"}' % body
+
+    orders = [LIMITED, LIMITED[::-1], LIMITED[3:] + LIMITED[:3]]
+    for number, (given, left) in enumerate(OF_A_CATEGORY, 1):
+        written = b"" if left is None else record("<" + event(left))
+        for lines in orders:
+            rules = b"".join(line + b"\n" for line in lines)
+            masks(report, f"actions by category, row {number}", rules, record("<" + event(given)), written)
+            masks(report, f"actions by category, masked again, row {number}", rules, written, written)
+
+
 def elements(report):
     left = record('<{"event":"stopped","type":"event"}')
     for number, rules in enumerate(BESIDE_ELEMENTS, 1):
@@ -514,4 +567,4 @@ def masked_recordings(report):
 
 
 if __name__ == "__main__":
-    sys.exit(judged(refused_rules, accepted_swaps, actions_together, names_first, categories, elements, a_thousand_rules, words, masked_contents, masked_recordings))
+    sys.exit(judged(refused_rules, accepted_swaps, actions_together, names_first, categories, of_a_category, elements, a_thousand_rules, words, masked_contents, masked_recordings))

@@ -13,6 +13,10 @@ use std::alloc::{AllocError, Global};
 const CATEGORY_ADVICE: &str =
     "no rule changes the category by which a rule drops events: leave one of them out";
 
+/// What to do about a rule for the category by which another rule selects the events to change.
+const LIMIT_ADVICE: &str =
+    "no rule changes the category by which a rule selects events: leave one of them out";
+
 /// What to do about a word that can overlap a text.
 const WORD_ADVICE: &str =
     "choose a word that shares no start or end with a text, such as \"<home>\"";
@@ -37,8 +41,10 @@ fn place_words(place: &[u8]) -> &'static str {
         "a member by which dapnorm recognises messages"
     } else if place.ends_with(b".name") || place.ends_with(b".\"name\"") {
         "the name by which the rule finds its element"
+    } else if matches!(place, b"body" | b"body.category") {
+        "the category by which the rule finds its events, or the body that contains it"
     } else if place.contains(&b'"') {
-        "an id, or a member by which dapnorm recognises messages"
+        "an id, or a member by which dapnorm or the rule recognises messages"
     } else {
         "an id that normalise renames, so no rule changes it"
     }
@@ -75,6 +81,32 @@ fn is_second_refused(lines: &mut Lines, parts: &[&[u8]], cause: RulesCause) -> b
     rules.is_some_and(|rules| fault_in(lines, rules.as_slice()) == fault)
 }
 
+/// Returns whether two lines exclude each other whatever the verb of the second one, which is not
+/// `drop`: one of them may change the category by which the other one selects events.
+fn is_by_category(lines: &mut Lines, earlier: &[u8], line: &[u8]) -> bool {
+    let rest = split_verb(line).1;
+    let parts = [earlier, b"\n".as_slice(), b"blank".as_slice(), rest];
+    is_second_refused(lines, &parts, RulesCause::Clash)
+}
+
+/// Returns how an earlier line clashes with a line, and what to do.
+fn clash_words(lines: &mut Lines, earlier: &[u8], line: &[u8]) -> (&'static str, &'static str) {
+    if has_verb(line, "drop") {
+        ("changes the category", CATEGORY_ADVICE)
+    } else if has_verb(earlier, "drop") {
+        ("drops events by this category", CATEGORY_ADVICE)
+    } else if is_by_category(lines, earlier, line) {
+        (
+            "selects events by the category that this line changes, or the other way round",
+            LIMIT_ADVICE,
+        )
+    } else if has_verb(line, "uuid") {
+        ("has a digits rule for the same place", UUID_ADVICE)
+    } else {
+        ("has a uuid rule for the same place", UUID_ADVICE)
+    }
+}
+
 /// Adds the lines about an earlier line that excludes a line for this reason, and what to do.
 fn add_earlier(lines: &mut Lines, number: usize, earlier: &[u8], line: &[u8], cause: RulesCause) {
     let (what, advice) = match cause {
@@ -86,10 +118,7 @@ fn add_earlier(lines: &mut Lines, number: usize, earlier: &[u8], line: &[u8], ca
             "has a text or a word that can overlap those of this line",
             WORD_ADVICE,
         ),
-        _ if has_verb(line, "drop") => ("changes the category", CATEGORY_ADVICE),
-        _ if has_verb(earlier, "drop") => ("drops events by this category", CATEGORY_ADVICE),
-        _ if has_verb(line, "uuid") => ("has a digits rule for the same place", UUID_ADVICE),
-        _ => ("has a uuid rule for the same place", UUID_ADVICE),
+        _ => clash_words(lines, earlier, line),
     };
     lines.write(format_args!("line {number} {what}"));
     lines.add(advice);

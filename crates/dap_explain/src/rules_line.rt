@@ -1,7 +1,7 @@
 //! Finds what is wrong with a line of a file of rules that is not a rule.
 use crate::lines::Lines;
 use crate::words::Bytes;
-use RulePart::{Category, Event, Kind, Name, Place, SecondKind, Text};
+use RulePart::{Category, Event, Kind, Limit, Name, Place, SecondKind, Text};
 use dap_mask::{ByteClass, any_name, is_end, name_at, place_at, split_run};
 use dap_profile::Kind as MessageKind;
 use std::str;
@@ -37,12 +37,14 @@ enum RulePart {
     Place,
     /// The category of the events that a rule drops, which may be missing.
     Category,
+    /// The category of the events that a rule changes, which may be missing.
+    Limit,
 }
 
 /// Returns the parts of a rule with a verb. A place is the last one.
 fn parts_of(verb: &[u8]) -> Option<&'static [RulePart]> {
     match verb {
-        b"blank" | b"digits" | b"hex" | b"long" | b"uuid" => Some(&[Kind, Name, Place]),
+        b"blank" | b"digits" | b"hex" | b"long" | b"uuid" => Some(&[Kind, Name, Limit, Place]),
         b"drop" => Some(&[Event, Name, Category]),
         b"swap" => Some(&[Kind, Name, SecondKind, Name]),
         b"word" => Some(&[Text, Text]),
@@ -56,6 +58,11 @@ fn kind_of(word: &[u8]) -> Option<MessageKind> {
     MessageKind::named(str::from_utf8(word).ok()?)
 }
 
+/// Returns whether the second word of a line is the kind of events.
+fn is_for_events(line: &[u8]) -> bool {
+    kind_of(split_verb(split_verb(line).1).0) == Some(MessageKind::Event)
+}
+
 impl RulePart {
     /// Returns that the part is missing.
     fn missing(self) -> &'static str {
@@ -64,7 +71,7 @@ impl RulePart {
             SecondKind => "a swap names two messages: write swap KIND NAME KIND NAME",
             Name => "after the kind comes a command or an event, or * for any",
             Text => "a text and its word are needed: write word TEXT WORD",
-            Place | Category => "after the name comes a place, such as body.reason",
+            Place | Category | Limit => "after the name comes a place, such as body.reason",
         }
     }
 
@@ -79,7 +86,7 @@ impl RulePart {
                 "is not a text: quote one with other characters than letters, digits, _, - and $",
             Place =>
                 "is not a place: write names with dots between them, [] for elements, and quotes as for names",
-            Category => "is not a category: write category= and a word or a JSON string",
+            Category | Limit => "is not a category: write category= and a word or a JSON string",
         }
     }
 
@@ -93,10 +100,19 @@ impl RulePart {
             Name => Some(lines.value_of(any_name(alloc, bytes))??.1),
             Text => Some(lines.value_of(name_at(alloc, bytes))??.1),
             Place => Some(lines.value_of(place_at(alloc, bytes))??.1),
-            Category => {
+            Category | Limit => {
                 let text = bytes.strip_prefix(b"category=")?;
                 Some(lines.value_of(name_at(alloc, text))??.1)
             }
+        }
+    }
+
+    /// Returns whether the part may be missing, and is not at the start of the text.
+    fn is_left_out(self, text: &[u8]) -> bool {
+        match self {
+            Category => is_end(text),
+            Limit => !after_blanks(text).starts_with(b"category="),
+            _ => false,
         }
     }
 
@@ -134,8 +150,12 @@ pub(crate) fn place_of<'l>(lines: &mut Lines, line: &'l [u8]) -> Option<&'l [u8]
         return None;
     };
     for part in parts {
-        if *part == Category && is_end(rest) {
-            break;
+        if part.is_left_out(rest) {
+            continue;
+        }
+        if *part == Limit && !is_for_events(line) {
+            lines.add("only a rule for events has a category: leave category= out");
+            return None;
         }
         (last, rest) = part.read(lines, rest)?;
     }

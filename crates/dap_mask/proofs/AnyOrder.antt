@@ -19,11 +19,14 @@ use Rattle.dap_profile.specs.declared.profile.Kind.{Kind, TheVariants.{Request, 
 use Rattle.dap_mask.specs.RuleSteps.{RuleStep, named, elements}
 use Rattle.dap_mask.specs.Rules.{Rule, takes_parts, plain_place_of, applies_at, is_telling_place}
 use Rattle.dap_mask.specs.Rules.{same_kind, same_name, same_rule_step, same_rule_place, rank}
-use Rattle.dap_mask.specs.Rules.{renames, comes_before, is_late, are_safe}
+use Rattle.dap_mask.specs.Rules.{renames, comes_before, is_late, are_safe, recategorises, disturb}
+use Rattle.dap_mask.specs.Rules.{disturbs_one_of}
 use Rattle.dap_mask.specs.Masked.{is_below, left_by, mask_by, masked}
 use Rattle.dap_mask.specs.declared.rules.Verb.{Verb}
 use Rattle.dap_mask.proofs.ByPath.{top-left_by, at-mask_by, ordered-mask_by, same_after, same_paths}
 use Rattle.dap_mask.proofs.ByPath.{first_placed, first_safe, first_renames, first_early, rest_safe}
+use Rattle.dap_mask.proofs.ByPath.{first_apart}
+use Rattle.dap_mask.proofs.CategoryKept.{disturb_both, first_leaves, second_leaves}
 use Rattle.dap_mask.proofs.RuleOrder.{same_action, not_before_itself, renames_no_earlier}
 use Rattle.dap_mask.proofs.RuleOrder.{same_kind_itself, same_rank}
 use Rattle.dap_mask.proofs.Settled.{by}
@@ -56,22 +59,23 @@ left_either r t d p o same =
     (is_below (plain_place_of t) p && takes_parts t.verb) o
     ∙ ap (left_by t d p) (sym (one o))
 
--- neither comes before the other, and neither renames an element that the other selects
+-- neither comes before the other, and neither changes a text by which the other selects
 record AreFree (r t : Rule) : Type 0 where
   verb : r.verb ≡ t.verb
   first_placed : is_telling_place r.place ≡ false
   placed : is_telling_place t.place ≡ false
   first : renames r t ≡ false
   second : renames t r ≡ false
+  apart : disturb r t ≡ false
 
 -- the values after both rules, with the names of the document before them
 both_left : (r t : Rule) (d : Doc) (p : List Step) → is_telling_place t.place ≡ false
-    → renames t r ≡ false
+    → renames t r ≡ false → recategorises t r ≡ false
     → option_map top (at p (mask_by r (mask_by t d)))
     ≡ left_by r d p (left_by t d p (option_map top (at p d)))
-both_left r t d p safe h =
+both_left r t d p safe h apart =
     at-mask_by r (mask_by t d) p ∙ top-left_by r (mask_by t d) p (at p (mask_by t d))
-    ∙ same_after t (r ∷ []) d p safe (or_both _ _ h refl)
+    ∙ same_after t (r ∷ []) d p safe (or_both _ _ h refl) (or_both _ _ apart refl)
     ∙ ap (left_by r d p) (at-mask_by t d p ∙ top-left_by t d p (at p d))
 
 commute : (r t : Rule) (d : Doc) → AreFree r t → is_ordered d ≡ true
@@ -79,16 +83,16 @@ commute : (r t : Rule) (d : Doc) → AreFree r t → is_ordered d ≡ true
 commute r t d free o =
     same_paths (mask_by t (mask_by r d)) (mask_by r (mask_by t d))
     (ordered-mask_by t (mask_by r d) (ordered-mask_by r d o))
-    (λ p. both_left r t d p free.placed free.second
+    (λ p. both_left r t d p free.placed free.second (second_leaves r t free.apart)
     ∙ left_either r t d p (option_map top (at p d)) free.verb
-    ∙ sym (both_left t r d p free.first_placed free.first))
+    ∙ sym (both_left t r d p free.first_placed free.first (first_leaves r t free.apart)))
 
 -- ---- equal rules
 
 abbrev is_equal : Rule → Rule → Bool
 is_equal r t =
     (rank r.verb == rank t.verb) && (same_kind r.kind t.kind && (same_name r.name t.name
-    && same_rule_place r.place t.place))
+    && (same_name r.category t.category && same_rule_place r.place t.place)))
 
 kind_is : (k l : Kind) → same_kind k l ≡ true → k ≡ l
 kind_is Request Request h = refl
@@ -125,15 +129,18 @@ rule_is : (r t : Rule) → is_equal r t ≡ true → r ≡ t
 rule_is r t h =
     let verb = and_parts (rank r.verb == rank t.verb) _ h in
     let kind = and_parts (same_kind r.kind t.kind) _ verb.1 in
-    let name = and_parts (same_name r.name t.name) (same_rule_place r.place t.place) kind.1 in
-    ap₂ (λ v k. made v k r.name r.place)
+    let name = and_parts (same_name r.name t.name) _ kind.1 in
+    let category = and_parts (same_name r.category t.category) (same_rule_place r.place t.place)
+    name.1 in
+    ap₂ (λ v k. made v k r.name r.category r.place)
     (same_rank r.verb t.verb (eqb-true (rank r.verb) (rank t.verb) verb.0))
     (kind_is r.kind t.kind kind.0)
-    ∙ ap₂ (λ n p. made t.verb t.kind n p) (name_is r.name t.name name.0)
-    (place_is r.place t.place name.1)
+    ∙ ap₂ (λ n c. made t.verb t.kind n c r.place) (name_is r.name t.name name.0)
+    (name_is r.category t.category category.0)
+    ∙ ap (λ p. made t.verb t.kind t.name t.category p) (place_is r.place t.place category.1)
   where
-    made : Verb → Kind → Option (List ℕ) → List RuleStep → Rule
-    made v k n p = record { verb = v; kind = k; name = n; place = p }
+    made : Verb → Kind → Option (List ℕ) → Option (List ℕ) → List RuleStep → Rule
+    made v k n c p = record { verb = v; kind = k; name = n; category = c; place = p }
 
 name_itself : (n : Option (List ℕ)) → same_name n n ≡ true
 name_itself None = refl
@@ -148,7 +155,8 @@ equals_itself : (r : Rule) → is_equal r r ≡ true
 equals_itself r =
     and_both _ _ (eq-eqb (rank r.verb) (rank r.verb) refl)
     (and_both _ _ (same_kind_itself r.kind)
-    (and_both _ _ (name_itself r.name) (place_itself r.place)))
+    (and_both _ _ (name_itself r.name)
+    (and_both _ _ (name_itself r.category) (place_itself r.place))))
 
 -- ---- lists of the same rules
 
@@ -261,7 +269,8 @@ safe_without (u ∷ us) r vs h =
     and_both _ _ (ap not (first_placed u (us ++ r ∷ vs) h))
     (and_both _ _
     (ap not (any_without (λ t. comes_before t u) us r vs (first_early u (us ++ r ∷ vs) h)))
-    (safe_without us r vs (rest_safe u (us ++ r ∷ vs) h)))
+    (and_both _ _ (ap not (any_without (disturb u) us r vs (first_apart u (us ++ r ∷ vs) h)))
+    (safe_without us r vs (rest_safe u (us ++ r ∷ vs) h))))
 
 -- a rule that comes before none, and that none comes before, may apply first
 moved : (r : Rule) (us vs : List Rule) (d : Doc) → is_telling_place r.place ≡ false
@@ -274,12 +283,16 @@ moved r (u ∷ us) vs d placed own early safe o =
     let after : comes_before r u ≡ false =
     or_left (comes_before r u) (is_late u vs)
     (any_back (λ t. comes_before t u) us (r ∷ vs) (first_early u behind safe)) in
+    let calm : disturb u r ≡ false =
+    or_left (disturb u r) (disturbs_one_of u vs)
+    (any_back (disturb u) us (r ∷ vs) (first_apart u behind safe)) in
     let free : AreFree r u = record {
       verb = same_action r u after before;
       first_placed = placed;
       placed = first_safe u behind safe;
       first = renames_no_earlier r u (first_renames u behind safe) after;
       second = renames_no_earlier u r own before;
+      apart = disturb_both u r calm;
     } in
     moved r us vs (mask_by u d) placed own (or_right (comes_before u r) (is_late r us) early)
     (rest_safe u behind safe) (ordered-mask_by u d o)

@@ -28,7 +28,7 @@ use Rattle.dap_mask.specs.Rules.{Rule, change_text, of_verb, takes_parts, has_na
 use Rattle.dap_mask.specs.Rules.{is_event_of, applies_at, plain_place_of, blank, renames}
 use Rattle.dap_mask.specs.Rules.{is_name_in, is_for_names, comes_before, same_kind, share_name}
 use Rattle.dap_mask.specs.Rules.{is_dropped, is_telling, is_telling_place, is_misplaced, is_late}
-use Rattle.dap_mask.specs.Rules.{are_safe}
+use Rattle.dap_mask.specs.Rules.{are_safe, has_head, has_category, recategorises, disturbs_one_of}
 use Rattle.dap_mask.specs.Masked.{is_below, left_at, left_by, left, IsMasked, AgreeBut, is_apart}
 use Rattle.dap_mask.specs.Masked.{mask_by, masked, named_by}
 use Rattle.dap_mask.specs.Texts.{digits, hex}
@@ -39,7 +39,8 @@ use Rattle.dap_mask.proofs.Edited.{top-verb, at-edit, left-none}
 use Rattle.dap_mask.proofs.ElementNames.{same_names, deep_names, and_first}
 use Rattle.dap_mask.proofs.RuleOrder.{names_end_in_member, no_shorter, renames_no_earlier}
 use Rattle.dap_mask.proofs.RuleOrder.{renames_none, none_for_names, not_before_itself}
-use Rattle.dap_mask.proofs.Matches.{both_apply}
+use Rattle.dap_mask.proofs.CategoryKept.{category_kept, leaves_all, names_disturb_none}
+use Rattle.dap_mask.proofs.Matches.{both_apply, head_of}
 
 -- ---- a rule applies to a masked document if and only if it applies to the original document
 
@@ -102,18 +103,40 @@ event-edit v ss [] d h = refl
 event-edit v ss (n ∷ ns) d h =
     ap₂ (λ a b. a || b) (name-edit v ss Event n d h) (event-edit v ss ns d h)
 
-spoken-edit : (v : Verb) (ss : List RuleStep) (q : Rule) (d : Doc) → is_telling_place ss ≡ false
-    → rule_applies q (change_at_place ss (of_verb v) d) ≡ rule_applies q d
-spoken-edit v ss q d h = ap₂ (λ a b. a && b) (kind-edit v ss q.kind d h)
+head-edit : (v : Verb) (ss : List RuleStep) (q : Rule) (d : Doc) → is_telling_place ss ≡ false
+    → has_head q (change_at_place ss (of_verb v) d) ≡ has_head q d
+head-edit v ss q d h = ap₂ (λ a b. a && b) (kind-edit v ss q.kind d h)
     (name-edit v ss q.kind q.name d h)
 
-pub spoken-mask_by : (r q : Rule) (d : Doc) → is_telling_place r.place ≡ false
-    → rule_applies q (mask_by r d) ≡ rule_applies q d
-spoken-mask_by r q d h = go (rule_applies r d)
+pub head-mask_by : (r q : Rule) (d : Doc) → is_telling_place r.place ≡ false
+    → has_head q (mask_by r d) ≡ has_head q d
+head-mask_by r q d h = go (rule_applies r d)
   where
-    go : (b : Bool) → rule_applies q (cond b (change_at_place r.place (of_verb r.verb) d) d) ≡ rule_applies q d
-    go true = spoken-edit r.verb r.place q d h
+    go : (b : Bool)
+        → has_head q (cond b (change_at_place r.place (of_verb r.verb) d) d) ≡ has_head q d
+    go true = head-edit r.verb r.place q d h
     go false = refl
+
+-- a rule that applies leaves whether another rule applies, if it may not change its category
+spoken-edit : (r q : Rule) (d : Doc) → is_telling_place r.place ≡ false
+    → recategorises r q ≡ false → rule_applies r d ≡ true
+    → rule_applies q (change_at_place r.place (of_verb r.verb) d) ≡ rule_applies q d
+spoken-edit r q d safe apart applies =
+    let e = change_at_place r.place (of_verb r.verb) d in
+    let head = head-edit r.verb r.place q d safe in
+    by_bool (has_head q d)
+    (λ t. ap₂ (λ a b. a && b) head (category_kept r q d safe apart (head_of r d applies) t))
+    (λ f. ap (λ a. a && has_category q.category e) (head ∙ f)
+    ∙ sym (ap (λ a. a && has_category q.category d) f))
+
+pub spoken-mask_by : (r q : Rule) (d : Doc) → is_telling_place r.place ≡ false
+    → recategorises r q ≡ false → rule_applies q (mask_by r d) ≡ rule_applies q d
+spoken-mask_by r q d h apart = go (rule_applies r d) refl
+  where
+    go : (b : Bool) → rule_applies r d ≡ b
+        → rule_applies q (cond b (change_at_place r.place (of_verb r.verb) d) d) ≡ rule_applies q d
+    go true a = spoken-edit r q d h apart a
+    go false a = refl
 
 dropped-mask_by : (r : Rule) (ns : List (Option (List ℕ))) (d : Doc) → is_telling_place r.place
     ≡ false
@@ -125,34 +148,63 @@ dropped-mask_by r ns d h = go (rule_applies r d)
         d h)
     go false = refl
 
+-- what `are_safe` says of the first rule
+pub record IsFirst (r : Rule) (rs : List Rule) : Type 0 where
+  pub placed : is_misplaced r ≡ false
+  pub early : is_late r rs ≡ false
+  pub apart : disturbs_one_of r rs ≡ false
+  pub rest : are_safe rs ≡ true
+
+is_first : (r : Rule) (rs : List Rule) → are_safe (r ∷ rs) ≡ true → IsFirst r rs
+is_first r rs h =
+    let calm = not (disturbs_one_of r rs) && are_safe rs in
+    let later = and_right (not (is_misplaced r)) (not (is_late r rs) && calm) h in
+    let others = and_right (not (is_late r rs)) calm later in
+    record {
+      placed = not-true (is_misplaced r) (and_left (not (is_misplaced r))
+          (not (is_late r rs) && calm) h);
+      early = not-true (is_late r rs) (and_left (not (is_late r rs)) calm later);
+      apart = not-true (disturbs_one_of r rs) (and_left (not (disturbs_one_of r rs)) (are_safe rs)
+          others);
+      rest = and_right (not (disturbs_one_of r rs)) (are_safe rs) others;
+    }
+
 pub first_placed : (r : Rule) (rs : List Rule) → are_safe (r ∷ rs) ≡ true → is_misplaced r ≡ false
-first_placed r rs h = not-true (is_misplaced r) (and_left (not (is_misplaced r))
-    (not (is_late r rs) && are_safe rs) h)
+first_placed r rs h = let first = is_first r rs h in first.placed
 
 pub first_safe : (r : Rule) (rs : List Rule) → are_safe (r ∷ rs) ≡ true → is_telling_place r.place
     ≡ false
-first_safe r rs h = or_left (is_telling_place r.place) (renames r r) (first_placed r rs h)
+first_safe r rs h =
+    or_left (is_telling_place r.place) (renames r r || recategorises r r) (first_placed r rs h)
+
+-- the first rule changes no text by which it selects
+first_own : (r : Rule) (rs : List Rule) → are_safe (r ∷ rs) ≡ true
+    → (renames r r || recategorises r r) ≡ false
+first_own r rs h =
+    or_right (is_telling_place r.place) (renames r r || recategorises r r) (first_placed r rs h)
 
 pub first_renames : (r : Rule) (rs : List Rule) → are_safe (r ∷ rs) ≡ true → renames r r ≡ false
-first_renames r rs h = or_right (is_telling_place r.place) (renames r r) (first_placed r rs h)
+first_renames r rs h = or_left (renames r r) (recategorises r r) (first_own r rs h)
 
--- no later rule comes before the first one, and the rest is safe
-later_safe : (r : Rule) (rs : List Rule) → are_safe (r ∷ rs) ≡ true
-    → (not (is_late r rs) && are_safe rs) ≡ true
-later_safe r rs h = and_right (not (is_misplaced r)) (not (is_late r rs) && are_safe rs) h
+pub first_leaves_own : (r : Rule) (rs : List Rule) → are_safe (r ∷ rs) ≡ true
+    → recategorises r r ≡ false
+first_leaves_own r rs h = or_right (renames r r) (recategorises r r) (first_own r rs h)
 
 pub first_early : (r : Rule) (rs : List Rule) → are_safe (r ∷ rs) ≡ true → is_late r rs ≡ false
-first_early r rs h =
-    not-true (is_late r rs) (and_left (not (is_late r rs)) (are_safe rs) (later_safe r rs h))
+first_early r rs h = let first = is_first r rs h in first.early
+
+pub first_apart : (r : Rule) (rs : List Rule) → are_safe (r ∷ rs) ≡ true
+    → disturbs_one_of r rs ≡ false
+first_apart r rs h = let first = is_first r rs h in first.apart
 
 pub rest_safe : (r : Rule) (rs : List Rule) → are_safe (r ∷ rs) ≡ true → are_safe rs ≡ true
-rest_safe r rs h = and_right (not (is_late r rs)) (are_safe rs) (later_safe r rs h)
+rest_safe r rs h = let first = is_first r rs h in first.rest
 
-pub spoken-masked : (rs : List Rule) (q : Rule) (d : Doc) → are_safe rs ≡ true
-    → rule_applies q (masked rs d) ≡ rule_applies q d
-spoken-masked [] q d h = refl
-spoken-masked (r ∷ rs) q d h = spoken-masked rs q (mask_by r d) (rest_safe r rs h)
-    ∙ spoken-mask_by r q d (first_safe r rs h)
+pub head-masked : (rs : List Rule) (q : Rule) (d : Doc) → are_safe rs ≡ true
+    → has_head q (masked rs d) ≡ has_head q d
+head-masked [] q d h = refl
+head-masked (r ∷ rs) q d h = head-masked rs q (mask_by r d) (rest_safe r rs h)
+    ∙ head-mask_by r q d (first_safe r rs h)
 
 pub dropped-masked : (rs : List Rule) (ns : List (Option (List ℕ))) (d : Doc) → are_safe rs ≡ true
     → is_dropped ns (masked rs d) ≡ is_dropped ns d
@@ -331,12 +383,12 @@ top_blank (object ms) = refl
 top_blank (id s z) = refl
 
 same_edit : (r q : Rule) (d : Doc) (p : List Step) (y : Doc) → is_telling_place r.place ≡ false
-    → renames r q ≡ false → rule_applies r d ≡ true
+    → renames r q ≡ false → recategorises r q ≡ false → rule_applies r d ≡ true
     → at p (change_at_place r.place (of_verb r.verb) d) ≡ Some y
     → Same q (change_at_place r.place (of_verb r.verb) d) d p
-same_edit r q d p y safe h applies there =
+same_edit r q d p y safe h apart applies there =
     let e = change_at_place r.place (of_verb r.verb) d in
-    let spoken = spoken-edit r.verb r.place q d safe in
+    let spoken = spoken-edit r q d safe apart applies in
     by_bool (rule_applies q d)
     (λ t. elim (same_names r.verb r.place q.place (Some d) p y
     (and_first (is_name_in r.place q.place)
@@ -352,37 +404,44 @@ same_edit r q d p y safe h applies there =
     ∙ sym (ap (λ b. b && has_names q.place (Some d) p) f)))
 
 pub same_by : (r q : Rule) (d : Doc) (p : List Step) (y : Doc) → is_telling_place r.place ≡ false
-    → renames r q ≡ false → at p (mask_by r d) ≡ Some y → Same q (mask_by r d) d p
-same_by r q d p y safe h there = go (rule_applies r d) refl there
+    → renames r q ≡ false → recategorises r q ≡ false → at p (mask_by r d) ≡ Some y
+    → Same q (mask_by r d) d p
+same_by r q d p y safe h apart there = go (rule_applies r d) refl there
   where
     go : (b : Bool) → rule_applies r d ≡ b
         → at p (cond b (change_at_place r.place (of_verb r.verb) d) d) ≡ Some y
         → Same q (cond b (change_at_place r.place (of_verb r.verb) d) d) d p
-    go true a k = same_edit r q d p y safe h a k
+    go true a k = same_edit r q d p y safe h apart a k
     go false a k = inl refl
 
 all_same_by : (r : Rule) (qs : List Rule) (d : Doc) (p : List Step) (y : Doc)
     → is_telling_place r.place ≡ false → list_any (renames r) qs ≡ false
+    → list_any (recategorises r) qs ≡ false
     → at p (mask_by r d) ≡ Some y → AreSame qs (mask_by r d) d p
-all_same_by r [] d p y safe h there = tt
-all_same_by r (q ∷ qs) d p y safe h there = (
-  same_by r q d p y safe (or_left (renames r q) (list_any (renames r) qs) h) there,
-  all_same_by r qs d p y safe (or_right (renames r q) (list_any (renames r) qs) h) there,
+all_same_by r [] d p y safe h apart there = tt
+all_same_by r (q ∷ qs) d p y safe h apart there = (
+  same_by r q d p y safe (or_left (renames r q) (list_any (renames r) qs) h)
+      (or_left (recategorises r q) (list_any (recategorises r) qs) apart) there,
+  all_same_by r qs d p y safe (or_right (renames r q) (list_any (renames r) qs) h)
+      (or_right (recategorises r q) (list_any (recategorises r) qs) apart) there,
 )
 
 same_or_none : (r : Rule) (qs : List Rule) (d : Doc) (p : List Step)
-    → is_telling_place r.place ≡ false → list_any (renames r) qs ≡ false → (o : Option Doc)
+    → is_telling_place r.place ≡ false → list_any (renames r) qs ≡ false
+    → list_any (recategorises r) qs ≡ false → (o : Option Doc)
     → at p (mask_by r d) ≡ o → (at p (mask_by r d) ≡ None) ⊎ AreSame qs (mask_by r d) d p
-same_or_none r qs d p safe h None is = inl is
-same_or_none r qs d p safe h (Some y) is = inr (all_same_by r qs d p y safe h is)
+same_or_none r qs d p safe h apart None is = inl is
+same_or_none r qs d p safe h apart (Some y) is = inr (all_same_by r qs d p y safe h apart is)
 
--- a rule that renames no element that the other rules select leaves their effect
+-- a rule that renames no element that the other rules select, and changes no category by which they
+-- apply, leaves their effect
 pub same_after : (r : Rule) (qs : List Rule) (d : Doc) (p : List Step)
     → is_telling_place r.place ≡ false → list_any (renames r) qs ≡ false
+    → list_any (recategorises r) qs ≡ false
     → left qs (mask_by r d) p (option_map top (at p (mask_by r d)))
     ≡ left qs d p (option_map top (at p (mask_by r d)))
-same_after r qs d p safe h =
-    left-same qs (mask_by r d) d p (same_or_none r qs d p safe h (at p (mask_by r d)) refl)
+same_after r qs d p safe h apart =
+    left-same qs (mask_by r d) d p (same_or_none r qs d p safe h apart (at p (mask_by r d)) refl)
 
 -- ---- the names of elements after the rules for names
 
@@ -408,7 +467,7 @@ names_stay t q d p safe e f own late = go (rule_applies t d) refl
         ≡ (rule_applies q d && has_names q.place (Some d) p)
     go false a = refl
     go true a =
-        let spoken = spoken-edit t.verb t.place q d safe in
+        let spoken = spoken-edit t q d safe (names_disturb_none t q e) a in
         by_bool (rule_applies q d)
         (λ b. ap₂ (λ x y. x && y) spoken (both a b))
         (λ b. ap (λ x. x && has_names q.place (Some changed) p) (spoken ∙ b)
@@ -476,6 +535,7 @@ at-masked (r ∷ rs) d h p =
         ∙ ap (λ x. option_map top (left rs x p (at p e))) (unnamed_by r rs e f early)
         ∙ top-left rs e p (at p e)
         ∙ same_after r rs d p (first_safe r rs h) (renames_none_of r rs f)
+        (leaves_all r rs (first_apart r rs h))
         ∙ sym (top-left rs d p (at p e))
         ∙ left-alike rs d p (at p e) (left_by r d p (at p d)) (at-mask_by r d p)
         ∙ sym (ap (λ x. option_map top (left (r ∷ rs) x p (at p d))) (unnamed_by r rs d f early))

@@ -28,8 +28,20 @@ event name body = object (member (codes "body") (text body) (member (codes "even
 -- two rules, of which the second changes the name of events
 abbrev unsafe : List Rule
 unsafe =
-    record { verb = Blank; kind = Event; name = Some []; place = named (codes "body") ∷ [] }
-    ∷ record { verb = Blank; kind = Event; name = None; place = named (codes "event") ∷ [] }
+    record {
+      verb = Blank;
+      kind = Event;
+      name = Some [];
+      category = None;
+      place = named (codes "body") ∷ [];
+    }
+    ∷ record {
+      verb = Blank;
+      kind = Event;
+      name = None;
+      category = None;
+      place = named (codes "event") ∷ [];
+    }
     ∷ []
 
 renames : masked unsafe (event (codes "output") (codes "x")) ≡ event [] (codes "x")
@@ -45,12 +57,14 @@ renaming =
       verb = Blank;
       kind = Event;
       name = None;
+      category = None;
       place = named (codes "body") ∷ elements (Some []) ∷ named (codes "value") ∷ [];
     }
     ∷ record {
       verb = Blank;
       kind = Event;
       name = None;
+      category = None;
       place = named (codes "body") ∷ elements None ∷ named (codes "name") ∷ [];
     }
     ∷ []

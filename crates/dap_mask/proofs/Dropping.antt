@@ -7,24 +7,24 @@ use Rattle.dap_mask.proofs.ElementNames.{and_other}
 use Rattle.dap_tree.specs.Doc.{Doc, get}
 use Rattle.dap_tree.specs.Path.{name, at}
 use Rattle.dap_tree.proofs.Booleans.{and_left, and_right, and_both, or_left, or_right, or_both}
-use Rattle.dap_profile.specs.PlaceSteps.{PlaceStep, named, each}
 use Rattle.dap_profile.specs.declared.profile.Kind.TheVariants.{Event}
 use Rattle.dap_message.specs.Places.{fits_place}
 use Rattle.dap_message.specs.Rows.{is_text, is_of_kind}
 use Rattle.dap_message.proofs.Edits.{by_bool}
 use Rattle.dap_message.proofs.RowMarks.{text-top, one_step}
-use Rattle.dap_mask.specs.Categories.{CategoryRule, category_path, category_place, drops}
-use Rattle.dap_mask.specs.Categories.{is_dropped_by, moves, is_moved_by, keep_categories}
+use Rattle.dap_mask.specs.Categories.{CategoryRule, drops, is_dropped_by, moves, is_moved_by}
+use Rattle.dap_mask.specs.Categories.{keep_categories}
 use Rattle.dap_mask.specs.Mask.{Mask, leaves_out}
 use Rattle.dap_mask.specs.Masked.{is_below, left_by, mask_by, masked}
 use Rattle.dap_mask.specs.Rules.{Rule, of_verb, takes_parts, has_name, rule_applies, is_event_of}
 use Rattle.dap_mask.specs.RuleSteps.{has_names}
-use Rattle.dap_mask.specs.Rules.{is_telling_place, are_safe, same_place, share_name, applies_at}
-use Rattle.dap_mask.specs.Rules.{plain_place_of}
+use Rattle.dap_mask.specs.Rules.{is_telling_place, are_safe, share_name, applies_at}
+use Rattle.dap_mask.specs.Rules.{plain_place_of, has_head, category_path}
 use Rattle.dap_mask.specs.declared.rules.Verb.TheVariants.{Blank}
-use Rattle.dap_mask.proofs.ByPath.{at-mask_by, first_safe, rest_safe, spoken-mask_by}
-use Rattle.dap_mask.proofs.ByPath.{spoken-masked, dropped-masked}
-use Rattle.dap_mask.proofs.Matches.{kind_alike, name_alike}
+use Rattle.dap_mask.proofs.ByPath.{at-mask_by, first_safe, rest_safe, head-mask_by, head-masked}
+use Rattle.dap_mask.proofs.ByPath.{dropped-masked}
+use Rattle.dap_mask.proofs.CategoryKept.{fits_category}
+use Rattle.dap_mask.proofs.Matches.{head_of, kind_alike, name_alike}
 
 -- ---- the category in the body
 
@@ -40,23 +40,13 @@ no_body w d h = ap (λ o. is_text w (option_and_then (at (name (codes "category"
 
 -- ---- one change
 
--- a place matches the path of the category if and only if it is the place of the category
-fits_category : (ps : List PlaceStep)
-    → fits_place ps category_path ≡ same_place ps category_place
-fits_category [] = refl
-fits_category (each ∷ ps) = refl
-fits_category (named j ∷ []) = refl
-fits_category (named j ∷ each ∷ ps) = refl
-fits_category (named j ∷ named k ∷ []) = refl
-fits_category (named j ∷ named k ∷ named l ∷ ps) = refl
-fits_category (named j ∷ named k ∷ each ∷ ps) = refl
-
 -- a change that may not move the category by which a rule drops an event has another place
 fits_not : (r : Rule) (c : CategoryRule) (d : Doc) → moves r c ≡ false
     → is_of_kind Event d ≡ true → has_name Event c.name d ≡ true
     → applies_at r d category_path ≡ true → fits_place (plain_place_of r) category_path ≡ true → ⊥
 fits_not r c d h event called applies fits =
-    let speaks = and_left (rule_applies r d) (has_names r.place (Some d) category_path) applies in
+    let speaks = head_of r d
+    (and_left (rule_applies r d) (has_names r.place (Some d) category_path) applies) in
     let kinds = kind_alike r.kind Event d (and_left (is_of_kind r.kind d)
     (has_name r.kind r.name d) speaks) event in
     let own : has_name Event r.name d ≡ true =
@@ -89,7 +79,7 @@ text_left r c d o h event called =
 
 -- a rule for the events of this name
 abbrev of_events : Option (List ℕ) → Rule
-of_events n = record { verb = Blank; kind = Event; name = n; place = [] }
+of_events n = record { verb = Blank; kind = Event; name = n; category = None; place = [] }
 
 -- an event that is dropped after a change was dropped before
 one_back : (r : Rule) (c : CategoryRule) (d : Doc) → is_telling_place r.place ≡ false
@@ -99,8 +89,8 @@ one_back r c d safe h event dropped =
     let e = mask_by r d in
     let called = and_left (has_name Event c.name e) (is_text c.category (at category_path e))
     dropped in
-    let before : rule_applies (of_events c.name) d ≡ true =
-    sym (spoken-mask_by r (of_events c.name) d safe)
+    let before : has_head (of_events c.name) d ≡ true =
+    sym (head-mask_by r (of_events c.name) d safe)
     ∙ and_both (is_of_kind Event e) (has_name Event c.name e) event called in
     let was = and_left (is_of_kind Event d) (has_name Event c.name d) before in
     let named_so = and_right (is_of_kind Event d) (has_name Event c.name d) before in
@@ -147,8 +137,8 @@ stays_in mask d safe keep stays =
     let e = masked mask.changes d in
     by_bool (is_of_kind Event e)
     (λ event.
-    let before : rule_applies (of_events None) d ≡ true =
-    sym (spoken-masked mask.changes (of_events None) d safe)
+    let before : has_head (of_events None) d ≡ true =
+    sym (head-masked mask.changes (of_events None) d safe)
     ∙ and_both (is_of_kind Event e) true event refl in
     let was : is_of_kind Event d ≡ true = and_left (is_of_kind Event d) true before in
     let none = and_other (is_of_kind Event d)

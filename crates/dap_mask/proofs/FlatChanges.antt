@@ -16,7 +16,8 @@ use Rattle.dap_flat_message.proofs.Replacing.{one_replaced, replaced_then, same_
 use Rattle.dap_mask.specs.FlatMasking.{AreChanged, IsTold, blanked, changed_at, changed_by}
 use Rattle.dap_mask.specs.FlatMasking.{changed_piece, with_text, squeezed}
 use Rattle.dap_mask.specs.Rules.{Rule, blank, change_text, of_verb}
-use Rattle.dap_mask.specs.RuleSteps.{is_called, change_called}
+use Rattle.dap_mask.specs.Index.{asks_for}
+use Rattle.dap_mask.specs.RuleSteps.{is_called, change_at_place, change_called}
 use Rattle.dap_mask.specs.declared.rules.Verb.{Verb, TheVariants.{Blank, Digits, Hex, Long, Uuid}}
 
 -- ---- one node
@@ -109,28 +110,46 @@ not_called ns at n f b told is d h =
 
 -- ---- rules, one after the other
 
-pub none_changed : (rs : List Rule) (is : List ℕ) (ns : List Node) → AreChanged rs is is ns ns
-none_changed rs is ns d h = (d, same_again ns 0 (pieces d) h, refl)
+pub none_changed : (t : Option (List ℕ)) (rs : List Rule) (is : List ℕ) (ns : List Node)
+    → AreChanged t rs is is ns ns
+none_changed t rs is ns d h = (d, same_again ns 0 (pieces d) h, refl)
 
-pub one_changed : (rs : List Rule) (is : List ℕ) (i x : ℕ) (old now new : List Node)
-    → i < length is → AreChanged rs (drop i is) is old now
-    → Edits now new 0 (changed_by (slice_get rs (get_or is i x)))
-    → AreChanged rs (drop (i + 1) is) is old new
-one_changed rs is i x old now new within changed edits d h =
+pub one_changed : (t : Option (List ℕ)) (rs : List Rule) (is : List ℕ) (i x : ℕ)
+    (old now new : List Node) → i < length is → AreChanged t rs (drop i is) is old now
+    → Edits now new 0 (changed_by t (slice_get rs (get_or is i x)))
+    → AreChanged t rs (drop (i + 1) is) is old new
+one_changed t rs is i x old now new within changed edits d h =
     let m = changed d h in
-    let f = changed_by (slice_get rs (get_or is i x)) in (
+    let f = changed_by t (slice_get rs (get_or is i x)) in (
       f m.0,
       replaced_then old now new 0 (pieces d) (pieces m.0) (pieces (f m.0)) m.1
           (edits m.0 (stands_now old now 0 (pieces d) (pieces m.0) m.1)),
-      sym (at_drop_more (λ js. changed_at rs js m.0) is i x within) ∙ m.2,
+      sym (at_drop_more (λ js. changed_at t rs js m.0) is i x within) ∙ m.2,
     )
 
-pub all_changed : (rs : List Rule) (left is : List ℕ) (old now : List Node) → left ≡ []
-    → AreChanged rs left is old now → Edits old now 0 (changed_at rs is)
-all_changed rs left is old now none changed d h =
+pub all_changed : (t : Option (List ℕ)) (rs : List Rule) (left is : List ℕ) (old now : List Node)
+    → left ≡ [] → AreChanged t rs left is old now → Edits old now 0 (changed_at t rs is)
+all_changed t rs left is old now none changed d h =
     let m = changed d h in
     subst (λ e. Replaced old now 0 (pieces d) (pieces e))
-    (ap (λ js. changed_at rs js m.0) (sym none) ∙ m.2) m.1
+    (ap (λ js. changed_at t rs js m.0) (sym none) ∙ m.2) m.1
+
+-- a rule for messages of the category, and a rule for others
+pub rule_asked : (t : Option (List ℕ)) (r : Rule) (old new : List Node) (b : Bool)
+    → b ≡ asks_for r.category t → b ≡ true
+    → Edits old new 0 (change_at_place r.place (of_verb r.verb))
+    → Edits old new 0 (changed_by t (Some r))
+rule_asked t r old new b is asked edits d h =
+    subst (λ e. Replaced old new 0 (pieces d) (pieces e))
+    (ap (λ c. cond c (change_at_place r.place (of_verb r.verb) d) d) (sym asked ∙ is))
+    (edits d h)
+
+pub rule_not_asked : (t : Option (List ℕ)) (r : Rule) (ns : List Node) (b : Bool)
+    → b ≡ asks_for r.category t → b ≡ false → Edits ns ns 0 (changed_by t (Some r))
+rule_not_asked t r ns b is other d h =
+    subst (λ e. Replaced ns ns 0 (pieces d) (pieces e))
+    (ap (λ c. cond c (change_at_place r.place (of_verb r.verb) d) d) (sym other ∙ is))
+    (same_again ns 0 (pieces d) h)
 
 -- ---- a whole document
 

@@ -13,10 +13,10 @@ use Rattle.dap_profile.specs.declared.profile.Kind.TheVariants.{Request, Respons
 use Rattle.dap_flat.specs.declared.node.Node.{Node}
 use Rattle.dap_flat.specs.Finding.{Finds, FindsChild, Found}
 use Rattle.dap_flat.specs.Pieces.{pieces}
-use Rattle.dap_mask.specs.Categories.{CategoryRule, category_path, drops, is_dropped_by}
+use Rattle.dap_mask.specs.Categories.{CategoryRule, drops, is_dropped_by}
 use Rattle.dap_mask.specs.FlatMasking.{asks_for_event, IsTold}
 use Rattle.dap_mask.specs.Index.{asks_for, told_kind, told_name}
-use Rattle.dap_mask.specs.Rules.{has_name, is_event_of}
+use Rattle.dap_mask.specs.Rules.{category_path, has_name, is_event_of}
 use Rattle.dap_mask.proofs.Indexed.{name_asked, text_asked}
 
 -- ---- the value of a member

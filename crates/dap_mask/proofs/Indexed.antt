@@ -2,16 +2,19 @@
 use Rattle.std.proofs.Common.{◌≡◌, ℕ, zero, suc, Bool, true, false, cond, ◌&&◌, List, [], ◌∷◌, ◌++◌}
 use Rattle.std.proofs.Common.{length, drop, Option, Some, None, unwrap_or, bytes_eq, refl, sym}
 use Rattle.std.proofs.Common.{◌∙◌, ap, ap₂, subst, true≢false, append_assoc, option_map}
-use Rattle.std.proofs.Common.{string_bytes, Vec, Global, ◌<◌, ◌≤◌, arith}
+use Rattle.std.proofs.Common.{string_bytes, String, Vec, Global, ◌<◌, ◌≤◌, arith}
 use Rattle.std.proofs.lemmas.Slice.Eq.{bytes_eq-Decides}
 use Rattle.std.specs.BTreeMap.{IsEmpty, get_by_text, is_at}
 use Rattle.std.specs.Cmp.Lexicographic.{slice_cmp}
-use Rattle.std.specs.List.{AllByRecursion, filter, slice_get, slice_index_or}
+use Rattle.std.specs.List.{AllByRecursion, filter, list_any, slice_get, slice_index_or}
 use Rattle.std.specs.Map.{lookup}
 use Rattle.std.specs.Option.{option_to_list}
 use Rattle.std.specs.Ordering.{nat_cmp}
 use Rattle.std.proofs.lemmas.Bool.{and_left as not_both}
 use Rattle.dap_tree.specs.Doc.{Doc, null, boolean, whole, text, list, object, id, get}
+use Rattle.dap_tree.specs.Path.{at}
+use Rattle.dap_tree.proofs.Booleans.{or_left, or_right}
+use Rattle.std.specs.Prelude.{is_some}
 use Rattle.dap_message.specs.Rows.{is_of_kind, name_key, is_text}
 use Rattle.dap_profile.specs.declared.profile.Kind.{Kind, TheVariants.{Request, Response, Event}}
 use Rattle.dap_message.proofs.Edits.{by_bool}
@@ -20,12 +23,16 @@ use Rattle.dap_mask.specs.Index.{positions_from, positions, rules_at, masked_by,
 use Rattle.dap_mask.specs.Index.{NamePlaces, kept_for, AreRight, AsksNot, HasAsked, AddsName}
 use Rattle.dap_mask.specs.Index.{IsIndex}
 use Rattle.dap_mask.specs.Masked.{mask_by, masked}
+use Rattle.dap_mask.specs.FlatMasking.{told_category, is_limited, are_limited, asked_category}
 use Rattle.dap_mask.specs.FlatMasking.{changed_at, changed_by}
+use Rattle.dap_mask.specs.RuleSteps.{change_at_place}
 use Rattle.dap_mask.specs.Rules.{Rule, rule_of, rules_of, has_name, rule_applies, same_kind}
-use Rattle.dap_mask.specs.Rules.{are_safe, is_telling_place}
+use Rattle.dap_mask.specs.Rules.{are_safe, is_telling_place, has_head, has_category, recategorises}
+use Rattle.dap_mask.specs.Rules.{category_path, of_verb}
 use Rattle.dap_mask.specs.declared.index.KindRules.{KindRules}
 use Rattle.dap_mask.specs.declared.rules.MaskRule.{MaskRule}
-use Rattle.dap_mask.proofs.ByPath.{first_safe, rest_safe, spoken-mask_by}
+use Rattle.dap_mask.proofs.ByPath.{first_apart, first_safe, rest_safe, head-mask_by}
+use Rattle.dap_mask.proofs.CategoryKept.{category_after, leaves_all}
 use Rattle.dap_mask.proofs.Matches.{kind_alike}
 
 -- ---- names that no rule contains
@@ -183,11 +190,11 @@ pub name_asked : (k : Kind) (m : Option (List ℕ)) (d : Doc)
 name_asked k None d = refl
 name_asked k (Some m) d = text_asked m (get (name_key k) d)
 
-spoken-may : (d : Doc) (k : Kind) (r : Rule) → told_kind d ≡ Some k
-    → rule_applies r d ≡ may_speak k (told_name k d) r
-spoken-may d k r h = by_bool (is_of_kind r.kind d) is_kind is_other
+head-may : (d : Doc) (k : Kind) (r : Rule) → told_kind d ≡ Some k
+    → has_head r d ≡ may_speak k (told_name k d) r
+head-may d k r h = by_bool (is_of_kind r.kind d) is_kind is_other
   where
-    is_kind : is_of_kind r.kind d ≡ true → rule_applies r d ≡ may_speak k (told_name k d) r
+    is_kind : is_of_kind r.kind d ≡ true → has_head r d ≡ may_speak k (told_name k d) r
     is_kind p =
         let kinds = kind_alike r.kind k d p (told_true k d h) in
         ap₂ (λ a b. a && b) (p ∙ sym kinds.0)
@@ -198,7 +205,7 @@ spoken-may d k r h = by_bool (is_of_kind r.kind d) is_kind is_other
         absurd (true≢false (sym (told_true k d h)
         ∙ ap (λ j. is_of_kind j d) (sym (same_is r.kind k s)) ∙ p))
 
-    is_other : is_of_kind r.kind d ≡ false → rule_applies r d ≡ may_speak k (told_name k d) r
+    is_other : is_of_kind r.kind d ≡ false → has_head r d ≡ may_speak k (told_name k d) r
     is_other p =
         not_both (is_of_kind r.kind d) (has_name r.kind r.name d) p
         ∙ sym (not_both (same_kind r.kind k) (asks_for r.name (told_name k d))
@@ -209,21 +216,24 @@ spoken-may d k r h = by_bool (is_of_kind r.kind d) is_kind is_other
 unspoken : (r : Rule) (d : Doc) → rule_applies r d ≡ false → mask_by r d ≡ d
 unspoken r d h = rw h refl
 
-unmasked : (rs : List Rule) (d : Doc) → ((r : Rule) → rule_applies r d ≡ false) → masked rs d ≡ d
+unheaded : (r : Rule) (d : Doc) → has_head r d ≡ false → mask_by r d ≡ d
+unheaded r d h = unspoken r d (not_both (has_head r d) (has_category r.category d) h)
+
+unmasked : (rs : List Rule) (d : Doc) → ((r : Rule) → has_head r d ≡ false) → masked rs d ≡ d
 unmasked [] d h = refl
-unmasked (r ∷ rs) d h = ap (masked rs) (unspoken r d (h r)) ∙ unmasked rs d h
+unmasked (r ∷ rs) d h = ap (masked rs) (unheaded r d (h r)) ∙ unmasked rs d h
 
 abbrev FiltersTo : (Rule → Bool) → List Rule → Type 0
-FiltersTo p rs = (d : Doc) → ((r : Rule) → rule_applies r d ≡ p r) → masked (filter p rs) d
+FiltersTo p rs = (d : Doc) → ((r : Rule) → has_head r d ≡ p r) → masked (filter p rs) d
     ≡ masked rs d
 
 filter_step : (p : Rule → Bool) (r : Rule) (rs : List Rule) (d : Doc) (b : Bool)
-    → is_telling_place r.place ≡ false → ((q : Rule) → rule_applies q d ≡ p q) → p r ≡ b
+    → is_telling_place r.place ≡ false → ((q : Rule) → has_head q d ≡ p q) → p r ≡ b
     → FiltersTo p rs → masked (cond b (r ∷ filter p rs) (filter p rs)) d ≡ masked rs (mask_by r d)
 filter_step p r rs d true t h e later =
-    later (mask_by r d) (λ q. spoken-mask_by r q d t ∙ h q)
+    later (mask_by r d) (λ q. head-mask_by r q d t ∙ h q)
 filter_step p r rs d false t h e later =
-    later d h ∙ ap (masked rs) (sym (unspoken r d (h r ∙ e)))
+    later d h ∙ ap (masked rs) (sym (unheaded r d (h r ∙ e)))
 
 masked-filter : (p : Rule → Bool) (rs : List Rule) → are_safe rs ≡ true → FiltersTo p rs
 masked-filter p [] s d h = refl
@@ -245,52 +255,129 @@ pub masked_by_index : (rs : List Rule) (d : Doc) (k : Kind) → are_safe rs ≡ 
 masked_by_index rs d k safe h =
     masked_at-rules rs (positions k (told_name k d) rs) d
     ∙ ap (λ qs. masked qs d) (at_positions k (told_name k d) [] rs)
-    ∙ masked-filter (may_speak k (told_name k d)) rs safe d (λ r. spoken-may d k r h)
+    ∙ masked-filter (may_speak k (told_name k d)) rs safe d (λ r. head-may d k r h)
 
--- ---- changes by the rules that apply
+-- ---- changes by the rules that apply, which leave the category of the message
 
-abbrev changed_all : List Rule → Doc → Doc
-changed_all [] d = d
-changed_all (r ∷ rs) d = changed_all rs (changed_by (Some r) d)
+-- the rule is for the category or for any
+category_asked : (c : Option (List ℕ)) (d : Doc)
+    → has_category c d ≡ asks_for c (told_category d)
+category_asked None d = refl
+category_asked (Some c) d = text_asked c (at category_path d)
 
-spoken : (r : Rule) (d : Doc) → rule_applies r d ≡ true → changed_by (Some r) d ≡ mask_by r d
-spoken r d h = rw h refl
+-- a rule that passes the test is for the category t if and only if it is for that of the document
+abbrev IsAsked : (Rule → Bool) → Option (List ℕ) → Doc → Rule → Type 0
+IsAsked p t d r = p r ≡ true → asks_for r.category t ≡ has_category r.category d
 
-abbrev ChangesTo : (Rule → Bool) → List Rule → Type 0
-ChangesTo p rs = (d : Doc) → ((r : Rule) → rule_applies r d ≡ p r)
-    → changed_all (filter p rs) d ≡ masked rs d
+all_asked : (p : Rule → Bool) (d : Doc) (rs : List Rule)
+    → AllByRecursion (IsAsked p (told_category d) d) rs
+all_asked p d [] = tt
+all_asked p d (r ∷ rs) = (λ _. sym (category_asked r.category d), all_asked p d rs)
 
-change_step : (p : Rule → Bool) (r : Rule) (rs : List Rule) (d : Doc) (b : Bool)
-    → is_telling_place r.place ≡ false → ((q : Rule) → rule_applies q d ≡ p q) → p r ≡ b
-    → ChangesTo p rs
-    → changed_all (cond b (r ∷ filter p rs) (filter p rs)) d ≡ masked rs (mask_by r d)
-change_step p r rs d true t h e later =
-    ap (changed_all (filter p rs)) (spoken r d (h r ∙ e))
-    ∙ later (mask_by r d) (λ q. spoken-mask_by r q d t ∙ h q)
-change_step p r rs d false t h e later =
-    later d h ∙ ap (masked rs) (sym (unspoken r d (h r ∙ e)))
+-- a rule that changes no category by which the others apply leaves whether they apply
+asked_after : (p : Rule → Bool) (t : Option (List ℕ)) (r : Rule) (qs : List Rule) (d : Doc)
+    → is_telling_place r.place ≡ false → list_any (recategorises r) qs ≡ false
+    → ((q : Rule) → has_head q d ≡ p q) → AllByRecursion (IsAsked p t d) qs
+    → AllByRecursion (IsAsked p t (mask_by r d)) qs
+asked_after p t r [] d safe apart h asked = tt
+asked_after p t r (q ∷ qs) d safe apart h asked = (
+  λ e. asked.0 e ∙ sym (category_after r q d safe
+      (or_left (recategorises r q) (list_any (recategorises r) qs) apart) (h q ∙ e)),
+  asked_after p t r qs d safe (or_right (recategorises r q) (list_any (recategorises r) qs) apart)
+      h asked.1,
+)
 
-changed-filter : (p : Rule → Bool) (rs : List Rule) → are_safe rs ≡ true → ChangesTo p rs
-changed-filter p [] s d h = refl
-changed-filter p (r ∷ rs) s d h =
-    change_step p r rs d (p r) (first_safe r rs s) h refl (changed-filter p rs (rest_safe r rs s))
+abbrev changed_all : Option (List ℕ) → List Rule → Doc → Doc
+changed_all t [] d = d
+changed_all t (r ∷ rs) d = changed_all t rs (changed_by t (Some r) d)
 
-changed_at-rules : (rs : List Rule) (is : List ℕ) (d : Doc)
-    → changed_at rs is d ≡ changed_all (rules_at rs is) d
-changed_at-rules rs [] d = refl
-changed_at-rules rs (i ∷ is) d = go (slice_get rs i) (changed_at-rules rs is)
+spoken : (t : Option (List ℕ)) (r : Rule) (d : Doc) → has_head r d ≡ true
+    → asks_for r.category t ≡ has_category r.category d → changed_by t (Some r) d ≡ mask_by r d
+spoken t r d h asked =
+    ap (λ b. cond b e d) asked ∙ sym (ap (λ b. cond (b && has_category r.category d) e d) h)
   where
-    go : (o : Option Rule) → ((e : Doc) → changed_at rs is e ≡ changed_all (rules_at rs is) e)
-        → changed_at rs is (changed_by o d) ≡ changed_all (option_to_list o ++ rules_at rs is) d
+    e : Doc
+    e = change_at_place r.place (of_verb r.verb) d
+
+abbrev ChangesTo : Option (List ℕ) → (Rule → Bool) → List Rule → Type 0
+ChangesTo t p rs = (d : Doc) → ((r : Rule) → has_head r d ≡ p r)
+    → AllByRecursion (IsAsked p t d) rs → changed_all t (filter p rs) d ≡ masked rs d
+
+change_step : (t : Option (List ℕ)) (p : Rule → Bool) (r : Rule) (rs : List Rule) (d : Doc)
+    (b : Bool) → is_telling_place r.place ≡ false → list_any (recategorises r) rs ≡ false
+    → ((q : Rule) → has_head q d ≡ p q) → AllByRecursion (IsAsked p t d) (r ∷ rs) → p r ≡ b
+    → ChangesTo t p rs
+    → changed_all t (cond b (r ∷ filter p rs) (filter p rs)) d ≡ masked rs (mask_by r d)
+change_step t p r rs d true safe apart h asked e later =
+    ap (changed_all t (filter p rs)) (spoken t r d (h r ∙ e) (asked.0 e))
+    ∙ later (mask_by r d) (λ q. head-mask_by r q d safe ∙ h q)
+    (asked_after p t r rs d safe apart h asked.1)
+change_step t p r rs d false safe apart h asked e later =
+    later d h asked.1 ∙ ap (masked rs) (sym (unheaded r d (h r ∙ e)))
+
+changed-filter : (t : Option (List ℕ)) (p : Rule → Bool) (rs : List Rule) → are_safe rs ≡ true
+    → ChangesTo t p rs
+changed-filter t p [] s d h asked = refl
+changed-filter t p (r ∷ rs) s d h asked =
+    change_step t p r rs d (p r) (first_safe r rs s) (leaves_all r rs (first_apart r rs s)) h asked
+    refl (changed-filter t p rs (rest_safe r rs s))
+
+changed_at-rules : (t : Option (List ℕ)) (rs : List Rule) (is : List ℕ) (d : Doc)
+    → changed_at t rs is d ≡ changed_all t (rules_at rs is) d
+changed_at-rules t rs [] d = refl
+changed_at-rules t rs (i ∷ is) d = go (slice_get rs i) (changed_at-rules t rs is)
+  where
+    go : (o : Option Rule)
+        → ((e : Doc) → changed_at t rs is e ≡ changed_all t (rules_at rs is) e)
+        → changed_at t rs is (changed_by t o d)
+        ≡ changed_all t (option_to_list o ++ rules_at rs is) d
     go None later = later d
-    go (Some r) later = later (changed_by (Some r) d)
+    go (Some r) later = later (changed_by t (Some r) d)
+
+-- rules without a category change messages of all categories alike
+one_unlimited : (t u : Option (List ℕ)) (o : Option Rule) (d : Doc) → is_limited o ≡ false
+    → changed_by t o d ≡ changed_by u o d
+one_unlimited t u None d h = refl
+one_unlimited t u (Some r) d h = go r.category h
+  where
+    e : Doc
+    e = change_at_place r.place (of_verb r.verb) d
+
+    go : (c : Option (List ℕ)) → is_some c ≡ false
+        → cond (asks_for c t) e d ≡ cond (asks_for c u) e d
+    go None k = refl
+    go (Some c) k = cc
+
+unlimited : (t u : Option (List ℕ)) (rs : List Rule) (is : List ℕ) (d : Doc)
+    → are_limited rs is ≡ false → changed_at t rs is d ≡ changed_at u rs is d
+unlimited t u rs [] d h = refl
+unlimited t u rs (i ∷ is) d h =
+    ap (changed_at t rs is) (one_unlimited t u (slice_get rs i) d
+    (or_left (is_limited (slice_get rs i)) (are_limited rs is) h))
+    ∙ unlimited t u rs is (changed_by u (slice_get rs i) d)
+    (or_right (is_limited (slice_get rs i)) (are_limited rs is) h)
+
+category_enough : (rs : List Rule) (is : List ℕ) (d e : Doc)
+    → changed_at (asked_category rs is d) rs is e ≡ changed_at (told_category d) rs is e
+category_enough rs is d e = go (are_limited rs is) refl
+  where
+    go : (b : Bool) → are_limited rs is ≡ b
+        → changed_at (cond b (told_category d) None) rs is e
+        ≡ changed_at (told_category d) rs is e
+    go true h = refl
+    go false h = unlimited None (told_category d) rs is e h
 
 pub changed_by_index : (rs : List Rule) (d : Doc) (k : Kind) → are_safe rs ≡ true
-    → told_kind d ≡ Some k → changed_at rs (positions k (told_name k d) rs) d ≡ masked rs d
+    → told_kind d ≡ Some k
+    → changed_at (asked_category rs (positions k (told_name k d) rs) d) rs
+    (positions k (told_name k d) rs) d ≡ masked rs d
 changed_by_index rs d k safe h =
-    changed_at-rules rs (positions k (told_name k d) rs) d
-    ∙ ap (λ qs. changed_all qs d) (at_positions k (told_name k d) [] rs)
-    ∙ changed-filter (may_speak k (told_name k d)) rs safe d (λ r. spoken-may d k r h)
+    let t = told_category d in
+    let may = may_speak k (told_name k d) in
+    category_enough rs (positions k (told_name k d) rs) d d
+    ∙ changed_at-rules t rs (positions k (told_name k d) rs) d
+    ∙ ap (λ qs. changed_all t qs d) (at_positions k (told_name k d) [] rs)
+    ∙ changed-filter t may rs safe d (λ r. head-may d k r h) (all_asked may d rs)
 
 pub masked_untold : (rs : List Rule) (d : Doc) → told_kind d ≡ None → masked rs d ≡ d
 masked_untold rs d h =
@@ -298,6 +385,13 @@ masked_untold rs d h =
     (told_none d h r.kind))
 
 -- ---- the program's rules
+
+some_read : (o : Option (String Global)) → is_some o ≡ is_some (option_map string_bytes o)
+some_read None = refl
+some_read (Some s) = refl
+
+pub limit_known : (r : MaskRule) → is_some r.category ≡ is_limited (Some (rule_of r))
+limit_known r = some_read r.category
 
 pub rule_found : (xs : List MaskRule) (i : ℕ) (r : MaskRule) → i < length xs
     → r ≡ slice_index_or xs i r → slice_get (rules_of xs) i ≡ Some (rule_of r)

@@ -10,7 +10,7 @@ use Rattle.dap_message.specs.Places.{fits_place}
 use Rattle.dap_profile.specs.ProfileRows.{ProfileRow}
 use Rattle.dap_message.specs.Rows.{row_applies, is_text, is_of_kind, name_key, may_have_body}
 use Rattle.dap_profile.specs.declared.profile.Kind.{Kind}
-use Rattle.dap_mask.specs.Rules.{Rule, of_verb, takes_parts, has_name, rule_applies}
+use Rattle.dap_mask.specs.Rules.{Rule, of_verb, takes_parts, has_name, has_head, rule_applies}
 use Rattle.dap_mask.specs.RuleSteps.{has_names}
 use Rattle.dap_mask.specs.Rules.{are_safe, applies_at, plain_place_of, is_for_names}
 use Rattle.dap_mask.specs.Masked.{is_below, left_by, left, mask_by, masked, named_by}
@@ -20,12 +20,12 @@ use Rattle.dap_message.specs.Marks.{top}
 use Rattle.dap_profile.specs.Profile.{profile, wants_id}
 use Rattle.std.specs.Prelude.{Contains}
 use Rattle.std.specs.List.{slice_index_or, filter}
-use Rattle.dap_mask.proofs.ByPath.{left_nothing, at-masked, none_from, spoken-mask_by}
+use Rattle.dap_mask.proofs.ByPath.{left_nothing, at-masked, none_from, head-mask_by}
 use Rattle.dap_mask.proofs.ByPath.{first_safe, rest_safe}
-use Rattle.dap_mask.proofs.Matches.{fits_same, kind_alike, name_alike}
+use Rattle.dap_mask.proofs.Matches.{fits_same, head_of, kind_alike, name_alike}
 
 -- if a rule and a row both apply to a document, they may apply to the same message
-both_meet : (r : Rule) (k : Option Kind) (n : Option (List ℕ)) (d : Doc) → rule_applies r d ≡ true
+both_meet : (r : Rule) (k : Option Kind) (n : Option (List ℕ)) (d : Doc) → has_head r d ≡ true
     → row_applies k n d ≡ true → meets r k n ≡ true
 both_meet r None n d h g = refl
 both_meet r (Some k) None d h g =
@@ -44,12 +44,12 @@ both_meet r (Some k) (Some n) d h g =
     (has_name r.kind r.name d) h) (subst (λ j. has_name j (Some n) d ≡ true) (sym kinds.1)
     row_name))
 
--- rules apply to both documents, or to none of them
+-- both documents have the kind and name of a rule, or none of them
 abbrev ApplyAlike : Doc → Doc → Type 0
-ApplyAlike e d = (r : Rule) → rule_applies r e ≡ rule_applies r d
+ApplyAlike e d = (r : Rule) → has_head r e ≡ has_head r d
 
 -- a rule that does not take the id of a row keeps the id, or removes it with a value that contains
--- it, also with the names of another document to which the same rules apply
+-- it, also with the names of another document that has the kinds and names of the same rules
 one_left : (r : Rule) (row : ProfileRow) (e d : Doc) (p : List Step) (o : Option Doc)
     → ApplyAlike e d → takes_id r row ≡ false → wants_id row.want ≡ true
     → row_applies row.kind row.name d ≡ true → fits_place row.place p ≡ true
@@ -60,7 +60,8 @@ one_left r row e d p o alike free wants asked fits =
     (λ s f. true≢false (sym (and_both _ _ wants (and_both _ _
     (fits_same (plain_place_of r) row.place p f fits)
     (both_meet r row.kind row.name d
-    (sym (alike r) ∙ and_left (rule_applies r e) (has_names r.place (Some e) p) s) asked)))
+    (sym (alike r) ∙ head_of r e (and_left (rule_applies r e) (has_names r.place (Some e) p) s))
+    asked)))
     ∙ free)) refl refl
   where
     go : (a b c : Bool) → (applies_at r e p ≡ true → fits_place (plain_place_of r) p ≡ true → ⊥)
@@ -126,9 +127,9 @@ named_alike (t ∷ ts) d safe r =
     others : List Rule
     others = filter (λ u. is_for_names u.place) ts
 
-    go : ((e : Doc) → rule_applies r (named_by ts e) ≡ rule_applies r e) → (b : Bool)
-        → rule_applies r (masked (cond b (t ∷ others) others) d) ≡ rule_applies r d
-    go rest true = rest (mask_by t d) ∙ spoken-mask_by t r d (first_safe t ts safe)
+    go : ((e : Doc) → has_head r (named_by ts e) ≡ has_head r e) → (b : Bool)
+        → has_head r (masked (cond b (t ∷ others) others) d) ≡ has_head r d
+    go rest true = rest (mask_by t d) ∙ head-mask_by t r d (first_safe t ts safe)
     go rest false = rest d
 
 pub keeps_ids : (rules : List Rule) (d : Doc) → are_safe rules ≡ true → leave_ids rules ≡ true

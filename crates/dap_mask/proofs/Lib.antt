@@ -4,6 +4,7 @@ pub mod Edited
 pub mod Matches
 pub mod ElementNames
 pub mod RuleOrder
+pub mod CategoryKept
 pub mod Relations
 pub mod ByPath
 pub mod Settled

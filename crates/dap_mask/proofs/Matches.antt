@@ -3,7 +3,7 @@ use Rattle.std.proofs.Common.{◌≡◌, ℕ, Bool, true, false, ◌&&◌, List,
 use Rattle.std.proofs.Common.{codes, option_and_then, refl, sym, ◌∙◌, subst, bytes_eq, cond}
 use Rattle.std.proofs.lemmas.Slice.Eq.{bytes_eq-Decides}
 use Rattle.dap_tree.specs.Doc.{Doc, null, boolean, whole, text, list, object, id, get}
-use Rattle.dap_tree.specs.Path.{Step, name, place, step}
+use Rattle.dap_tree.specs.Path.{Step, name, place, step, at}
 use Rattle.dap_tree.proofs.Booleans.{and_left, and_right, and_both}
 use Rattle.dap_profile.specs.PlaceSteps.{PlaceStep, named as member, each}
 use Rattle.dap_message.specs.Places.{fits_place}
@@ -11,7 +11,8 @@ use Rattle.dap_message.specs.Rows.{is_text, is_of_kind, name_key, type_name}
 use Rattle.dap_profile.specs.declared.profile.Kind.{Kind, TheVariants.{Request, Response, Event}}
 use Rattle.dap_mask.specs.RuleSteps.{RuleStep, named, elements, plain_place, is_called, has_names}
 use Rattle.dap_mask.specs.Rules.{Rule, has_name, rule_applies, same_place, same_kind, share_name}
-use Rattle.dap_mask.specs.Rules.{share_place}
+use Rattle.dap_mask.specs.Rules.{share_place, share_category, has_head, has_category}
+use Rattle.dap_mask.specs.Rules.{category_path}
 
 pub fits_same : (ps qs : List PlaceStep) (p : List Step) → fits_place ps p ≡ true → fits_place qs p
     ≡ true → same_place ps qs ≡ true
@@ -70,10 +71,10 @@ name_alike k None (Some m) d h g = refl
 name_alike k (Some n) None d h g = refl
 name_alike k (Some n) (Some m) d h g = text_alike n m (get (name_key k) d) h g
 
--- two rules that apply to one document may apply to the same message
-pub both_apply : (r t : Rule) (d : Doc) → rule_applies r d ≡ true → rule_applies t d ≡ true
+-- two rules of whose kinds and names one document is may apply to the same message
+pub heads_meet : (r t : Rule) (d : Doc) → has_head r d ≡ true → has_head t d ≡ true
     → (same_kind r.kind t.kind && share_name r.name t.name) ≡ true
-both_apply r t d rs ts =
+heads_meet r t d rs ts =
     let kinds = kind_alike r.kind t.kind d (and_left (is_of_kind r.kind d)
     (has_name r.kind r.name d) rs) (and_left (is_of_kind t.kind d) (has_name t.kind t.name d)
     ts) in
@@ -82,6 +83,33 @@ both_apply r t d rs ts =
     (has_name t.kind t.name d) ts) in
     and_both _ _ kinds.0 (name_alike r.kind r.name t.name d (and_right (is_of_kind r.kind d)
     (has_name r.kind r.name d) rs) named_t)
+
+pub head_of : (r : Rule) (d : Doc) → rule_applies r d ≡ true → has_head r d ≡ true
+head_of r d h = and_left (has_head r d) (has_category r.category d) h
+
+-- two rules that apply to one document may apply to the same message
+pub both_apply : (r t : Rule) (d : Doc) → rule_applies r d ≡ true → rule_applies t d ≡ true
+    → (same_kind r.kind t.kind && share_name r.name t.name) ≡ true
+both_apply r t d rs ts = heads_meet r t d (head_of r d rs) (head_of t d ts)
+
+category_alike : (c e : Option (List ℕ)) (d : Doc) → has_category c d ≡ true
+    → has_category e d ≡ true → share_category c e ≡ true
+category_alike None None d h k = refl
+category_alike None (Some e) d h k = refl
+category_alike (Some c) None d h k = refl
+category_alike (Some c) (Some e) d h k = text_alike c e (at category_path d) h k
+
+-- and to the same event, by their categories
+pub both_select : (r t : Rule) (d : Doc) → rule_applies r d ≡ true → rule_applies t d ≡ true
+    → (same_kind r.kind t.kind && (share_name r.name t.name
+    && share_category r.category t.category)) ≡ true
+both_select r t d rs ts =
+    let message = both_apply r t d rs ts in
+    and_both _ _ (and_left (same_kind r.kind t.kind) (share_name r.name t.name) message)
+    (and_both _ _ (and_right (same_kind r.kind t.kind) (share_name r.name t.name) message)
+    (category_alike r.category t.category d
+    (and_right (has_head r d) (has_category r.category d) rs)
+    (and_right (has_head t d) (has_category t.category d) ts)))
 
 pub called_alike : (n m : Option (List ℕ)) (o : Option Doc) → is_called n o ≡ true
     → is_called m o ≡ true → share_name n m ≡ true

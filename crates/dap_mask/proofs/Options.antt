@@ -22,3 +22,8 @@ pub if_false : {A : Type 0} → (b : Bool) (x y : A) → cond b None (Some x) �
     → (b ≡ false) × (x ≡ y)
 if_false true x y h = absurd (none-some y h)
 if_false false x y h = (refl, same_Some x y h)
+
+pub then_then : {A B C : Type 0} → (f : B → Option C) (g : A → Option B) (o : Option A)
+    → option_and_then (λ x. option_and_then f (g x)) o ≡ option_and_then f (option_and_then g o)
+then_then f g None = refl
+then_then f g (Some x) = refl

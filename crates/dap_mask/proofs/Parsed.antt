@@ -10,7 +10,7 @@ use Rattle.std.specs.Prelude.{zero, codes}
 use Rattle.dap_profile.specs.declared.profile.Kind.{Kind, TheVariants.{Request, Response, Event}}
 use Rattle.dap_mask.specs.Grammar.{IsGap, GoesOn, HasWords, IsName, bare, quoted}
 use Rattle.dap_mask.specs.Grammar.{IsNameOrAny, AreSteps, IsPlace, verb_word, kind_word}
-use Rattle.dap_mask.specs.Grammar.{AreWordsOf, SaysRule, Says}
+use Rattle.dap_mask.specs.Grammar.{AreCategoryWords, AreWordsOf, SaysRule, Says}
 use Rattle.dap_mask.specs.Categories.{CategoryRule}
 use Rattle.dap_mask.specs.Mask.{Statement, change, leave_out, leave_out_category, swap, restart}
 use Rattle.dap_mask.specs.Mask.{put, Line, nothing, rule, bad}
@@ -18,8 +18,9 @@ use Rattle.dap_mask.specs.RuleSteps.{RuleStep, named, elements}
 use Rattle.dap_mask.specs.RuleText.{bracket_behind, called_step, quoted_at, plain_at, name_at}
 use Rattle.dap_mask.specs.RuleText.{this_name, any_name, each_step, member_step, next_step}
 use Rattle.dap_mask.specs.RuleText.{step_then, steps_from, place_at, verb_named, kind_named, Head}
-use Rattle.dap_mask.specs.RuleText.{name_behind, kind_then, head_at, placed, place_behind}
-use Rattle.dap_mask.specs.RuleText.{change_at, text_behind, category_at, with_category}
+use Rattle.dap_mask.specs.RuleText.{name_behind, kind_then, head_at, text_behind, category_at}
+use Rattle.dap_mask.specs.RuleText.{limit_from, limit_at, placed, place_behind, change_behind}
+use Rattle.dap_mask.specs.RuleText.{change_at, with_category}
 use Rattle.dap_mask.specs.RuleText.{category_behind, dropped_at, leave_out_at, half_at, swap_with}
 use Rattle.dap_mask.specs.RuleText.{swap_at, restart_at, part_at, word_with, put_at, statement_at}
 use Rattle.dap_mask.specs.RuleText.{reported, line_said}
@@ -32,6 +33,7 @@ use Rattle.dap_mask.proofs.Blanks.{run_split, run_all, run_begins, gap_found, en
 use Rattle.dap_mask.proofs.Lines.{Steps}
 use Rattle.dap_mask.proofs.Options.{mapped, bound, if_true, if_false}
 use Rattle.dap_mask.proofs.Parsing.{any_by, place_on, then_step, with_kind, kind_on, change_on}
+use Rattle.dap_mask.proofs.Parsing.{of_category}
 use Rattle.dap_mask.proofs.Parsing.{leave_out_on, category_on, half_on, swap_on, put_on, rule_read}
 use Rattle.dap_mask.proofs.Quoted.{quoted_found}
 
@@ -352,40 +354,10 @@ head_goes s u ws f on =
 abbrev HasRule : List ℕ → List ℕ → Statement → Type 0
 HasRule w s st = (ws : List (List ℕ)) × GoesOn ws s × AreWordsOf (w ∷ ws) st
 
-change_found : (v : Verb) (s : List ℕ) (st : Statement) → change_at v s ≡ Some st
-    → HasRule (verb_word v) s st
-change_found v s st e =
-    let u = bound (change_on v) (head_at s) st e in
-    let y = bound (place_behind v u.0.0 u.0.1) (gap u.0.2) st u.2 in
-    let q = bound (placed v u.0.0 u.0.1) (place_at y.0) st y.2 in
-    let r : Rule = record { verb = v; kind = u.0.0; name = u.0.1; place = q.0.0 } in
-    let i = if_true (is_end q.0.1) (Some (change r)) st q.2 in
-    let head = head_found s u.0 u.1 in
-    let before = gap_found u.0.2 y.0 y.1 in
-    let p = place_found y.0 q.0.0 q.0.1 q.1 in
-    let on : GoesOn (p.0 ∷ []) u.0.2 = (
-      before.blanks,
-      q.0.1,
-      before.whole ∙ ap (λ (t : List ℕ). before.blanks ++ t) p.1,
-      before.is_gap,
-      end_found q.0.1 i.0,
-    ) in (
-      kind_word u.0.0 ∷ head.2 ∷ p.0 ∷ [],
-      head_goes s u.0 (p.0 ∷ []) head on,
-      subst (AreWordsOf (verb_word v ∷ kind_word u.0.0 ∷ head.2 ∷ p.0 ∷ []))
-          (same_Some (change r) st i.1) (head.2, p.0, refl, head.6, p.2),
-    )
-
 same_event : (k : Kind) → same_kind k Event ≡ true → k ≡ Event
 same_event Request h = absurd (true≢false (sym h))
 same_event Response h = absurd (true≢false (sym h))
 same_event Event h = refl
-
--- the words of a rule for events, before other words
-event_goes : (s : List ℕ) (u : Head) (ws : List (List ℕ)) (f : HasHead s u) → u.0 ≡ Event
-    → GoesOn ws u.2 → GoesOn (codes "event" ∷ f.2 ∷ ws) s
-event_goes s u ws f event on =
-    subst (λ (k : Kind). GoesOn (kind_word k ∷ f.2 ∷ ws) s) event (head_goes s u ws f on)
 
 value_found : (s name rest : List ℕ) → text_behind s ≡ Some (name, rest)
     → (t : List ℕ) × (s ≡ 61 ∷ (t ++ rest)) × IsName t name
@@ -406,6 +378,71 @@ category_found s name rest h =
       run_split is_plain s ∙ ap₂ (λ v t. v ++ t) (same_word word (codes "category") i.0) f.1,
       f.2,
     )
+
+-- the words of the category of a rule and of its place, after a head
+abbrev HasLimit : Kind → Option (List ℕ) → List ℕ → List ℕ → Type 0
+HasLimit k c p s =
+    (cs : List (List ℕ)) × GoesOn (cs ++ p ∷ []) s × AreCategoryWords k c cs
+
+-- a word after blanks, before other words
+word_goes : (w g t rest s : List ℕ) (ws : List (List ℕ)) → s ≡ g ++ t → IsGap g → t ≡ w ++ rest
+    → GoesOn ws rest → GoesOn (w ∷ ws) s
+word_goes w g t rest s ws is gapped next on =
+    (g, rest, is ∙ ap (λ (x : List ℕ). g ++ x) next, gapped, on)
+
+limit_found : (k : Kind) (o : Option NameRest) (g t s : List ℕ) (c : AnyRest) (p rest : List ℕ)
+    → category_at t ≡ o → s ≡ g ++ t → IsGap g → limit_from k t o ≡ Some c → c.1 ≡ p ++ rest
+    → GoesOn [] rest → HasLimit k c.0 p s
+limit_found k None g t s c p rest e is gapped h next ended =
+    let same = same_Some {A = AnyRest} (None, t) c h in (
+      [],
+      word_goes p g t rest s [] is gapped (ap (λ (q : AnyRest). q.1) same ∙ next) ended,
+      subst (λ (n : Option (List ℕ)). AreCategoryWords k n []) (ap (λ (q : AnyRest). q.0) same)
+          refl,
+    )
+limit_found k (Some a) g t s c p rest e is gapped h next ended =
+    let i = if_true {A = AnyRest} (same_kind k Event) (option_map (of_category a.0) (gap a.1)) c h
+    in
+    let m = mapped (of_category a.0) (gap a.1) c i.1 in
+    let f = category_found t a.0 a.1 e in
+    let more = gap_found a.1 m.0 m.1 in
+    let word : List ℕ = codes "category=" ++ f.0 in
+    let last : GoesOn (p ∷ []) a.1 =
+    word_goes p more.blanks m.0 rest a.1 [] more.whole more.is_gap
+    (ap (λ (q : AnyRest). q.1) m.2 ∙ next) ended in (
+      word ∷ [],
+      word_goes word g t a.1 s (p ∷ []) is gapped f.1 last,
+      subst (λ (n : Option (List ℕ)). AreCategoryWords k n (word ∷ []))
+          (ap (λ (q : AnyRest). q.0) m.2) (f.0, refl, f.2, same_event k i.0),
+    )
+
+change_found : (v : Verb) (s : List ℕ) (st : Statement) → change_at v s ≡ Some st
+    → HasRule (verb_word v) s st
+change_found v s st e =
+    let u = bound (change_on v) (head_at s) st e in
+    let y = bound (change_behind v u.0.0 u.0.1) (gap u.0.2) st u.2 in
+    let c = bound (place_behind v u.0.0 u.0.1) (limit_at u.0.0 y.0) st y.2 in
+    let q = bound (placed v u.0.0 u.0.1 c.0.0) (place_at c.0.1) st c.2 in
+    let r : Rule =
+    record { verb = v; kind = u.0.0; name = u.0.1; category = c.0.0; place = q.0.0 } in
+    let i = if_true (is_end q.0.1) (Some (change r)) st q.2 in
+    let head = head_found s u.0 u.1 in
+    let before = gap_found u.0.2 y.0 y.1 in
+    let p = place_found c.0.1 q.0.0 q.0.1 q.1 in
+    let limit = limit_found u.0.0 (category_at y.0) before.blanks y.0 u.0.2 c.0 p.0 q.0.1 refl
+    before.whole before.is_gap c.1 p.1 (end_found q.0.1 i.0) in
+    let ws = limit.0 ++ p.0 ∷ [] in (
+      kind_word u.0.0 ∷ head.2 ∷ ws,
+      head_goes s u.0 ws head limit.1,
+      subst (AreWordsOf (verb_word v ∷ kind_word u.0.0 ∷ head.2 ∷ ws))
+          (same_Some (change r) st i.1) (head.2, limit.0, p.0, refl, head.6, limit.2, p.2),
+    )
+
+-- the words of a rule for events, before other words
+event_goes : (s : List ℕ) (u : Head) (ws : List (List ℕ)) (f : HasHead s u) → u.0 ≡ Event
+    → GoesOn ws u.2 → GoesOn (codes "event" ∷ f.2 ∷ ws) s
+event_goes s u ws f event on =
+    subst (λ (k : Kind). GoesOn (kind_word k ∷ f.2 ∷ ws) s) event (head_goes s u ws f on)
 
 dropped_found : (s : List ℕ) (u : Head) (head : HasHead s u) → u.0 ≡ Event → (ended : Bool)
     → is_end u.2 ≡ ended → (st : Statement)

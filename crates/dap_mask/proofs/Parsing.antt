@@ -11,6 +11,7 @@ use Rattle.dap_message.proofs.Edits.{by_bool}
 use Rattle.dap_profile.specs.declared.profile.Kind.{Kind, TheVariants.{Request, Response, Event}}
 use Rattle.dap_mask.specs.Grammar.{IsGap, GoesOn, HasWords, IsName, bare, quoted, IsNameOrAny}
 use Rattle.dap_mask.specs.Grammar.{AreSteps, IsPlace, verb_word, kind_word, AreWordsOf, SaysRule}
+use Rattle.dap_mask.specs.Grammar.{AreCategoryWords}
 use Rattle.dap_mask.specs.Categories.{CategoryRule}
 use Rattle.dap_mask.specs.Mask.{Statement, change, leave_out, leave_out_category, swap, restart}
 use Rattle.dap_mask.specs.Mask.{put, Line, nothing, rule}
@@ -18,7 +19,8 @@ use Rattle.dap_mask.specs.RuleSteps.{RuleStep, named, elements}
 use Rattle.dap_mask.specs.RuleText.{quoted_at, plain_at, name_at, this_name, any_name, called_step}
 use Rattle.dap_mask.specs.RuleText.{member_step, next_step, step_then, steps_from, place_at}
 use Rattle.dap_mask.specs.RuleText.{verb_named, kind_named, Head, name_behind, kind_then, head_at}
-use Rattle.dap_mask.specs.RuleText.{placed, place_behind, change_at, category_at, with_category}
+use Rattle.dap_mask.specs.RuleText.{text_behind, category_at, limit_from, limit_at, placed}
+use Rattle.dap_mask.specs.RuleText.{place_behind, change_behind, change_at, with_category}
 use Rattle.dap_mask.specs.RuleText.{category_behind, dropped_at, leave_out_at, half_at, swap_with}
 use Rattle.dap_mask.specs.RuleText.{swap_at, restart_at, part_at, word_with, put_at, statement_at}
 use Rattle.dap_mask.specs.RuleText.{reported, line_said}
@@ -31,6 +33,7 @@ use Rattle.dap_mask.specs.declared.rules.Verb.{Verb, TheVariants.{Blank, Digits,
 use Rattle.dap_mask.proofs.Blanks.{front_run, behind_run, not_zero, differs, NoBlank, blank_fails}
 use Rattle.dap_mask.proofs.Blanks.{gap_stops, gap_read, end_read, NoEnd, end_stops, words_stop}
 use Rattle.dap_mask.proofs.Lines.{Steps}
+use Rattle.dap_mask.proofs.Options.{then_then}
 use Rattle.dap_mask.proofs.Quoted.{quoted_read}
 
 -- ---- names
@@ -138,15 +141,23 @@ no_step (b ∷ s) h =
     let neither = or_right (is_plain b) ((b == 46) || (b == 91)) h in
     rw (or_left (b == 46) (b == 91) neither, or_right (b == 46) (b == 91) neither) refl
 
-steps_stop : (steps : List RuleStep) (s rest : List ℕ) → AreSteps s steps
-    → begins_with is_plain rest ≡ false → begins_with is_plain (s ++ rest) ≡ false
-steps_stop [] s rest is e = ap (λ (t : List ℕ). begins_with is_plain (t ++ rest)) is ∙ e
-steps_stop (named name ∷ steps) s rest (n, more, is, c, on) e =
-    ap (λ (t : List ℕ). begins_with is_plain (t ++ rest)) is
-steps_stop (elements None ∷ steps) s rest (more, is, on) e =
-    ap (λ (t : List ℕ). begins_with is_plain (t ++ rest)) is
-steps_stop (elements (Some name) ∷ steps) s rest (n, more, is, c, on) e =
-    ap (λ (t : List ℕ). begins_with is_plain (t ++ rest)) is
+-- the bytes with which further steps of a place start, `.` and `[`, do not pass the test
+pub record NoStep (test : ℕ → Bool) : Type 0 where
+  pub dot : test 46 ≡ false
+  pub bracket : test 91 ≡ false
+
+plain_no_step : NoStep is_plain
+plain_no_step = record { dot = refl; bracket = refl }
+
+steps_stop : (test : ℕ → Bool) (steps : List RuleStep) (s rest : List ℕ) → NoStep test
+    → AreSteps s steps → begins_with test rest ≡ false → begins_with test (s ++ rest) ≡ false
+steps_stop test [] s rest free is e = ap (λ (t : List ℕ). begins_with test (t ++ rest)) is ∙ e
+steps_stop test (named name ∷ steps) s rest free (n, more, is, c, on) e =
+    ap (λ (t : List ℕ). begins_with test (t ++ rest)) is ∙ free.dot
+steps_stop test (elements None ∷ steps) s rest free (more, is, on) e =
+    ap (λ (t : List ℕ). begins_with test (t ++ rest)) is ∙ free.bracket
+steps_stop test (elements (Some name) ∷ steps) s rest free (n, more, is, c, on) e =
+    ap (λ (t : List ℕ). begins_with test (t ++ rest)) is ∙ free.bracket
 
 abbrev pub then_step : RuleStep → Steps → Steps
 then_step step r = (step ∷ r.0, r.1)
@@ -162,7 +173,8 @@ steps_read (named name ∷ steps) s rest (suc n) (m, more, is, c, on) e l =
     let text = m ++ (more ++ rest) in
     let whole : s ++ rest ≡ 46 ∷ text =
     ap (λ (t : List ℕ). t ++ rest) is ∙ ap (λ (t : List ℕ). 46 ∷ t) (append_assoc m more rest) in
-    let member = name_read c (more ++ rest) (steps_stop steps more rest on (stops_plain rest e)) in
+    let member = name_read c (more ++ rest)
+    (steps_stop is_plain steps more rest plain_no_step on (stops_plain rest e)) in
     let long : length s ≡ suc (length (m ++ more)) = ap length is in
     let sum = length-append m more in
     let shorter : length more < n = omega arith in
@@ -198,7 +210,8 @@ place_read (elements n ∷ steps) p rest c e = absurd c
 place_read (named name ∷ steps) p rest (n, more, is, c, on) e =
     let whole : p ++ rest ≡ n ++ (more ++ rest) =
     ap (λ (t : List ℕ). t ++ rest) is ∙ append_assoc n more rest in
-    let member = name_read c (more ++ rest) (steps_stop steps more rest on (stops_plain rest e)) in
+    let member = name_read c (more ++ rest)
+    (steps_stop is_plain steps more rest plain_no_step on (stops_plain rest e)) in
     let some = opens_some n (name_opens c) in
     let long = ap length whole in
     let sum = length-append n (more ++ rest) in
@@ -291,22 +304,122 @@ head_read k name n ws s (g, text, is, a, next) c =
 
 -- ---- rules
 
-abbrev pub change_on : Verb → Head → Option Statement
-change_on v h = option_and_then (place_behind v h.0 h.1) (gap h.2)
+-- the sign of a category
+abbrev is_sign : ℕ → Bool
+is_sign b = b == 61
 
-change_read : (r : Rule) (n p s : List ℕ) → GoesOn (kind_word r.kind ∷ n ∷ p ∷ []) s
-    → IsNameOrAny n r.name → IsPlace p r.place → change_at r.verb s ≡ Some (change r)
-change_read r n p s on c d =
-    let h = head_read r.kind r.name n (p ∷ []) s on c in
-    let next = h.on in
+sign_no_end : NoEnd is_sign
+sign_no_end = record {
+  blank = record { space = refl; tab = refl; carriage_return = refl };
+  comment = refl;
+}
+
+sign_no_step : NoStep is_sign
+sign_no_step = record { dot = refl; bracket = refl }
+
+no_value : (s : List ℕ) → begins_with is_sign s ≡ false → text_behind s ≡ None
+no_value [] h = refl
+no_value (b ∷ s) h = ap (λ (c : Bool). cond c (name_at s) None) h
+
+abbrev category_by : List ℕ → List ℕ → Option (List ℕ × List ℕ)
+category_by word rest = cond (bytes_eq word (codes "category")) (text_behind rest) None
+
+no_category_by : (word rest : List ℕ) → begins_with is_sign rest ≡ false
+    → category_by word rest ≡ None
+no_category_by word rest h = go (bytes_eq word (codes "category"))
+  where
+    go : (b : Bool) → cond b (text_behind rest) None ≡ None
+    go true = no_value rest h
+    go false = refl
+
+name_no_category : {n name : List ℕ} → IsName n name → (rest : List ℕ)
+    → begins_with is_plain rest ≡ false → begins_with is_sign rest ≡ false
+    → category_at (n ++ rest) ≡ None
+name_no_category (bare {w} b a) rest e f =
+    ap₂ category_by (front_run is_plain w rest a e) (behind_run is_plain w rest a e)
+    ∙ no_category_by w rest f
+name_no_category (quoted {w} {name} inside is i r) rest e f =
+    ap (λ (t : List ℕ). category_at (t ++ rest)) is
+
+-- no place starts as a category does
+place_no_category : (place : List RuleStep) (p rest : List ℕ) → IsPlace p place → GoesOn [] rest
+    → category_at (p ++ rest) ≡ None
+place_no_category [] p rest c ended = absurd c
+place_no_category (elements n ∷ steps) p rest c ended = absurd c
+place_no_category (named name ∷ steps) p rest (n, more, is, c, on) ended =
+    ap category_at (ap (λ (t : List ℕ). t ++ rest) is ∙ append_assoc n more rest)
+    ∙ name_no_category c (more ++ rest)
+    (steps_stop is_plain steps more rest plain_no_step on
+    (end_stops is_plain rest plain_no_end ended))
+    (steps_stop is_sign steps more rest sign_no_step on (end_stops is_sign rest sign_no_end ended))
+
+place_not_blank : (place : List RuleStep) (p rest : List ℕ) → IsPlace p place
+    → begins_with is_blank (p ++ rest) ≡ false
+place_not_blank place p rest d =
+    opens_not_blank (p ++ rest) (opens_longer p rest (place_opens place p d))
+
+abbrev pub of_category : List ℕ → List ℕ → Option (List ℕ) × List ℕ
+of_category c s = (Some c, s)
+
+-- the text after the place, if the text continues with the category of a rule and its place
+record LimitRead (k : Kind) (c : Option (List ℕ)) (p s : List ℕ) : Type 0 where
+  rest : List ℕ
+  limit : option_and_then (limit_at k) (gap s) ≡ Some (c, p ++ rest)
+  ended : GoesOn [] rest
+
+limit_read : (k : Kind) (c : Option (List ℕ)) (cs : List (List ℕ)) (p s : List ℕ)
+    (place : List RuleStep) → AreCategoryWords k c cs → IsPlace p place → GoesOn (cs ++ p ∷ []) s
+    → LimitRead k c p s
+limit_read k None cs p s place is d on =
+    let next = subst (λ (xs : List (List ℕ)). GoesOn (xs ++ p ∷ []) s) is on in
     let ended = next.4 in
+    let text = p ++ next.1 in
+    record {
+      rest = next.1;
+      limit = ap (option_and_then (limit_at k)) (ap gap next.2
+          ∙ gap_read next.0 text next.3 (place_not_blank place p next.1 d))
+          ∙ ap (limit_from k text) (place_no_category place p next.1 d ended);
+      ended = ended;
+    }
+limit_read k (Some name) cs p s place (t, is, c, event) d on =
+    let first = subst (λ (xs : List (List ℕ)). GoesOn (xs ++ p ∷ []) s) is on in
+    let next = first.4 in
+    let text : List ℕ = (codes "category=" ++ t) ++ first.1 in
+    let read : category_at text ≡ Some (name, first.1) =
+    name_read c first.1 (words_stop is_plain (p ∷ []) first.1 plain_no_end next) in
+    record {
+      rest = next.1;
+      limit = ap (option_and_then (limit_at k)) (ap gap first.2
+          ∙ gap_read first.0 text first.3 refl)
+          ∙ ap (limit_from k text) read
+          ∙ ap (λ (j : Kind). cond (same_kind j Event)
+          (option_map (of_category name) (gap first.1)) None) event
+          ∙ ap (option_map (of_category name)) (ap gap next.2
+          ∙ gap_read next.0 (p ++ next.1) next.3 (place_not_blank place p next.1 d));
+      ended = next.4;
+    }
+
+placed_read : (r : Rule) (p rest : List ℕ) → IsPlace p r.place → GoesOn [] rest
+    → place_behind r.verb r.kind r.name (r.category, p ++ rest) ≡ Some (change r)
+placed_read r p rest d ended =
+    ap (option_and_then (placed r.verb r.kind r.name r.category))
+    (place_read r.place p rest d (end_stops goes_on rest place_no_end ended))
+    ∙ ap (λ (b : Bool). cond b (Some (change r)) None) (end_read rest ended)
+
+abbrev pub change_on : Verb → Head → Option Statement
+change_on v h = option_and_then (change_behind v h.0 h.1) (gap h.2)
+
+change_read : (r : Rule) (n p s : List ℕ) (cs : List (List ℕ))
+    → GoesOn (kind_word r.kind ∷ n ∷ (cs ++ p ∷ [])) s → IsNameOrAny n r.name
+    → AreCategoryWords r.kind r.category cs → IsPlace p r.place
+    → change_at r.verb s ≡ Some (change r)
+change_read r n p s cs on c words d =
+    let h = head_read r.kind r.name n (cs ++ p ∷ []) s on c in
+    let l = limit_read r.kind r.category cs p h.rest r.place words d h.on in
     ap (option_and_then (change_on r.verb)) h.head
-    ∙ ap (option_and_then (place_behind r.verb r.kind r.name)) (ap gap next.2
-    ∙ gap_read next.0 (p ++ next.1) next.3
-    (opens_not_blank (p ++ next.1) (opens_longer p next.1 (place_opens r.place p d))))
-    ∙ ap (option_and_then (placed r.verb r.kind r.name))
-    (place_read r.place p next.1 d (end_stops goes_on next.1 place_no_end ended))
-    ∙ ap (λ (b : Bool). cond b (Some (change r)) None) (end_read next.1 ended)
+    ∙ then_then (place_behind r.verb r.kind r.name) (limit_at r.kind) (gap h.rest)
+    ∙ ap (option_and_then (place_behind r.verb r.kind r.name)) l.limit
+    ∙ placed_read r p l.rest d l.ended
 
 abbrev pub leave_out_on : Head → Option Statement
 leave_out_on h = cond (same_kind h.0 Event) (dropped_at h.1 h.2) None
@@ -418,11 +531,11 @@ verb_read Uuid s = refl
 
 says_words : (l : List ℕ) (st : Statement) (ws : List (List ℕ)) → AreWordsOf ws st
     → HasWords ws l → line_said l ≡ rule st
-says_words l (change r) ws (n, p, is, c, d) has =
+says_words l (change r) ws (n, cs, p, is, c, words, d) has =
     let on = subst (λ (xs : List (List ℕ)). HasWords xs l) is has in
-    words_read l (verb_word r.verb) (kind_word r.kind ∷ n ∷ p ∷ []) (change r) on
+    words_read l (verb_word r.verb) (kind_word r.kind ∷ n ∷ (cs ++ p ∷ [])) (change r) on
     (verb_begins r.verb) (verb_plain r.verb)
-    (verb_read r.verb on.1 ∙ change_read r n p on.1 on.4 c d)
+    (verb_read r.verb on.1 ∙ change_read r n p on.1 cs on.4 c words d)
 says_words l (leave_out name) ws (n, is, c) has =
     let on = subst (λ (xs : List (List ℕ)). HasWords xs l) is has in
     words_read l (codes "drop") (codes "event" ∷ n ∷ []) (leave_out name) on refl refl

@@ -10,7 +10,7 @@ use Rattle.dap_tree.proofs.Booleans.{and_left, and_right, and_both, or_left, or_
 use Rattle.dap_mask.specs.RuleSteps.{RuleStep, named, elements}
 use Rattle.dap_mask.specs.Rules.{Rule, same_kind, share_name, share_step, share_place, excludes}
 use Rattle.dap_mask.specs.Rules.{clash, leads_to_name, is_for_names, has_text, is_name_in, renames}
-use Rattle.dap_mask.specs.Rules.{lower, group, depth, rank, comes_before, is_late}
+use Rattle.dap_mask.specs.Rules.{lower, group, depth, rank, comes_before, is_late, share_category}
 use Rattle.dap_mask.specs.declared.rules.Verb.{Verb, TheVariants.{Blank, Digits, Hex, Long, Uuid}}
 use Rattle.dap_profile.specs.declared.profile.Kind.{Kind, TheVariants.{Request, Response, Event}}
 use Rattle.dap_mask.proofs.ElementNames.{ends_in_member, and_first, and_other}
@@ -363,12 +363,13 @@ shared_form (p ∷ ps) (q ∷ qs) h =
 -- the later of two rules at one place may follow the earlier one, if they do not clash
 pub later_follows : (r t : Rule) → comes_before t r ≡ false → clash r t ≡ false
     → share_place r.place t.place ≡ true
-    → (same_kind r.kind t.kind && share_name r.name t.name) ≡ true → MayFollow r.verb t.verb
+    → (same_kind r.kind t.kind && (share_name r.name t.name
+    && share_category r.category t.category)) ≡ true → MayFollow r.verb t.verb
 later_follows r t late apart place message =
     let form = shared_form r.place t.place place in (
       no_lower_rank r t (ap (λ b. cond b 0 1) (sym form.0))
           (ap₂ (λ b n. cond b n 0) (sym form.0) (sym form.1)) late,
-      and_first (excludes r.verb t.verb) (share_place r.place t.place
-          && (same_kind r.kind t.kind && share_name r.name t.name)) (and_both _ _ place message)
-          apart,
+      and_first (excludes r.verb t.verb) (share_place r.place t.place && (same_kind r.kind t.kind
+          && (share_name r.name t.name && share_category r.category t.category)))
+          (and_both _ _ place message) apart,
     )

@@ -19,13 +19,16 @@ use Rattle.dap_mask.specs.Mask.{Mask, change, leave_out_category, rule_count}
 use Rattle.dap_mask.specs.RuleSteps.{RuleStep, named, elements}
 use Rattle.dap_mask.specs.Rules.{Rule, rule_of, rules_of, share_name, share_step, share_place}
 use Rattle.dap_mask.specs.Rules.{same_kind, excludes, clash, clashes_with, is_among, are_idempotent}
-use Rattle.dap_mask.specs.Rules.{comes_before, is_late, inserted, is_misplaced, are_safe}
-use Rattle.dap_mask.specs.RulesFile.{cause_against}
+use Rattle.dap_mask.specs.Rules.{comes_before, is_late, inserted, is_misplaced, are_safe, disturb}
+use Rattle.dap_mask.specs.Rules.{disturbs_one_of}
+use Rattle.dap_mask.specs.RulesFile.{cause_against, change_cause}
+use Rattle.dap_mask.specs.declared.fault.RulesCause.{RulesCause}
 use Rattle.dap_mask.specs.declared.rules.MaskRule.{MaskRule}
 use Rattle.dap_mask.specs.declared.rules.Verb.{Verb, TheVariants.{Blank, Digits, Hex, Long, Uuid}}
 use Rattle.dap_mask.specs.declared.categories.CategoryRule.{CategoryRule as ReadCategoryRule}
 use Rattle.dap_mask.specs.declared.fault.RulesCause.TheVariants.{TooMany, BadPlace, Repeated, Clash}
-use Rattle.dap_mask.proofs.ByPath.{first_early, rest_safe}
+use Rattle.dap_mask.proofs.ByPath.{first_apart, first_early, first_placed, rest_safe}
+use Rattle.dap_mask.proofs.CategoryKept.{disturb_both}
 use Rattle.dap_mask.proofs.RuleOrder.{late_earlier, not_after}
 
 -- ---- lists of the program's rules
@@ -129,21 +132,26 @@ none_inserted test r (t ∷ ts) h k =
     go rest false = or_both _ _ (or_left (test t) (list_any test ts) k) rest
 
 pub safe_inserted : (rs : List Rule) (r : Rule) → are_safe rs ≡ true → is_misplaced r ≡ false
-    → are_safe (inserted r rs) ≡ true
-safe_inserted [] r h m = and_both _ _ (ap not m) refl
-safe_inserted (t ∷ ts) r h m =
-    go (safe_inserted ts r (rest_safe t ts h) m) (comes_before r t) refl
+    → disturbs_one_of r rs ≡ false → are_safe (inserted r rs) ≡ true
+safe_inserted [] r h m calm = and_both _ _ (ap not m) refl
+safe_inserted (t ∷ ts) r h m calm =
+    go (safe_inserted ts r (rest_safe t ts h) m
+    (or_right (disturb r t) (disturbs_one_of r ts) calm)) (comes_before r t) refl
   where
     early : is_late t ts ≡ false
     early = first_early t ts h
 
+    apart : disturb t r ≡ false
+    apart = disturb_both r t (or_left (disturb r t) (disturbs_one_of r ts) calm)
+
     go : are_safe (inserted r ts) ≡ true → (b : Bool) → comes_before r t ≡ b
         → are_safe (cond b (r ∷ t ∷ ts) (t ∷ inserted r ts)) ≡ true
     go rest true e = and_both _ _ (ap not m)
-        (and_both _ _ (ap not (or_both _ _ (not_after r t e) (late_earlier r t ts e early))) h)
-    go rest false e = and_both _ _
-        (and_left (not (is_misplaced t)) (not (is_late t ts) && are_safe ts) h)
-        (and_both _ _ (ap not (none_inserted (λ u. comes_before u t) r ts e early)) rest)
+        (and_both _ _ (ap not (or_both _ _ (not_after r t e) (late_earlier r t ts e early)))
+        (and_both _ _ (ap not calm) h))
+    go rest false e = and_both _ _ (ap not (first_placed t ts h))
+        (and_both _ _ (ap not (none_inserted (λ u. comes_before u t) r ts e early))
+        (and_both _ _ (ap not (none_inserted (disturb t) r ts apart (first_apart t ts h))) rest))
 
 pub leave_inserted : (rs : List Rule) (r : Rule) → leave_ids rs ≡ true
     → takes_profile_id r ≡ false → leave_ids (inserted r rs) ≡ true
@@ -228,7 +236,8 @@ clash_both : (r t : Rule) → clash r t ≡ clash t r
 clash_both r t =
     ap₂ (λ a b. a && b) (excludes_both r.verb t.verb)
     (ap₂ (λ a b. a && b) (same_places r.place t.place)
-    (ap₂ (λ a b. a && b) (same_kinds r.kind t.kind) (same_names r.name t.name)))
+    (ap₂ (λ a b. a && b) (same_kinds r.kind t.kind)
+    (ap₂ (λ a b. a && b) (same_names r.name t.name) (same_names r.category t.category))))
 
 pub settled_inserted : (rs : List Rule) (r : Rule) → are_idempotent rs ≡ true
     → clashes_with r rs ≡ false → are_idempotent (inserted r rs) ≡ true
@@ -276,26 +285,44 @@ pub record MayStand (m : Mask) (r : Rule) : Type 0 where
   pub safe : is_misplaced r ≡ false
   pub leaves : takes_profile_id r ≡ false
   pub settled : clashes_with r m.changes ≡ false
+  pub calm : disturbs_one_of r m.changes ≡ false
   pub moves : moves_one_of r m.categories ≡ false
 
 pub change_may_stand : (m : Mask) (r : Rule) → cause_against m (change r) ≡ None → MayStand m r
 change_may_stand m r h =
     go (nat_le 1000 (rule_count m)) (is_misplaced r) (takes_profile_id r) (is_among r m.changes)
-    (clashes_with r m.changes) (moves_one_of r m.categories) refl refl refl refl h
+    (clashes_with r m.changes) (disturbs_one_of r m.changes) (moves_one_of r m.categories) refl refl
+    refl refl refl h
   where
-    go : (many a b among c d : Bool) → is_misplaced r ≡ a → takes_profile_id r ≡ b
-        → clashes_with r m.changes ≡ c → moves_one_of r m.categories ≡ d
+    go : (many a b among c d e : Bool) → is_misplaced r ≡ a → takes_profile_id r ≡ b
+        → clashes_with r m.changes ≡ c → disturbs_one_of r m.changes ≡ d
+        → moves_one_of r m.categories ≡ e
         → cond many (Some TooMany) (cond (a || b) (Some BadPlace)
-        (cond among (Some Repeated) (cond (c || d) (Some Clash) None))) ≡ None
+        (cond among (Some Repeated) (cond (c || (d || e)) (Some Clash) None))) ≡ None
         → MayStand m r
-    go true a b among c d p q s t k = cc
-    go false true b among c d p q s t k = cc
-    go false false true among c d p q s t k = cc
-    go false false false true c d p q s t k = cc
-    go false false false false true d p q s t k = cc
-    go false false false false false true p q s t k = cc
-    go false false false false false false p q s t k =
-        record { safe = p; leaves = q; settled = s; moves = t }
+    go true a b among c d e p q s t u k = cc
+    go false true b among c d e p q s t u k = cc
+    go false false true among c d e p q s t u k = cc
+    go false false false true c d e p q s t u k = cc
+    go false false false false true d e p q s t u k = cc
+    go false false false false false true e p q s t u k = cc
+    go false false false false false false true p q s t u k = cc
+    go false false false false false false false p q s t u k =
+        record { safe = p; leaves = q; settled = s; calm = t; moves = u }
+
+-- why a change with a place of its own that is not repeated may not follow the rules of a mask
+pub clash_cause : (m : Mask) (r : Rule) (clashes : Bool) (cause : Option RulesCause)
+    → (is_misplaced r || takes_profile_id r) ≡ false → is_among r m.changes ≡ false
+    → clashes ≡ (clashes_with r m.changes
+    || (disturbs_one_of r m.changes || moves_one_of r m.categories))
+    → cause ≡ cond clashes (Some Clash) None → cause ≡ change_cause m r
+clash_cause m r clashes cause placed new is e =
+    e ∙ ap (λ b. cond b (Some Clash) None) is
+    ∙ sym (ap (λ b. cond b (Some Repeated) (cond (clashes_with r m.changes
+    || (disturbs_one_of r m.changes || moves_one_of r m.categories)) (Some Clash) None)) new)
+    ∙ sym (ap (λ b. cond b (Some BadPlace) (cond (is_among r m.changes) (Some Repeated)
+    (cond (clashes_with r m.changes || (disturbs_one_of r m.changes
+    || moves_one_of r m.categories)) (Some Clash) None))) placed)
 
 pub category_not_moved : (m : Mask) (c : CategoryRule)
     → cause_against m (leave_out_category c) ≡ None → is_moved_by m.changes c ≡ false

@@ -10,7 +10,8 @@ use Rattle.dap_message.specs.Marks.{top}
 use Rattle.dap_mask.specs.RuleSteps.{has_names}
 use Rattle.dap_mask.specs.Rules.{Rule, blank, change_text, of_verb, takes_parts, plain_place_of}
 use Rattle.dap_mask.specs.Rules.{rule_applies, applies_at, renames, comes_before, is_late, clash}
-use Rattle.dap_mask.specs.Rules.{clashes_with, is_telling_place, are_safe, are_idempotent}
+use Rattle.dap_mask.specs.Rules.{clashes_with, is_telling_place, are_safe, are_idempotent, disturb}
+use Rattle.dap_mask.specs.Rules.{disturbs_one_of, recategorises}
 use Rattle.dap_mask.specs.Masked.{is_below, left_by, mask_by, masked}
 use Rattle.dap_mask.specs.Texts.{digits, hex}
 use Rattle.dap_words.specs.Long.{long}
@@ -24,7 +25,9 @@ use Rattle.dap_mask.specs.declared.rules.Verb.{Verb, TheVariants.{Blank, Digits,
 use Rattle.dap_mask.proofs.Squeezed.{digits_twice, hex_twice, digits_behind_hex}
 use Rattle.dap_mask.proofs.ByPath.{top-left_by, at-mask_by, ordered-mask_by, same_after, same_paths}
 use Rattle.dap_mask.proofs.ByPath.{first_safe, first_renames, first_early, rest_safe, blank_twice}
-use Rattle.dap_mask.proofs.Matches.{fits_share, both_apply}
+use Rattle.dap_mask.proofs.ByPath.{first_apart, first_leaves_own}
+use Rattle.dap_mask.proofs.CategoryKept.{second_leaves}
+use Rattle.dap_mask.proofs.Matches.{fits_share, both_select}
 use Rattle.dap_mask.proofs.RuleOrder.{MayFollow, later_follows, renames_no_earlier}
 
 -- ---- one value
@@ -131,7 +134,7 @@ follows r t d p late h rs ts rp tp =
     (fits_share r.place t.place (Some d) p rp tp
     (and_right (rule_applies r d) (has_names r.place (Some d) p) rs)
     (and_right (rule_applies t d) (has_names t.place (Some d) p) ts))
-    (both_apply r t d (and_left (rule_applies r d) (has_names r.place (Some d) p) rs)
+    (both_select r t d (and_left (rule_applies r d) (has_names r.place (Some d) p) rs)
     (and_left (rule_applies t d) (has_names t.place (Some d) p) ts))
 
 -- ---- the values after rules
@@ -178,45 +181,47 @@ by_stays r t d p o late h k =
 
 -- ---- a rule that does not change a document
 
--- the rule does not change the document after another rule that renames no element that it selects,
--- if it does not change the values after that rule
+-- the rule does not change the document after another rule that changes no text by which it
+-- selects, if it does not change the values after that rule
 stable_after : (r t : Rule) (d : Doc) → is_ordered d ≡ true → is_telling_place t.place ≡ false
-    → renames t r ≡ false
+    → renames t r ≡ false → recategorises t r ≡ false
     → ((p : List Step) → left_by r d p (left_by t d p (option_map top (at p d)))
     ≡ left_by t d p (option_map top (at p d)))
     → mask_by r (mask_by t d) ≡ mask_by t d
-stable_after r t d o safe h same =
+stable_after r t d o safe h apart same =
     let e = mask_by t d in
     same_paths e (mask_by r e) (ordered-mask_by t d o) (λ p.
     let now : option_map top (at p e) ≡ left_by t d p (option_map top (at p d)) =
     at-mask_by t d p ∙ top-left_by t d p (at p d) in
     at-mask_by r e p ∙ top-left_by r e p (at p e)
-    ∙ same_after t (r ∷ []) d p safe (or_both _ _ h refl)
+    ∙ same_after t (r ∷ []) d p safe (or_both _ _ h refl) (or_both _ _ apart refl)
     ∙ ap (left_by r d p) now ∙ same p ∙ sym now)
 
 stable_itself : (r : Rule) (d : Doc) → is_ordered d ≡ true → is_telling_place r.place ≡ false
-    → renames r r ≡ false → mask_by r (mask_by r d) ≡ mask_by r d
-stable_itself r d o safe own =
-    stable_after r r d o safe own (λ p. by_twice r d p (option_map top (at p d)))
+    → renames r r ≡ false → recategorises r r ≡ false → mask_by r (mask_by r d) ≡ mask_by r d
+stable_itself r d o safe own leaves =
+    stable_after r r d o safe own leaves (λ p. by_twice r d p (option_map top (at p d)))
 
 stays_stable : (r t : Rule) (d : Doc) → is_ordered d ≡ true → is_telling_place t.place ≡ false
-    → renames r r ≡ false → comes_before t r ≡ false → clash r t ≡ false → mask_by r d ≡ d
-    → mask_by r (mask_by t d) ≡ mask_by t d
-stays_stable r t d o safe own late apart stable =
-    stable_after r t d o safe (renames_no_earlier t r own late) (λ p.
+    → renames r r ≡ false → recategorises t r ≡ false → comes_before t r ≡ false
+    → clash r t ≡ false → mask_by r d ≡ d → mask_by r (mask_by t d) ≡ mask_by t d
+stays_stable r t d o safe own leaves late apart stable =
+    stable_after r t d o safe (renames_no_earlier t r own late) leaves (λ p.
     by_stays r t d p (option_map top (at p d)) late apart
     (sym (top-left_by r d p (at p d)) ∙ sym (at-mask_by r d p)
     ∙ ap (λ x. option_map top (at p x)) stable))
 
 stable_to_end : (r : Rule) (ts : List Rule) (d : Doc) → is_ordered d ≡ true → are_safe ts ≡ true
-    → renames r r ≡ false → is_late r ts ≡ false → clashes_with r ts ≡ false → mask_by r d ≡ d
-    → mask_by r (masked ts d) ≡ masked ts d
-stable_to_end r [] d o safe own late apart stable = stable
-stable_to_end r (t ∷ ts) d o safe own late apart stable =
+    → renames r r ≡ false → disturbs_one_of r ts ≡ false → is_late r ts ≡ false
+    → clashes_with r ts ≡ false → mask_by r d ≡ d → mask_by r (masked ts d) ≡ masked ts d
+stable_to_end r [] d o safe own calm late apart stable = stable
+stable_to_end r (t ∷ ts) d o safe own calm late apart stable =
     stable_to_end r ts (mask_by t d) (ordered-mask_by t d o) (rest_safe t ts safe) own
+    (or_right (disturb r t) (disturbs_one_of r ts) calm)
     (or_right (comes_before t r) (is_late r ts) late)
     (or_right (clash r t) (clashes_with r ts) apart)
     (stays_stable r t d o (first_safe t ts safe) own
+    (second_leaves r t (or_left (disturb r t) (disturbs_one_of r ts) calm))
     (or_left (comes_before t r) (is_late r ts) late)
     (or_left (clash r t) (clashes_with r ts) apart) stable)
 
@@ -230,6 +235,7 @@ masked_once (r ∷ rs) d safe settled o =
     let apart = not-true (clashes_with r rs)
     (and_left (not (clashes_with r rs)) (are_idempotent rs) settled) in
     ap (masked rs) (stable_to_end r rs e ordered (rest_safe r rs safe) own
-    (first_early r rs safe) apart (stable_itself r d o (first_safe r rs safe) own))
+    (first_apart r rs safe) (first_early r rs safe) apart
+    (stable_itself r d o (first_safe r rs safe) own (first_leaves_own r rs safe)))
     ∙ masked_once rs e (rest_safe r rs safe)
     (and_right (not (clashes_with r rs)) (are_idempotent rs) settled) ordered

@@ -13,11 +13,12 @@ use Rattle.dap_profile.specs.declared.profile.Kind.TheVariants.{Event}
 use Rattle.dap_mask.specs.Rules.{Rule, inserted}
 use Rattle.dap_mask.specs.Masked.{masked}
 use Rattle.dap_mask.specs.RulesFile.{rules_said}
-use Rattle.dap_mask.specs.declared.fault.RulesCause.TheVariants.{Clash}
-use Rattle.dap_mask.specs.declared.rules.Verb.{Verb, TheVariants.{Blank, Digits, Hex, Long}}
+use Rattle.dap_mask.specs.declared.fault.RulesCause.TheVariants.{BadPlace, Clash}
+use Rattle.dap_mask.specs.declared.rules.Verb.{Verb, TheVariants.{Blank, Digits, Hex, Long, Uuid}}
 
 abbrev of_events : Verb → List RuleStep → Rule
-of_events verb place = record { verb = verb; kind = Event; name = None; place = place }
+of_events verb place =
+    record { verb = verb; kind = Event; name = None; category = None; place = place }
 
 -- ---- `hex` before `digits` in a file is `digits` before `hex`
 
@@ -45,6 +46,66 @@ digits_before_uuid : rules_said (codes "digits event * a\nuuid event * a\n")
     ≡ Err (record { line = 2; cause = Clash })
 unfolding rules_said takes_profile_id profile first_rows later_rows is_utf8 chars encode
 digits_before_uuid = refl
+
+-- ---- rules for the events of one category
+
+abbrev of_category : Verb → List ℕ → List RuleStep → Rule
+of_category verb category place =
+    record { verb = verb; kind = Event; name = None; category = Some category; place = place }
+
+-- `uuid` and `digits` for two categories
+two_categories : rules_said (codes "uuid event * category=b a\ndigits event * category=c a\n")
+    ≡ Ok (record no_rules {
+      changes = of_category Uuid (codes "b") (named (codes "a") ∷ [])
+          ∷ of_category Digits (codes "c") (named (codes "a") ∷ []) ∷ [];
+    })
+unfolding rules_said takes_profile_id profile first_rows later_rows is_utf8 chars encode
+two_categories = refl
+
+-- a rule for all categories excludes a rule for one
+all_and_one : rules_said (codes "uuid event * category=b a\ndigits event * a\n")
+    ≡ Err (record { line = 2; cause = Clash })
+unfolding rules_said takes_profile_id profile first_rows later_rows is_utf8 chars encode
+all_and_one = refl
+
+-- a change of the body beside a rule for one category, in either order
+body_behind : rules_said (codes "hex event * category=b a\nblank event c body\n")
+    ≡ Err (record { line = 2; cause = Clash })
+unfolding rules_said takes_profile_id profile first_rows later_rows is_utf8 chars encode
+body_behind = refl
+
+body_before : rules_said (codes "blank event * body.category\nhex event * category=b a\n")
+    ≡ Err (record { line = 2; cause = Clash })
+unfolding rules_said takes_profile_id profile first_rows later_rows is_utf8 chars encode
+body_before = refl
+
+-- a rule that changes its own category
+own_category : rules_said (codes "blank event * category=b body\n")
+    ≡ Err (record { line = 1; cause = BadPlace })
+unfolding rules_said takes_profile_id profile first_rows later_rows is_utf8 chars encode
+own_category = refl
+
+-- why no rule changes the category by which another one selects: the order of lines would matter
+abbrev blank_body : Rule
+blank_body = of_events Blank (named (codes "body") ∷ [])
+
+abbrev blank_number : Rule
+blank_number = of_category Blank (codes "b") (named (codes "seq") ∷ [])
+
+abbrev numbered : List ℕ → Doc → Doc
+numbered seq body = object (member (codes "body") body (member (codes "seq") (text seq)
+    (member (codes "type") (text (codes "event")) no_members)))
+
+abbrev some_body : Doc
+some_body = object (member (codes "category") (text (codes "b")) no_members)
+
+body_first : masked (blank_body ∷ blank_number ∷ []) (numbered (codes "1") some_body)
+    ≡ numbered (codes "1") (object no_members)
+body_first = refl
+
+number_first : masked (blank_number ∷ blank_body ∷ []) (numbered (codes "1") some_body)
+    ≡ numbered [] (object no_members)
+number_first = refl
 
 -- ---- places select elements by their names after the rules for names
 

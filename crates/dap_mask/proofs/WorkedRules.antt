@@ -14,7 +14,7 @@ use Rattle.dap_mask.specs.Grammar.{IsInside, at_end, escaped, other, bare, quote
 use Rattle.dap_mask.specs.Mask.{Statement, change, leave_out, leave_out_category, swap, restart}
 use Rattle.dap_mask.specs.Mask.{put, nothing, rule, bad}
 use Rattle.dap_mask.specs.RuleText.{line_said, string_of}
-use Rattle.dap_mask.specs.declared.rules.Verb.TheVariants.{Digits, Hex}
+use Rattle.dap_mask.specs.declared.rules.Verb.TheVariants.{Blank, Digits, Hex}
 use Rattle.dap_mask.proofs.Lines.{string_is}
 use Rattle.dap_words.proofs.Utf8.{ascii_one}
 
@@ -41,6 +41,7 @@ digits_rule = change (record {
   verb = Digits;
   kind = Response;
   name = Some (codes "threads");
+  category = None;
   place = named (codes "body") ∷ named (codes "threads") ∷ elements None ∷ named (codes "name") ∷ [];
 })
 
@@ -72,9 +73,11 @@ digits_says = (
   ),
   (
     codes "threads",
+    [],
     codes "body.threads[].name",
     refl,
     bare refl refl,
+    refl,
     (
       codes "body",
       codes ".threads[].name",
@@ -167,6 +170,7 @@ element_rule = change (record {
   verb = Hex;
   kind = Event;
   name = Some (codes "a");
+  category = None;
   place = named (codes "b") ∷ elements (Some (codes "a # \"b\"")) ∷ named (codes "c") ∷ [];
 })
 
@@ -195,9 +199,11 @@ element_says = (
   ),
   (
     codes "a",
+    [],
     codes "b[\"a # \\\"b\\\"\"].c",
     refl,
     bare refl refl,
+    refl,
     (
       codes "b",
       codes "[\"a # \\\"b\\\"\"].c",
@@ -270,6 +276,101 @@ no_category_parsed = refl
 
 other_word_parsed : line_said (codes "drop event output group=telemetry") ≡ bad
 other_word_parsed = refl
+
+-- ---- a change of the events of one category
+
+limited_line : List ℕ
+limited_line = codes "digits event output category=stderr  body.output"
+
+limited_rule : Statement
+limited_rule = change (record {
+  verb = Digits;
+  kind = Event;
+  name = Some (codes "output");
+  category = Some (codes "stderr");
+  place = named (codes "body") ∷ named (codes "output") ∷ [];
+})
+
+limited_says : Says limited_line (rule limited_rule)
+unfolding limited_line limited_rule
+limited_says = (
+  codes "digits" ∷ codes "event" ∷ codes "output" ∷ codes "category=stderr" ∷ codes "body.output"
+      ∷ [],
+  (
+    [],
+    codes " event output category=stderr  body.output",
+    refl,
+    refl,
+    (
+      codes " ",
+      codes " output category=stderr  body.output",
+      refl,
+      (refl, refl),
+      (
+        codes " ",
+        codes " category=stderr  body.output",
+        refl,
+        (refl, refl),
+        (
+          codes " ",
+          codes "  body.output",
+          refl,
+          (refl, refl),
+          (codes "  ", [], refl, (refl, refl), ([], [], refl, refl, tt)),
+        ),
+      ),
+    ),
+  ),
+  (
+    codes "output",
+    codes "category=stderr" ∷ [],
+    codes "body.output",
+    refl,
+    bare refl refl,
+    (codes "stderr", refl, bare refl refl, refl),
+    (
+      codes "body",
+      codes ".output",
+      refl,
+      bare refl refl,
+      (codes "output", [], refl, bare refl refl, refl),
+    ),
+  ),
+)
+
+limited_parsed : line_said limited_line ≡ rule limited_rule
+unfolding limited_line limited_rule
+limited_parsed = refl
+
+-- only a rule for events has a category
+limited_request_parsed : line_said (codes "blank request launch category=a b") ≡ bad
+limited_request_parsed = refl
+
+limited_response_parsed : line_said (codes "blank response * category=a b") ≡ bad
+limited_response_parsed = refl
+
+no_place_parsed : line_said (codes "blank event output category=a") ≡ bad
+no_place_parsed = refl
+
+no_text_parsed : line_said (codes "blank event output category= b") ≡ bad
+no_text_parsed = refl
+
+-- a place that starts with the member `category`
+category_place_line : List ℕ
+category_place_line = codes "blank event * category"
+
+category_place_rule : Statement
+category_place_rule = change (record {
+  verb = Blank;
+  kind = Event;
+  name = None;
+  category = None;
+  place = named (codes "category") ∷ [];
+})
+
+category_place_parsed : line_said category_place_line ≡ rule category_place_rule
+unfolding category_place_line category_place_rule
+category_place_parsed = refl
 
 -- ---- a rule for the order
 

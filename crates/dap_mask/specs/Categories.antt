@@ -1,13 +1,10 @@
 -- Rules that drop the events of one category, and the changes that they exclude.
-use Rattle.std.specs.Prelude.{ℕ, Bool, true, not, ◌&&◌, List, [], ◌∷◌, map, Option, option_map}
-use Rattle.std.specs.{Prelude.{codes, bytes_eq, string_bytes}, List.list_any}
+use Rattle.std.specs.Prelude.{ℕ, Bool, true, not, ◌&&◌, List, [], ◌∷◌, map, Option, Some}
+use Rattle.std.specs.{Prelude.{option_map, bytes_eq, string_bytes}, List.list_any}
 use Rattle.dap_tree.specs.Doc.{Doc}
-use Rattle.dap_tree.specs.Path.{Step, name as member, at}
-use Rattle.dap_profile.specs.PlaceSteps.{PlaceStep, named}
 use Rattle.dap_profile.specs.declared.profile.Kind.TheVariants.{Event}
-use Rattle.dap_message.specs.Rows.{is_text}
-use Rattle.dap_mask.specs.Rules.{Rule, has_name, same_kind, same_name, same_place, share_name}
-use Rattle.dap_mask.specs.Rules.{plain_place_of}
+use Rattle.dap_mask.specs.Rules.{Rule, has_name, has_category, same_kind, same_name, same_place}
+use Rattle.dap_mask.specs.Rules.{share_name, plain_place_of, category_place}
 use Rattle.dap_mask.specs.declared.categories.CategoryRule.{CategoryRule as ReadCategoryRule}
 
 -- The events of one name (`None` is any name) and one category.
@@ -15,19 +12,11 @@ pub record CategoryRule : Type 0 where
   pub name : Option (List ℕ)
   pub category : List ℕ
 
--- The path of the category of an event (DAP specification, OutputEvent).
-abbrev pub category_path : List Step
-category_path = member (codes "body") ∷ member (codes "category") ∷ []
-
--- The place of the category of an event.
-abbrev pub category_place : List PlaceStep
-category_place = named (codes "body") ∷ named (codes "category") ∷ []
-
 -- ---- the events that are dropped
 
 -- The event has the name and the category of the rule (own).
 abbrev pub drops : CategoryRule → Doc → Bool
-drops c d = has_name Event c.name d && is_text c.category (at category_path d)
+drops c d = has_name Event c.name d && has_category (Some c.category) d
 
 -- The event has the name and the category of one of these rules.
 abbrev pub is_dropped_by : List CategoryRule → Doc → Bool

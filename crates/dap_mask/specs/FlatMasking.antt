@@ -1,16 +1,18 @@
 -- Masking the nodes of flat documents in their place (own).
 use Rattle.std.specs.Prelude.{◌≡◌, ℕ, zero, suc, Bool, true, false, ◌&&◌, List, [], ◌∷◌, ◌++◌}
 use Rattle.std.specs.Prelude.{Option, Some, None}
-use Rattle.std.specs.{declared.alloc.Global.Global, declared.vec.Vec.Vec, List.slice_get}
-use Rattle.dap_tree.specs.{Doc.Doc, Json.text_of}
+use Rattle.std.specs.{Prelude.{cond, is_some}, declared.alloc.Global.Global}
+use Rattle.std.specs.{declared.vec.Vec.Vec, List.{list_any, slice_get}}
+use Rattle.dap_tree.specs.{Doc.Doc, Json.text_of, Path.at}
 use Rattle.dap_flat.specs.declared.node.Node.{Node}
 use Rattle.dap_flat.specs.Pieces.{Piece, leaf, begin_list, end_list, begin_object, end_object, name}
 use Rattle.dap_flat.specs.{Pieces.{pieces, Represents}, Finding.Holds}
 use Rattle.dap_flat_message.specs.Marking.{Replaced}
+use Rattle.dap_message.specs.Envelope.{text_value}
 use Rattle.dap_words.specs.{Long.long, Uuids.uuid}
 use Rattle.dap_mask.specs.{Loose.IsLeftOf, Mask.Mask, Promises.IsContentMasked}
 use Rattle.dap_mask.specs.{Categories.CategoryRule, Index.asks_for}
-use Rattle.dap_mask.specs.Rules.{Rule, blank, change_text, of_verb}
+use Rattle.dap_mask.specs.Rules.{Rule, blank, category_path, change_text, of_verb}
 use Rattle.dap_mask.specs.{RuleSteps.change_at_place, Texts.{digits, hex}}
 use Rattle.dap_mask.specs.declared.rules.Verb.{Verb, TheVariants.{Blank, Digits, Hex, Long, Uuid}}
 
@@ -47,21 +49,40 @@ asks_for_event n t c = asks_for c.name n && asks_for (Some c.category) t
 
 -- ---- for private clauses: rules that apply to a document
 
--- The document after the change of a rule, if there is a rule.
-abbrev pub changed_by : Option Rule → Doc → Doc
-changed_by None d = d
-changed_by (Some r) d = change_at_place r.place (of_verb r.verb) d
+-- The category of a message; `None` for a message without one.
+abbrev pub told_category : Doc → Option (List ℕ)
+told_category d = text_value (at category_path d)
 
--- The document after the changes of the rules at these positions, in order.
-abbrev pub changed_at : List Rule → List ℕ → Doc → Doc
-changed_at rs [] d = d
-changed_at rs (i ∷ is) d = changed_at rs is (changed_by (slice_get rs i) d)
+abbrev pub is_limited : Option Rule → Bool
+is_limited None = false
+is_limited (Some r) = is_some r.category
+
+-- A rule at one of these positions applies to the events of one category only.
+abbrev pub are_limited : List Rule → List ℕ → Bool
+are_limited rs is = list_any (λ i. is_limited (slice_get rs i)) is
+
+-- The category of a message, if a rule at one of these positions has a category.
+abbrev pub asked_category : List Rule → List ℕ → Doc → Option (List ℕ)
+asked_category rs is d = cond (are_limited rs is) (told_category d) None
+
+-- The document after the change of a rule, if there is a rule for messages of this category.
+abbrev pub changed_by : Option (List ℕ) → Option Rule → Doc → Doc
+changed_by t None d = d
+changed_by t (Some r) d =
+    cond (asks_for r.category t) (change_at_place r.place (of_verb r.verb) d) d
+
+-- The document after the changes of the rules at these positions for messages of this category, in
+-- order.
+abbrev pub changed_at : Option (List ℕ) → List Rule → List ℕ → Doc → Doc
+changed_at t rs [] d = d
+changed_at t rs (i ∷ is) d = changed_at t rs is (changed_by t (slice_get rs i) d)
 
 -- For a loop: the rules at the remaining positions change the document to the result of all.
-abbrev pub AreChanged : List Rule → List ℕ → List ℕ → List Node → List Node → Type 0
-AreChanged rs left all old now = (d : Doc) → Holds old 0 d
+abbrev pub AreChanged : Option (List ℕ) → List Rule → List ℕ → List ℕ → List Node → List Node
+    → Type 0
+AreChanged t rs left all old now = (d : Doc) → Holds old 0 d
     → (e : Doc) × Replaced old now 0 (pieces d) (pieces e)
-    × (changed_at rs left e ≡ changed_at rs all d)
+    × (changed_at t rs left e ≡ changed_at t rs all d)
 
 -- ---- for private clauses: the effect of a rule on one piece
 

@@ -102,13 +102,20 @@ kind_word Request = codes "request"
 kind_word Response = codes "response"
 kind_word Event = codes "event"
 
--- The words represent this rule: `VERB KIND NAME PLACE`, `drop event NAME`, `drop event NAME
--- category=TEXT`, `swap KIND NAME KIND NAME`, `per-stop`, or `word TEXT WORD`. TEXT and WORD are
--- written as names are.
+-- The words are those of the category of a rule for messages of this kind: `category=TEXT` for
+-- events, and no word for a rule without a category.
+abbrev pub AreCategoryWords : Kind → Option (List ℕ) → List (List ℕ) → Type 0
+AreCategoryWords k None ws = ws ≡ []
+AreCategoryWords k (Some c) ws = (t : List ℕ) × (ws ≡ (codes "category=" ++ t) ∷ []) × IsName t c
+    × (k ≡ Event)
+
+-- The words represent this rule: `VERB KIND NAME PLACE`, `VERB event NAME category=TEXT PLACE`,
+-- `drop event NAME`, `drop event NAME category=TEXT`, `swap KIND NAME KIND NAME`, `per-stop`, or
+-- `word TEXT WORD`. TEXT and WORD are written as names are.
 abbrev pub AreWordsOf : List (List ℕ) → Statement → Type 0
-AreWordsOf ws (change r) = (n : List ℕ) × (p : List ℕ)
-    × (ws ≡ verb_word r.verb ∷ kind_word r.kind ∷ n ∷ p ∷ []) × IsNameOrAny n r.name
-    × IsPlace p r.place
+AreWordsOf ws (change r) = (n : List ℕ) × (cs : List (List ℕ)) × (p : List ℕ)
+    × (ws ≡ verb_word r.verb ∷ kind_word r.kind ∷ n ∷ (cs ++ p ∷ [])) × IsNameOrAny n r.name
+    × AreCategoryWords r.kind r.category cs × IsPlace p r.place
 AreWordsOf ws (leave_out name) = (n : List ℕ) × (ws ≡ codes "drop" ∷ codes "event" ∷ n ∷ [])
     × IsNameOrAny n name
 AreWordsOf ws (leave_out_category c) = (n : List ℕ) × (t : List ℕ)

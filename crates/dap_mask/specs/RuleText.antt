@@ -120,18 +120,6 @@ kind_then s = option_and_then (λ k. option_and_then (name_behind k) (gap (behin
 abbrev pub head_at : List ℕ → Option Head
 head_at s = option_and_then kind_then (gap s)
 
-abbrev pub placed : Verb → Kind → Option (List ℕ) → List RuleStep × List ℕ → Option Statement
-placed v k n p = cond (is_end p.1)
-    (Some (change (record { verb = v; kind = k; name = n; place = p.0 }))) None
-
-abbrev pub place_behind : Verb → Kind → Option (List ℕ) → List ℕ → Option Statement
-place_behind v k n s = option_and_then (placed v k n) (place_at s)
-
--- The rule with this verb whose messages and place are in the text.
-abbrev pub change_at : Verb → List ℕ → Option Statement
-change_at v s = option_and_then (λ h. option_and_then (place_behind v h.0 h.1) (gap h.2))
-    (head_at s)
-
 -- The text after the sign `=` (61), and the rest.
 abbrev pub text_behind : List ℕ → Option (List ℕ × List ℕ)
 text_behind [] = None
@@ -141,6 +129,37 @@ text_behind (b ∷ s) = cond (b == 61) (name_at s) None
 abbrev pub category_at : List ℕ → Option (List ℕ × List ℕ)
 category_at s = cond (bytes_eq (front is_plain s) (codes "category"))
     (text_behind (behind is_plain s)) None
+
+-- The category of a rule for messages of this kind, and the text after the gap that follows it.
+-- Only a rule for events has a category.
+abbrev pub category_then : Kind → List ℕ × List ℕ → Option (Option (List ℕ) × List ℕ)
+category_then k c = cond (same_kind k Event) (option_map (λ s. (Some c.0, s)) (gap c.1)) None
+
+abbrev pub limit_from : Kind → List ℕ → Option (List ℕ × List ℕ)
+    → Option (Option (List ℕ) × List ℕ)
+limit_from k s None = Some (None, s)
+limit_from k s (Some c) = category_then k c
+
+-- The category with which the text starts, or none, and the text of the place.
+abbrev pub limit_at : Kind → List ℕ → Option (Option (List ℕ) × List ℕ)
+limit_at k s = limit_from k s (category_at s)
+
+abbrev pub placed : Verb → Kind → Option (List ℕ) → Option (List ℕ) → List RuleStep × List ℕ
+    → Option Statement
+placed v k n c p = cond (is_end p.1)
+    (Some (change (record { verb = v; kind = k; name = n; category = c; place = p.0 }))) None
+
+abbrev pub place_behind : Verb → Kind → Option (List ℕ) → Option (List ℕ) × List ℕ
+    → Option Statement
+place_behind v k n c = option_and_then (placed v k n c.0) (place_at c.1)
+
+abbrev pub change_behind : Verb → Kind → Option (List ℕ) → List ℕ → Option Statement
+change_behind v k n s = option_and_then (place_behind v k n) (limit_at k s)
+
+-- The rule with this verb whose messages and place are in the text.
+abbrev pub change_at : Verb → List ℕ → Option Statement
+change_at v s = option_and_then (λ h. option_and_then (change_behind v h.0 h.1) (gap h.2))
+    (head_at s)
 
 -- The rule that drops events of this name and category, if the line ends after the category.
 abbrev pub with_category : Option (List ℕ) → List ℕ × List ℕ → Option Statement

@@ -2,10 +2,10 @@
 -- value.
 use Rattle.std.specs.Prelude.{ℕ, Bool, true, false, not, ◌&&◌, ◌||◌, pos, List, [], ◌∷◌, map}
 use Rattle.std.specs.Prelude.{Option, Some, None, option_map, codes, bytes_eq, string_bytes}
-use Rattle.std.specs.Prelude.{cond, length, nat_lt, ◌==◌}
+use Rattle.std.specs.Prelude.{cond, length, nat_lt, ◌==◌, is_some}
 use Rattle.std.specs.List.{list_any}
 use Rattle.dap_tree.specs.Doc.{Doc, null, boolean, whole, text, list, object, id, no_items}
-use Rattle.dap_tree.specs.{Doc.{no_members, get}, Path.Step}
+use Rattle.dap_tree.specs.{Doc.{no_members, get}, Path.{Step, name as child, at}}
 use Rattle.dap_profile.specs.PlaceSteps.{PlaceStep, named as member, each}
 use Rattle.dap_message.specs.Rows.{is_text, is_of_kind, name_key}
 use Rattle.dap_profile.specs.declared.profile.Kind.{Kind, TheVariants.{Request, Response, Event}}
@@ -17,11 +17,12 @@ use Rattle.dap_mask.specs.declared.rules.Step.{Step as ReadStep}
 use Rattle.dap_mask.specs.declared.rules.Step.TheVariants.{Member, Each, Element}
 use Rattle.dap_mask.specs.declared.rules.MaskRule.{MaskRule}
 
--- The model of a rule. `None` is any name.
+-- The model of a rule. `None` is any name, and every event whatever its category.
 pub record Rule : Type 0 where
   pub verb : Verb
   pub kind : Kind
   pub name : Option (List ℕ)
+  pub category : Option (List ℕ)
   pub place : List RuleStep
 
 abbrev pub step_of : ReadStep → RuleStep
@@ -42,6 +43,7 @@ rule_of r = record {
   verb = r.verb;
   kind = r.kind;
   name = option_map string_bytes r.name;
+  category = option_map string_bytes r.category;
   place =
       place_of r.place.items;
 }
@@ -89,10 +91,24 @@ abbrev pub has_name : Kind → Option (List ℕ) → Doc → Bool
 has_name k None d = true
 has_name k (Some n) d = is_text n (get (name_key k) d)
 
+-- The path of the category of an event (DAP specification, OutputEvent).
+abbrev pub category_path : List Step
+category_path = child (codes "body") ∷ child (codes "category") ∷ []
+
+-- The category of the event is the given text. `None` is true of every message.
+abbrev pub has_category : Option (List ℕ) → Doc → Bool
+has_category None d = true
+has_category (Some c) d = is_text c (at category_path d)
+
+-- The message has the `type` of the rule and, if the rule has a name, this `command` or `event`.
+abbrev pub has_head : Rule → Doc → Bool
+has_head r d = is_of_kind r.kind d && has_name r.kind r.name d
+
 -- The rule applies to the message, by its JSON only (own): an object with the `type` of the rule
--- and, if the rule has a name, with this `command` or `event`.
+-- and, if the rule has a name, with this `command` or `event`, and if it has a category, with this
+-- `body.category`.
 abbrev pub rule_applies : Rule → Doc → Bool
-rule_applies r d = is_of_kind r.kind d && has_name r.kind r.name d
+rule_applies r d = has_head r d && has_category r.category d
 
 -- The rule applies to the message, and each element along the path has the name that the place of
 -- the rule gives (own).
@@ -133,6 +149,18 @@ same_place [] [] = true
 same_place (p ∷ ps) (q ∷ qs) = same_step p q && same_place ps qs
 same_place _ _ = false
 
+-- The place of the body of a message.
+abbrev pub body_place : List PlaceStep
+body_place = member (codes "body") ∷ []
+
+-- The place of the category of an event.
+abbrev pub category_place : List PlaceStep
+category_place = member (codes "body") ∷ member (codes "category") ∷ []
+
+-- A change at the place may change the category of an event: the place is the category or the body.
+abbrev pub holds_category : List PlaceStep → Bool
+holds_category ps = same_place ps body_place || same_place ps category_place
+
 abbrev pub same_kind : Kind → Kind → Bool
 same_kind Request Request = true
 same_kind Response Response = true
@@ -143,6 +171,10 @@ same_kind _ _ = false
 abbrev pub share_name : Option (List ℕ) → Option (List ℕ) → Bool
 share_name (Some n) (Some m) = bytes_eq n m
 share_name _ _ = true
+
+-- Some event may have both categories.
+abbrev pub share_category : Option (List ℕ) → Option (List ℕ) → Bool
+share_category c e = share_name c e
 
 -- The two names are equal, or both are any name.
 abbrev pub same_name : Option (List ℕ) → Option (List ℕ) → Bool
@@ -182,7 +214,7 @@ same_verb _ _ = false
 abbrev pub same_rule : Rule → Rule → Bool
 same_rule r t =
     same_verb r.verb t.verb && (same_kind r.kind t.kind && (same_name r.name t.name
-    && same_rule_place r.place t.place))
+    && (same_name r.category t.category && same_rule_place r.place t.place)))
 
 -- The rule is one of these.
 abbrev pub is_among : Rule → List Rule → Bool
@@ -198,7 +230,7 @@ excludes _ _ = false
 -- The two rules clash: their actions exclude each other, at the same place of some message.
 abbrev pub clash : Rule → Rule → Bool
 clash r t = excludes r.verb t.verb && (share_place r.place t.place && (same_kind r.kind t.kind
-    && share_name r.name t.name))
+    && (share_name r.name t.name && share_category r.category t.category)))
 
 abbrev pub clashes_with : Rule → List Rule → Bool
 clashes_with r rs = list_any (clash r) rs
@@ -240,6 +272,21 @@ abbrev pub renames : Rule → Rule → Bool
 renames r t = is_name_in r.place t.place && (same_kind r.kind t.kind
     && share_name r.name t.name)
 
+-- ---- the categories by which rules select events
+
+-- The first rule may change the category by which the second one applies (own). If both were rules
+-- of one mask, the order of their lines would matter.
+abbrev pub recategorises : Rule → Rule → Bool
+recategorises r t = is_some t.category && (holds_category (plain_place_of r)
+    && (same_kind r.kind t.kind && share_name r.name t.name))
+
+-- One of the two rules may change the category by which the other one applies.
+abbrev pub disturb : Rule → Rule → Bool
+disturb r t = recategorises r t || recategorises t r
+
+abbrev pub disturbs_one_of : Rule → List Rule → Bool
+disturbs_one_of r rs = list_any (disturb r) rs
+
 -- ---- the order in which rules apply
 
 -- The first number is lower, or the numbers are equal and the rest decides.
@@ -276,12 +323,14 @@ inserted r [] = r ∷ []
 inserted r (t ∷ ts) = cond (comes_before r t) (r ∷ t ∷ ts) (t ∷ inserted r ts)
 
 -- The place is the message itself, or its `type`, `command`, `event` or `success`, or the name by
--- which the rule selects an element.
+-- which the rule selects an element. Or a change there may change the category of the rule.
 abbrev pub is_misplaced : Rule → Bool
-is_misplaced r = is_telling_place r.place || renames r r
+is_misplaced r = is_telling_place r.place || (renames r r || recategorises r r)
 
--- The rules are in the order in which they apply, and none is misplaced. So no rule changes a name
--- by which it or an earlier one selects elements.
+-- The rules are in the order in which they apply, none is misplaced, and none may change the
+-- category by which another one applies. So no rule changes a name by which it or an earlier one
+-- selects elements, and none changes whether a rule applies.
 abbrev pub are_safe : List Rule → Bool
 are_safe [] = true
-are_safe (r ∷ rs) = not (is_misplaced r) && (not (is_late r rs) && are_safe rs)
+are_safe (r ∷ rs) = not (is_misplaced r)
+    && (not (is_late r rs) && (not (disturbs_one_of r rs) && are_safe rs))

@@ -7,7 +7,8 @@ use Rattle.dap_mask.specs.Ids.{takes_profile_id}
 use Rattle.dap_mask.specs.Mask.{Mask, no_rules, rule_count, with_rule, Statement, change, leave_out}
 use Rattle.dap_mask.specs.Mask.{leave_out_category, swap, restart, put, Line, nothing, rule, bad}
 use Rattle.dap_mask.specs.RuleText.{line_said}
-use Rattle.dap_mask.specs.Rules.{Rule, is_among, is_misplaced, clashes_with, same_name}
+use Rattle.dap_mask.specs.Rules.{Rule, is_among, is_misplaced, clashes_with, disturbs_one_of}
+use Rattle.dap_mask.specs.Rules.{same_name}
 use Rattle.dap_mask.specs.{Runs.lines_of, Swaps.is_swap_among}
 use Rattle.dap_mask.specs.declared.fault.RulesCause.{RulesCause}
 use Rattle.dap_mask.specs.declared.fault.RulesCause.TheVariants.{TooLong, NotUtf8, BadRule, TooMany}
@@ -27,7 +28,8 @@ abbrev pub change_cause : Mask → Rule → Option RulesCause
 change_cause m r =
     cond (is_misplaced r || takes_profile_id r) (Some BadPlace)
     (cond (is_among r m.changes) (Some Repeated)
-    (cond (clashes_with r m.changes || moves_one_of r m.categories) (Some Clash) None))
+    (cond (clashes_with r m.changes || (disturbs_one_of r m.changes || moves_one_of r m.categories))
+    (Some Clash) None))
 
 -- The cause, as an error of a rules file.
 abbrev pub cause_of_word : WordCause → RulesCause

@@ -1,10 +1,12 @@
-//! Rules that drop the events of one category.
+//! Rules for the events of one category.
 ghost use Rattle.std.specs.{Prelude.{◌≡◌}, List.list_any};
 ghost use Rattle.dap_mask.specs.{Categories.{category_of, same_category, moves}, Rules.rule_of};
+ghost use Rattle.dap_mask.specs.Rules.{place_of, holds_category, recategorises, disturb};
+ghost use Rattle.dap_mask.specs.RuleSteps.{plain_place};
 
 use crate::meets::{same_kind, same_name, share_name, text_of};
 use crate::profile_ids::is_at;
-use crate::rules::MaskRule;
+use crate::rules::{MaskRule, Step};
 use dap_message::Kind;
 use dap_profile::Place;
 
@@ -51,4 +53,34 @@ pub(crate) fn is_moved_by(changes: &[MaskRule], rule: &CategoryRule) -> bool
     ensures { result ≡ list_any (λ r. moves (rule_of r) (category_of rule.now)) changes.now }
 {
     changes.iter().any(|change| moves(change, rule))
+}
+
+fn holds_category(place: &[Step]) -> bool
+    ensures { result ≡ holds_category (plain_place (place_of place.now)) }
+{
+    is_at(place, Place::Member("body")) || is_at(place, Place::Inner("body", "category"))
+}
+
+/// Returns whether the first rule may change the category by which the second one applies.
+pub(crate) fn recategorises(rule: &MaskRule, other: &MaskRule) -> bool
+    ensures { result ≡ recategorises (rule_of rule.now) (rule_of other.now) }
+{
+    other.category.is_some()
+        && holds_category(&rule.place)
+        && same_kind(rule.kind, other.kind)
+        && share_name(text_of(&rule.name), text_of(&other.name))
+}
+
+fn disturb(rule: &MaskRule, other: &MaskRule) -> bool
+    ensures { result ≡ disturb (rule_of rule.now) (rule_of other.now) }
+{
+    recategorises(rule, other) || recategorises(other, rule)
+}
+
+/// Returns whether the rule may change the category by which one of the others applies, or one of
+/// them the category by which the rule applies.
+pub(crate) fn disturbs_one_of(rule: &MaskRule, rules: &[MaskRule]) -> bool
+    ensures { result ≡ list_any (λ r. disturb (rule_of rule.now) (rule_of r)) rules.now }
+{
+    rules.iter().any(|other| disturb(rule, other))
 }

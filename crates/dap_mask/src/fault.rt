@@ -23,7 +23,8 @@ pub enum RulesCause {
     ///
     /// - Cause: a missing word, or a name with other characters that is not in quotes.
     /// - Fix: write a verb, a kind, a name and a place, or `swap` with two kinds and names, or
-    ///   `word` with a text and its word, with spaces between them, or `per-stop` alone.
+    ///   `word` with a text and its word, with spaces between them, or `per-stop` alone. Only a
+    ///   rule for events may have a category, which precedes the place.
     BadRule,
     /// A thousand rules precede it.
     ///
@@ -32,6 +33,7 @@ pub enum RulesCause {
     TooMany,
     /// The place never changes: it is an id that the profile renames, the message itself, its
     /// `type`, `command`, `event` or `success`, or the name by which the rule selects an element.
+    /// For a rule with a category, the place is also never `body` or `body.category`.
     ///
     /// - Cause: a rule for a number that `normalise` renames anyway.
     /// - Fix: leave the rule out.
@@ -44,11 +46,12 @@ pub enum RulesCause {
     Repeated,
     /// This rule and an earlier one are `uuid` and `digits` at the same place of messages that may
     /// be the same, so masking twice could change a text again. Or one of the two changes
-    /// `body.category` of events that the other drops by their category.
+    /// `body.category` of events that the other drops by their category. Or one of the two changes
+    /// `body` or `body.category` of events, and the other applies only to events of one category.
     ///
     /// - Cause: `uuid` and `digits` at one place, or a change of a category by which events are
-    ///   dropped.
-    /// - Fix: leave one of the two out.
+    ///   dropped or selected.
+    /// - Fix: leave one of the two out, or give two rules for events different categories.
     Clash,
     /// The text of a `word` line is empty, or a word of the file can overlap a text of the file:
     /// one contains the other, or the end of one is the start of the other. Masking twice could

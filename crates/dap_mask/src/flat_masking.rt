@@ -1,17 +1,20 @@
 //! Reads contents as flat documents, and masks them in place.
 ghost use Rattle.std.specs.Prelude.{◌≡◌, ◌<◌, Some, length, slice_get, IfOk, IfSome, IsErrOf, OnOk};
-ghost use Rattle.dap_flat_message.specs.Marking.{Edits};
+ghost use Rattle.dap_flat_message.specs.{Heads.text_in, Marking.Edits};
 ghost use Rattle.dap_mask.specs.FlatMasking.{IsLeftFlat, IsMaskedFlat, IsTold};
+ghost use Rattle.dap_mask.specs.FlatMasking.{asked_category, are_limited, is_limited};
 ghost use Rattle.dap_mask.specs.FlatMasking.{changed_at, changed_by};
 ghost use Rattle.dap_mask.specs.{Index.told_kind, KeptRules.{changes_of, mask_of}, Masked.masked};
-ghost use Rattle.dap_mask.specs.Rules.{rules_of};
+ghost use Rattle.dap_mask.specs.Rules.{rule_of, rules_of};
 
 use crate::flat_places::{Memory, mask_path};
-use crate::flat_told::{is_dropped, told_kind, told_name};
+use crate::flat_told::{is_dropped, told_category, told_kind, told_name};
+use crate::index::asks_for;
 use crate::mask_rules::MaskRules;
+use crate::meets::text_of;
 use crate::rules::MaskRule;
 use bumpalo::Bump;
-use dap_flat::{Node, Unread, read_flat};
+use dap_flat::{Node, Unclear, Unread, read_flat};
 use dap_message::Kind;
 use dap_tree::Scratch;
 
@@ -79,21 +82,57 @@ fn mask_told<'a>(
 {
     let name = told_name(nodes, kind)?;
     let found = rules.places(kind, name);
-    change_places(nodes, rules.changes(), found, memory)
+    let changes = rules.changes();
+    let category = asked_category(nodes, changes, found)?;
+    change_places(nodes, changes, found, category, memory)
 }
 
-// Applies the rules at these positions, which apply to the message.
+// Returns the category of the message, if it has one and a rule at these positions has one.
+fn asked_category<'a>(
+    nodes: &[Node<'a>],
+    rules: &[MaskRule],
+    places: &[usize],
+) -> Result<Option<&'a str>, Unclear>
+    ensures { IfOk result (λ s. IsTold nodes.now 0
+        (asked_category (rules_of rules.now) places.now) (text_in s)) }
+{
+    if are_limited(rules, places) {
+        told_category(nodes)
+    } else {
+        Ok(None)
+    }
+}
+
+// Returns whether a rule at one of these positions has a category.
+fn are_limited(rules: &[MaskRule], places: &[usize]) -> bool
+    ensures { result ≡ are_limited (rules_of rules.now) places.now }
+{
+    places.iter().any(|place| is_limited(rules, *place))
+}
+
+fn is_limited(rules: &[MaskRule], place: usize) -> bool
+    ensures { result ≡ is_limited (slice_get (rules_of rules.now) place) }
+{
+    match rules.get(place) {
+        Some(rule) => rule.category.is_some(),
+        None => false,
+    }
+}
+
+// Applies those of the rules at these positions that apply to messages of the category. No rule
+// changes the category by which another one applies.
 fn change_places<'a>(
     nodes: &mut [Node<'a>],
     rules: &[MaskRule],
     places: &[usize],
+    category: Option<&str>,
     memory: Memory<'a>,
 ) -> Result<(), Unread>
-    ensures { OnOk result
-        (Edits nodes.old nodes.new 0 (changed_at (rules_of rules.now) places.now)) }
+    ensures { OnOk result (Edits nodes.old nodes.new 0
+        (changed_at (text_in category.entry) (rules_of rules.now) places.now)) }
 {
     for place in places {
-        change_at(nodes, rules, *place, memory)?;
+        change_at(nodes, rules, *place, category, memory)?;
     }
     Ok(())
 }
@@ -102,13 +141,30 @@ fn change_at<'a>(
     nodes: &mut [Node<'a>],
     rules: &[MaskRule],
     place: usize,
+    category: Option<&str>,
     memory: Memory<'a>,
 ) -> Result<(), Unread>
-    ensures { OnOk result
-        (Edits nodes.old nodes.new 0 (changed_by (slice_get (rules_of rules.now) place))) }
+    ensures { OnOk result (Edits nodes.old nodes.new 0
+        (changed_by (text_in category.entry) (slice_get (rules_of rules.now) place))) }
 {
     match rules.get(place) {
-        Some(rule) => mask_path(nodes, 0, &rule.place, rule.verb, memory),
+        Some(rule) => change_by(nodes, rule, category, memory),
         None => Ok(()),
+    }
+}
+
+fn change_by<'a>(
+    nodes: &mut [Node<'a>],
+    rule: &MaskRule,
+    category: Option<&str>,
+    memory: Memory<'a>,
+) -> Result<(), Unread>
+    ensures { OnOk result (Edits nodes.old nodes.new 0
+        (changed_by (text_in category.entry) (Some (rule_of rule.now)))) }
+{
+    if asks_for(text_of(&rule.category), category) {
+        mask_path(nodes, 0, &rule.place, rule.verb, memory)
+    } else {
+        Ok(())
     }
 }

@@ -1,12 +1,12 @@
 //! Looks at the members of a flat message by which rules apply.
 ghost use Rattle.std.specs.Prelude.{◌≡◌, ◌||◌, Some, IfOk, option_map, string_bytes, codes};
 ghost use Rattle.std.specs.List.{list_any};
-ghost use Rattle.dap_tree.specs.{Doc.get, Path.at};
+ghost use Rattle.dap_tree.specs.{Doc.get};
 ghost use Rattle.dap_message.specs.{Envelope.text_value, Rows.is_text};
 ghost use Rattle.dap_flat.specs.Pieces.{piece_of};
 ghost use Rattle.dap_flat_message.specs.{Heads.text_in, Judging.top_of};
-ghost use Rattle.dap_mask.specs.Categories.{category_of, category_path, is_dropped_by};
-ghost use Rattle.dap_mask.specs.FlatMasking.{asks_for_event, IsTold};
+ghost use Rattle.dap_mask.specs.Categories.{category_of, is_dropped_by};
+ghost use Rattle.dap_mask.specs.FlatMasking.{asks_for_event, told_category, IsTold};
 ghost use Rattle.dap_mask.specs.Index.{asks_for, told_kind, told_name};
 ghost use Rattle.dap_mask.specs.KeptRules.{categories_of_mask, dropped_of, mask_of};
 ghost use Rattle.dap_mask.specs.{Mask.leaves_out, RuleSteps.is_called, Rules.is_event_of};
@@ -71,9 +71,9 @@ fn drops(rule: &CategoryRule, name: Option<&str>, category: Option<&str>) -> boo
     asks_for(text_of(&rule.name), name) && asks_for(Some(rule.category.as_str()), category)
 }
 
-fn told_category<'a>(nodes: &[Node<'a>]) -> Result<Option<&'a str>, Unclear>
-    ensures { IfOk result
-        (λ s. IsTold nodes.now 0 (λ d. text_value (at category_path d)) (text_in s)) }
+/// Returns the category of a message, if it has one.
+pub(crate) fn told_category<'a>(nodes: &[Node<'a>]) -> Result<Option<&'a str>, Unclear>
+    ensures { IfOk result (λ s. IsTold nodes.now 0 told_category (text_in s)) }
 {
     match child(nodes, 0, "body")? {
         Some(place) => told_text(nodes, place, "category"),

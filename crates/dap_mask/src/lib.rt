@@ -8,6 +8,8 @@
 //! [`MaskRules::swaps`]; and the line `per-stop`, [`MaskRules::per_stop`]. Masking does not use the
 //! last two.
 //!
+//! [`digits`] and [`hex`] apply two of the actions to a text.
+//!
 //! A program that explains why a line is not a rule parses the parts of the line with
 //! [`split_run`], [`gap`], [`is_end`], [`name_at`], [`any_name`] and [`place_at`].
 #![tactic(auto)]
@@ -49,4 +51,5 @@ pub use names::{any_name, name_at};
 pub use places::place_at;
 pub use rules::{MaskRule, Step, Verb};
 pub use runs::{ByteClass, gap, is_end, split_run};
+pub use texts::{digits, hex};
 pub use word_lines::write_word;

@@ -16,8 +16,9 @@ use std::alloc::{AllocError, Global};
 /// The rules of a mask.
 ///
 /// The place of a rule is never the message itself, its `type`, `command`, `event` or `success`, or
-/// an id that the profile renames. Masking a masked message again does not change it, if its
-/// members are in order.
+/// an id that the profile renames. No rule changes `body` or `body.category` of events to which it
+/// or another rule applies by their category. Masking a masked message again does not change it, if
+/// its members are in order.
 #[derive(Drop)]
 pub struct MaskRules {
     list: RuleList,

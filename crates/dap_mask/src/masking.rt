@@ -2,16 +2,16 @@
 ghost use Rattle.std.specs.Prelude.{◌≡◌, ◌↔◌, true, false, Some, option_map, string_bytes, ◌∷◌};
 ghost use Rattle.std.specs.{Prelude.slice_get, List.list_any};
 ghost use Rattle.dap_tree.specs.Doc.{Doc, is_sound, is_ordered, get, change_child, change_items};
-ghost use Rattle.dap_tree.specs.{Doc.map_items, Path.at, View.{view, items_view}};
+ghost use Rattle.dap_tree.specs.{Doc.map_items, View.{view, items_view}};
 ghost use Rattle.dap_message.specs.Rows.{is_text, is_of_kind, name_key};
 ghost use Rattle.dap_mask.specs.{Ids.KeepsIds, Index.{told_kind, told_name, masked_by, masked_at}};
-ghost use Rattle.dap_mask.specs.Categories.{category_path, category_of, drops};
+ghost use Rattle.dap_mask.specs.Categories.{category_of, drops};
 ghost use Rattle.dap_mask.specs.{KeptRules.{changes_of, dropped_of, mask_of}, Mask.leaves_out};
 ghost use Rattle.dap_mask.specs.Masked.{mask_by, masked, IsMasked, AgreeBut, KeepsElsewhere};
 ghost use Rattle.dap_mask.specs.Masked.{HasNoNewPath};
 ghost use Rattle.dap_mask.specs.RuleSteps.{change_at_place, change_called, is_called};
 ghost use Rattle.dap_mask.specs.Rules.{rule_of, rules_of, step_of, place_of, of_verb, blank};
-ghost use Rattle.dap_mask.specs.Rules.{has_name, rule_applies, is_dropped};
+ghost use Rattle.dap_mask.specs.Rules.{has_name, has_category, rule_applies, is_dropped};
 
 use crate::categories::CategoryRule;
 use crate::mask_rules::MaskRules;
@@ -132,16 +132,26 @@ fn is_dropped_by(tree: &Tree, rules: &[CategoryRule]) -> bool
 fn drops(tree: &Tree, rule: &CategoryRule) -> bool
     ensures { result ≡ drops (category_of rule.now) (view tree.now) }
 {
-    has_name(tree, Kind::Event, text_of(&rule.name)) && has_category(tree, rule.category.as_str())
+    has_name(tree, Kind::Event, text_of(&rule.name)) && is_of_category(tree, rule.category.as_str())
 }
 
 #[tactic(auto, using(crate::proofs::Dropping::category_in, crate::proofs::Dropping::no_body))]
-fn has_category(tree: &Tree, category: &str) -> bool
-    ensures { result ≡ is_text category.now (at category_path (view tree.now)) }
+fn is_of_category(tree: &Tree, category: &str) -> bool
+    ensures { result ≡ has_category (Some category.now) (view tree.now) }
 {
     match tree.child("body") {
         Some(body) => has_text(body, "category", category),
         None => false,
+    }
+}
+
+fn has_category(tree: &Tree, category: Option<&str>) -> bool
+    ensures { result
+        ≡ has_category (option_map (λ s. s.now) category.entry) (view tree.now) }
+{
+    match category {
+        Some(category) => is_of_category(tree, category),
+        None => true,
     }
 }
 
@@ -199,7 +209,9 @@ pub(crate) fn name_key(kind: Kind) -> &'static str
 fn rule_applies(rule: &MaskRule, tree: &Tree) -> bool
     ensures { result ≡ rule_applies (rule_of rule.now) (view tree.now) }
 {
-    is_of_kind(tree, rule.kind) && has_name(tree, rule.kind, text_of(&rule.name))
+    is_of_kind(tree, rule.kind)
+        && has_name(tree, rule.kind, text_of(&rule.name))
+        && has_category(tree, text_of(&rule.category))
 }
 
 #[cycle(mask_path)]

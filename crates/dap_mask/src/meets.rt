@@ -118,6 +118,7 @@ fn same_rule(rule: &MaskRule, other: &MaskRule) -> bool
     same_verb(rule.verb, other.verb)
         && same_kind(rule.kind, other.kind)
         && same_name(text_of(&rule.name), text_of(&other.name))
+        && same_name(text_of(&rule.category), text_of(&other.category))
         && same_rule_place(&rule.place, &other.place)
 }
 
@@ -144,6 +145,7 @@ fn clash(rule: &MaskRule, other: &MaskRule) -> bool
         && share_place(&rule.place, &other.place)
         && same_kind(rule.kind, other.kind)
         && share_name(text_of(&rule.name), text_of(&other.name))
+        && share_name(text_of(&rule.category), text_of(&other.category))
 }
 
 /// Returns whether one of the others excludes the rule.

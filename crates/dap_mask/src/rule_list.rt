@@ -4,12 +4,15 @@ ghost use Rattle.std.specs.Prelude.{◌≡◌, ◌≢◌, ◌≤◌, true, cond,
 ghost use Rattle.std.specs.Prelude.{IfOk, IfErr, OnOk, length, string_bytes, ◌+◌, vec_len, ◌||◌};
 ghost use Rattle.std.specs.{Str.is_utf8, List.list_any};
 ghost use Rattle.dap_mask.specs.Categories.{category_of, categories_of, keep_categories};
-ghost use Rattle.dap_mask.specs.Ids.{leave_ids};
+ghost use Rattle.dap_mask.specs.Ids.{leave_ids, takes_profile_id};
 ghost use Rattle.dap_mask.specs.Rules.{rule_of, rules_of, are_safe, are_idempotent, same_name};
+ghost use Rattle.dap_mask.specs.Rules.{is_misplaced};
 ghost use Rattle.dap_mask.specs.RulesFile.{last_line, cause_of_word};
 ghost use Rattle.dap_words.specs.{Words.pair_of, Kept.pairs_in};
 
-use crate::categories::{CategoryRule, is_category_among, is_moved_by, moves_one_of};
+use crate::categories::{
+    CategoryRule, disturbs_one_of, is_category_among, is_moved_by, moves_one_of, recategorises,
+};
 use crate::element_names::renames;
 use crate::fault::{RulesCause, RulesFault};
 use crate::meets::{clashes_with, is_among, is_telling_place, same_name, text_of};
@@ -34,8 +37,9 @@ const MAX_RULES: usize = 1_000;
 /// other rules in the order of their file.
 ///
 /// The place of a rule is never the message itself, its `type`, `command`, `event` or `success`, or
-/// an id that the profile renames. Masking a masked message again does not change it, if its
-/// members are in order.
+/// an id that the profile renames. No rule changes `body` or `body.category` of events to which it
+/// or another rule applies by their category. Masking a masked message again does not change it, if
+/// its members are in order.
 #[derive(Drop)]
 pub(crate) struct RuleList {
     changes: Vec<MaskRule>,
@@ -55,6 +59,7 @@ pub(crate) struct RuleList {
 
 impl RuleList {
     ghost use Rattle.dap_mask.specs.{Categories.moves_one_of, Rules.clashes_with};
+    ghost use Rattle.dap_mask.specs.Rules.{disturbs_one_of};
     ghost use Rattle.dap_mask.specs.ListedRules.{listed_mask, listed_changes, listed_categories};
     ghost use Rattle.dap_mask.specs.Mask.{no_rules, rule_count, with_rule, statement_of, nothing};
     ghost use Rattle.dap_mask.specs.{Mask.{change, leave_out_category, put}, RuleText.line_said};
@@ -171,14 +176,24 @@ impl RuleList {
         }
     }
 
-    // Returns whether the change excludes one of the changes, or may give an event the category by
-    // which a rule drops it.
+    // Returns whether the change may change the category by which another rule selects events, or
+    // another change the category of this one.
+    #[tactic(auto, using(crate::proofs::Lists::any_mapped))]
+    fn disturbs(&self, rule: &MaskRule) -> bool
+        ensures { result ≡ (disturbs_one_of (rule_of rule.now) (listed_changes self.now)
+            || moves_one_of (rule_of rule.now) (listed_categories self.now)) }
+    {
+        disturbs_one_of(rule, &self.changes) || moves_one_of(rule, &self.categories)
+    }
+
+    // Returns whether the change excludes one of the changes, or disturbs a rule.
     #[tactic(auto, using(crate::proofs::Lists::any_mapped))]
     fn clashes(&self, rule: &MaskRule) -> bool
         ensures { result ≡ (clashes_with (rule_of rule.now) (listed_changes self.now)
-            || moves_one_of (rule_of rule.now) (listed_categories self.now)) }
+            || (disturbs_one_of (rule_of rule.now) (listed_changes self.now)
+            || moves_one_of (rule_of rule.now) (listed_categories self.now))) }
     {
-        clashes_with(rule, &self.changes) || moves_one_of(rule, &self.categories)
+        clashes_with(rule, &self.changes) || self.disturbs(rule)
     }
 
     // Returns why the change may not follow the rules read so far, apart from their number.
@@ -186,7 +201,7 @@ impl RuleList {
     fn change_cause(&self, rule: &MaskRule) -> Option<RulesCause>
         ensures { result ≡ change_cause (listed_mask self.now) (rule_of rule.now) }
     {
-        if is_telling_place(&rule.place) || renames(rule, rule) || takes_profile_id(rule) {
+        if is_forbidden(rule) {
             Some(RulesCause::BadPlace)
         } else if is_among(rule, &self.changes) {
             Some(RulesCause::Repeated)
@@ -299,6 +314,19 @@ fn cause_of_word(cause: WordCause) -> RulesCause
         WordCause::Repeated => RulesCause::Repeated,
         WordCause::Memory => RulesCause::Memory,
     }
+}
+
+// Returns whether no mask may contain the change, because of its place.
+fn is_forbidden(rule: &MaskRule) -> bool
+    ensures { result ≡ (is_misplaced (rule_of rule.now) || takes_profile_id (rule_of rule.now)) }
+{
+    is_misplaced(rule) || takes_profile_id(rule)
+}
+
+fn is_misplaced(rule: &MaskRule) -> bool
+    ensures { result ≡ is_misplaced (rule_of rule.now) }
+{
+    is_telling_place(&rule.place) || renames(rule, rule) || recategorises(rule, rule)
 }
 
 // Returns the cause if the rule is rejected for it.

@@ -38,6 +38,9 @@ pub struct MaskRule {
     pub kind: Kind,
     /// The command or event of these messages; any, if `None`.
     pub name: Option<String>,
+    /// The text at `body.category` of these messages; anything or nothing, if `None`. Only a rule
+    /// for events has a category.
+    pub category: Option<String>,
     /// The place of the values in such a message.
     pub place: Vec<Step>,
 }

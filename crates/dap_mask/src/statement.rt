@@ -2,7 +2,8 @@
 ghost use Rattle.std.specs.Prelude.{◌≡◌, ◌≢◌, IfOk, IfErr, option_map, string_bytes};
 ghost use Rattle.dap_mask.specs.Mask.{statement_of, line_of, nothing};
 ghost use Rattle.dap_mask.specs.RuleText.{verb_named, kind_named, head_at, change_at, category_at};
-ghost use Rattle.dap_mask.specs.RuleText.{category_behind, leave_out_at, half_at, swap_at};
+ghost use Rattle.dap_mask.specs.RuleText.{limit_at, category_then, category_behind, leave_out_at};
+ghost use Rattle.dap_mask.specs.RuleText.{half_at, swap_at};
 ghost use Rattle.dap_mask.specs.RuleText.{restart_at, part_at, put_at, statement_at, line_said};
 ghost use Rattle.dap_message.specs.SwapRules.{half_of};
 
@@ -134,6 +135,7 @@ fn change_at(alloc: Global, verb: Verb, text: &[u8]) -> Result<Option<Statement>
 {
     if let Some((kind, name, text)) = head_at(alloc, text)?
         && let Some(text) = gap(text)
+        && let Some((category, text)) = limit_at(alloc, kind, text)?
         && let Some((place, text)) = place_at(alloc, text)?
         && is_end(text)
     {
@@ -141,10 +143,37 @@ fn change_at(alloc: Global, verb: Verb, text: &[u8]) -> Result<Option<Statement>
             verb,
             kind,
             name,
+            category,
             place,
         })));
     }
     Ok(None)
+}
+
+// Returns the category with which the text starts, or `None`, and the text of the place. Only a
+// rule for events has a category.
+fn limit_at(
+    alloc: Global,
+    kind: Kind,
+    text: &[u8],
+) -> Result<Option<(Option<String>, &[u8])>, AllocError>
+    ensures { IfOk result (λ o. option_map (λ l. (option_map string_bytes l.0, l.1.now)) o
+        ≡ limit_at kind text.now) }
+{
+    match category_at(alloc, text)? {
+        None => Ok(Some((None, text))),
+        Some((category, rest)) => Ok(category_then(kind, category, rest)),
+    }
+}
+
+fn category_then(kind: Kind, category: String, rest: &[u8]) -> Option<(Option<String>, &[u8])>
+    ensures { option_map (λ l. (option_map string_bytes l.0, l.1.now)) result
+        ≡ category_then kind (string_bytes category, rest.now) }
+{
+    match (kind, gap(rest)) {
+        (Kind::Event, Some(text)) => Some((Some(category), text)),
+        _ => None,
+    }
 }
 
 fn leave_out_at(alloc: Global, text: &[u8]) -> Result<Option<Statement>, AllocError>

@@ -4,7 +4,7 @@ ghost use Rattle.dap_mask.specs.Texts.{digits, hex, slice_begins_hex};
 ghost use Rattle.dap_mask.specs.Standing.{left_of, next_at};
 
 /// Replaces each run of digits by `0`. Does not allocate.
-pub(crate) fn digits(text: String) -> String
+pub fn digits(text: String) -> String
     ensures { string_bytes result ≡ digits (string_bytes text) }
 {
     let mut bytes = text.into_bytes();
@@ -14,7 +14,7 @@ pub(crate) fn digits(text: String) -> String
 }
 
 /// Replaces each hexadecimal number by `0x0`. Does not allocate.
-pub(crate) fn hex(text: String) -> String
+pub fn hex(text: String) -> String
     ensures { string_bytes result ≡ hex (string_bytes text) }
 {
     let mut bytes = text.into_bytes();

@@ -5,8 +5,7 @@ use Rattle.dap_tree.specs.Path.{at, name}
 use Rattle.dap_message.proofs.RowMarks.{one_step}
 use Rattle.dap_message.specs.Envelope.{text_value}
 use Rattle.dap_flat_message.specs.Heads.{text_in}
-use Rattle.dap_mask.specs.Categories.{category_path}
-use Rattle.dap_mask.specs.FlatMasking.{IsTold}
+use Rattle.dap_mask.specs.FlatMasking.{IsTold, told_category}
 use Rattle.dap_mask.proofs.FlatTold.{child_told, no_child_told}
 use Rattle.dap_mask.proofs.flat_told.told_category.Goals as goal
 
@@ -16,7 +15,7 @@ returns-in-Some c =
     let k = codes "category" in
     IfOk-weaker c.told_text.result
     (λ s. IsTold ns c.in-Some.place (λ e. text_value (get k e)) (text_in s))
-    (λ s. IsTold ns 0 (λ d. text_value (at category_path d)) (text_in s))
+    (λ s. IsTold ns 0 told_category (text_in s))
     (λ s told. child_told ns 0 c.in-Some.place (codes "body") c.in_ok-place.field-0
     (λ o. text_value (option_and_then (at (name k ∷ [])) o)) (text_in s) c.in_ok-place.ensures
     c.in-Some.is (λ e h. told e h ∙ ap text_value (sym (one_step k e))))

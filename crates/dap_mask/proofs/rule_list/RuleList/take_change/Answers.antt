@@ -26,7 +26,7 @@ invariant_of-self c =
     c.insert.new.self.items c.insert.ensures.items is in
     record {
       few = grind (arith, common_steps);
-      safe = keeps are_safe old.safe (safe_inserted rules rule old.safe may.safe);
+      safe = keeps are_safe old.safe (safe_inserted rules rule old.safe may.safe may.calm);
       settled = keeps are_idempotent old.settled
           (settled_inserted rules rule old.settled may.settled);
       leave = keeps leave_ids old.leave (leave_inserted rules rule old.leave may.leaves);
