@@ -3,3 +3,4 @@ pub mod GoldenTexts
 pub mod MemoryRuns
 pub mod OneGoldenText
 pub mod TraceHeads
+pub mod TextsByRules

@@ -33,7 +33,7 @@ use Rattle.dap_golden.specs.declared.fault.GoldenRefused.TheVariants as because
 use Rattle.dap_golden.specs.declared.golden.GoldenText.{GoldenText}
 
 module _ (limits : Limits) (sound : AreSound limits) where
-  one_recording : (input recording other : List ℕ) → IsRecordingOf limits input recording
+  pub one_recording : (input recording other : List ℕ) → IsRecordingOf limits input recording
       → IsRecordingOf limits input other → recording ≡ other
   one_recording input recording other (of_trace head messages one is)
       (of_trace again others two also) =

@@ -13,6 +13,7 @@ use Rattle.dap_input.specs.{declared.limits.Limits.Limits, declared.refused.Refu
 use Rattle.dap_input.specs.{declared.refused.Refused.TheVariants.Incomplete, Refusals.IsRefused}
 use Rattle.dap_record.specs.Tracing.{IsRecordedAs, IsTraceRefused}
 use Rattle.dap_rules.specs.{Applying.{AppliesRules, IsRefusedByRules}, Modes.mode_by}
+use Rattle.dap_rules.specs.MaskedMessages.{AreMaskedMessages}
 use Rattle.dap_rules.specs.declared.fault.ApplyRefused.{ApplyRefused}
 use Rattle.dap_rules.specs.declared.fault.ApplyRefused.TheVariants as step
 use Rattle.dap_normalise.specs.{Accepting.{IsAccepted, accepting}, Normalising.IsCanonical}
@@ -53,6 +54,14 @@ pub record IsSessionOf (limits : Limits) (mode : Mode) (mask : Option Mask)
   pub recording : List ℕ
   pub of_input : IsRecordingOf limits input recording
   pub applies : AppliesBy limits mode mask recording session
+
+-- The recording of the input has these masked messages: its messages after all rules but those for
+-- the order.
+pub record AreMaskedMessagesOf (limits : Limits) (mask : Mask) (input : List ℕ)
+    (messages : List Sent) : Type 0 where
+  pub recording : List ℕ
+  pub of_input : IsRecordingOf limits input recording
+  pub are_masked : AreMaskedMessages limits mask recording messages
 
 -- ---- the golden text
 

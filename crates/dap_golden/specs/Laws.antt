@@ -1,12 +1,15 @@
 -- The statements of the functions in `laws`.
-use Rattle.std.specs.Prelude.{◌≡◌, ◌↔◌, ℕ, Bool, List, Option}
+use Rattle.std.specs.Prelude.{◌≡◌, ◌↔◌, ℕ, Bool, List, Option, Some}
+use Rattle.dap_message.specs.Message.{Sent}
 use Rattle.dap_rename.specs.{Messages.AreSame, Modes.stop_in, declared.mode.Mode.Mode}
+use Rattle.dap_rename.specs.declared.mode.Mode.TheVariants.{Whole}
 use Rattle.dap_mask.specs.Mask.{Mask}
 use Rattle.dap_input.specs.{Limits.AreSound, declared.limits.Limits.Limits}
+use Rattle.dap_rules.specs.MaskedMessages.{AreSameButOrderBy, ordered_by}
 use Rattle.dap_golden.specs.declared.fault.GoldenRefused.{GoldenRefused}
 use Rattle.dap_golden.specs.declared.fault.GoldenRefused.TheVariants.{Memory}
 use Rattle.dap_golden.specs.declared.golden.GoldenText.{GoldenText}
-use Rattle.dap_golden.specs.Golden.{IsGolden, IsRefusedGolden, messages_of}
+use Rattle.dap_golden.specs.Golden.{AreMaskedMessagesOf, IsGolden, IsRefusedGolden, messages_of}
 
 -- Two inputs whose golden texts are created in the same mode, by any rules. The golden texts are
 -- equal if and only if a renaming of ids maps the messages of the first session to those of the
@@ -32,3 +35,44 @@ GoldenIsNotRefused = (limits : Limits) (mode : Mode) (mask : Option Mask) → Ar
     → (allow_open : Bool) (input : List ℕ) (text : GoldenText) (refused : GoldenRefused)
     → IsGolden limits mode mask allow_open input text
     → IsRefusedGolden limits mode mask allow_open input refused → refused ≡ Memory
+
+-- ---- golden texts by rules
+
+-- An input has at most one list of masked messages.
+abbrev pub OneMaskedListOfInput : Type 0
+OneMaskedListOfInput = (limits : Limits) → AreSound limits → (mask : Mask) (input : List ℕ)
+    (messages others : List Sent) → AreMaskedMessagesOf limits mask input messages
+    → AreMaskedMessagesOf limits mask input others → messages ≡ others
+
+-- If an input has a golden text by rules, it has masked messages. The messages of its session are
+-- the masked ones, in the order of the `swap` rules.
+abbrev pub GoldenIsOrdered : Type 0
+GoldenIsOrdered = (limits : Limits) (mode : Mode) (mask : Mask) (allow_open : Bool)
+    (input : List ℕ) (text : GoldenText)
+    (is : IsGolden limits mode (Some mask) allow_open input text)
+    → (messages : List Sent) × AreMaskedMessagesOf limits mask input messages
+    × (messages_of is ≡ ordered_by mask messages)
+
+-- Two inputs whose golden texts are created by the same rules, with `Mode::Whole`: neither the
+-- caller nor the rules request ids that are numbered per stop. The golden texts are equal if and
+-- only if swaps of neighbours that the `swap` rules make free, and a one-to-one renaming of each
+-- kind of id, turn the masked messages of one input into those of the other.
+abbrev pub EqualGoldenTextsByRules : Type 0
+EqualGoldenTextsByRules = (limits : Limits) → AreSound limits → (mask : Mask)
+    (allow_open either : Bool) (input other : List ℕ) (a b : GoldenText) (ms ns : List Sent)
+    → IsGolden limits Whole (Some mask) allow_open input a
+    → IsGolden limits Whole (Some mask) either other b
+    → AreMaskedMessagesOf limits mask input ms → AreMaskedMessagesOf limits mask other ns
+    → (a.bytes.items ≡ b.bytes.items) ↔ AreSameButOrderBy mask ms ns
+
+-- The same in any mode, also `Mode::PerStop`. The golden texts are equal if and only if a renaming
+-- of this mode turns the masked messages of one input, in the order of the `swap` rules, into those
+-- of the other in this order.
+abbrev pub EqualGoldenTextsInEachMode : Type 0
+EqualGoldenTextsInEachMode = (limits : Limits) (mode : Mode) → AreSound limits → (mask : Mask)
+    (allow_open either : Bool) (input other : List ℕ) (a b : GoldenText) (ms ns : List Sent)
+    → IsGolden limits mode (Some mask) allow_open input a
+    → IsGolden limits mode (Some mask) either other b
+    → AreMaskedMessagesOf limits mask input ms → AreMaskedMessagesOf limits mask other ns
+    → (a.bytes.items ≡ b.bytes.items)
+    ↔ AreSame (stop_in mode) (ordered_by mask ms) (ordered_by mask ns)

@@ -72,7 +72,8 @@ fn normalise_recording(
 ) -> Result<NormalSession, GoldenRefused>
     requires { AreSound limits }
     ensures ok { IfOk result (IsNormalBy limits mode (mask_given rules.entry) recording.items) }
-    ensures err { IfErr result (RefusesNormal limits mode (mask_given rules.entry) recording.items) }
+    ensures err { IfErr result
+        (RefusesNormal limits mode (mask_given rules.entry) recording.items) }
 {
     let Some(rules) = rules else {
         return session_of(normalise_session(alloc, recording.as_slice(), limits, mode));

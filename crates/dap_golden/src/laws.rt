@@ -1,6 +1,8 @@
 //! Theorems about golden texts. Each function is empty: calling it makes its clauses available to
 //! the caller's proof.
-ghost use Rattle.dap_golden.specs.Laws.{EqualGoldenTexts, GoldenIsNotRefused, OneGoldenText};
+ghost use Rattle.dap_golden.specs.Laws.{EqualGoldenTexts, EqualGoldenTextsByRules};
+ghost use Rattle.dap_golden.specs.Laws.{EqualGoldenTextsInEachMode, GoldenIsNotRefused};
+ghost use Rattle.dap_golden.specs.Laws.{GoldenIsOrdered, OneGoldenText, OneMaskedListOfInput};
 
 /// States that the golden texts of two inputs are equal if and only if a renaming of ids maps the
 /// messages of the first session to those of the second.
@@ -13,4 +15,24 @@ pub fn equal_golden_texts()
 pub fn one_golden_text()
     ensures one { OneGoldenText }
     ensures not_refused { GoldenIsNotRefused }
+{}
+
+/// States what rules make of the messages of an input. The *masked messages* of an input are the
+/// messages of its recording after all rules but those for the order: after the words, without the
+/// events that are dropped, and with their values changed. An input has at most one list of them.
+/// If it has a golden text by the rules, the messages of its session are the masked ones, in the
+/// order of the `swap` rules.
+pub fn golden_messages_by_rules()
+    ensures one { OneMaskedListOfInput }
+    ensures ordered { GoldenIsOrdered }
+{}
+
+/// States when the golden texts of two inputs by the same rules are equal. In `Mode::Whole`: if and
+/// only if swaps of neighbours that the `swap` rules make free, and a one-to-one renaming of each
+/// kind of id, turn the masked messages of one input into those of the other. In each mode,
+/// including `Mode::PerStop`: if and only if a renaming of that mode turns the ordered masked
+/// messages of one into those of the other.
+pub fn equal_golden_texts_by_rules()
+    ensures whole { EqualGoldenTextsByRules }
+    ensures each_mode { EqualGoldenTextsInEachMode }
 {}

@@ -17,4 +17,5 @@ pub mod DistinctCounts
 pub mod TextErrors
 pub mod OrderAnswers
 pub mod OneOrderOutcome
+pub mod TextsByRules
 pub mod EmptyRecordings

@@ -17,7 +17,7 @@ use Rattle.dap_order.specs.MessageOrder.{ordered}
 use Rattle.dap_order.proofs.MessageOrder.{to_ordered}
 use Rattle.dap_order.proofs.SameMessages.{same_orders, from_same_orders}
 use Rattle.dap_order.proofs.SwapsKeepRules.{reordered_open}
-use Rattle.dap_order.proofs.Unnamed.{ordered_again}
+use Rattle.dap_order.proofs.FirstAndParts.{ordered_again}
 use Rattle.dap_rules.specs.OrderLaws.{EqualOrderedTexts, EqualTextsInOrder, OneOrderedText}
 use Rattle.dap_rules.specs.OrderLaws.{OrderedIsAccepted, OrderedKeepsOpen, OrderedStandsStill}
 

@@ -6,6 +6,7 @@ pub mod Memory
 pub mod Modes
 pub mod Masking
 pub mod MaskedRecordings
+pub mod MaskedMessages
 pub mod MaskingSteps
 pub mod MaskedSessions
 pub mod Outcomes

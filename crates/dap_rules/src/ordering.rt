@@ -175,7 +175,8 @@ fn views_within(
     requires { AreSound limits }
     ensures ok { IfOk result (λ views. AreWithin limits (messages_of session.now)
         (map stored_sent views.items)) }
-    ensures err { IfErr result (λ because. Measures limits (messages_of session.now) (Err because)) }
+    ensures err { IfErr result
+        (λ because. Measures limits (messages_of session.now) (Err because)) }
 {
     let Ok(messages) = session.views(alloc) else {
         return Err(Refused::Memory);

@@ -46,7 +46,8 @@ pub fn text_of_session(
 ) -> Result<Vec<u8>, Refused>
     requires { AreSound limits }
     ensures ok { IfOk result (λ written. written.items ≡ text (messages_of session.now)) }
-    ensures err { IfErr result (λ because. Measures limits (messages_of session.now) (Err because)) }
+    ensures err { IfErr result
+        (λ because. Measures limits (messages_of session.now) (Err because)) }
 {
     let Ok(messages) = session.views(alloc) else {
         return Err(Refused::Memory);

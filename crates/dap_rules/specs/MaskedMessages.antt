@@ -1,0 +1,27 @@
+-- The masked messages of a recording: its messages after all rules but those for the order. And
+-- what the rules for the order do with them. Source: own, over the rules of a mask, the types of
+-- the profile and the order of messages.
+use Rattle.std.specs.{Prelude.{ℕ, List}, List.AllZip}
+use Rattle.dap_message.specs.Message.{Sent}
+use Rattle.dap_mask.specs.Mask.{Mask}
+use Rattle.dap_input.specs.declared.limits.Limits.{Limits}
+use Rattle.dap_order.specs.{MessageOrder.ordered, SameButOrder.AreSameButOrder}
+use Rattle.dap_rules.specs.{Masking.{IsAccepted, left_of}, MaskedRecordings.IsTypedAs}
+
+-- The recording contains the messages `read`, with the words of the mask in the place of texts.
+-- `messages` are those of them that no rule drops, in their order: each one changed by the rules,
+-- and typed by the profile.
+pub record AreMaskedMessages (limits : Limits) (mask : Mask) (recording : List ℕ)
+    (messages : List Sent) : Type 0 where
+  pub read : List Sent
+  pub accepts : IsAccepted limits mask recording read
+  pub typed : AllZip IsTypedAs (left_of mask read) messages
+
+-- The messages in the order of the `swap` rules.
+abbrev pub ordered_by : Mask → List Sent → List Sent
+ordered_by mask messages = ordered mask.swaps messages
+
+-- Swaps of neighbours that the `swap` rules make free, and a one-to-one renaming of each kind of
+-- id, turn the first list into the second.
+abbrev pub AreSameButOrderBy : Mask → List Sent → List Sent → Type 0
+AreSameButOrderBy mask ms ns = AreSameButOrder mask.swaps ms ns
