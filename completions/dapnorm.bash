@@ -17,7 +17,7 @@ _dapnorm() {
             normalise) words+=' --per-stop --explain -o --output' ;;
             compare) words+=' --rules --word --per-stop --explain' ;;
             diff) words+=' --rules --word --per-stop --explain --all' ;;
-            suggest) words+=' --rules --word --explain' ;;
+            suggest) words+=' --rules --word --strict --explain' ;;
             show) words+=' --full --faulty --record --explain -o --output' ;;
             mask) words+=' --word --explain -o --output' ;;
             order) words+=' -o --output' ;;

@@ -26,6 +26,7 @@ complete -c dapnorm -n '__fish_seen_subcommand_from record normalise show mask o
 complete -c dapnorm -n '__fish_seen_subcommand_from check' -l complete -d 'Also requires a response to each request'
 complete -c dapnorm -n '__fish_seen_subcommand_from diff' -l all -d 'Pairs the records of both files, and prints all differences'
 complete -c dapnorm -n '__fish_seen_subcommand_from suggest' -l rules -r -F -d 'The file of the rules that there are; only further rules are printed'
+complete -c dapnorm -n '__fish_seen_subcommand_from suggest' -l strict -d 'Prints no rule that would have to be checked'
 complete -c dapnorm -n '__fish_seen_subcommand_from show' -l full -d 'Prints each value of each record, with its path'
 complete -c dapnorm -n '__fish_seen_subcommand_from show' -l faulty -d 'Marks rejected records and continues'
 complete -c dapnorm -n '__fish_seen_subcommand_from show' -l record -r -d 'Prints only the content of record N, as indented JSON'

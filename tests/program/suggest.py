@@ -7,14 +7,19 @@ import re
 import sys
 
 from tests.program.golden import Folder
+from tests.program.matching import Id, counterparts, marked
 from tests.report import TOP, Report
 from tests.program.worked_runs import BEGUN, COMPARED, INITIALIZE, record, recording, refusal
 
 FOLDERS = [os.path.join(TOP, "examples", name) for name in ("captures", "pairs")]
 SAME, PER_STOP = b"# with these rules: same", b"# with these rules and per-stop: same"
+PLACE = (
+    r'record \d+ of [AB], (request|response|event) ".*", (has no counterpart in|differs where no rule may change it from|'
+    r"comes in an order that no rule allows in) [AB]"
+)
 NO_RULES = re.compile(
-    r'no rules can: (record \d+ of [AB], (request|response|event) ".*", (has no counterpart in|differs where no rule may change it from|'
-    r"comes in an order that no rule allows in) [AB]|[AB]: after the rules: record \d+: .*|after the rules, record \d+ still differs)\n"
+    rf"no rules can: ({PLACE}|\d+ places remain(\n  {PLACE})+(\n  and \d+ more)?|[AB]: after the rules: record \d+: .*|"
+    r"after the rules, record \d+ still differs)\n"
 )
 
 
@@ -22,7 +27,9 @@ def makes_same(folder, printed, a, b, given=b""):
     """Whether the printed rules, after those that were given, make the two recordings of a folder the same."""
     lines = (given + printed).splitlines()
     has_line = b"per-stop" in (line.partition(b"#")[0].strip() for line in lines)
-    if lines[-1:] != [PER_STOP if has_line else SAME]:
+    checks = sum(before.startswith(b"# CHECK: ") and not line.startswith(b"# CHECK: ") for before, line in zip(lines, lines[1:]))
+    count = b"" if checks == 0 else b" (1 rule to check)" if checks == 1 else b" (%d rules to check)" % checks
+    if lines[-1:] != [(PER_STOP if has_line else SAME) + count]:
         return False
     folder.write("suggested", given + printed)
     status, output, errors = folder.run("compare", "--rules", "suggested", a, b)
@@ -44,6 +51,98 @@ def read(path):
         return file.read()
 
 
+# ---- the values that rules hide, counted here once more
+
+STEP = re.compile(r'\["(?:[^"\\]|\\.)*"\]|\[\]|"(?:[^"\\]|\\.)*"|[^.\[\s"]+')
+RULE = re.compile(r'(blank|digits|hex|long|uuid) +(request|response|event) +("(?:[^"\\]|\\.)*"|\S+) (.*)')
+COUNT = re.compile(r"# also hides (?:(1) value that is|(\d+) values that are) equal")
+
+
+def read_rules(printed):
+    """The rules of each block for values, the messages and the place without names, and the number in its comment."""
+    for block in printed.decode().split("\n\n"):
+        lines = block.splitlines()
+        rules = [RULE.fullmatch(line) for line in lines]
+        rules = [rule for rule in rules if rule]
+        if rules:
+            count = next((int(found[1] or found[2]) for found in map(COUNT.fullmatch, lines) if found), 0)
+            kind, name, place = rules[0][2], rules[0][3], rules[0][4]
+            steps = ["[]" if step[0] == "[" else json.loads(step) if step[0] == '"' else step for step in STEP.findall(place)]
+            yield "".join(f"{rule[0]}\n" for rule in rules), (kind, json.loads(name) if name[0] == '"' else name, tuple(steps)), count
+
+
+def plain(value):
+    """A value whose ids are all equal."""
+    if isinstance(value, Id):
+        return "an id"
+    if isinstance(value, dict):
+        return {name: plain(member) for name, member in value.items()}
+    return [plain(item) for item in value] if isinstance(value, list) else value
+
+
+def sort_of(value):
+    return int if isinstance(value, int) and not isinstance(value, bool) else type(value)
+
+
+def is_mended_inside(a, b):
+    """Whether rules for parts of two values can make them equal."""
+    if isinstance(a, dict) and isinstance(b, dict):
+        return a.keys() == b.keys() and all(sort_of(a[name]) == sort_of(b[name]) for name in a)
+    if isinstance(a, list) and isinstance(b, list):
+        return len(a) == len(b) and all(
+            is_mended_inside(x, y) or sort_of(x) == sort_of(y) and not isinstance(x, (dict, list)) for x, y in zip(a, b))
+    return a == b
+
+
+def equal_values(a, b, steps, path=()):
+    """The paths of the equal values of two messages at a place."""
+    if steps and not is_mended_inside(a, b):
+        return
+    if not steps:
+        if a == b:
+            yield path
+    elif steps[0] == "[]" and isinstance(a, list):
+        for place, (x, y) in enumerate(zip(a, b)):
+            yield from equal_values(x, y, steps[1:], (*path, place))
+    elif isinstance(a, dict) and steps[0] in a:
+        yield from equal_values(a[steps[0]], b[steps[0]], steps[1:], (*path, steps[0]))
+
+
+def at(value, path):
+    for step in path:
+        value = value[step]
+    return value
+
+
+def hidden_values(folder, printed):
+    """For each rule for values the rule, the number of equal values in its comment, and the number of those that it changes."""
+    lines = printed.decode().splitlines(keepends=True)
+    folder.write("drops", "".join(line for line in lines if line.startswith("drop ")).encode())
+    folder.write("base", folder.run("mask", "drops", "a")[1])
+    bases = [[(side, plain(message)) for side, message in marked(given, False)] for given in (folder.read("base"), folder.run("mask", "drops", "b")[1])]
+    pairs = counterparts(*[marked(given, False) for given in (folder.read("base"), folder.run("mask", "drops", "b")[1])])
+    names = "".join(rules for rules, (_, _, steps), _ in read_rules(printed) if steps[-2:] == ("[]", "name"))
+
+    def masked(rules):
+        folder.write("block", rules.encode())
+        return [plain(message) for _, message in marked(folder.run("mask", "block", "base")[1], False)]
+
+    hidden = {}
+    for rules, place, count in read_rules(printed):
+        kind, name, steps = place
+        first = "" if steps[-2:] == ("[]", "name") else names
+        before, after = masked(first), masked(first + rules)
+        changed = set()
+        for one, other in pairs:
+            message, twin = bases[0][one][1], bases[1][other][1]
+            if (message["type"], message["event" if kind == "event" else "command"] if message["type"] == kind else None) == (kind, name):
+                for path in equal_values(message, twin, steps):
+                    if at(before[one], path) != at(after[one], path):
+                        changed.add((one, path))
+        yield rules, count, len(changed - hidden.setdefault(place, set()))
+        hidden[place] |= changed
+
+
 def real_pairs(report, folders):
     """The printed file makes each pair the same, or a record is named. Returns how many became the same."""
     same, tried = 0, 0
@@ -54,7 +153,10 @@ def real_pairs(report, folders):
             if status == 0:
                 same += report.check(f"what is suggested for {name} makes it the same", makes_same(files, printed, "a", "b"), printed.decode()[-400:])
                 again = files.run("suggest", "--rules", "suggested", "a", "b")
-                report.check(f"nothing is added to what was suggested for {name}", again == (0, printed.splitlines()[-1] + b"\n", b""), repr(again))
+                last = printed.splitlines()[-1].partition(b" (")[0] + b"\n"
+                report.check(f"nothing is added to what was suggested for {name}", again == (0, last, b""), repr(again))
+                wrong = [it for it in hidden_values(files, printed) if it[1] != it[2]]
+                report.check(f"the comments count what the rules for {name} hide", wrong == [], repr(wrong[:3]))
             else:
                 named = status == 1 and printed == b"" and NO_RULES.fullmatch(errors.decode())
                 report.check(f"{name} has rules, or a record is named", named, repr((status, printed, errors)))
@@ -186,7 +288,7 @@ def stops(report):
             report.check(f"{name}: it makes them the same", makes_same(folder, answer[1], "a", "b", given))
     with Folder(a=a, b=recording([*BEGUN, message(">", "request", "threads", 2)]), given=b"per-stop\n") as folder:
         answer = folder.run("suggest", "--rules", "given", "a", "b")
-        report.check("no rules with the line", answer[0] == 1 and answer[2].startswith(b"no rules can: record"), repr(answer))
+        report.check("no rules with the line", answer[0] == 1 and answer[2].startswith(b"no rules can: 7 places remain\n"), repr(answer))
 
 
 def categories(report):
@@ -227,7 +329,7 @@ def categories(report):
 
 
 def elements(report):
-    """If no action is enough at each element of a list, elements with up to eight names have rules of their own."""
+    """Elements with up to 16 names have rules of their own, if these hide less."""
     def listed(*values):
         items = [{"name": name, "y": value} for name, value in values]
         return recording([*BEGUN, message("<", "event", "process", 2, {"x": items})])
@@ -241,21 +343,28 @@ def elements(report):
     place = " event    process body.x"
     kept = ("kept", "3")
     check("one element", [("at", 1), kept], [("at", 2), kept], (1, 2, f'blank {place}["at"].y'))
-    check("a name in quotes", [('a "b" \u00fc', 1)], [('a "b" \u00fc', 2)], (1, 2, f'blank {place}["a \\"b\\" \u00fc"].y'))
+    check("a name in quotes", [('a "b" \u00fc', 1), kept], [('a "b" \u00fc', 2), kept], (1, 2, f'blank {place}["a \\"b\\" \u00fc"].y'))
     check(
         "two elements, each with its least action", [("n", "run 1"), ("a", "red")], [("n", "run 22"), ("a", "blue")],
-        ("red", "blue", f'blank {place}["a"].y'), ("run 1", "run 22", f'digits{place}["n"].y'),
+        ("run 1", "run 22", f'digits{place}["n"].y'), ("red", "blue", f'blank {place}["a"].y'),
     )
-    check("one action for all", [("n", "run 1"), ("a", "4")], [("n", "run 22"), ("a", "5")], ("run 1", "run 22", f"digits{place}[].y"))
-    eight = [f"n{number}" for number in range(8)]
-    check("eight elements", [(it, 1) for it in eight], [(it, 2) for it in eight], *((1, 2, f'blank {place}["{it}"].y') for it in eight))
-    nine = [*eight, "n8"]
-    check("nine elements", [(it, 1) for it in nine], [(it, 2) for it in nine], (1, 2, f"blank {place}[].y"))
+    check(
+        "digits for each name", [("n", "run 1"), ("a", "4"), kept], [("n", "run 22"), ("a", "5"), kept],
+        ("4", "5", f'digits{place}["a"].y'), ("run 1", "run 22", f'digits{place}["n"].y'),
+    )
+    check("hex for all", [("n", "0x1f"), ("a", "0x1"), kept], [("n", "0x2"), ("a", "0x2"), kept], ("0x1f", "0x2", f"hex   {place}[].y"))
+    check("hex for one, if others have an address", [("n", "0x1f"), ("a", "0x1")], [("n", "0x2"), ("a", "0x1")], ("0x1f", "0x2", f'hex   {place}["n"].y'))
+    names = [f"n{number:02}" for number in range(17)]
+    check("16 elements", [(it, 1) for it in names[:16]], [(it, 2) for it in names[:16]], *((1, 2, f'blank {place}["{it}"].y') for it in names[:16]))
+    check("17 elements", [(it, 1) for it in names], [(it, 2) for it in names], (1, 2, f"blank {place}[].y"))
     check("an element without one name", [("a", 1), (7, 1)], [("a", 2), (7, 2)], (1, 2, f"blank {place}[].y"))
-    check("other names", [("a1", 1), ("b", 1)], [("a22", 2), ("b", 1)], ("a1", "a22", f"digits{place}[].name"), (1, 2, f"blank {place}[].y"))
+    check(
+        "other names", [("a1", 1), ("b", 1)], [("a22", 2), ("b", 1)],
+        ("a1", "a22", f"digits{place}[].name"), (1, 2, f'blank {place}["a0"].y'),
+    )
     check(
         "another name in the list", [("a1", 1), ("b", 1)], [("a22", 1), ("b", 2)],
-        ("a1", "a22", f"digits{place}[].name"), (1, 2, f"blank {place}[].y"),
+        ("a1", "a22", f"digits{place}[].name"), (1, 2, f'blank {place}["b"].y'),
     )
     check("names that a given rule changes", [("a", 1)], [("a", 2)], (1, 2, f'blank {place}["a"].y'), given=b"hex event * body.x[].name\n")
     check(
@@ -263,11 +372,110 @@ def elements(report):
         ("run 1", "run 22", f'blank {place}["a"].y'), given=b"uuid event process body.x[].y\n",
     )
     fields = [f"f{number:03}" for number in range(130)]
-    one, other = ([{"name": it, **{field: value for field in fields}} for it in eight] for value in (1, 2))
+    one, other = ([{"name": it, **{field: value for field in fields}} for it in names[:8]] for value in (1, 2))
     with Folder(**{it: recording([*BEGUN, message("<", "event", "process", 2, {"x": x})]) for it, x in (("a", one), ("b", other))}) as folder:
         answer = folder.run("suggest", "a", "b")
     wanted = "".join(f"# A record 3: 1\n# B record 3: 2\nblank {place}[].{field}\n\n" for field in fields) + "# with these rules: same\n"
     report.check("a thousand rules for elements", answer == (0, wanted.encode(), b""), repr(answer)[-300:])
+
+
+def strict(report):
+    """With `--strict` nothing is hidden that a test looks at, and other rules are as without."""
+    def exited(code, pid):
+        return recording([
+            *BEGUN, message("<", "event", "process", 2, {"name": "a", "systemProcessId": pid}), message("<", "event", "exited", 3, {"exitCode": code}),
+        ])
+
+    for name, a, b, given, wanted in (
+        ("a process id", exited(0, 1), exited(0, 2), b"", (0, b"# A record 3: 1\n# B record 3: 2\nblank  event    process body.systemProcessId\n\n" + SAME + b"\n", b"")),
+        (
+            "an exit code", exited(0, 1), exited(1, 2), b"",
+            (1, b"", b'no rules can: record 4 of A, event "exited", differs where no rule may change it from B\n'),
+        ),
+        ("an exit code that the rules blank", exited(0, 1), exited(1, 1), b"blank event exited body.exitCode\n", (0, SAME + b"\n", b"")),
+    ):
+        with Folder(a=a, b=b, given=given) as folder:
+            answer = folder.run("suggest", "--strict", "--rules", "given", "a", "b")
+            report.check(f"strict: {name}", answer == wanted, repr(answer))
+
+
+def fractions(report):
+    """Numbers that are not integers are blanked, unless the given rules remove them. Records are counted after these rules."""
+    def told(*times):
+        return recording([*BEGUN, *(message("<", "event", name, seq, {"t": time}) for seq, (name, time) in enumerate(times, 2))])
+
+    rule = "# %s record %d: %s\nblank  event    %s body.t\n\n"
+    same = "# with these rules: same\n"
+    for name, a, b, given, wanted in (
+        ("one that a rule removes", [("x", 0.5), ("y", 1.5)], [("x", 2.5), ("y", 1.5)], b"blank event x body.t\n", rule % ("A", 4, "1.5", "y")),
+        ("all that rules remove", [("x", 0.5)], [("x", 2.5)], b"blank event * body.t\n", ""),
+        ("after an event that is dropped", [("x", 0.5), ("y", 1.5)], [("x", 2.5), ("y", 1.5)], b"drop event x\n", rule % ("A", 3, "1.5", "y")),
+        ("in B alone", [("x", 1)], [("x", 2.5)], b"\n", rule % ("B", 3, "2.5", "x")),
+    ):
+        with Folder(a=told(*a), b=told(*b), given=given) as folder:
+            answer = folder.run("suggest", "--rules", "given", "a", "b")
+            report.check(f"a number that is not an integer, {name}", answer == (0, (wanted + same).encode(), b""), repr(answer))
+    exited = [recording([*BEGUN, message("<", "event", "exited", 2, {"exitCode": code})]) for code in (0.5, 1.5)]
+    with Folder(a=exited[0], b=exited[1]) as folder:
+        answer = folder.run("suggest", "a", "b")
+        wanted = b"# A record 3: 0.5\n# CHECK: hides the exit code\nblank  event    exited body.exitCode\n\n# with these rules: same (1 rule to check)\n"
+        report.check("an exit code that is not an integer", answer == (0, wanted, b""), repr(answer))
+
+
+def cheapest(report):
+    """The rules that hide the fewest equal values, how many they hide, and marks of those that hide what a test looks at."""
+    def check(name, a, b, wanted, same="same"):
+        with Folder(a=a, b=b) as folder:
+            answer = folder.run("suggest", "a", "b")
+            wanted = (wanted + f"# with these rules: {same}\n").encode()
+            report.check(name, answer == (0, wanted, b""), repr(answer))
+            report.check(f"{name}: they make it the same", makes_same(folder, answer[1], "a", "b"))
+            report.check(f"{name}: the counts", all(one == other for _, one, other in hidden_values(folder, answer[1])), repr(list(hidden_values(folder, answer[1]))))
+
+    def variables(*values):
+        lines = [*BEGUN, message(">", "request", "variables", 2, {"variablesReference": 9})]
+        body = {"variables": [{"name": name, "value": value, "variablesReference": 0} for name, value in values]}
+        return recording([*lines, message("<", "response", "variables", 2, body, request_seq=2, success=True)])
+
+    place = "response variables body.variables"
+    others = [("x", "12"), ("y", "0x10"), ("z", "")]
+    check(
+        "a process id hides no other variable", variables(("pid", "4711"), *others), variables(("pid", "815"), *others),
+        f'# A record 4: "4711"\n# B record 4: "815"\ndigits {place}["pid"].value\n\n',
+    )
+    check(
+        "names by address", variables(("139872345678912", "'a'"), ("139872345678999", "'c'"), ("len()", "2")),
+        variables(("140123456789123", "'b'"), ("140123456789999", "'c'"), ("len()", "2")),
+        f'# A record 4: "139872345678912"\n# B record 4: "140123456789123"\nlong   {place}[].name\n\n'
+        f'# A record 4: "\'a\'"\n# B record 4: "\'b\'"\n# also hides 1 value that is equal\nblank  {place}["0"].value\n\n',
+    )
+    check(
+        "a name that occurs twice", variables(("v", "1"), ("v", "2"), ("v", "3"), ("w", "4")), variables(("v", "5"), ("v", "2"), ("v", "3"), ("w", "4")),
+        f'# A record 4: "1"\n# B record 4: "5"\n# also hides 2 values that are equal\ndigits {place}["v"].value\n\n',
+    )
+    check(
+        "other variables", variables(("x", "1"), ("y", "2")), variables(("x", "1")),
+        '# A record 4: [{"name":"x","value":"1","variablesReference":0},{"name":"y","value":"2","variablesReference":0}]\n'
+        '# B record 4: [{"name":"x","value":"1","variablesReference":0}]\n'
+        f"# CHECK: hides which variables exist\nblank  {place}\n\n", "same (1 rule to check)",
+    )
+    stopped = [recording([*BEGUN, message("<", "event", "stopped", 2, {"reason": reason, "allThreadsStopped": all_stopped})])
+               for reason, all_stopped in (("step", True), ("pause", False))]
+    check(
+        "why and how the program stopped", *stopped,
+        "# A record 3: true\n# B record 3: false\n# CHECK: hides whether all threads stopped\nblank  event    stopped body.allThreadsStopped\n\n"
+        '# A record 3: "step"\n# B record 3: "pause"\n# CHECK: hides why the program stopped\nblank  event    stopped body.reason\n\n',
+        "same (2 rules to check)",
+    )
+    exited = [recording([*BEGUN, message("<", "event", "exited", 2, {"exitCode": code})]) for code in (0, 1)]
+    check(
+        "an exit code", *exited, "# A record 3: 0\n# B record 3: 1\n# CHECK: hides the exit code\nblank  event    exited body.exitCode\n\n",
+        "same (1 rule to check)",
+    )
+    check(
+        "another order", toy(*FIRST), toy(*FIRST, stopped_first=True),
+        "# in A records 6 and 7, in B the other way round\nswap   response next event    stopped\n\n",
+    )
 
 
 def refused(report):
@@ -290,6 +498,16 @@ def refused(report):
             recording([*BEGUN, message(">", "request", "loadedSources", 2), message(">", "request", "threads", 3)]),
             'record 4 of A, request "loadedSources", comes in an order that no rule allows in B'),
     }
+    outcomes = [recording([*BEGUN, ask, failed, *(message("<", "event", "stopped", seq, {"reason": "pause"}) for seq in range(3, 25))]), session]
+    shown = "".join(f'\n  record {number} of A, event "stopped", has no counterpart in B' for number in range(5, 25))
+    tried["more than are shown"] = (*outcomes, f"23 places remain{shown}\n  and 3 more")
+    tried["two that remain"] = (
+        recording([*BEGUN, stopped]), recording([*BEGUN, disconnect]),
+        '2 places remain\n  record 3 of A, event "stopped", has no counterpart in B\n  record 3 of B, request "threads", has no counterpart in A')
+    tried["a failure and a record alone"] = (
+        recording([*BEGUN, ask, failed, message("<", "event", "stopped", 3, {"reason": "pause"})]), session,
+        '2 places remain\n  record 5 of A, event "stopped", has no counterpart in B\n'
+        '  record 4 of A, response "next", differs where no rule may change it from B')
     for name, (a, b, line) in tried.items():
         with Folder(a=a, b=b) as folder:
             answer = folder.run("suggest", "a", "b")
@@ -315,6 +533,9 @@ def main():
     stops(report)
     categories(report)
     elements(report)
+    cheapest(report)
+    strict(report)
+    fractions(report)
     refused(report)
     same, tried = real_pairs(report, FOLDERS)
     report.check("most pairs of real adapters become the same", tried >= 10 and same * 3 >= tried * 2, f"{same} of {tried}")

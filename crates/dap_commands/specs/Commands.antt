@@ -44,7 +44,7 @@ program = program_with (subcommand (codes "golden") (option (codes "rules")
     ∷ subcommand (codes "normalise") (per_stop ∷ explain ∷ streams)
     ∷ subcommand (codes "compare") (two_files (per_stop ∷ explain ∷ []))
     ∷ subcommand (codes "diff") (two_files (per_stop ∷ explain ∷ flag (codes "all") ∷ []))
-    ∷ subcommand (codes "suggest") (two_files (explain ∷ []))
+    ∷ subcommand (codes "suggest") (two_files (flag (codes "strict") ∷ explain ∷ []))
     ∷ subcommand (codes "show") (flag (codes "full") ∷ flag (codes "faulty")
     ∷ option (codes "record") ∷ explain ∷ streams)
     ∷ subcommand (codes "mask") (file (codes "RULES") ∷ repeated (codes "word") ∷ explain ∷ streams)
@@ -96,8 +96,8 @@ command_of name given = option_map_or (λ t. Some (command.Stream t (first_of (c
     else if bytes_eq name (codes "diff") then Some (pair_of (if has_flag (codes "all") given
     then printed.AllDifferences else printed.FirstDifference) given)
     else if bytes_eq name (codes "suggest") then Some
-    (command.Suggest (required (codes "A") given) (required (codes "B") given)
-    (first_of (codes "rules") given))
+    (command.Suggest (has_flag (codes "strict") given) (required (codes "A") given)
+    (required (codes "B") given) (first_of (codes "rules") given))
     else if bytes_eq name (codes "rows") then Some (command.Rows (first_of (codes "N") given))
     else None)
 

@@ -72,8 +72,10 @@ pub enum Command<'a> {
         mode: Mode,
     },
     /// Suggest rules that make the recordings in the files `a` and `b` the same, in addition to
-    /// the rules in the file `rules` and the words.
+    /// the rules in the file `rules` and the words. If `strict`, only rules that hide nothing that
+    /// a test looks at.
     Suggest {
+        strict: bool,
         a: Name<'a>,
         b: Name<'a>,
         rules: Option<Name<'a>>,

@@ -72,7 +72,9 @@ pub(crate) const PROGRAM: Program = define_program! {
         Argument("B", File, "The recording of another run"),
         Argument("rules", Value("RULES"),
             "The file of the rules that there are; only further rules are printed"),
-        WORD, EXPLAIN
+        WORD,
+        Argument("strict", Flag, "Prints no rule that would have to be checked"),
+        EXPLAIN
     ): "Prints rules that make the recordings of two files the same", "run1.rec run2.rec";
     "show"(
         Argument("full", Flag, "Prints each value of each record, with its path"),

@@ -80,6 +80,7 @@ fn command_by<'a>(name: &str, rows: &ArgMatches<'a>) -> Option<Command<'a>>
         "diff" if has_flag(rows, "all") => pair(rows, Printed::AllDifferences),
         "diff" => pair(rows, Printed::FirstDifference),
         "suggest" => Command::Suggest {
+            strict: has_flag(rows, "strict"),
             a: required(rows, "A"),
             b: required(rows, "B"),
             rules: name_of(rows, "rules"),

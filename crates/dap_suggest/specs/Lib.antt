@@ -1,2 +1,4 @@
+pub mod Broad
+pub mod Guarded
 pub mod NotSuggested
 pub mod Suggested

@@ -1,9 +1,10 @@
 -- Rules that make two recordings the same, and why there are none. Source: own, over masks, the
 -- order of messages and normal forms.
-use Rattle.std.specs.Prelude.{◌≡◌, ◌++◌, ℕ, List, Ok}
+use Rattle.std.specs.Prelude.{◌≡◌, ◌++◌, ℕ, ◌+◌, ◌==◌, true, if◌then◌else◌, List, [], ◌∷◌, Ok}
+use Rattle.std.specs.Prelude.{codes, decimal}
 use Rattle.dap_mask.specs.{Mask.Mask, RulesFile.rules_said}
 use Rattle.dap_message.specs.Message.{Sent}
-use Rattle.dap_rename.specs.{declared.mode.Mode.Mode, declared.mode.Mode.TheVariants.Whole}
+use Rattle.dap_rename.specs.declared.mode.Mode.{Mode, TheVariants.{PerStop, Whole}}
 use Rattle.dap_stored.specs.Sessions.{messages_of}
 use Rattle.dap_compare.specs.declared.verdict.Which.{Which}
 use Rattle.dap_compare.specs.declared.verdict.Which.TheVariants.{A, B}
@@ -11,6 +12,8 @@ use Rattle.dap_input.specs.declared.limits.Limits.{Limits}
 use Rattle.dap_normalise.specs.declared.normal_session.NormalSession.{NormalSession}
 use Rattle.dap_rules.specs.Applying.{IsNotNormalised, MakesSession, NormalisesByRules}
 use Rattle.dap_rules.specs.{Modes.mode_by, declared.fault.ApplyRefused.ApplyRefused}
+use Rattle.dap_suggest.specs.{Broad.broad_of, declared.broad.Broad.Broad}
+use Rattle.dap_suggest.specs.Guarded.{AddsGuarded, guarded_count}
 use Rattle.dap_suggest.specs.declared.suggestion.Inputs.{Inputs}
 use Rattle.dap_suggest.specs.declared.sessions.Sessions.{Sessions}
 use Rattle.dap_suggest.specs.declared.suggestion.Suggestion.{Suggestion}
@@ -20,8 +23,8 @@ use Rattle.dap_suggest.specs.declared.suggestion.Suggestion.{Suggestion}
 -- The rules make these sessions of the two recordings.
 abbrev pub AreMade : Inputs → Mask → Sessions → Type 0
 AreMade inputs mask made =
-    MakesSession inputs.limits Whole mask inputs.a.now (messages_of made.a)
-    × MakesSession inputs.limits Whole mask inputs.b.now (messages_of made.b)
+    MakesSession inputs.limits (mode_by mask Whole) mask inputs.a.now (messages_of made.a)
+    × MakesSession inputs.limits (mode_by mask Whole) mask inputs.b.now (messages_of made.b)
 
 -- By the rules, the two recordings have one normal text.
 pub record HaveOneNormal (limits : Limits) (mode : Mode) (mask : Mask) (a b : List ℕ) : Type 0 where
@@ -39,17 +42,59 @@ pub record AreSameBy (limits : Limits) (mode : Mode) (rules a b : List ℕ) : Ty
   pub mode_is : mode ≡ mode_by mask Whole
   pub one : HaveOneNormal limits mode mask a b
 
--- The rules that were given, and after them those of the suggestion, make both recordings the same.
-abbrev pub IsSuggestion : Inputs → Suggestion → Type 0
-IsSuggestion inputs s =
-    AreSameBy inputs.limits s.mode (inputs.given.now ++ s.rules.items) inputs.a.now inputs.b.now
+-- If the file of rules is accepted, it has these numbers of broad rules.
+abbrev pub HasBroad : List ℕ → Broad → Type 0
+HasBroad rules broad = (mask : Mask) → rules_said rules ≡ Ok mask → broad_of mask ≡ broad
+
+-- If the file of rules is accepted, it blanks this number of guarded places.
+abbrev pub HasGuarded : List ℕ → ℕ → Type 0
+HasGuarded rules n = (mask : Mask) → rules_said rules ≡ Ok mask → guarded_count mask ≡ n
+
+-- The file of rules makes both recordings the same in this mode. It has as many broad rules as the
+-- rules that were given, and blanks this number of guarded places more.
+pub record IsConfirmed (inputs : Inputs) (rules : List ℕ) (mode : Mode) (added : ℕ) : Type 0 where
+  pub same : AreSameBy inputs.limits mode rules inputs.a.now inputs.b.now
+  pub broad : HasBroad rules inputs.broad
+  pub guarded : HasGuarded rules (inputs.guarded + added)
+
+-- ---- the last line
+
+abbrev pub verdict : Mode → List ℕ
+verdict Whole = codes "# with these rules: same"
+verdict PerStop = codes "# with these rules and per-stop: same"
+
+abbrev pub check_note : ℕ → List ℕ
+check_note n = if n == 0 then [] else if n == 1 then codes " (1 rule to check)"
+    else codes " (" ++ decimal n ++ codes " rules to check)"
+
+-- The last line of rules that are suggested: the mode in which the recordings are the same, and how
+-- many rules blank a guarded place. 10 is LF.
+abbrev pub last_line : Mode → ℕ → List ℕ
+last_line mode added = verdict mode ++ (check_note added ++ 10 ∷ [])
+
+abbrev pub EndsWith : List ℕ → List ℕ → Type 0
+EndsWith line rules = (before : List ℕ) × (rules ≡ before ++ line)
+
+-- The rules end with that line, and it is true of the rules that were given and these.
+abbrev pub SaysWhatToCheck : List ℕ → Mode → List ℕ → Type 0
+SaysWhatToCheck given mode rules = (added : ℕ) × EndsWith (last_line mode added) rules
+    × AddsGuarded added given (given ++ rules)
+
+-- The rules that were given, and after them those of the suggestion, are confirmed, and the last
+-- line is true.
+pub record IsSuggestion (inputs : Inputs) (s : Suggestion) : Type 0 where
+  pub added : ℕ
+  pub confirmed : IsConfirmed inputs (inputs.given.now ++ s.rules.items) s.mode added
+  pub ends : EndsWith (last_line s.mode added) s.rules.items
+  pub strict : inputs.strict ≡ true → added ≡ 0
 
 -- ---- errors
 
 -- A is rejected by the rules; or B is, and A is not. A recording is rejected if the rules cannot be
 -- applied to it, or if the session that they make of it is rejected.
 abbrev pub IsOneRejected : Limits → Mask → List ℕ → List ℕ → Which × ApplyRefused → Type 0
-IsOneRejected limits mask a b (A, refused) = IsNotNormalised limits Whole mask a refused
+IsOneRejected limits mask a b (A, refused) =
+    IsNotNormalised limits (mode_by mask Whole) mask a refused
 IsOneRejected limits mask a b (B, refused) =
-    ((messages : List Sent) × MakesSession limits Whole mask a messages)
-    × IsNotNormalised limits Whole mask b refused
+    ((messages : List Sent) × MakesSession limits (mode_by mask Whole) mask a messages)
+    × IsNotNormalised limits (mode_by mask Whole) mask b refused

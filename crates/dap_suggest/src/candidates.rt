@@ -1,97 +1,216 @@
-//! The actions that are tried at a place.
-use crate::obstacle::Unsolved;
-use crate::words::{parts_of, push_parts};
-use dap_mask::{MaskRules, read_masked};
-use dap_tree::{Scratch, Tree};
+//! The candidates for the rules of one place, and what they do to its values.
+use crate::actions::changed;
+use dap_mask::Verb;
+use dap_tree::Tree;
 use std::alloc::{AllocError, Global};
 
-/// The verbs that are tried at a text, in this order, with spaces up to one length. Each verb is
-/// for one rule. Two verbs are in an order that a file of rules may have.
-const CANDIDATES: [&[&str]; 9] = [
-    &["uuid   "],
-    &["hex    "],
-    &["digits "],
-    &["long   "],
-    &["uuid   ", "hex    "],
-    &["digits ", "hex    "],
-    &["uuid   ", "long   "],
-    &["long   ", "hex    "],
-    &["long   ", "digits "],
+/// A set of actions: the sum of their bits.
+pub type Actions = u8;
+
+pub const UUID: Actions = 1;
+
+const LONG: Actions = 2;
+
+pub const DIGITS: Actions = 4;
+
+const HEX: Actions = 8;
+
+pub const BLANK: Actions = 16;
+
+/// The actions, in the order in which they apply.
+pub const ORDER: [Actions; 5] = [UUID, LONG, DIGITS, HEX, BLANK];
+
+/// An action, in the order in which actions apply.
+struct Action {
+    bit: Actions,
+    verb: Verb,
+    /// The verb with spaces up to one length.
+    word: &'static str,
+}
+
+static ACTIONS: [Action; 5] = [
+    Action {
+        bit: UUID,
+        verb: Verb::Uuid,
+        word: "uuid   ",
+    },
+    Action {
+        bit: LONG,
+        verb: Verb::Long,
+        word: "long   ",
+    },
+    Action {
+        bit: DIGITS,
+        verb: Verb::Digits,
+        word: "digits ",
+    },
+    Action {
+        bit: HEX,
+        verb: Verb::Hex,
+        word: "hex    ",
+    },
+    Action {
+        bit: BLANK,
+        verb: Verb::Blank,
+        word: "blank  ",
+    },
 ];
 
-/// The verb that makes any two values of one sort equal.
-const BLANK: &[&str] = &["blank  "];
+/// The actions that are tried together at a place.
+#[derive(Clone, Copy)]
+pub struct Candidate {
+    /// The bit of the candidate in a set of candidates.
+    pub bit: u16,
+    pub actions: Actions,
+    /// How much of a text the actions can hide.
+    pub strength: u64,
+}
 
-/// The start of the event that has a pair of texts, up to the first text.
-const EVENT: &[u8] = b"{\"type\":\"event\",\"event\":\"x\",\"a\":[";
+/// All candidates, from the weakest to the strongest.
+pub static CANDIDATES: [Candidate; 10] = [
+    Candidate {
+        bit: 1,
+        actions: HEX,
+        strength: 1,
+    },
+    Candidate {
+        bit: 2,
+        actions: UUID,
+        strength: 1,
+    },
+    Candidate {
+        bit: 4,
+        actions: LONG,
+        strength: 2,
+    },
+    Candidate {
+        bit: 8,
+        actions: UUID | HEX,
+        strength: 2,
+    },
+    Candidate {
+        bit: 16,
+        actions: LONG | HEX,
+        strength: 3,
+    },
+    Candidate {
+        bit: 32,
+        actions: UUID | LONG,
+        strength: 3,
+    },
+    Candidate {
+        bit: 64,
+        actions: DIGITS,
+        strength: 5,
+    },
+    Candidate {
+        bit: 128,
+        actions: DIGITS | HEX,
+        strength: 6,
+    },
+    Candidate {
+        bit: 256,
+        actions: LONG | DIGITS,
+        strength: 7,
+    },
+    Candidate {
+        bit: 512,
+        actions: BLANK,
+        strength: 20,
+    },
+];
 
-/// Appends a rule of each verb, for these messages and this place.
-fn push_rules(verbs: &[&str], target: &[u8], out: &mut Vec<u8>) -> Result<(), AllocError> {
-    for verb in verbs {
-        push_parts(&[verb.as_bytes(), target, b"\n"], out)?;
+/// The set of candidates that has only `blank`.
+pub const BLANK_ALONE: u16 = 512;
+
+/// Appends a rule for each action, for these messages and this place.
+pub fn push_rules(actions: Actions, target: &[u8], out: &mut Vec<u8>) -> Result<(), AllocError> {
+    for action in ACTIONS.iter() {
+        if actions & action.bit != 0 {
+            out.extend_from_slice(action.word.as_bytes())?;
+            out.extend_from_slice(target)?;
+            out.push(b'\n')?;
+        }
     }
     Ok(())
 }
 
-/// Returns the verbs of a candidate, or the verb that blanks the value.
-fn verbs_of(candidate: Option<usize>) -> &'static [&'static str] {
-    match candidate {
-        Some(index) => CANDIDATES.get(index).copied().unwrap_or(BLANK),
-        None => BLANK,
-    }
-}
-
-/// Appends the rules of a candidate, or the rule that blanks the value, after a comment.
-pub fn push_commented(
-    comment: &[u8],
-    candidate: Option<usize>,
-    target: &[u8],
-    out: &mut Vec<u8>,
-) -> Result<(), AllocError> {
-    out.extend_from_slice(comment)?;
-    push_rules(verbs_of(candidate), target, out)?;
-    out.extend_from_slice(b"\n")
-}
-
-/// Returns the messages and the place of a rule that this module wrote.
+/// Returns the messages and the place of a rule that this crate wrote.
 pub fn target_of(line: &[u8]) -> &[u8] {
     line.get(7..).unwrap_or(line)
 }
 
-/// Returns for each candidate, in their order, the rules by which the two values of an event of
-/// [`event_of`] are compared.
-pub fn tests(alloc: Global) -> Result<Vec<MaskRules>, Unsolved> {
-    let mut tests = Vec::new(alloc);
-    for verbs in CANDIDATES.iter() {
-        let mut text = Vec::new(alloc);
-        push_rules(verbs, b"event    x a[]", &mut text)?;
-        tests.push(MaskRules::read(alloc, text.as_slice())?)?;
+/// Returns whether an action other than `blank` may change a text.
+fn may_change(text: &str) -> bool {
+    text.bytes()
+        .any(|byte| byte.is_ascii_digit() || byte == b'-')
+}
+
+/// Returns the text that actions make of a text.
+pub fn text_after(alloc: Global, actions: Actions, text: &str) -> Result<String, AllocError> {
+    let mut after = String::from_str(alloc, text)?;
+    for action in ACTIONS.iter() {
+        if actions & action.bit != 0 {
+            after = changed(alloc, action.verb, after.as_str())?;
+        }
     }
-    Ok(tests)
+    Ok(after)
 }
 
-/// Returns the content of an event that has two values, given as JSON.
-pub fn event_of(alloc: Global, a: &str, b: &str) -> Result<Vec<u8>, AllocError> {
-    parts_of(alloc, &[EVENT, a.as_bytes(), b",", b.as_bytes(), b"]}"])
+/// Returns the actions that change a text.
+fn actions_changing(alloc: Global, text: &str) -> Result<Actions, AllocError> {
+    if text.is_empty() {
+        return Ok(0);
+    }
+    let mut actions = BLANK;
+    if may_change(text) {
+        for action in ACTIONS.iter() {
+            let after = changed(alloc, action.verb, text)?;
+            if after.as_str() != text {
+                actions |= action.bit;
+            }
+        }
+    }
+    Ok(actions)
 }
 
-/// Returns whether an event has two equal texts.
-fn has_equal_texts(event: &Tree) -> bool {
-    let Some(Tree::List(values)) = event.child("a") else {
-        return false;
+/// Returns the actions that change a value.
+pub fn changing(alloc: Global, value: &Tree) -> Result<Actions, AllocError> {
+    let is_changed = match value {
+        Tree::Text(text) => return actions_changing(alloc, text.as_str()),
+        Tree::Null | Tree::Id(..) => false,
+        Tree::Bool(value) => *value,
+        Tree::Whole(number) => *number != 0,
+        Tree::List(items) => !items.is_empty(),
+        Tree::Object(members) => !members.is_empty(),
     };
-    matches!(values.as_slice(), [Tree::Text(a), Tree::Text(b)] if a.as_str() == b.as_str())
+    Ok(if is_changed { BLANK } else { 0 })
 }
 
-/// Returns whether the rules of a candidate make the texts of such an event equal.
-pub fn are_equal_by(
-    alloc: Global,
-    test: &MaskRules,
-    event: &[u8],
-    scratch: &mut Scratch,
-) -> Result<bool, AllocError> {
-    match read_masked(alloc, event, test, scratch) {
-        Ok(Some(event)) => Ok(has_equal_texts(&event)),
-        _ => Err(AllocError),
+/// Returns whether actions make two texts equal.
+fn are_equal_after(alloc: Global, actions: Actions, a: &str, b: &str) -> Result<bool, AllocError> {
+    let a = text_after(alloc, actions, a)?;
+    let b = text_after(alloc, actions, b)?;
+    Ok(a.as_str() == b.as_str())
+}
+
+/// Returns the set of candidates that make two different texts equal.
+fn candidates_equating(alloc: Global, a: &str, b: &str) -> Result<u16, AllocError> {
+    let mut equating = BLANK_ALONE;
+    if may_change(a) || may_change(b) {
+        for candidate in CANDIDATES.iter() {
+            if are_equal_after(alloc, candidate.actions, a, b)? {
+                equating |= candidate.bit;
+            }
+        }
+    }
+    Ok(equating)
+}
+
+/// Returns the set of candidates that make two different values of one sort equal.
+pub fn equating(alloc: Global, a: &Tree, b: &Tree) -> Result<u16, AllocError> {
+    match (a, b) {
+        (Tree::Text(a), Tree::Text(b)) => candidates_equating(alloc, a.as_str(), b.as_str()),
+        _ => Ok(BLANK_ALONE),
     }
 }

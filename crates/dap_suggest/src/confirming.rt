@@ -1,10 +1,13 @@
 //! Confirms that rules make two recordings the same.
-ghost use Rattle.std.specs.Prelude.{IfOk, OnOk};
+ghost use Rattle.std.specs.Prelude.{◌≡◌, true, IfOk, OnOk, string_bytes};
 ghost use Rattle.dap_input.specs.Limits.{AreSound};
 ghost use Rattle.dap_mask.specs.KeptRules.{mask_of};
 ghost use Rattle.dap_rules.specs.Applying.{NormalisesByRules};
-ghost use Rattle.dap_suggest.specs.Suggested.{AreSameBy, HaveOneNormal, IsSuggestion};
+ghost use Rattle.dap_suggest.specs.Suggested.{HaveOneNormal, IsConfirmed, IsSuggestion};
+ghost use Rattle.dap_suggest.specs.Suggested.{check_note, last_line, verdict};
 
+use crate::broad::broad_of;
+use crate::guarded::guarded_count;
 use crate::joined_rules::joined;
 use crate::obstacle::{Obstacle, Unsolved};
 use crate::suggestion::{Inputs, Suggestion};
@@ -14,17 +17,44 @@ use dap_mask::MaskRules;
 use dap_normalise::NormalSession;
 use dap_rename::Mode;
 use dap_rules::{ApplyRefused, mode_by, normalise_by_rules};
-use std::alloc::Global;
+use std::alloc::{AllocError, Global};
 
-/// The last line of rules.
-const SAME: &[u8] = b"# with these rules: same\n";
+/// The lines before the last one of rules that number ids from each stop only by a line of their
+/// own.
+const ADDED_PER_STOP: &[u8] = b"# without this line the ids differ\nper-stop\n\n";
 
-/// The last line of rules that number ids from each stop.
-const SAME_PER_STOP: &[u8] = b"# with these rules and per-stop: same\n";
+fn verdict(mode: Mode) -> &'static [u8]
+    ensures { result.now ≡ verdict mode }
+{
+    match mode {
+        Mode::Whole => b"# with these rules: same",
+        Mode::PerStop => b"# with these rules and per-stop: same",
+    }
+}
 
-/// The last lines of rules that number ids from each stop only by a line of their own.
-const ADDED_PER_STOP: &[u8] =
-    b"# without this line the ids differ\nper-stop\n\n# with these rules and per-stop: same\n";
+fn check_note(alloc: Global, to_check: usize) -> Result<String, AllocError>
+    ensures { IfOk result (λ note. string_bytes note ≡ check_note to_check) }
+{
+    if to_check == 0 {
+        Ok(String::new(alloc))
+    } else if to_check == 1 {
+        String::from_str(alloc, " (1 rule to check)")
+    } else {
+        format!(in alloc; " ({to_check} rules to check)")
+    }
+}
+
+/// Returns the last line of rules that make recordings the same in this mode, of which `to_check`
+/// hide what a test looks at.
+fn last_line(alloc: Global, mode: Mode, to_check: usize) -> Result<Vec<u8>, AllocError>
+    ensures { IfOk result (λ line. line.items ≡ last_line mode to_check) }
+{
+    let note = check_note(alloc, to_check)?;
+    let mut line = Vec::from_slice(alloc, verdict(mode))?;
+    line.extend_from_slice(note.as_bytes())?;
+    line.push(b'\n')?;
+    Ok(line)
+}
 
 /// Returns the number of the record in which two different normal texts first differ.
 fn first_difference(text: &[u8], other: &[u8]) -> u64 {
@@ -90,32 +120,53 @@ fn compare_by(
 ///
 /// # Errors
 ///
-/// The text is not a rules file, and those of [`compare_by`].
-fn same_by(alloc: Global, text: &[u8], inputs: &Inputs<'_>) -> Result<Mode, Unsolved>
+/// The text is not a rules file, has more broad rules than those that were given, or does not have
+/// `to_check` rules more for guarded places; and the errors of [`compare_by`].
+fn same_by(
+    alloc: Global,
+    text: &[u8],
+    inputs: &Inputs<'_>,
+    to_check: usize,
+) -> Result<Mode, Unsolved>
     requires { AreSound inputs.now.limits }
-    ensures { IfOk result (λ mode.
-        AreSameBy inputs.now.limits mode text.now inputs.now.a.now inputs.now.b.now) }
+    ensures { IfOk result (λ mode. IsConfirmed inputs.now text.now mode to_check) }
 {
     let rules = MaskRules::read(alloc, text)?;
+    let guarded = guarded_count(&rules);
+    if broad_of(&rules) != inputs.broad || guarded.checked_sub(inputs.guarded) != Some(to_check) {
+        return Err(Unsolved::NoRules(Obstacle::Unread));
+    }
     let mode = mode_by(&rules, Mode::Whole);
     compare_by(alloc, &rules, inputs, mode)?;
     Ok(mode)
 }
 
-/// Suggests these rules and the lines after them, if two recordings are the same by them.
+/// Suggests these rules, if two recordings are the same by them in this mode.
 fn suggested(
     alloc: Global,
     inputs: &Inputs<'_>,
     found: &[u8],
-    end: &[u8],
+    mode: Mode,
+    to_check: usize,
 ) -> Result<Suggestion, Unsolved>
-    requires { AreSound inputs.now.limits }
+    requires limits { AreSound inputs.now.limits }
+    requires strict { inputs.now.strict ≡ true → to_check ≡ 0 }
     ensures { IfOk result (IsSuggestion inputs.now) }
 {
-    let rules = joined(alloc, found, end)?;
+    let end = last_line(alloc, mode, to_check)?;
+    let rules = joined(alloc, found, end.as_slice())?;
     let whole = joined(alloc, inputs.given, rules.as_slice())?;
-    let mode = same_by(alloc, whole.as_slice(), inputs)?;
+    if same_by(alloc, whole.as_slice(), inputs, to_check)? != mode {
+        return Err(Unsolved::NoRules(Obstacle::Unread));
+    }
     Ok(Suggestion { rules, mode })
+}
+
+/// Returns how many of these rules hide what a test looks at.
+fn to_check_in(alloc: Global, inputs: &Inputs<'_>, found: &[u8]) -> Result<usize, Unsolved> {
+    let whole = joined(alloc, inputs.given, found)?;
+    let rules = MaskRules::read(alloc, whole.as_slice())?;
+    Ok(guarded_count(&rules).saturating_sub(inputs.guarded))
 }
 
 /// Suggests these rules, if two recordings are the same by them. Ids are numbered once in each
@@ -125,11 +176,18 @@ pub fn confirm(alloc: Global, inputs: &Inputs<'_>, found: &[u8]) -> Result<Sugge
     requires { AreSound inputs.now.limits }
     ensures { IfOk result (IsSuggestion inputs.now) }
 {
+    let to_check = to_check_in(alloc, inputs, found)?;
+    if inputs.strict && to_check > 0 {
+        return Err(Unsolved::NoRules(Obstacle::Unread));
+    }
     match inputs.mode {
-        Mode::Whole => match suggested(alloc, inputs, found, SAME) {
-            Err(Unsolved::NoRules(_)) => suggested(alloc, inputs, found, ADDED_PER_STOP),
+        Mode::Whole => match suggested(alloc, inputs, found, Mode::Whole, to_check) {
+            Err(Unsolved::NoRules(_)) => {
+                let found = joined(alloc, found, ADDED_PER_STOP)?;
+                suggested(alloc, inputs, found.as_slice(), Mode::PerStop, to_check)
+            }
             confirmed => confirmed,
         },
-        Mode::PerStop => suggested(alloc, inputs, found, SAME_PER_STOP),
+        Mode::PerStop => suggested(alloc, inputs, found, Mode::PerStop, to_check),
     }
 }

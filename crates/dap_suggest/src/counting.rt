@@ -1,4 +1,5 @@
 //! Counts the events of two sessions, and drops those of which they have different numbers.
+use crate::broad::is_needed_event;
 use crate::sessions::Sessions;
 use crate::words::{class_of, push_parts, text_at};
 use dap_compare::Which;
@@ -70,14 +71,6 @@ impl Events {
     }
 }
 
-/// Returns whether events of this name are never dropped: a session needs them.
-fn is_needed(name: &str) -> bool {
-    matches!(
-        name,
-        "initialized" | "stopped" | "continued" | "exited" | "terminated"
-    )
-}
-
 /// Returns the category of an event, if that is a text.
 fn category_of(
     alloc: Global,
@@ -103,7 +96,7 @@ fn count_names(
     for place in 0..session.len() {
         if let Some(event) = session.message(place)
             && event.kind() == Kind::Event
-            && !is_needed(event.name())
+            && !is_needed_event(event.name())
         {
             let name = String::from_str(alloc, event.name())?;
             let found = events.entry(name)?.or_insert_with(|| Events::new(alloc));

@@ -4,21 +4,34 @@
 //! compared the results. `specs/` defines the terms.
 #![tactic(auto)]
 
+mod actions;
+mod broad;
 mod candidates;
+mod choices;
+mod choosing;
+mod comments;
 mod confirming;
 mod counting;
+mod elements;
+mod finding;
 mod fractions;
+mod guarded;
+mod guards;
 mod joined_rules;
 mod matched;
 mod obstacle;
+mod places;
+mod recording;
 mod sessions;
+mod spot;
 mod spots;
 mod suggesting;
 mod suggestion;
 mod swapping;
+mod tallies;
 mod trees;
-mod trial;
-mod walking;
+mod value_rules;
+mod values;
 mod words;
 
 pub use obstacle::{Obstacle, Reason};

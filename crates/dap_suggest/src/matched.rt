@@ -1,6 +1,6 @@
 //! The records of two sessions, and those that are matched.
 use crate::counting::{EventsByName, is_dropped};
-use crate::obstacle::{Reason, Unsolved, unsolved_at};
+use crate::obstacle::{Reason, Remaining};
 use dap_compare::Which;
 use dap_diff::{Entry, StoredEntry};
 use dap_stored::StoredSession;
@@ -13,6 +13,14 @@ pub struct Pair<'m> {
     pub a: &'m StoredEntry<'m>,
     pub b: &'m StoredEntry<'m>,
     pub place: usize,
+}
+
+impl<'m> Pair<'m> {
+    /// Returns the kind and the name of the messages.
+    pub fn head(&self) -> &'m str {
+        // The marker of the side and a space come before them.
+        self.a.head.get(2..).unwrap_or("")
+    }
 }
 
 /// Returns the records of a session, without the events that are dropped.
@@ -40,25 +48,24 @@ fn pair_of<'m>(a: &'m StoredEntry<'m>, others: &'m [StoredEntry<'m>]) -> Option<
     Some(Pair { a, b, place })
 }
 
-/// Returns the pairs of records that are matched, in the order of A.
-///
-/// # Errors
-///
-/// A record lacks a counterpart, or an allocation failed.
+/// Returns the pairs of records that are matched, in the order of A. Adds the other records.
 pub fn pairs_of<'m>(
     alloc: Global,
     a: &'m [StoredEntry<'m>],
     b: &'m [StoredEntry<'m>],
-) -> Result<Vec<Pair<'m>>, Unsolved> {
+    remaining: &mut Remaining,
+) -> Result<Vec<Pair<'m>>, AllocError> {
     let mut pairs = Vec::with_capacity(alloc, a.len())?;
     for entry in a {
         match pair_of(entry, b) {
             Some(pair) => pairs.push(pair)?,
-            None => return Err(unsolved_at(Reason::NoCounterpart, Which::A, entry)),
+            None => remaining.add(Reason::NoCounterpart, Which::A, entry)?,
         }
     }
-    match b.iter().find(|entry| entry.counterpart.is_none()) {
-        Some(entry) => Err(unsolved_at(Reason::NoCounterpart, Which::B, entry)),
-        None => Ok(pairs),
+    for entry in b {
+        if entry.counterpart.is_none() {
+            remaining.add(Reason::NoCounterpart, Which::B, entry)?;
+        }
     }
+    Ok(pairs)
 }

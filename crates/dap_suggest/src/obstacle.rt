@@ -3,7 +3,7 @@ use dap_compare::Which;
 use dap_diff::StoredEntry;
 use dap_mask::{RulesCause, RulesFault};
 use dap_rules::ApplyRefused;
-use std::alloc::{AllocError, AllocFailed};
+use std::alloc::{AllocError, AllocFailed, Global};
 use std::fmt::{self, Display, Formatter, Write};
 
 /// What is wrong with a record that no rule can make the same.
@@ -27,17 +27,96 @@ impl Display for Reason {
     }
 }
 
+/// A record that no rule can make the same.
+#[derive(Drop)]
+struct Place {
+    reason: Reason,
+    which: Which,
+    number: u64,
+    /// The side, the kind and the name of the record.
+    head: String,
+}
+
+impl Display for Place {
+    fn fmt<W: Write>(&self, f: &mut Formatter<W>) -> fmt::Result {
+        let (reason, which, number) = (self.reason, self.which, self.number);
+        let other = match which {
+            Which::A => Which::B,
+            Which::B => Which::A,
+        };
+        // The kind and the name follow the marker of the side and a space.
+        let message = self.head.get(2..).unwrap_or(self.head.as_str());
+        write!(f, "record {number} of {which}, {message}, {reason} {other}")
+    }
+}
+
+/// How many remaining records are shown.
+const MAX_SHOWN: usize = 20;
+
+/// The records that no rule can make the same. Records count from 1 in what the rules that were
+/// given leave.
+#[derive(Drop)]
+pub struct Remaining {
+    /// The first of them.
+    shown: Vec<Place>,
+    count: u64,
+}
+
+impl Remaining {
+    pub fn new(alloc: Global) -> Remaining {
+        Remaining {
+            shown: Vec::new(alloc),
+            count: 0,
+        }
+    }
+
+    pub fn is_empty(&self) -> bool {
+        self.count == 0
+    }
+
+    /// Adds a record of a recording.
+    pub fn add(
+        &mut self,
+        reason: Reason,
+        which: Which,
+        entry: &StoredEntry<'_>,
+    ) -> Result<(), AllocError> {
+        self.count = self.count.saturating_add(1);
+        if self.shown.len() < MAX_SHOWN {
+            self.shown.push(Place {
+                reason,
+                which,
+                number: entry.number,
+                head: entry.head.clone()?,
+            })?;
+        }
+        Ok(())
+    }
+}
+
+impl Display for Remaining {
+    fn fmt<W: Write>(&self, f: &mut Formatter<W>) -> fmt::Result {
+        if let [place] = self.shown.as_slice() {
+            return write!(f, "{place}");
+        }
+        let count = self.count;
+        write!(f, "{count} places remain")?;
+        for place in self.shown.iter() {
+            write!(f, "\n  {place}")?;
+        }
+        let more = count.saturating_sub(self.shown.len() as u64);
+        if more > 0 {
+            write!(f, "\n  and {more} more")?;
+        }
+        Ok(())
+    }
+}
+
 /// Why no rules make two recordings the same. Its text follows `no rules can: `.
 #[derive(Drop)]
 pub enum Obstacle {
-    /// This record of a recording. `head` is its side, its kind and its name. Records count from 1
-    /// in what the rules that were given leave.
-    Record {
-        reason: Reason,
-        which: Which,
-        number: u64,
-        head: String,
-    },
+    /// Some records.
+    Remaining(Remaining),
     /// The rules that were found cannot be applied to a recording.
     Unapplied(Which, ApplyRefused),
     /// The rules that were found are too many for one file, or contradict the rules that were
@@ -50,20 +129,7 @@ pub enum Obstacle {
 impl Display for Obstacle {
     fn fmt<W: Write>(&self, f: &mut Formatter<W>) -> fmt::Result {
         match self {
-            Obstacle::Record {
-                reason,
-                which,
-                number,
-                head,
-            } => {
-                let other = match which {
-                    Which::A => Which::B,
-                    Which::B => Which::A,
-                };
-                // The kind and the name follow the marker of the side and a space.
-                let message = head.get(2..).unwrap_or(head.as_str());
-                write!(f, "record {number} of {which}, {message}, {reason} {other}")
-            }
+            Obstacle::Remaining(remaining) => write!(f, "{remaining}"),
             Obstacle::Unapplied(which, refused) => write!(f, "{which}: after the rules: {refused}"),
             Obstacle::Unread => f.write_str("a file cannot have the rules that would be needed"),
             Obstacle::StillDiffers(number) => {
@@ -109,18 +175,5 @@ impl From<(Which, ApplyRefused)> for Unsolved {
             ApplyRefused::Memory => Unsolved::Memory,
             _ => Unsolved::NoRules(Obstacle::Unapplied(which, refused)),
         }
-    }
-}
-
-/// Returns that a record of a recording is the reason.
-pub fn unsolved_at(reason: Reason, which: Which, entry: &StoredEntry<'_>) -> Unsolved {
-    match entry.head.clone() {
-        Ok(head) => Unsolved::NoRules(Obstacle::Record {
-            reason,
-            which,
-            number: entry.number,
-            head,
-        }),
-        Err(_) => Unsolved::Memory,
     }
 }

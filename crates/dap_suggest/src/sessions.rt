@@ -8,7 +8,7 @@ use crate::suggestion::Inputs;
 use dap_compare::Which;
 use dap_mask::MaskRules;
 use dap_rename::Mode;
-use dap_rules::{ApplyRefused, session_by_rules};
+use dap_rules::{ApplyRefused, mode_by, session_by_rules};
 use dap_stored::StoredSession;
 use std::alloc::Global;
 
@@ -34,9 +34,10 @@ pub fn sessions_by(
     ensures err { IfErr result
         (IsOneRejected inputs.now.limits (mask_of rules.now) inputs.now.a.now inputs.now.b.now) }
 {
-    let made = session_by_rules(alloc, rules, inputs.a, inputs.limits, Mode::Whole);
+    let mode = mode_by(rules, Mode::Whole);
+    let made = session_by_rules(alloc, rules, inputs.a, inputs.limits, mode);
     let a = made.map_err(|refused| (Which::A, refused))?;
-    let made = session_by_rules(alloc, rules, inputs.b, inputs.limits, Mode::Whole);
+    let made = session_by_rules(alloc, rules, inputs.b, inputs.limits, mode);
     let b = made.map_err(|refused| (Which::B, refused))?;
     Ok(Sessions { a, b })
 }

@@ -1,276 +1,139 @@
-//! The places at which the pairs of two recordings differ, and the rules for them.
-use crate::candidates::tests;
-use crate::matched::Pair;
-use crate::obstacle::{Reason, Unsolved, unsolved_at};
-use crate::trees::Trees;
-use crate::trial::Trial;
-use crate::walking::{Element, Found, compare_trees};
-use crate::words::{class_of, json_of, parts_of};
-use dap_compare::Which;
-use dap_diff::{StoredEntry, have_one_text};
-use dap_mask::MaskRules;
-use dap_tree::Tree;
+//! All places at which pairs differ.
+use crate::candidates::Actions;
+use crate::elements::Elements;
+use crate::guards::hidden_at;
+use crate::places::Places;
+use crate::spot::{NamedList, Spot};
 use std::alloc::{AllocError, Global};
 use std::collections::BTreeMap;
 
-/// For how many elements by their name a place has rules at most.
-const MAX_ELEMENTS: usize = 8;
-
-/// An element by its name, at whose place some pair differs.
+/// All places at which pairs differ.
 #[derive(Drop)]
-struct Part {
-    trial: Trial,
-    /// The messages and the place of a rule for the names of the elements of the list.
-    names: Vec<u8>,
+pub struct Spots {
+    pub places: Places,
+    pub list: Vec<Spot>,
+    /// The spots by the messages and the place of their rules for all elements.
+    pub by_target: BTreeMap<Vec<u8>, usize>,
+    /// Whether all rules are for all elements.
+    pub are_joined: bool,
+    /// Whether nothing that a test looks at may be blanked.
+    pub are_strict: bool,
 }
 
-impl Part {
-    /// Returns the element of a list at a first pair of values, at which no candidates are tried
-    /// yet.
-    fn new(
-        alloc: Global,
-        tests: &[MaskRules],
-        pair: &Pair<'_>,
-        found: &Found<'_>,
-        list: &[u8],
-    ) -> Result<Part, AllocError> {
-        Ok(Part {
-            trial: Trial::new(alloc, tests, pair, found)?,
-            names: parts_of(alloc, &[list, b"[].name"])?,
-        })
-    }
-}
-
-/// The elements with a name to whose places pairs differ, by the messages and the places of their
-/// rules.
-type Parts = BTreeMap<Vec<u8>, Part>;
-
-/// A place of the messages of one kind and name at which some pair differs.
+/// The place that a walk over two messages of a pair has reached.
 #[derive(Drop)]
-struct Spot<'m> {
-    whole: Trial,
-    /// The record of A in the first pair.
-    first: &'m StoredEntry<'m>,
-    /// The elements at which the pairs differ, if each differs at an element with a name, and these
-    /// are few.
-    parts: Option<Parts>,
+pub struct Position<'t> {
+    /// The index of the pair.
+    pub pair: usize,
+    /// The kind and the name of the messages, as heads have them.
+    pub head: &'t str,
+    /// How many bytes of the target are before the place.
+    pub start: usize,
+    /// The messages and the place, as rules have them.
+    pub target: Vec<u8>,
+    pub elements: Elements<'t>,
 }
 
-impl<'m> Spot<'m> {
-    /// Returns the place at a first pair of values, at which no candidates are tried yet.
-    fn new(
-        alloc: Global,
-        tests: &[MaskRules],
-        pair: &Pair<'m>,
-        found: &Found<'_>,
-    ) -> Result<Spot<'m>, AllocError> {
-        Ok(Spot {
-            whole: Trial::new(alloc, tests, pair, found)?,
-            first: pair.a,
-            parts: Some(BTreeMap::new(alloc)),
-        })
+/// Adds the name of the element in which a spot is, if rules can select it by its name.
+fn add_element(alloc: Global, spot: &mut Spot, elements: &Elements<'_>) -> Result<(), AllocError> {
+    if spot.is_name {
+        return Ok(());
     }
-
-    /// Tries the candidates at a pair of values, for the place and for the element.
-    fn try_at(
-        &mut self,
-        alloc: Global,
-        tests: &[MaskRules],
-        pair: &Pair<'_>,
-        found: &Found<'_>,
-    ) -> Result<(), AllocError> {
-        self.whole.try_at(alloc, tests, found)?;
-        let is_split = match &mut self.parts {
-            Some(parts) => try_part(alloc, tests, pair, found, parts)?,
-            None => false,
-        };
-        if !is_split {
-            self.parts = None;
-        }
-        Ok(())
+    if spot.list.is_none() {
+        spot.list = innermost(elements);
     }
-
-    /// Leaves out the candidate for an element. If there is none, drops all rules for elements.
-    /// Returns whether the element is one of this place.
-    fn exclude_part(&mut self, target: &[u8]) -> bool {
-        let Some(parts) = &mut self.parts else {
-            return false;
-        };
-        let Some(part) = parts.get_mut(target) else {
-            return false;
-        };
-        if !part.trial.exclude() {
-            self.parts = None;
-        }
-        true
-    }
-}
-
-/// Tries the candidates at a pair of values, for the element. Returns whether there is an element
-/// with a name, and these are few.
-fn try_part(
-    alloc: Global,
-    tests: &[MaskRules],
-    pair: &Pair<'_>,
-    found: &Found<'_>,
-    parts: &mut Parts,
-) -> Result<bool, AllocError> {
-    let Some(Element { start, name }) = found.element else {
-        return Ok(false);
-    };
-    let target = found.target.as_slice();
-    let list = target.get(..start).unwrap_or(&[]);
-    // Two bytes are the brackets of the place.
-    let after = target.get(start.saturating_add(2)..).unwrap_or(&[]);
-    let name = json_of(alloc, &Tree::Text(String::from_str(alloc, name)?))?;
-    let target = parts_of(alloc, &[list, b"[", name.as_bytes(), b"]", after])?;
-    let part = parts
-        .entry(target)?
-        .or_try_insert_with(|| Part::new(alloc, tests, pair, found, list))?;
-    part.trial.try_at(alloc, tests, found)?;
-    Ok(parts.len() <= MAX_ELEMENTS)
-}
-
-/// Appends the rules for the elements of a place by their name.
-fn push_elements(parts: &Parts, out: &mut Vec<u8>) -> Result<(), AllocError> {
-    for (target, part) in parts.iter() {
-        part.trial.push(target.as_slice(), out)?;
+    let depth = spot.list.map(|list| list.depth);
+    if let Some(Some(element)) = depth.and_then(|depth| elements.get(depth))
+        && let Some(name) = element.name(alloc)?
+    {
+        return spot.add_name(alloc, name.as_str());
     }
     Ok(())
 }
 
-/// Returns whether a target is a place inside that of another target.
-fn is_inside(target: &[u8], whole: &[u8]) -> bool {
-    target.starts_with(whole) && matches!(target.get(whole.len()), Some(b'.' | b'['))
-}
-
-/// The places at which pairs differ, by the messages and the place of their rules.
-#[derive(Drop)]
-pub struct Spots<'m> {
-    tests: Vec<MaskRules>,
-    by_target: BTreeMap<Vec<u8>, Spot<'m>>,
-}
-
-impl<'m> Spots<'m> {
-    fn add(&mut self, alloc: Global, pair: &Pair<'m>, found: &Found<'_>) -> Result<(), AllocError> {
-        let tests = self.tests.as_slice();
-        let target = found.target.clone()?;
-        let spot = self
-            .by_target
-            .entry(target)?
-            .or_try_insert_with(|| Spot::new(alloc, tests, pair, found))?;
-        spot.try_at(alloc, tests, pair, found)
-    }
-
-    /// Adds the places at which a pair differs. Returns whether rules for them make it equal.
-    fn add_pair(
-        &mut self,
-        alloc: Global,
-        pair: &Pair<'m>,
-        trees: &mut Trees,
-    ) -> Result<bool, AllocError> {
-        let (a, b) = trees.read(alloc, pair)?;
-        let mut target = class_of(alloc, a.kind(), a.name())?;
-        target.push(b' ')?;
-        let mut found = Vec::new(alloc);
-        let is_enough = compare_trees(alloc, a.tree(), b.tree(), None, &mut target, &mut found)?;
-        for one in found.iter() {
-            self.add(alloc, pair, one)?;
+/// Returns the innermost list whose element has a name.
+fn innermost(elements: &Elements<'_>) -> Option<NamedList> {
+    let mut list = None;
+    for (depth, element) in elements.iter().enumerate() {
+        if let Some(element) = element {
+            list = Some(NamedList {
+                depth,
+                start: element.start,
+            });
         }
-        Ok(is_enough)
+    }
+    list
+}
+
+impl Spots {
+    pub fn new(alloc: Global, are_strict: bool) -> Spots {
+        Spots {
+            places: Places::new(alloc),
+            list: Vec::new(alloc),
+            by_target: BTreeMap::new(alloc),
+            are_joined: false,
+            are_strict,
+        }
     }
 
-    /// Returns the elements of a place that have rules by their name: no candidate works for all of
-    /// them, and no other rule changes their names.
-    fn elements_of<'s>(&self, spot: &'s Spot<'_>) -> Option<&'s Parts> {
-        let parts = spot.parts.as_ref()?;
-        let is_split = spot.whole.candidate().is_none()
-            && !parts
-                .values()
-                .any(|part| self.by_target.contains_key(part.names.as_slice()));
-        if is_split { Some(parts) } else { None }
+    /// Returns whether pairs differ at the names of elements.
+    pub fn have_names(&self) -> bool {
+        self.list.iter().any(|spot| spot.is_name)
     }
 
-    /// Appends the rules for all places that are not inside a place that is blanked, each after its
-    /// comment.
-    pub fn push(&self, alloc: Global, out: &mut Vec<u8>) -> Result<(), AllocError> {
-        // The blanked places whose targets are prefixes of the target, the longest last. None is
-        // inside another one, so only the last one can have the target inside it.
-        let mut blanked: Vec<&[u8]> = Vec::new(alloc);
-        for (target, spot) in self.by_target.iter() {
-            let target = target.as_slice();
-            let last = blanked.iter().rposition(|whole| target.starts_with(*whole));
-            blanked.truncate(last.map_or(0, |last| last.saturating_add(1)));
-            if blanked
-                .last()
-                .is_some_and(|whole| is_inside(target, *whole))
-            {
-                continue;
+    /// Forgets what was found at all places but the names of elements.
+    pub fn reset(&mut self, alloc: Global) -> Result<(), AllocError> {
+        for spot in self.list.iter_mut() {
+            if !spot.is_name {
+                spot.reset(alloc)?;
             }
-            if let Some(parts) = self.elements_of(spot) {
-                push_elements(parts, out)?;
-                continue;
-            }
-            if spot.whole.candidate().is_none() {
-                blanked.push(target)?;
-            }
-            spot.whole.push(target, out)?;
         }
         Ok(())
     }
 
-    /// Drops all rules for elements by their name. Returns whether there were some.
-    pub fn join_elements(&mut self) -> bool {
-        let mut had_parts = false;
-        for spot in self.by_target.values_mut() {
-            had_parts = spot.parts.take().is_some() || had_parts;
+    /// Returns the actions of the rules for the names of the elements at a place.
+    pub fn actions_on_names(&self, elements: usize) -> Actions {
+        let spot = self.places.spot_of_names(elements);
+        match spot.and_then(|spot| self.list.get(spot)) {
+            Some(spot) => spot.actions(),
+            None => 0,
         }
-        had_parts
     }
 
-    /// Leaves out the candidate for a place or for elements by their name, because a file of rules
-    /// cannot have it. Returns whether there is such a place, or are such elements.
-    ///
-    /// # Errors
-    ///
-    /// The place cannot be blanked either.
-    pub fn exclude(&mut self, target: &[u8]) -> Result<bool, Unsolved> {
-        if self
-            .by_target
-            .values_mut()
-            .any(|spot| spot.exclude_part(target))
-        {
-            return Ok(true);
+    /// Returns the spot at a place.
+    fn spot_at(
+        &mut self,
+        alloc: Global,
+        node: usize,
+        position: &Position<'_>,
+    ) -> Result<usize, AllocError> {
+        if let Some(spot) = self.places.node(node).and_then(|node| node.spot) {
+            return Ok(spot);
         }
-        let Some(spot) = self.by_target.get_mut(target) else {
-            return Ok(false);
-        };
-        if spot.whole.exclude() {
-            return Ok(true);
-        }
-        Err(unsolved_at(Reason::Differs, Which::A, spot.first))
+        let index = self.list.len();
+        let target = position.target.as_slice();
+        let class = target.get(..position.start).unwrap_or(&[]);
+        let place = target.get(position.start..).unwrap_or(&[]);
+        let spot = Spot::new(alloc, position.target.clone()?, hidden_at(class, place))?;
+        self.places
+            .set_spot(position.head, node, index, spot.is_name);
+        self.list.push(spot)?;
+        drop(self.by_target.insert(position.target.clone()?, index)?);
+        Ok(index)
     }
-}
 
-/// Returns the places at which pairs differ, whose messages `trees` reads.
-///
-/// # Errors
-///
-/// No rule makes some pair equal, or an allocation failed.
-pub fn spots_of<'m>(
-    alloc: Global,
-    pairs: &[Pair<'m>],
-    mut trees: Trees,
-) -> Result<Spots<'m>, Unsolved> {
-    let mut spots = Spots {
-        tests: tests(alloc)?,
-        by_target: BTreeMap::new(alloc),
-    };
-    for pair in pairs {
-        let is_equal = have_one_text(&pair.a.message, &pair.b.message);
-        if !is_equal && !spots.add_pair(alloc, pair, &mut trees)? {
-            return Err(unsolved_at(Reason::Differs, Which::A, pair.a));
+    /// Adds a place at which two values differ.
+    pub fn add(
+        &mut self,
+        alloc: Global,
+        node: usize,
+        position: &Position<'_>,
+    ) -> Result<(), AllocError> {
+        let index = self.spot_at(alloc, node, position)?;
+        if let Some(spot) = self.list.get_mut(index) {
+            spot.add_pair(position.pair)?;
+            add_element(alloc, spot, &position.elements)?;
         }
+        Ok(())
     }
-    Ok(spots)
 }

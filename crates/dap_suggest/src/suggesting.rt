@@ -1,13 +1,17 @@
 //! Suggests rules that make two recordings the same.
-ghost use Rattle.std.specs.Prelude.{◌≡◌, ◌++◌, IfErr, IfOk, IfSome};
+ghost use Rattle.std.specs.Prelude.{◌≡◌, ◌++◌, true, IfErr, IfOk, IfSome};
 ghost use Rattle.dap_input.specs.Limits.{AreSound};
 ghost use Rattle.dap_mask.specs.{KeptRules.mask_of, RulesFile.rules_said};
 ghost use Rattle.dap_suggest.specs.NotSuggested.{HasNoSuggestion, IsNotSuggested};
-ghost use Rattle.dap_suggest.specs.Suggested.{AreSameBy, IsSuggestion};
+ghost use Rattle.dap_suggest.specs.{Broad.{AddsNoBroadRule, broad_of}, Guarded.AddsGuarded};
+ghost use Rattle.dap_suggest.specs.Guarded.{guarded_count};
+ghost use Rattle.dap_suggest.specs.Suggested.{AreSameBy, IsSuggestion, SaysWhatToCheck};
 
+use crate::broad::broad_of;
 use crate::confirming::confirm;
 use crate::counting::{EventsByName, differing_events, forget_categories, have_categories};
 use crate::fractions::fraction_rules;
+use crate::guarded::guarded_count;
 use crate::joined_rules::{joined, missing_end, rules_for};
 use crate::obstacle::Unsolved;
 use crate::sessions::{Sessions, sessions_by};
@@ -137,14 +141,15 @@ fn suggest_by(
 ///
 /// The records are matched as those of [`diff_all_with`](dap_diff::diff_all_with). Events that the
 /// recordings have in different numbers are dropped, only those of some categories if these explain
-/// the difference. At each place at which pairs differ, the first verb that makes all pairs equal
-/// there is suggested, or a parent is blanked. Pairs in another order may change places. Numbers
-/// that are not integers of 64 bits are blanked. Then the rules are applied to both recordings, and
-/// the results are compared.
+/// the difference. At each place at which pairs differ, the rules that hide the fewest equal values
+/// are suggested, for all elements of a list or for those of one name; or a parent is blanked.
+/// Pairs in another order may change places. Numbers that are not integers of 64 bits are blanked.
+/// Then the rules are applied to both recordings, and the results are compared.
 ///
-/// Each rule follows a comment with the two values and their records. The last line says in which
-/// mode the recordings are the same: `# with these rules: same`, or
-/// `# with these rules and per-stop: same`.
+/// Each rule follows a comment with the two values and their records, and with the number of equal
+/// values that it also hides. The last line says in which mode the recordings are the same:
+/// `# with these rules: same`, or `# with these rules and per-stop: same`. It also counts the rules
+/// that hide what a test looks at, each of which follows a comment that starts with `# CHECK`.
 ///
 /// # Errors
 ///
@@ -157,6 +162,7 @@ pub fn suggest(
     given: &[u8],
     a: &[u8],
     b: &[u8],
+    strict: bool,
     limits: Limits,
 ) -> Result<Suggestion, SuggestRefused>
     requires limits { AreSound limits }
@@ -166,6 +172,17 @@ pub fn suggest(
     ensures ok { IfOk result
         (λ s. AreSameBy limits s.mode (given.now ++ s.rules.items) a.now b.now) }
 
+    // Each rule that is suggested names the messages that it is for, and none drops events that a
+    // session needs.
+    ensures narrow { IfOk result
+        (λ s. AddsNoBroadRule given.now (given.now ++ s.rules.items)) }
+
+    // The last line says in which mode the recordings are the same, and how many rules blank a
+    // guarded place. If `strict`, none does.
+    ensures checked { IfOk result (λ s. SaysWhatToCheck given.now s.mode s.rules.items) }
+    ensures strict { strict ≡ true → IfOk result
+        (λ s. AddsGuarded 0 given.now (given.now ++ s.rules.items)) }
+
     // The rules that were given are rejected, or the first recording that they reject is, or no
     // rules were found. `Memory` is returned only if the rules that were given are not too long.
     ensures err { IfErr result (IsNotSuggested limits given.now a.now b.now) }
@@ -174,6 +191,9 @@ pub fn suggest(
     let mode = mode_by(&rules, Mode::Whole);
     let inputs = Inputs {
         given,
+        broad: broad_of(&rules),
+        guarded: guarded_count(&rules),
+        strict,
         mode,
         a,
         b,

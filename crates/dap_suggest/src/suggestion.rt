@@ -1,4 +1,5 @@
 //! What rules are suggested for, and what a suggestion returns.
+use crate::broad::Broad;
 use crate::obstacle::{Obstacle, Unsolved};
 use dap_compare::Which;
 use dap_input::Limits;
@@ -10,6 +11,12 @@ use dap_rules::ApplyRefused;
 #[derive(Clone, Copy)]
 pub struct Inputs<'i> {
     pub given: &'i [u8],
+    /// How many broad rules they have.
+    pub broad: Broad,
+    /// How many guarded places they blank.
+    pub guarded: usize,
+    /// Whether no rule may be suggested that has to be checked.
+    pub strict: bool,
     /// The mode in which ids are numbered after these rules.
     pub mode: Mode,
     pub a: &'i [u8],

@@ -1,9 +1,7 @@
 //! The pairs that come in another order in B, and the rules that let them change places.
 use crate::matched::Pair;
-use crate::obstacle::{Reason, Unsolved, unsolved_at};
 use crate::trees::tree_of;
 use crate::words::{class_of, parts_of, push_parts};
-use dap_compare::Which;
 use dap_message::{AnyMessage, Message};
 use dap_order::{Half, SwapRule, is_free};
 use dap_tree::Scratch;
@@ -94,6 +92,13 @@ struct Latest<'m> {
 }
 
 impl<'m> Latest<'m> {
+    fn new(alloc: Global) -> Latest<'m> {
+        Latest {
+            by_place: BTreeMap::new(alloc),
+            places: BTreeMap::new(alloc),
+        }
+    }
+
     /// Adds a pair, in place of the latest one of its class if it comes after that in B.
     fn add(&mut self, alloc: Global, late: Late<'m>) -> Result<(), AllocError> {
         let class = class_of_pair(alloc, &late.pair)?;
@@ -129,32 +134,54 @@ fn crossing<'m>(alloc: Global, pairs: &[Pair<'m>]) -> Result<Vec<Pair<'m>>, Allo
     Ok(found)
 }
 
-/// Returns the rules that let pairs change places which come in another order in B.
-///
-/// The time per pair is logarithmic in the number of pairs, and linear in the number of classes
-/// that the pair passes.
-///
-/// # Errors
-///
-/// The order of two such pairs is fixed, or an allocation failed.
-pub fn swaps_of(alloc: Global, pairs: &[Pair<'_>]) -> Result<Swaps, Unsolved> {
-    let mut swaps = Swaps {
-        by_halves: BTreeMap::new(alloc),
-    };
-    let mut latest = Latest {
-        by_place: BTreeMap::new(alloc),
-        places: BTreeMap::new(alloc),
-    };
-    let mut scratch = Scratch::new(alloc);
-    for pair in crossing(alloc, pairs)? {
-        let message = tree_of(alloc, &pair.a.message, &mut scratch)?;
-        for (_, before) in latest.by_place.range(pair.place..) {
-            if !may_pass(&before.message, &message) {
-                return Err(unsolved_at(Reason::OutOfOrder, Which::A, pair.a));
-            }
-            swaps.add(alloc, &before.pair, &pair)?;
+/// What a search for the order of pairs finds.
+#[derive(Drop)]
+pub struct Order<'m> {
+    pub swaps: Swaps,
+    /// The pairs whose order is fixed.
+    pub fixed: Vec<Pair<'m>>,
+}
+
+impl<'m> Order<'m> {
+    pub fn new(alloc: Global) -> Order<'m> {
+        Order {
+            swaps: Swaps {
+                by_halves: BTreeMap::new(alloc),
+            },
+            fixed: Vec::new(alloc),
         }
-        latest.add(alloc, Late { pair, message })?;
     }
-    Ok(swaps)
+
+    /// Adds a pair that passes pairs before it.
+    fn pass(
+        &mut self,
+        alloc: Global,
+        latest: &Latest<'m>,
+        pair: &Pair<'m>,
+        message: &Message,
+    ) -> Result<(), AllocError> {
+        for (_, before) in latest.by_place.range(pair.place..) {
+            if !may_pass(&before.message, message) {
+                return Ok(self.fixed.push(*pair)?);
+            }
+            self.swaps.add(alloc, &before.pair, pair)?;
+        }
+        Ok(())
+    }
+
+    /// Adds the rules that let pairs change places which come in another order in B, and the pairs
+    /// whose order is fixed.
+    ///
+    /// The time per pair is logarithmic in the number of pairs, and linear in the number of classes
+    /// that the pair passes.
+    pub fn search(&mut self, alloc: Global, pairs: &[Pair<'m>]) -> Result<(), AllocError> {
+        let mut latest = Latest::new(alloc);
+        let mut scratch = Scratch::new(alloc);
+        for pair in crossing(alloc, pairs)? {
+            let message = tree_of(alloc, &pair.a.message, &mut scratch)?;
+            self.pass(alloc, &latest, &pair, &message)?;
+            latest.add(alloc, Late { pair, message })?;
+        }
+        Ok(())
+    }
 }

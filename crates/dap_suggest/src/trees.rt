@@ -58,6 +58,11 @@ impl Trees {
         })
     }
 
+    /// Returns the message of the record of A. Its ids keep their numbers.
+    pub fn read_one(&mut self, alloc: Global, pair: &Pair<'_>) -> Result<Message, AllocError> {
+        tree_of(alloc, &pair.a.message, &mut self.scratch)
+    }
+
     /// Returns the messages of a pair.
     pub fn read(
         &mut self,

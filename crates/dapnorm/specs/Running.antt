@@ -49,8 +49,8 @@ module _ {I O T : Type 0} (place : Place I O T) (desk : Desk I O T) where
       CheckIsRun mode complete (input_name input) outcome
   IsDone values (Command.Pair printed a b rules mode) outcome =
       PairIsRun place printed mode a b desk rules values outcome
-  IsDone values (Command.Suggest a b rules) outcome =
-      SuggestionIsRun place a b rules values desk outcome
+  IsDone values (Command.Suggest strict a b rules) outcome =
+      SuggestionIsRun place strict a b rules values desk outcome
   IsDone values (Command.Golden golden) outcome =
       GoldenIsRun place golden values (input_name golden.input) desk outcome
   IsDone values (Command.Rows number) outcome = FindsRows number outcome

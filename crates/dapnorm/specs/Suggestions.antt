@@ -1,6 +1,6 @@
 -- What the program does with `suggest` over files that are given by their names. Source: own.
-use Rattle.std.specs.Prelude.{◌≡◌, ◌⊎◌, ℕ, ◌≤◌, ◌++◌, true, false, List, [], Option, Some, None}
-use Rattle.std.specs.{Prelude.{Result, Ok, Err, Vec, length}, declared.alloc.Global.Global}
+use Rattle.std.specs.Prelude.{◌≡◌, ◌⊎◌, ℕ, ◌≤◌, ◌++◌, Bool, true, false, List, [], Option, Some}
+use Rattle.std.specs.{Prelude.{None, Result, Ok, Err, Vec, length}, declared.alloc.Global.Global}
 use Rattle.dap_compare.specs.declared.verdict.Which.{Which, TheVariants.{A, B}}
 use Rattle.dap_host.specs.declared.{host.Purpose.Purpose, limits.TheConstants.LIMITS}
 use Rattle.dap_input.specs.declared.refused.Refused.TheVariants.{Memory}
@@ -8,7 +8,8 @@ use Rattle.dap_mask.specs.{KeptRules.mask_of, RulesFile.rules_said}
 use Rattle.dap_mask.specs.declared.mask_rules.MaskRules.{MaskRules}
 use Rattle.dap_rename.specs.declared.mode.Mode.{Mode}
 use Rattle.dap_rules.specs.declared.fault.ApplyRefused.{ApplyRefused}
-use Rattle.dap_suggest.specs.{NotSuggested.{AreAccepted, IsInputRejected}, Suggested.AreSameBy}
+use Rattle.dap_suggest.specs.{Broad.AddsNoBroadRule, Guarded.AddsGuarded, Suggested.AreSameBy}
+use Rattle.dap_suggest.specs.NotSuggested.{AreAccepted, IsInputRejected}
 use Rattle.dapnorm.specs.{Comparisons.are_both_standard, Desks.{Place, empty, inputs}}
 use Rattle.dapnorm.specs.{Readings.IsFileRead, Rules.IsRulesText, declared.answer.Answer.Answer}
 use Rattle.dapnorm.specs.declared.{desk.Desk.Desk, reading.Unread.Unread, rules.NoRules.NoRules}
@@ -27,22 +28,29 @@ pub record IsRejected (which : Which) (refused : ApplyRefused) (used : MaskRules
   pub refused_is : refused ≡ reported_refusal given because
   pub used_is : rules_said given ≡ Ok (mask_of used)
 
+-- The rules that are found add no broad rule to those that are given, and none for a guarded place
+-- if `strict`.
+abbrev pub AddNarrowRules : Bool → List ℕ → List ℕ → Type 0
+AddNarrowRules strict given found = AddsNoBroadRule given (given ++ found)
+    × (strict ≡ true → AddsGuarded 0 given (given ++ found))
+
 -- The rules that are found make both recordings the same, together with those that are given. Or a
 -- line of the given rules is rejected, or an input by them, or no rules are found. A failed
 -- allocation is reported only if the rules that are given are not too long.
-abbrev pub Suggests : Vec ℕ Global → List ℕ → List ℕ → Result (Option Answer) Why → Type 0
-Suggests given read_a read_b (Ok (Some (Answer.Rules found))) =
-    (mode : Mode) × AreSameBy LIMITS mode (given.items ++ found.items) read_a read_b
-Suggests given read_a read_b (Err (Why.Rules (NoRules.Line fault text))) =
+abbrev pub Suggests : Bool → Vec ℕ Global → List ℕ → List ℕ → Result (Option Answer) Why → Type 0
+Suggests strict given read_a read_b (Ok (Some (Answer.Rules found))) =
+    ((mode : Mode) × AreSameBy LIMITS mode (given.items ++ found.items) read_a read_b)
+    × AddNarrowRules strict given.items found.items
+Suggests strict given read_a read_b (Err (Why.Rules (NoRules.Line fault text))) =
     (text ≡ given) × (rules_said given.items ≡ Err fault)
-Suggests given read_a read_b (Err (Why.Unapplied which refused used)) =
+Suggests strict given read_a read_b (Err (Why.Unapplied which refused used)) =
     IsRejected which refused used given.items read_a read_b
-Suggests given read_a read_b (Err (Why.NoSuggestion line)) = AreAccepted given.items
-Suggests given read_a read_b (Err (Why.Input Memory)) = length given.items ≤ 65536
-Suggests given read_a read_b outcome = ⊥
+Suggests strict given read_a read_b (Err (Why.NoSuggestion line)) = AreAccepted given.items
+Suggests strict given read_a read_b (Err (Why.Input Memory)) = length given.items ≤ 65536
+Suggests strict given read_a read_b outcome = ⊥
 
-module _ {I O T : Type 0} (place : Place I O T) (a b : List ℕ) (rules : Option (List ℕ))
-    (values : List (List ℕ)) (desk : Desk I O T) where
+module _ {I O T : Type 0} (place : Place I O T) (strict : Bool) (a b : List ℕ)
+    (rules : Option (List ℕ)) (values : List (List ℕ)) (desk : Desk I O T) where
   -- The text of the rules that are given.
   abbrev pub GivenIs : Result (Vec ℕ Global) NoRules → Type 0
   GivenIs = IsRulesText place.files place.source rules values
@@ -69,7 +77,7 @@ module _ {I O T : Type 0} (place : Place I O T) (a b : List ℕ) (rules : Option
     pub given_is : GivenIs (Ok given)
     pub is_a : InputA (Ok read_a)
     pub is_b : InputB (Ok read_b)
-    pub suggests : Suggests given read_a.items read_b.items outcome
+    pub suggests : Suggests strict given read_a.items read_b.items outcome
 
   -- A file is not read. The rules that are given are read first, then A whole, and then B.
   abbrev pub IsStopped : Result (Option Answer) Why → Type 0

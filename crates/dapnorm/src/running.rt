@@ -114,9 +114,14 @@ fn done<'a, H: Host>(
             let (a, b, rules) = (a.as_str(), b.as_str(), text_of(rules));
             run_pair(alloc, host, printed, mode, a, b, rules, words, desk)
         }
-        Command::Suggest { a, b, rules } => {
+        Command::Suggest {
+            strict,
+            a,
+            b,
+            rules,
+        } => {
             let (a, b) = (a.as_str(), b.as_str());
-            run_suggest(alloc, host, a, b, text_of(rules), words, desk)
+            run_suggest(alloc, host, *strict, a, b, text_of(rules), words, desk)
         }
         Command::Golden(golden) => run_golden(alloc, host, golden, words, desk),
         Command::Rows { number } => run_rows(alloc, text_of(number)),

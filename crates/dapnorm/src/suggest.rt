@@ -34,13 +34,14 @@ fn reported_refusal(given: &[u8], refused: ApplyRefused) -> ApplyRefused
 /// Suggests rules for two recordings that were read.
 fn suggestion<'a>(
     alloc: Global,
+    strict: bool,
     given: Vec<u8>,
     a: &[u8],
     b: &[u8],
 ) -> Result<Option<Answer<'a>>, Why<'a>>
-    ensures { Suggests given a.now b.now result }
+    ensures { Suggests strict given a.now b.now result }
 {
-    match suggest(alloc, given.as_slice(), a, b, LIMITS) {
+    match suggest(alloc, given.as_slice(), a, b, strict, LIMITS) {
         Ok(found) => Ok(Some(Answer::Rules(found.rules))),
         Err(SuggestRefused::Rules(fault)) => Err(Why::Rules(NoRules::Line(fault, given))),
         Err(SuggestRefused::Input(which, refused)) => {
@@ -61,10 +62,12 @@ fn suggestion<'a>(
 }
 
 /// Suggests rules that make the recordings that two names lead to the same, in addition to the
-/// rules that are given. These are read first, then A whole, and then B.
+/// rules that are given. These are read first, then A whole, and then B. If `strict`, no rule is
+/// suggested that hides what a test looks at.
 pub(crate) fn run_suggest<'a, H: Host>(
     alloc: Global,
     host: &H,
+    strict: bool,
     a: &str,
     b: &str,
     rules: Option<&str>,
@@ -73,7 +76,8 @@ pub(crate) fn run_suggest<'a, H: Host>(
 ) -> Result<Option<Answer<'a>>, Why<'a>>
     requires { desk.old ≡ empty }
     ensures run { SuggestionIsRun (here (H.files host.now) H.Input.Source H.Output.Sink
-        H.Target.Replaceable) a.now b.now (text_in rules.entry) values.now desk.new result }
+        H.Target.Replaceable) strict a.now b.now (text_in rules.entry) values.now desk.new
+        result }
     ensures taken_a { TakesAtMost H.Input.given (LIMITS.input + 1) desk.new.a }
     ensures taken_b { TakesAtMost H.Input.given (LIMITS.input + 1) desk.new.b }
 {
@@ -92,5 +96,5 @@ pub(crate) fn run_suggest<'a, H: Host>(
         Ok(read) => read,
         Err(why) => return Err(Why::Unread(Some(Which::B), why)),
     };
-    suggestion(alloc, given, read_a.as_slice(), read_b.as_slice())
+    suggestion(alloc, strict, given, read_a.as_slice(), read_b.as_slice())
 }

@@ -1,0 +1,110 @@
+//! Counts what the candidates do to the pairs of values at one place.
+use crate::candidates::Actions;
+use std::alloc::{AllocError, Global};
+use std::collections::BTreeMap;
+
+/// Pairs of different values that the same candidates make equal.
+#[derive(Drop)]
+pub struct Different {
+    pub count: u64,
+    /// How many pairs of values came before the first of these.
+    pub before: u64,
+    /// The comment that shows the first pair.
+    pub comment: Vec<u8>,
+}
+
+/// The pairs of values of elements of one name, or of all others.
+#[derive(Drop)]
+pub struct Tally {
+    /// The numbers of equal pairs, by the actions that change them.
+    equal: BTreeMap<Actions, u64>,
+    /// The pairs that differ, by the candidates that make them equal.
+    different: BTreeMap<u16, Different>,
+}
+
+impl Tally {
+    pub fn new(alloc: Global) -> Tally {
+        Tally {
+            equal: BTreeMap::new(alloc),
+            different: BTreeMap::new(alloc),
+        }
+    }
+
+    /// Adds a pair of equal values that these actions change.
+    pub fn add_equal(&mut self, actions: Actions) -> Result<(), AllocError> {
+        if actions != 0 {
+            let count = self.equal.entry(actions)?.or_insert(0);
+            *count = count.saturating_add(1);
+        }
+        Ok(())
+    }
+
+    /// Adds a pair of different values that these candidates make equal, if a pair of their set is
+    /// there. Returns whether there is one.
+    pub fn add_different(&mut self, candidates: u16) -> bool {
+        match self.different.get_mut(&candidates) {
+            Some(different) => {
+                different.count = different.count.saturating_add(1);
+                true
+            }
+            None => false,
+        }
+    }
+
+    /// Adds the first pair of different values that exactly these candidates make equal.
+    pub fn add_first(
+        &mut self,
+        candidates: u16,
+        before: u64,
+        comment: Vec<u8>,
+    ) -> Result<(), AllocError> {
+        let first = Different {
+            count: 1,
+            before,
+            comment,
+        };
+        drop(self.different.insert(candidates, first)?);
+        Ok(())
+    }
+
+    /// Returns how many equal values actions change that other actions do not change.
+    pub fn hidden(&self, actions: Actions, others: Actions) -> u64 {
+        let mut hidden = 0u64;
+        for (changing, count) in self.equal.iter() {
+            if *changing & actions != 0 && *changing & others == 0 {
+                hidden = hidden.saturating_add(*count);
+            }
+        }
+        hidden
+    }
+
+    /// Returns how many pairs a candidate makes equal that other candidates do not make equal.
+    pub fn equated(&self, candidate: u16, others: u16) -> u64 {
+        let mut equated = 0u64;
+        for (equating, different) in self.different.iter() {
+            if *equating & candidate != 0 && *equating & others == 0 {
+                equated = equated.saturating_add(different.count);
+            }
+        }
+        equated
+    }
+
+    /// Returns whether each pair is made equal by one of these candidates.
+    pub fn is_equated(&self, candidates: u16) -> bool {
+        self.different
+            .keys()
+            .all(|equating| *equating & candidates != 0)
+    }
+
+    /// Returns the first pair that a candidate makes equal, and those like it.
+    pub fn first(&self, candidate: u16) -> Option<&Different> {
+        let mut first: Option<&Different> = None;
+        for (equating, different) in self.different.iter() {
+            let is_first = first.is_none_or(|other| different.before < other.before);
+            if *equating & candidate != 0 && is_first {
+                first = Some(different);
+            }
+        }
+        first
+    }
+}
