@@ -594,7 +594,7 @@ below_change q k f no_members = refl
 below_change q k f (member l e ms) =
     below_at (slice_cmp nat_cmp k l) q k l f e ms (change_member k f ms) (below_change q k f ms)
 
-abbrev KeepsOrdered : (Doc → Doc) → Type 0
+abbrev pub KeepsOrdered : (Doc → Doc) → Type 0
 KeepsOrdered f = (d : Doc) → is_ordered d ≡ true → is_ordered (f d) ≡ true
 
 ordered_at : (o : Ordering) (l : List ℕ) (f : Doc → Doc) (e : Doc) (ms changed : Members)
@@ -683,19 +683,19 @@ ordered-called n f keeps d h = go (is_called n (Some d))
     go true = keeps d h
     go false = h
 
-ordered-edit : (v : Verb) (ss : List RuleStep) → KeepsOrdered (change_at_place ss (of_verb v))
-ordered-edit v [] = ordered-verb v
-ordered-edit v (named k ∷ ss) =
-    ordered-child k (change_at_place ss (of_verb v)) (ordered-edit v ss)
-ordered-edit v (elements n ∷ ss) =
-    ordered-items (change_called n (change_at_place ss (of_verb v)))
-    (ordered-called n (change_at_place ss (of_verb v)) (ordered-edit v ss))
+pub ordered-edit : (f : Doc → Doc) → KeepsOrdered f → (ss : List RuleStep)
+    → KeepsOrdered (change_at_place ss f)
+ordered-edit f h [] = h
+ordered-edit f h (named k ∷ ss) = ordered-child k (change_at_place ss f) (ordered-edit f h ss)
+ordered-edit f h (elements n ∷ ss) =
+    ordered-items (change_called n (change_at_place ss f))
+    (ordered-called n (change_at_place ss f) (ordered-edit f h ss))
 
 pub ordered-mask_by : (r : Rule) (d : Doc) → is_ordered d ≡ true → is_ordered (mask_by r d) ≡ true
 ordered-mask_by r d h = go (rule_applies r d)
   where
     go : (b : Bool) → is_ordered (cond b (change_at_place r.place (of_verb r.verb) d) d) ≡ true
-    go true = ordered-edit r.verb r.place d h
+    go true = ordered-edit (of_verb r.verb) (ordered-verb r.verb) r.place d h
     go false = h
 
 pub ordered-masked : (rs : List Rule) (d : Doc) → is_ordered d ≡ true → is_ordered (masked rs d)

@@ -4,9 +4,11 @@ use Rattle.std.proofs.Common.{cond, List, [], ◌∷◌, length, Option, Some, N
 use Rattle.std.proofs.Common.{IfErr, take, nat_le, refl, sym, ap, ◌∙◌, subst, arith}
 use Rattle.std.proofs.lemmas.Bool.{le-ltb}
 use Rattle.std.proofs.lemmas.List.{length_push}
-use Rattle.std.specs.Str.{is_utf8}
+use Rattle.std.specs.{Prelude.{is_some}, Str.is_utf8}
+use Rattle.dap_mask.specs.Categories.{is_output_moved_by}
 use Rattle.dap_mask.specs.Mask.{Mask, no_rules, rule_count, with_rule, Statement, change, leave_out}
-use Rattle.dap_mask.specs.Mask.{leave_out_category, swap, restart, put, Line, nothing, rule, bad}
+use Rattle.dap_mask.specs.Mask.{leave_out_category, swap, restart, join, put, fill, Line, nothing}
+use Rattle.dap_mask.specs.Mask.{rule, bad}
 use Rattle.dap_mask.specs.RuleText.{line_said, statement_at, reported}
 use Rattle.dap_mask.specs.Rules.{Rule, comes_before, inserted}
 use Rattle.dap_mask.specs.RulesFile.{cause_against, outcome_unless, outcome_of, line_outcome}
@@ -14,7 +16,8 @@ use Rattle.dap_mask.specs.RulesFile.{outcome_then, rules_from, last_line, rules_
 use Rattle.dap_mask.specs.Runs.{has_class, is_blank, front, behind, lines_of, is_end}
 use Rattle.dap_mask.specs.declared.fault.RulesCause.{RulesCause}
 use Rattle.dap_mask.specs.declared.fault.RulesCause.TheVariants.{NotUtf8, TooLong, Memory}
-use Rattle.dap_mask.specs.declared.fault.RulesCause.TheVariants.{TooMany, Repeated}
+use Rattle.dap_mask.specs.declared.fault.RulesCause.TheVariants.{TooMany, Repeated, Clash}
+use Rattle.dap_mask.specs.declared.joining.Joining.{Joining}
 use Rattle.dap_mask.specs.declared.fault.RulesFault.{RulesFault}
 use Rattle.dap_mask.specs.declared.runs.ByteClass.TheVariants.{InLine}
 use Rattle.dap_mask.proofs.Lines.{lines_behind, lines_then}
@@ -41,6 +44,18 @@ first_restart m h = go (nat_le 1000 (rule_count m)) m.per_stop h
     go false true k = cc
     go false false k = refl
 
+first_join : (m : Mask) (j : Joining) → cause_against m (join j) ≡ None
+    → is_some m.joining ≡ false
+first_join m j h =
+    go (nat_le 1000 (rule_count m)) (is_some m.joining) (is_output_moved_by m.changes) h
+  where
+    go : (a b c : Bool)
+        → cond a (Some TooMany) (cond b (Some Repeated) (cond c (Some Clash) None)) ≡ None
+        → b ≡ false
+    go true b c k = cc
+    go false true c k = cc
+    go false false c k = refl
+
 length-inserted : (r : Rule) (rs : List Rule) → length (inserted r rs) ≡ suc (length rs)
 length-inserted r [] = refl
 length-inserted r (t ∷ ts) = go (length-inserted r ts) (comes_before r t)
@@ -60,7 +75,12 @@ one_more m restart h =
     let first : ◌≡◌ {A = ℕ} (cond m.per_stop 1 0) 0 =
     ap (λ (b : Bool). cond b 1 0) (first_restart m h) in
     omega (arith, first)
+one_more m (join j) h =
+    let first : ◌≡◌ {A = ℕ} (cond (is_some m.joining) 1 0) 0 =
+    ap (λ (b : Bool). cond b 1 0) (first_join m j h) in
+    omega (arith, first)
 one_more m (put p) h = let more = length_push m.words p in omega arith
+one_more m (fill f) h = let more = length_push m.fills f in omega arith
 
 same_mask : (m k : Mask) → ◌≡◌ {A = Result Mask RulesCause} (Ok m) (Ok k) → m ≡ k
 same_mask m k h = cc

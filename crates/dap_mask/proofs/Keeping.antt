@@ -103,7 +103,7 @@ edit_shallow v (elements n ∷ ss) =
 
 -- ---- a test of all parts
 
-abbrev Keeps : (Doc → Bool) → (Doc → Doc) → Type 0
+abbrev pub Keeps : (Doc → Bool) → (Doc → Doc) → Type 0
 Keeps T f = (d : Doc) → T d ≡ true → T (f d) ≡ true
 
 -- a test that checks each name and each part
@@ -185,7 +185,7 @@ called_keeps T n f h d g = go (is_called n (Some d))
     go true = h d g
     go false = g
 
-edit_keeps : (T : Test) (f : Doc → Doc) → Keeps T.doc f → (ss : List RuleStep)
+pub edit_keeps : (T : Test) (f : Doc → Doc) → Keeps T.doc f → (ss : List RuleStep)
     → Keeps T.doc (change_at_place ss f)
 edit_keeps T f h [] = h
 edit_keeps T f h (named k ∷ ss) = child_keeps T k (change_at_place ss f) (edit_keeps T f h ss)
@@ -216,7 +216,7 @@ range_test = record {
   of_object = λ ms. refl;
 }
 
-abbrev utf8_test : Test
+abbrev pub utf8_test : Test
 utf8_test = record {
   doc = all_utf8;
   many = items_utf8;
@@ -292,11 +292,11 @@ utf8_masked rs d h = masked_keeps utf8_test utf8_verb rs d h
 
 -- ---- masking adds no id
 
-not_either : (a b : Bool) → not (a || b) ≡ (not a && not b)
+pub not_either : (a b : Bool) → not (a || b) ≡ (not a && not b)
 not_either true b = refl
 not_either false b = refl
 
-abbrev no_id_test : Test
+abbrev pub no_id_test : Test
 no_id_test = record {
   doc = λ d. not (has_id d);
   many = λ ds. not (items_have_id ds);

@@ -10,6 +10,10 @@ pub mod ByPath
 pub mod Settled
 pub mod AnyOrder
 pub mod Dropping
+pub mod FillSteps
+pub mod FilledOnce
+pub mod FilledDocs
+pub mod FilledValues
 pub mod Loosening
 pub mod LooseReading
 pub mod Counterexamples
@@ -26,8 +30,11 @@ pub mod FlatChanges
 pub mod Options
 pub mod Blanks
 pub mod Quoted
+pub mod Values
 pub mod Parsing
 pub mod Parsed
 pub mod WorkedRules
+pub mod WorkedJoining
+pub mod WorkedFills
 pub mod WorkedOrder
 pub mod WordLines

@@ -22,10 +22,11 @@ use Rattle.dap_tree.proofs.Outcomes.{read_is_plain, some_outcome}
 use Rattle.dap_tree.proofs.Texts.{text_is_read}
 use Rattle.dap_tree.proofs.Utf8.{data_utf8, items_data_utf8, members_data_utf8, read-utf8}
 use Rattle.dap_tree.proofs.WithoutIds.{without_no_id}
-use Rattle.dap_words.specs.Words.{Pair, AreUtf8}
+use Rattle.dap_words.specs.Words.{AreUtf8}
 use Rattle.dap_words.specs.Worded.{worded_message}
 use Rattle.dap_words.proofs.WordedDocs.{ordered_worded, utf8_worded, id_worded, worded_none}
-use Rattle.dap_mask.specs.Loose.{loose, loose_items, loose_members, IsReadLoosely, IsReadWith}
+use Rattle.dap_mask.specs.Fills.{filled, keep_fills, AreFillsUtf8}
+use Rattle.dap_mask.specs.Loose.{loose, loose_items, loose_members, IsReadLoosely, IsReadBy}
 use Rattle.dap_mask.specs.Loose.{IsLeftOf}
 use Rattle.dap_mask.specs.Mask.{Mask, leaves_out}
 use Rattle.dap_mask.specs.Masked.{masked}
@@ -34,6 +35,8 @@ use Rattle.dap_mask.specs.Rules.{Rule, are_safe, are_idempotent}
 use Rattle.dap_mask.specs.Ids.{leave_ids}
 use Rattle.dap_mask.proofs.ByPath.{masked_by_path, one_masked, keeps_others, none_new}
 use Rattle.dap_mask.proofs.ByPath.{ordered-masked, agree_from_equal, equal_from_agree}
+use Rattle.dap_mask.proofs.FilledDocs.{ordered_filled, utf8_filled, no_id_filled}
+use Rattle.dap_mask.proofs.FilledOnce.{filled_once}
 use Rattle.dap_mask.proofs.Keeping.{no_id_masked, sound_masked, utf8_masked}
 use Rattle.dap_mask.proofs.LeftIds.{keeps_ids}
 use Rattle.dap_mask.proofs.Loosening.{no_id_loose, read_loose}
@@ -121,27 +124,42 @@ loosely_utf8 bytes d (v, reads, is) =
 loosely_no_id : (bytes : List ℕ) (d : Doc) → IsReadLoosely bytes d → has_id d ≡ false
 loosely_no_id bytes d (v, reads, is) = ap has_id is ∙ no_id_loose v
 
--- ---- a content read with words
+-- ---- a content read with words and members that are set
 
-pub one_reading : (words : List Pair) (bytes : List ℕ) (d e : Doc) → IsReadWith words bytes d
-    → IsReadWith words bytes e → d ≡ e
-one_reading words bytes d e (raw, read, is) (other, also, is_other) =
-    is ∙ ap (worded_message words) (one_loose_reading bytes raw other read also) ∙ sym is_other
+pub one_reading : (mask : Mask) (bytes : List ℕ) (d e : Doc) → IsReadBy mask bytes d
+    → IsReadBy mask bytes e → d ≡ e
+one_reading mask bytes d e (raw, read, is) (other, also, is_other) =
+    is ∙ ap (λ x. filled mask.fills (worded_message mask.words x))
+    (one_loose_reading bytes raw other read also) ∙ sym is_other
 
-pub ordered_with : (words : List Pair) (bytes : List ℕ) (d : Doc) → IsReadWith words bytes d
+pub ordered_by : (mask : Mask) (bytes : List ℕ) (d : Doc) → IsReadBy mask bytes d
     → is_ordered d ≡ true
-ordered_with words bytes d (raw, read, is) =
-    ap is_ordered is ∙ ordered_worded words true raw ∙ loosely_ordered bytes raw read
+ordered_by mask bytes d (raw, read, is) =
+    ap is_ordered is
+    ∙ ordered_filled mask.fills (worded_message mask.words raw)
+    (ordered_worded mask.words true raw ∙ loosely_ordered bytes raw read)
 
-utf8_with : (words : List Pair) (bytes : List ℕ) (d : Doc) → AreUtf8 words
-    → IsReadWith words bytes d → all_utf8 d ≡ true
-utf8_with words bytes d u (raw, read, is) =
-    ap all_utf8 is ∙ utf8_worded words u true raw (loosely_utf8 bytes raw read)
+utf8_by : (mask : Mask) (bytes : List ℕ) (d : Doc) → AreUtf8 mask.words
+    → AreFillsUtf8 mask.fills → IsReadBy mask bytes d → all_utf8 d ≡ true
+utf8_by mask bytes d u v (raw, read, is) =
+    ap all_utf8 is
+    ∙ utf8_filled mask.fills (worded_message mask.words raw) v
+    (utf8_worded mask.words u true raw (loosely_utf8 bytes raw read))
 
-no_id_with : (words : List Pair) (bytes : List ℕ) (d : Doc) → IsReadWith words bytes d
-    → has_id d ≡ false
-no_id_with words bytes d (raw, read, is) =
-    ap has_id is ∙ id_worded words true raw ∙ loosely_no_id bytes raw read
+no_id_by : (mask : Mask) (bytes : List ℕ) (d : Doc) → IsReadBy mask bytes d → has_id d ≡ false
+no_id_by mask bytes d (raw, read, is) =
+    ap has_id is
+    ∙ no_id_filled mask.fills (worded_message mask.words raw)
+    (id_worded mask.words true raw ∙ loosely_no_id bytes raw read)
+
+-- setting members again in the masked document does not change it
+pub filled_again : (mask : Mask) (bytes : List ℕ) (d : Doc) → are_safe mask.changes ≡ true
+    → keep_fills mask.changes mask.fills ≡ true → IsReadBy mask bytes d
+    → filled mask.fills (masked mask.changes d) ≡ masked mask.changes d
+filled_again mask bytes d safe full (raw, read, is) =
+    ap (λ x. filled mask.fills (masked mask.changes x)) is
+    ∙ filled_once mask (worded_message mask.words raw) safe full
+    ∙ ap (masked mask.changes) (sym is)
 
 -- ---- the result of masking a content
 
@@ -169,25 +187,25 @@ mutual
       (members_ranged_no_id ms (or_right (has_id d) _ h))
 
 pub left_is_read : (mask : Mask) (bytes : List ℕ) (e : Doc) → AreUtf8 mask.words
-    → IsLeftOf mask bytes (Some e) → IsRead (text_of e) e
-left_is_read mask bytes e u (d, read, (kept, is, sound)) =
+    → AreFillsUtf8 mask.fills → IsLeftOf mask bytes (Some e) → IsRead (text_of e) e
+left_is_read mask bytes e u v (d, read, (kept, is, sound)) =
     let rules = mask.changes in
     let ordered : is_ordered e ≡ true =
-    ap is_ordered is ∙ ordered-masked rules d (ordered_with mask.words bytes d read) in
+    ap is_ordered is ∙ ordered-masked rules d (ordered_by mask bytes d read) in
     let utf8 : all_utf8 e ≡ true =
-    ap all_utf8 is ∙ utf8_masked rules d (utf8_with mask.words bytes d u read) in
+    ap all_utf8 is ∙ utf8_masked rules d (utf8_by mask bytes d u v read) in
     let no_id : has_id e ≡ false =
-    ap has_id is ∙ no_id_masked rules d (no_id_with mask.words bytes d read) in
+    ap has_id is ∙ no_id_masked rules d (no_id_by mask bytes d read) in
     subst (IsRead (text_of e)) (without_no_id e no_id)
     (text_is_read e sound (ranged_no_id e no_id) ordered utf8)
 
 -- ---- all guarantees
 
-pub content_masked : (rules : List Rule) (words : List Pair) (bytes : List ℕ) (d : Doc)
+pub content_masked : (rules : List Rule) (mask : Mask) (bytes : List ℕ) (d : Doc)
     → are_safe rules ≡ true → are_idempotent rules ≡ true → leave_ids rules ≡ true
-    → IsReadWith words bytes d → IsMaskedAs rules d (masked rules d)
-content_masked rules words bytes d safe settled leave read =
-    let ordered = ordered_with words bytes d read in
+    → IsReadBy mask bytes d → IsMaskedAs rules d (masked rules d)
+content_masked rules mask bytes d safe settled leave read =
+    let ordered = ordered_by mask bytes d read in
     record {
       places = masked_by_path rules d safe;
       elsewhere = λ p apart. keeps_others rules d p safe apart;
@@ -195,36 +213,37 @@ content_masked rules words bytes d safe settled leave read =
       ids = keeps_ids rules d safe leave;
       one = λ f is. one_masked rules d f safe ordered is;
       again = masked_once rules d safe settled ordered;
-      equal = λ pairs others f also. (
+      equal = λ other others f also. (
         λ same. agree_from_equal rules d f safe same,
-        λ agree. equal_from_agree rules d f safe (ordered_with pairs others f also) agree,
+        λ agree. equal_from_agree rules d f safe (ordered_by other others f also) agree,
       );
     }
 
--- ---- a content that is read as a document, if there are no words
+-- ---- a content that is read as a document, if there are no words and no members to set
 
-pub read_unworded : (words : List Pair) (bytes : List ℕ) (d : Doc) → words ≡ [] → IsRead bytes d
-    → IsReadWith words bytes d
-read_unworded words bytes d none read = (
+pub read_plainly : (mask : Mask) (bytes : List ℕ) (d : Doc) → mask.words ≡ [] → mask.fills ≡ []
+    → IsRead bytes d → IsReadBy mask bytes d
+read_plainly mask bytes d none bare read = (
   d,
   read_loose bytes d read,
-  sym (ap (λ ws. worded_message ws d) none ∙ worded_none true d),
+  sym (ap (λ fs. filled fs (worded_message mask.words d)) bare
+      ∙ ap (λ ws. worded_message ws d) none ∙ worded_none true d),
 )
 
-pub left_unworded : (mask : Mask) (bytes : List ℕ) (d : Doc) → mask.words ≡ [] → IsRead bytes d
-    → leaves_out mask d ≡ false → IsLeftOf mask bytes (Some (masked mask.changes d))
-left_unworded mask bytes d none read kept =
+pub left_plainly : (mask : Mask) (bytes : List ℕ) (d : Doc) → mask.words ≡ [] → mask.fills ≡ []
+    → IsRead bytes d → leaves_out mask d ≡ false
+    → IsLeftOf mask bytes (Some (masked mask.changes d))
+left_plainly mask bytes d none bare read kept =
     let sound = and_left (is_sound d) (not (has_id d)) (read_is_plain bytes d read) in (
       d,
-      read_unworded mask.words bytes d none read,
+      read_plainly mask bytes d none bare read,
       (kept, refl, sound_masked mask.changes d sound),
     )
 
-pub masked_unworded : (mask : Mask) (bytes : List ℕ) (d : Doc) → are_safe mask.changes ≡ true
+pub masked_plainly : (mask : Mask) (bytes : List ℕ) (d : Doc) → are_safe mask.changes ≡ true
     → are_idempotent mask.changes ≡ true → leave_ids mask.changes ≡ true → mask.words ≡ []
-    → IsRead bytes d → IsContentMasked mask bytes (masked mask.changes d)
-masked_unworded mask bytes d safe settled leave none read e also =
-    let same = one_reading mask.words bytes e d also
-    (read_unworded mask.words bytes d none read) in
+    → mask.fills ≡ [] → IsRead bytes d → IsContentMasked mask bytes (masked mask.changes d)
+masked_plainly mask bytes d safe settled leave none bare read e also =
+    let same = one_reading mask bytes e d also (read_plainly mask bytes d none bare read) in
     subst (IsMaskedAs mask.changes e) (ap (masked mask.changes) same)
-    (content_masked mask.changes mask.words bytes e safe settled leave also)
+    (content_masked mask.changes mask bytes e safe settled leave also)

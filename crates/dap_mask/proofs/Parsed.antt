@@ -7,13 +7,15 @@ use Rattle.std.proofs.lemmas.Bool.{eqb-true}
 use Rattle.std.proofs.lemmas.Option.{none-some, same_Some}
 use Rattle.std.proofs.lemmas.Slice.Eq.{bytes_eq-Decides}
 use Rattle.std.specs.Prelude.{zero, codes}
+use Rattle.dap_tree.proofs.Booleans.{and_left, and_right}
 use Rattle.dap_profile.specs.declared.profile.Kind.{Kind, TheVariants.{Request, Response, Event}}
 use Rattle.dap_mask.specs.Grammar.{IsGap, GoesOn, HasWords, IsName, bare, quoted}
 use Rattle.dap_mask.specs.Grammar.{IsNameOrAny, AreSteps, IsPlace, verb_word, kind_word}
 use Rattle.dap_mask.specs.Grammar.{AreCategoryWords, AreWordsOf, SaysRule, Says}
-use Rattle.dap_mask.specs.Categories.{CategoryRule}
+use Rattle.dap_mask.specs.Categories.{CategoryRule, output_name}
 use Rattle.dap_mask.specs.Mask.{Statement, change, leave_out, leave_out_category, swap, restart}
-use Rattle.dap_mask.specs.Mask.{put, Line, nothing, rule, bad}
+use Rattle.dap_mask.specs.Fills.{Fill}
+use Rattle.dap_mask.specs.Mask.{join, put, fill, Line, nothing, rule, bad}
 use Rattle.dap_mask.specs.RuleSteps.{RuleStep, named, elements}
 use Rattle.dap_mask.specs.RuleText.{bracket_behind, called_step, quoted_at, plain_at, name_at}
 use Rattle.dap_mask.specs.RuleText.{this_name, any_name, each_step, member_step, next_step}
@@ -22,20 +24,25 @@ use Rattle.dap_mask.specs.RuleText.{name_behind, kind_then, head_at, text_behind
 use Rattle.dap_mask.specs.RuleText.{limit_from, limit_at, placed, place_behind, change_behind}
 use Rattle.dap_mask.specs.RuleText.{change_at, with_category}
 use Rattle.dap_mask.specs.RuleText.{category_behind, dropped_at, leave_out_at, half_at, swap_with}
-use Rattle.dap_mask.specs.RuleText.{swap_at, restart_at, part_at, word_with, put_at, statement_at}
-use Rattle.dap_mask.specs.RuleText.{reported, line_said}
+use Rattle.dap_mask.specs.RuleText.{swap_at, restart_at, is_output, join_ended, join_stops}
+use Rattle.dap_mask.specs.RuleText.{joined_at, join_at, part_at, word_with, put_at, statement_at}
+use Rattle.dap_mask.specs.RuleText.{value_at, split_last, valued, value_behind, fill_behind}
+use Rattle.dap_mask.specs.RuleText.{fill_at, reported, line_said}
 use Rattle.dap_words.specs.Words.{Pair}
-use Rattle.dap_mask.specs.Rules.{Rule, same_kind}
+use Rattle.dap_mask.specs.Rules.{Rule, same_kind, same_name}
 use Rattle.dap_mask.specs.Runs.{is_blank, is_plain, front, behind, gap, is_end}
 use Rattle.dap_message.specs.SwapRules.{Half, SwapRule}
+use Rattle.dap_mask.specs.declared.joining.Joining.TheVariants.{Whole, PerStop}
 use Rattle.dap_mask.specs.declared.rules.Verb.{Verb, TheVariants.{Blank, Digits, Hex, Long, Uuid}}
 use Rattle.dap_mask.proofs.Blanks.{run_split, run_all, run_begins, gap_found, end_read, end_found}
 use Rattle.dap_mask.proofs.Lines.{Steps}
 use Rattle.dap_mask.proofs.Options.{mapped, bound, if_true, if_false}
 use Rattle.dap_mask.proofs.Parsing.{any_by, place_on, then_step, with_kind, kind_on, change_on}
 use Rattle.dap_mask.proofs.Parsing.{of_category}
-use Rattle.dap_mask.proofs.Parsing.{leave_out_on, category_on, half_on, swap_on, put_on, rule_read}
+use Rattle.dap_mask.proofs.Parsing.{leave_out_on, category_on, half_on, swap_on, join_on, put_on}
+use Rattle.dap_mask.proofs.Parsing.{fill_on, rule_read}
 use Rattle.dap_mask.proofs.Quoted.{quoted_found}
+use Rattle.dap_mask.proofs.Values.{value_found as scalar_found, last_found}
 
 -- the result of a parser, and the rest of the text
 abbrev NameRest : Type 0
@@ -515,6 +522,51 @@ restart_found s st e =
       subst (AreWordsOf (codes "per-stop" ∷ [])) (same_Some restart st i.1) refl,
     )
 
+same_output : (n : Option (List ℕ)) → same_name n (Some output_name) ≡ true
+    → n ≡ Some output_name
+same_output None h = absurd (true≢false (sym h))
+same_output (Some m) h = ap Some (same_word m output_name h)
+
+joined_found : (s : List ℕ) (u : Head) (head : HasHead s u) → u.0 ≡ Event
+    → u.1 ≡ Some output_name → (ended : Bool) → is_end u.2 ≡ ended → (st : Statement)
+    → cond ended (Some (join Whole)) (option_and_then join_stops (gap u.2)) ≡ Some st
+    → HasRule (codes "join") s st
+joined_found s u head event called true e st h = (
+  codes "event" ∷ head.2 ∷ [],
+  event_goes s u [] head event (end_found u.2 e),
+  subst (AreWordsOf (codes "join" ∷ codes "event" ∷ head.2 ∷ []))
+      (same_Some (join Whole) st h) (head.2, refl, subst (IsNameOrAny head.2) called head.6),
+)
+joined_found s u head event called false e st h =
+    let y = bound join_stops (gap u.2) st h in
+    let before = gap_found u.2 y.0 y.1 in
+    let word = front is_plain y.0 in
+    let rest = behind is_plain y.0 in
+    let i = if_true (bytes_eq word (codes "per-stop")) (join_ended rest) st y.2 in
+    let q = if_true (is_end rest) (Some (join PerStop)) st i.1 in
+    let text : y.0 ≡ codes "per-stop" ++ rest =
+    run_split is_plain y.0
+    ∙ ap (λ (v : List ℕ). v ++ rest) (same_word word (codes "per-stop") i.0) in
+    let ws : List (List ℕ) = codes "per-stop" ∷ [] in
+    let on : GoesOn ws u.2 =
+    word_goes (codes "per-stop") before.blanks y.0 rest u.2 [] before.whole before.is_gap text
+    (end_found rest q.0) in (
+      codes "event" ∷ head.2 ∷ ws,
+      event_goes s u ws head event on,
+      subst (AreWordsOf (codes "join" ∷ codes "event" ∷ head.2 ∷ ws))
+          (same_Some (join PerStop) st q.1)
+          (head.2, refl, subst (IsNameOrAny head.2) called head.6),
+    )
+
+join_found : (s : List ℕ) (st : Statement) → join_at s ≡ Some st → HasRule (codes "join") s st
+join_found s st e =
+    let u = bound join_on (head_at s) st e in
+    let event = same_kind u.0.0 Event in
+    let called = same_name u.0.1 (Some output_name) in
+    let i = if_true (is_output u.0.0 u.0.1) (joined_at u.0.2) st u.2 in
+    joined_found s u.0 (head_found s u.0 u.1) (same_event u.0.0 (and_left event called i.0))
+    (same_output u.0.1 (and_right event called i.0)) (is_end u.0.2) refl st i.1
+
 -- the next word, which is a name
 part_found : (s name rest : List ℕ) → part_at s ≡ Some (name, rest) → (n : List ℕ)
     × ((ws : List (List ℕ)) → GoesOn ws rest → GoesOn (n ∷ ws) s) × IsName n name
@@ -547,6 +599,47 @@ put_found s st e =
           (a.0, b.0, refl, a.2, b.2),
     )
 
+fill_found : (s : List ℕ) (st : Statement) → fill_at s ≡ Some st → HasRule (codes "fill") s st
+fill_found s st e =
+    let u = bound fill_on (head_at s) st e in
+    let q = bound (fill_behind u.0.0 u.0.1) (option_and_then place_at (gap u.0.2)) st u.2 in
+    let y = bound place_at (gap u.0.2) q.0 q.1 in
+    let l = bound (value_behind u.0.0 u.0.1 q.0.1) (split_last q.0.0) st q.2 in
+    let v = bound (valued u.0.0 u.0.1 l.0) (option_and_then value_at (gap q.0.1)) st l.2 in
+    let z = bound value_at (gap q.0.1) v.0 v.1 in
+    let f : Fill = record {
+      kind = u.0.0;
+      name = u.0.1;
+      parent = l.0.0;
+      last = l.0.1;
+      value = v.0.0;
+    } in
+    let i = if_true (is_end v.0.1) (Some (fill f)) st v.2 in
+    let head = head_found s u.0 u.1 in
+    let before = gap_found u.0.2 y.0 y.1 in
+    let after = gap_found q.0.1 z.0 z.1 in
+    let p = place_found y.0 q.0.0 q.0.1 y.2 in
+    let w = scalar_found z.0 v.0.0 v.0.1 z.2 in
+    let last : GoesOn (w.0 ∷ []) q.0.1 =
+    word_goes w.0 after.blanks z.0 v.0.1 q.0.1 [] after.whole after.is_gap w.1
+    (end_found v.0.1 i.0) in
+    let ws = p.0 ∷ w.0 ∷ [] in (
+      kind_word u.0.0 ∷ head.2 ∷ ws,
+      head_goes s u.0 ws head
+          (word_goes p.0 before.blanks y.0 q.0.1 u.0.2 (w.0 ∷ []) before.whole before.is_gap p.1
+          last),
+      subst (AreWordsOf (codes "fill" ∷ kind_word u.0.0 ∷ head.2 ∷ ws))
+          (same_Some (fill f) st i.1) (
+            head.2,
+            p.0,
+            w.0,
+            refl,
+            head.6,
+            subst (IsPlace p.0) (last_found q.0.0 l.0 l.1) p.2,
+            w.2,
+          ),
+    )
+
 -- ---- lines
 
 renamed : (w v s : List ℕ) (st : Statement) → w ≡ v → HasRule v s st → HasRule w s st
@@ -557,26 +650,33 @@ abbrev verb_on : List ℕ → Verb → Option Statement
 verb_on s v = change_at v s
 
 -- whether the first word of a line is one of these
-pub record FirstWord (w : List ℕ) (a b c d : Bool) : Type 0 where
+pub record FirstWord (w : List ℕ) (a b c d e g : Bool) : Type 0 where
   pub drop : bytes_eq w (codes "drop") ≡ a
   pub swap : bytes_eq w (codes "swap") ≡ b
   pub per_stop : bytes_eq w (codes "per-stop") ≡ c
-  pub word : bytes_eq w (codes "word") ≡ d
+  pub join : bytes_eq w (codes "join") ≡ d
+  pub word : bytes_eq w (codes "word") ≡ e
+  pub fill : bytes_eq w (codes "fill") ≡ g
 
-statement_is : (w s : List ℕ) (st : Statement) (a b c d : Bool) → FirstWord w a b c d
+statement_is : (w s : List ℕ) (st : Statement) (a b c d e g : Bool) → FirstWord w a b c d e g
     → cond a (leave_out_at s) (cond b (swap_at s)
-    (cond c (restart_at s) (cond d (put_at s) (option_and_then (verb_on s) (verb_named w)))))
+    (cond c (restart_at s) (cond d (join_at s)
+    (cond e (put_at s) (cond g (fill_at s) (option_and_then (verb_on s) (verb_named w)))))))
     ≡ Some st → HasRule w s st
-statement_is w s st true b c d f h =
+statement_is w s st true b c d e g f h =
     renamed w (codes "drop") s st (same_word w (codes "drop") f.drop) (leave_out_found s st h)
-statement_is w s st false true c d f h =
+statement_is w s st false true c d e g f h =
     renamed w (codes "swap") s st (same_word w (codes "swap") f.swap) (swap_found s st h)
-statement_is w s st false false true d f h =
+statement_is w s st false false true d e g f h =
     renamed w (codes "per-stop") s st (same_word w (codes "per-stop") f.per_stop)
     (restart_found s st h)
-statement_is w s st false false false true f h =
+statement_is w s st false false false true e g f h =
+    renamed w (codes "join") s st (same_word w (codes "join") f.join) (join_found s st h)
+statement_is w s st false false false false true g f h =
     renamed w (codes "word") s st (same_word w (codes "word") f.word) (put_found s st h)
-statement_is w s st false false false false f h =
+statement_is w s st false false false false false true f h =
+    renamed w (codes "fill") s st (same_word w (codes "fill") f.fill) (fill_found s st h)
+statement_is w s st false false false false false false f h =
     let v = bound (verb_on s) (verb_named w) st h in
     renamed w (verb_word v.0) s st (verb_found w v.0 v.1) (change_found v.0 s st v.2)
 
@@ -587,8 +687,16 @@ rule_found l st h =
     let w = front is_plain text in
     let rest = behind is_plain text in
     let f = statement_is w rest st (bytes_eq w (codes "drop")) (bytes_eq w (codes "swap"))
-    (bytes_eq w (codes "per-stop")) (bytes_eq w (codes "word"))
-    (record { drop = refl; swap = refl; per_stop = refl; word = refl }) h in
+    (bytes_eq w (codes "per-stop")) (bytes_eq w (codes "join")) (bytes_eq w (codes "word"))
+    (bytes_eq w (codes "fill"))
+    (record {
+      drop = refl;
+      swap = refl;
+      per_stop = refl;
+      join = refl;
+      word = refl;
+      fill = refl;
+    }) h in
     let blanks = front is_blank l in
     let has : HasWords (w ∷ f.0) l = (
       blanks,

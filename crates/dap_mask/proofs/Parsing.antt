@@ -11,10 +11,11 @@ use Rattle.dap_message.proofs.Edits.{by_bool}
 use Rattle.dap_profile.specs.declared.profile.Kind.{Kind, TheVariants.{Request, Response, Event}}
 use Rattle.dap_mask.specs.Grammar.{IsGap, GoesOn, HasWords, IsName, bare, quoted, IsNameOrAny}
 use Rattle.dap_mask.specs.Grammar.{AreSteps, IsPlace, verb_word, kind_word, AreWordsOf, SaysRule}
-use Rattle.dap_mask.specs.Grammar.{AreCategoryWords}
-use Rattle.dap_mask.specs.Categories.{CategoryRule}
+use Rattle.dap_mask.specs.Grammar.{AreCategoryWords, joining_words, IsValue, plain, in_quotes}
+use Rattle.dap_mask.specs.Categories.{CategoryRule, output_name}
 use Rattle.dap_mask.specs.Mask.{Statement, change, leave_out, leave_out_category, swap, restart}
-use Rattle.dap_mask.specs.Mask.{put, Line, nothing, rule}
+use Rattle.dap_mask.specs.Fills.{Fill, Scalar}
+use Rattle.dap_mask.specs.Mask.{join, put, fill, Line, nothing, rule}
 use Rattle.dap_mask.specs.RuleSteps.{RuleStep, named, elements}
 use Rattle.dap_mask.specs.RuleText.{quoted_at, plain_at, name_at, this_name, any_name, called_step}
 use Rattle.dap_mask.specs.RuleText.{member_step, next_step, step_then, steps_from, place_at}
@@ -22,19 +23,23 @@ use Rattle.dap_mask.specs.RuleText.{verb_named, kind_named, Head, name_behind, k
 use Rattle.dap_mask.specs.RuleText.{text_behind, category_at, limit_from, limit_at, placed}
 use Rattle.dap_mask.specs.RuleText.{place_behind, change_behind, change_at, with_category}
 use Rattle.dap_mask.specs.RuleText.{category_behind, dropped_at, leave_out_at, half_at, swap_with}
-use Rattle.dap_mask.specs.RuleText.{swap_at, restart_at, part_at, word_with, put_at, statement_at}
-use Rattle.dap_mask.specs.RuleText.{reported, line_said}
+use Rattle.dap_mask.specs.RuleText.{swap_at, restart_at, is_output, join_ended, join_stops}
+use Rattle.dap_mask.specs.RuleText.{joined_at, join_at, part_at, word_with, put_at, statement_at}
+use Rattle.dap_mask.specs.RuleText.{value_at, valued, value_behind, fill_behind}
+use Rattle.dap_mask.specs.RuleText.{fill_at, reported, line_said}
 use Rattle.dap_words.specs.Words.{Pair}
 use Rattle.dap_mask.specs.Rules.{Rule, same_kind}
 use Rattle.dap_mask.specs.Runs.{is_blank, is_plain, behind, gap, is_over, is_end}
 use Rattle.dap_message.specs.SwapRules.{Half, SwapRule}
 use Rattle.dap_mask.specs.Texts.{all_of, begins_with}
+use Rattle.dap_mask.specs.declared.joining.Joining.{Joining, TheVariants.{Whole, PerStop}}
 use Rattle.dap_mask.specs.declared.rules.Verb.{Verb, TheVariants.{Blank, Digits, Hex, Long, Uuid}}
 use Rattle.dap_mask.proofs.Blanks.{front_run, behind_run, not_zero, differs, NoBlank, blank_fails}
 use Rattle.dap_mask.proofs.Blanks.{gap_stops, gap_read, end_read, NoEnd, end_stops, words_stop}
 use Rattle.dap_mask.proofs.Lines.{Steps}
 use Rattle.dap_mask.proofs.Options.{then_then}
 use Rattle.dap_mask.proofs.Quoted.{quoted_read}
+use Rattle.dap_mask.proofs.Values.{value_read, last_split}
 
 -- ---- names
 
@@ -472,6 +477,35 @@ swap_read r n m s on c d =
 restart_read : (s : List ℕ) → GoesOn [] s → restart_at s ≡ Some restart
 restart_read s on = ap (λ (b : Bool). cond b (Some restart) None) (end_read s on)
 
+abbrev pub join_on : Head → Option Statement
+join_on h = cond (is_output h.0 h.1) (joined_at h.2) None
+
+abbrev join_by : List ℕ → List ℕ → Option Statement
+join_by w s = cond (bytes_eq w (codes "per-stop")) (join_ended s) None
+
+joined_read : (j : Joining) (s : List ℕ) → GoesOn (joining_words j) s
+    → joined_at s ≡ Some (join j)
+joined_read Whole s on =
+    ap (λ (b : Bool). cond b (Some (join Whole)) (option_and_then join_stops (gap s)))
+    (end_read s on)
+joined_read PerStop s on =
+    let ended = on.4 in
+    let text : List ℕ = codes "per-stop" ++ on.1 in
+    let more : is_end s ≡ false =
+    ap is_end on.2 ∙ ap is_over (behind_run is_blank on.0 text on.3.1 refl) in
+    let stops = end_stops is_plain on.1 plain_no_end ended in
+    ap (λ (b : Bool). cond b (Some (join Whole)) (option_and_then join_stops (gap s))) more
+    ∙ ap (option_and_then join_stops) (ap gap on.2 ∙ gap_read on.0 text on.3 refl)
+    ∙ ap₂ join_by (front_run is_plain (codes "per-stop") on.1 refl stops)
+    (behind_run is_plain (codes "per-stop") on.1 refl stops)
+    ∙ ap (λ (b : Bool). cond b (Some (join PerStop)) None) (end_read on.1 ended)
+
+join_read : (j : Joining) (n s : List ℕ) → GoesOn (codes "event" ∷ n ∷ joining_words j) s
+    → IsName n output_name → join_at s ≡ Some (join j)
+join_read j n s on c =
+    let h = head_read Event (Some output_name) n (joining_words j) s on c in
+    ap (option_and_then join_on) h.head ∙ joined_read j h.rest h.on
+
 -- the next word, which is a name
 part_read : (name n : List ℕ) (ws : List (List ℕ)) (s : List ℕ) (on : GoesOn (n ∷ ws) s)
     → IsName n name → part_at s ≡ Some (name, on.1)
@@ -491,14 +525,45 @@ put_read p t w s on c d =
     ∙ ap (option_and_then (word_with p.text)) (part_read p.word w [] on.1 next d)
     ∙ ap (λ (b : Bool). cond b (Some (put p)) None) (end_read next.1 next.4)
 
+value_opens : {w : List ℕ} {v : Scalar} → IsValue w v → begins_with is_opening w ≡ true
+value_opens (plain {w} d b a r is) = opens_plain w b
+value_opens (in_quotes (inside, e, i, r)) = ap (begins_with is_opening) e
+
+abbrev pub fill_on : Head → Option Statement
+fill_on h = option_and_then (fill_behind h.0 h.1) (option_and_then place_at (gap h.2))
+
+fill_read : (f : Fill) (n p w s : List ℕ) → GoesOn (kind_word f.kind ∷ n ∷ p ∷ w ∷ []) s
+    → IsNameOrAny n f.name → IsPlace p (f.parent ++ f.last ∷ []) → IsValue w f.value
+    → fill_at s ≡ Some (fill f)
+fill_read f n p w s on c d v =
+    let place = f.parent ++ f.last ∷ [] in
+    let h = head_read f.kind f.name n (p ∷ w ∷ []) s on c in
+    let next = h.on in
+    let last = next.4 in
+    let ended = last.4 in
+    ap (option_and_then fill_on) h.head
+    ∙ ap (option_and_then (fill_behind f.kind f.name))
+    (ap (option_and_then place_at) (ap gap next.2
+    ∙ gap_read next.0 (p ++ next.1) next.3 (place_not_blank place p next.1 d))
+    ∙ place_read place p next.1 d (words_stop goes_on (w ∷ []) next.1 place_no_end last))
+    ∙ ap (option_and_then (value_behind f.kind f.name next.1)) (last_split f.parent f.last)
+    ∙ ap (option_and_then (valued f.kind f.name (f.parent, f.last)))
+    (ap (option_and_then value_at) (ap gap last.2
+    ∙ gap_read last.0 (w ++ last.1) last.3
+    (opens_not_blank (w ++ last.1) (opens_longer w last.1 (value_opens v))))
+    ∙ value_read v last.1 (end_stops is_plain last.1 plain_no_end ended))
+    ∙ ap (λ (b : Bool). cond b (Some (fill f)) None) (end_read last.1 ended)
+
 -- ---- lines
 
 abbrev pub statement_by : List ℕ → List ℕ → Option Statement
 statement_by w s =
     cond (bytes_eq w (codes "drop")) (leave_out_at s) (cond (bytes_eq w (codes "swap")) (swap_at s)
     (cond (bytes_eq w (codes "per-stop")) (restart_at s)
+    (cond (bytes_eq w (codes "join")) (join_at s)
     (cond (bytes_eq w (codes "word")) (put_at s)
-    (option_and_then (λ v. change_at v s) (verb_named w)))))
+    (cond (bytes_eq w (codes "fill")) (fill_at s)
+    (option_and_then (λ v. change_at v s) (verb_named w)))))))
 
 abbrev line_by : List ℕ → Line
 line_by s = cond (is_over s) nothing (reported (statement_at s))
@@ -551,9 +616,17 @@ says_words l (swap r) ws (n, m, is, c, d) has =
 says_words l restart ws is has =
     let on = subst (λ (xs : List (List ℕ)). HasWords xs l) is has in
     words_read l (codes "per-stop") [] restart on refl refl (restart_read on.1 on.4)
+says_words l (join j) ws (n, is, c) has =
+    let on = subst (λ (xs : List (List ℕ)). HasWords xs l) is has in
+    words_read l (codes "join") (codes "event" ∷ n ∷ joining_words j) (join j) on refl refl
+    (join_read j n on.1 on.4 c)
 says_words l (put p) ws (t, w, is, c, d) has =
     let on = subst (λ (xs : List (List ℕ)). HasWords xs l) is has in
     words_read l (codes "word") (t ∷ w ∷ []) (put p) on refl refl (put_read p t w on.1 on.4 c d)
+says_words l (fill f) ws (n, p, w, is, c, d, v) has =
+    let on = subst (λ (xs : List (List ℕ)). HasWords xs l) is has in
+    words_read l (codes "fill") (kind_word f.kind ∷ n ∷ p ∷ w ∷ []) (fill f) on refl refl
+    (fill_read f n p w on.1 on.4 c d v)
 
 pub rule_read : (l : List ℕ) (st : Statement) → SaysRule l st → line_said l ≡ rule st
 rule_read l st (ws, has, words) = says_words l st ws words has

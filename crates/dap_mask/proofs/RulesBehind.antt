@@ -15,7 +15,12 @@ use Rattle.dap_profile.specs.declared.profile.Kind.{Kind, TheVariants.{Request, 
 use Rattle.dap_mask.specs.Ids.{takes_profile_id, leave_ids}
 use Rattle.dap_mask.specs.Categories.{CategoryRule, category_of, categories_of, moves, moves_one_of}
 use Rattle.dap_mask.specs.Categories.{is_moved_by, keep_categories, is_category_among}
-use Rattle.dap_mask.specs.Mask.{Mask, change, leave_out_category, rule_count}
+use Rattle.dap_mask.specs.Categories.{moves_output, is_output_moved_by, moves_joined, keep_output}
+use Rattle.dap_mask.specs.Fills.{Fill, removes, removes_one_of, is_removed_by, keep_fills}
+use Rattle.dap_mask.specs.Fills.{is_fill_misplaced, is_fill_among, clashes_with_fills, fill_of}
+use Rattle.dap_mask.specs.Fills.{fills_of}
+use Rattle.dap_mask.specs.declared.fills.FillRule.{FillRule}
+use Rattle.dap_mask.specs.Mask.{Mask, change, leave_out_category, fill, rule_count}
 use Rattle.dap_mask.specs.RuleSteps.{RuleStep, named, elements}
 use Rattle.dap_mask.specs.Rules.{Rule, rule_of, rules_of, share_name, share_step, share_place}
 use Rattle.dap_mask.specs.Rules.{same_kind, excludes, clash, clashes_with, is_among, are_idempotent}
@@ -23,6 +28,7 @@ use Rattle.dap_mask.specs.Rules.{comes_before, is_late, inserted, is_misplaced, 
 use Rattle.dap_mask.specs.Rules.{disturbs_one_of}
 use Rattle.dap_mask.specs.RulesFile.{cause_against, change_cause}
 use Rattle.dap_mask.specs.declared.fault.RulesCause.{RulesCause}
+use Rattle.dap_mask.specs.declared.joining.Joining.{Joining}
 use Rattle.dap_mask.specs.declared.rules.MaskRule.{MaskRule}
 use Rattle.dap_mask.specs.declared.rules.Verb.{Verb, TheVariants.{Blank, Digits, Hex, Long, Uuid}}
 use Rattle.dap_mask.specs.declared.categories.CategoryRule.{CategoryRule as ReadCategoryRule}
@@ -117,6 +123,19 @@ pub pushed_category_keeps : (b : Bool) (xs : List ReadCategoryRule) (x : ReadCat
 pushed_category_keeps true xs x ys e test h more =
     ap test (ap categories_of e ∙ categories_push xs x) ∙ more
 pushed_category_keeps false xs x ys e test h more = ap (λ zs. test (categories_of zs)) e ∙ h
+
+pub fills_push : (xs : List FillRule) (x : FillRule)
+    → fills_of (xs ++ x ∷ []) ≡ fills_of xs ++ fill_of x ∷ []
+fills_push [] x = refl
+fills_push (y ∷ xs) x = ap (λ fs. fill_of y ∷ fs) (fills_push xs x)
+
+-- the same for rules that set members
+pub pushed_fill_keeps : (b : Bool) (xs : List FillRule) (x : FillRule) (ys : List FillRule)
+    → ys ≡ cond b (xs ++ x ∷ []) xs
+    → (test : List Fill → Bool) → test (fills_of xs) ≡ true
+    → test (fills_of xs ++ fill_of x ∷ []) ≡ true → test (fills_of ys) ≡ true
+pushed_fill_keeps true xs x ys e test h more = ap test (ap fills_of e ∙ fills_push xs x) ∙ more
+pushed_fill_keeps false xs x ys e test h more = ap (λ zs. test (fills_of zs)) e ∙ h
 
 -- ---- the invariants hold after inserting a rule that is accepted
 
@@ -279,6 +298,58 @@ category_kept rs (e ∷ es) c h g =
     and_both _ _ (and_left (not (is_moved_by rs e)) (keep_categories rs es) h)
     (category_kept rs es c (and_right (not (is_moved_by rs e)) (keep_categories rs es) h) g)
 
+-- ---- joined output
+
+pub output_inserted : (rs : List Rule) (r : Rule) (j : Option Joining) → keep_output rs j ≡ true
+    → moves_joined r j ≡ false → keep_output (inserted r rs) j ≡ true
+output_inserted rs r None h g = refl
+output_inserted rs r (Some j) h g =
+    ap not (none_inserted moves_output r rs g (not-true (is_output_moved_by rs) h))
+
+-- ---- members that are set
+
+pub fills_inserted : (rs : List Rule) (r : Rule) (fs : List Fill) → keep_fills rs fs ≡ true
+    → removes_one_of r fs ≡ false → keep_fills (inserted r rs) fs ≡ true
+fills_inserted rs r [] h g = refl
+fills_inserted rs r (f ∷ fs) h g =
+    let kept = not (is_removed_by rs f) && keep_fills rs fs in
+    let placed = and_left (not (is_fill_misplaced f)) kept h in
+    let rest = and_right (not (is_fill_misplaced f)) kept h in
+    let free = not-true (is_removed_by rs f)
+    (and_left (not (is_removed_by rs f)) (keep_fills rs fs) rest) in
+    and_both _ _ placed (and_both _ _
+    (ap not (none_inserted (λ q. removes q f) r rs (or_left (removes r f) (removes_one_of r fs) g)
+    free))
+    (fills_inserted rs r fs (and_right (not (is_removed_by rs f)) (keep_fills rs fs) rest)
+    (or_right (removes r f) (removes_one_of r fs) g)))
+
+pub fill_kept : (rs : List Rule) (fs : List Fill) (f : Fill) → keep_fills rs fs ≡ true
+    → is_fill_misplaced f ≡ false → is_removed_by rs f ≡ false
+    → keep_fills rs (fs ++ f ∷ []) ≡ true
+fill_kept rs [] f h p g = and_both _ _ (ap not p) (and_both _ _ (ap not g) refl)
+fill_kept rs (e ∷ es) f h p g =
+    let kept = not (is_removed_by rs e) && keep_fills rs es in
+    let rest = and_right (not (is_fill_misplaced e)) kept h in
+    and_both _ _ (and_left (not (is_fill_misplaced e)) kept h)
+    (and_both _ _ (and_left (not (is_removed_by rs e)) (keep_fills rs es) rest)
+    (fill_kept rs es f (and_right (not (is_removed_by rs e)) (keep_fills rs es) rest) p g))
+
+pub fill_may_stand : (m : Mask) (f : Fill) → cause_against m (fill f) ≡ None
+    → (is_fill_misplaced f ≡ false) × (is_removed_by m.changes f ≡ false)
+fill_may_stand m f h =
+    go (nat_le 1000 (rule_count m)) (is_fill_misplaced f) (is_fill_among f m.fills)
+    (clashes_with_fills f m.fills) (is_removed_by m.changes f) h
+  where
+    go : (a b c d e : Bool) → cond a (Some TooMany) (cond b (Some BadPlace)
+        (cond c (Some Repeated) (cond (d || e) (Some Clash) None))) ≡ None
+        → (b ≡ false) × (e ≡ false)
+    go true b c d e k = cc
+    go false true c d e k = cc
+    go false false true d e k = cc
+    go false false false true e k = cc
+    go false false false false true k = cc
+    go false false false false false k = (refl, refl)
+
 -- ---- a rule that has no error
 
 pub record MayStand (m : Mask) (r : Rule) : Type 0 where
@@ -287,42 +358,50 @@ pub record MayStand (m : Mask) (r : Rule) : Type 0 where
   pub settled : clashes_with r m.changes ≡ false
   pub calm : disturbs_one_of r m.changes ≡ false
   pub moves : moves_one_of r m.categories ≡ false
+  pub joins : moves_joined r m.joining ≡ false
+  pub fills : removes_one_of r m.fills ≡ false
 
 pub change_may_stand : (m : Mask) (r : Rule) → cause_against m (change r) ≡ None → MayStand m r
 change_may_stand m r h =
     go (nat_le 1000 (rule_count m)) (is_misplaced r) (takes_profile_id r) (is_among r m.changes)
-    (clashes_with r m.changes) (disturbs_one_of r m.changes) (moves_one_of r m.categories) refl refl
-    refl refl refl h
+    (clashes_with r m.changes) (disturbs_one_of r m.changes) (moves_one_of r m.categories)
+    (moves_joined r m.joining) (removes_one_of r m.fills) refl refl refl refl refl refl refl h
   where
-    go : (many a b among c d e : Bool) → is_misplaced r ≡ a → takes_profile_id r ≡ b
+    go : (many a b among c d e f g : Bool) → is_misplaced r ≡ a → takes_profile_id r ≡ b
         → clashes_with r m.changes ≡ c → disturbs_one_of r m.changes ≡ d
-        → moves_one_of r m.categories ≡ e
+        → moves_one_of r m.categories ≡ e → moves_joined r m.joining ≡ f
+        → removes_one_of r m.fills ≡ g
         → cond many (Some TooMany) (cond (a || b) (Some BadPlace)
-        (cond among (Some Repeated) (cond (c || (d || e)) (Some Clash) None))) ≡ None
+        (cond among (Some Repeated) (cond (c || (d || (e || (f || g)))) (Some Clash) None))) ≡ None
         → MayStand m r
-    go true a b among c d e p q s t u k = cc
-    go false true b among c d e p q s t u k = cc
-    go false false true among c d e p q s t u k = cc
-    go false false false true c d e p q s t u k = cc
-    go false false false false true d e p q s t u k = cc
-    go false false false false false true e p q s t u k = cc
-    go false false false false false false true p q s t u k = cc
-    go false false false false false false false p q s t u k =
-        record { safe = p; leaves = q; settled = s; calm = t; moves = u }
+    go true a b among c d e f g p q s t u v w k = cc
+    go false true b among c d e f g p q s t u v w k = cc
+    go false false true among c d e f g p q s t u v w k = cc
+    go false false false true c d e f g p q s t u v w k = cc
+    go false false false false true d e f g p q s t u v w k = cc
+    go false false false false false true e f g p q s t u v w k = cc
+    go false false false false false false true f g p q s t u v w k = cc
+    go false false false false false false false true g p q s t u v w k = cc
+    go false false false false false false false false true p q s t u v w k = cc
+    go false false false false false false false false false p q s t u v w k =
+        record { safe = p; leaves = q; settled = s; calm = t; moves = u; joins = v; fills = w }
 
 -- why a change with a place of its own that is not repeated may not follow the rules of a mask
 pub clash_cause : (m : Mask) (r : Rule) (clashes : Bool) (cause : Option RulesCause)
     → (is_misplaced r || takes_profile_id r) ≡ false → is_among r m.changes ≡ false
-    → clashes ≡ (clashes_with r m.changes
-    || (disturbs_one_of r m.changes || moves_one_of r m.categories))
+    → clashes ≡ (clashes_with r m.changes || (disturbs_one_of r m.changes
+    || (moves_one_of r m.categories || (moves_joined r m.joining || removes_one_of r m.fills))))
     → cause ≡ cond clashes (Some Clash) None → cause ≡ change_cause m r
 clash_cause m r clashes cause placed new is e =
     e ∙ ap (λ b. cond b (Some Clash) None) is
     ∙ sym (ap (λ b. cond b (Some Repeated) (cond (clashes_with r m.changes
-    || (disturbs_one_of r m.changes || moves_one_of r m.categories)) (Some Clash) None)) new)
+    || (disturbs_one_of r m.changes
+    || (moves_one_of r m.categories || (moves_joined r m.joining || removes_one_of r m.fills))))
+    (Some Clash) None)) new)
     ∙ sym (ap (λ b. cond b (Some BadPlace) (cond (is_among r m.changes) (Some Repeated)
     (cond (clashes_with r m.changes || (disturbs_one_of r m.changes
-    || moves_one_of r m.categories)) (Some Clash) None))) placed)
+    || (moves_one_of r m.categories || (moves_joined r m.joining || removes_one_of r m.fills))))
+    (Some Clash) None))) placed)
 
 pub category_not_moved : (m : Mask) (c : CategoryRule)
     → cause_against m (leave_out_category c) ≡ None → is_moved_by m.changes c ≡ false

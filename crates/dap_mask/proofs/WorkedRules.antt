@@ -107,11 +107,11 @@ drop_rule : Statement
 drop_rule = leave_out (Some (codes "a # \"b\""))
 
 -- each byte is ASCII
-abbrev is_ascii : List ℕ → Bool
+abbrev pub is_ascii : List ℕ → Bool
 is_ascii [] = true
 is_ascii (b ∷ s) = nat_lt b 128 && is_ascii s
 
-ascii_text : (s : List ℕ) → is_ascii s ≡ true → IsUtf8 s
+pub ascii_text : (s : List ℕ) → is_ascii s ≡ true → IsUtf8 s
 ascii_text [] h = IsUtf8-nil
 ascii_text (b ∷ s) h =
     IsUtf8-append (b ∷ []) s

@@ -5,9 +5,12 @@ use Rattle.serde_json.specs.Data as json
 use Rattle.dap_profile.specs.declared.profile.Kind.{Kind, TheVariants.{Request, Response, Event}}
 use Rattle.dap_tree.specs.Json.{Reads}
 use Rattle.dap_mask.specs.Mask.{Statement, change, leave_out, leave_out_category, swap, restart}
-use Rattle.dap_mask.specs.Mask.{put, Line, nothing, rule, bad}
-use Rattle.dap_mask.specs.{RuleSteps.{RuleStep, named, elements}, RuleText.line_said}
+use Rattle.dap_mask.specs.Mask.{join, put, fill, Line, nothing, rule, bad}
+use Rattle.dap_mask.specs.Categories.{output_name}
+use Rattle.dap_mask.specs.Fills.{Scalar, string}
+use Rattle.dap_mask.specs.{RuleSteps.{RuleStep, named, elements}, RuleText.{line_said, scalar_in}}
 use Rattle.dap_mask.specs.{Runs.{is_blank, is_plain}, Texts.{all_of, begins_with}}
+use Rattle.dap_mask.specs.declared.joining.Joining.{Joining, TheVariants.{Whole, PerStop}}
 use Rattle.dap_mask.specs.declared.rules.Verb.{Verb, TheVariants.{Blank, Digits, Hex, Long, Uuid}}
 
 -- ---- a line of words
@@ -109,9 +112,22 @@ AreCategoryWords k None ws = ws ≡ []
 AreCategoryWords k (Some c) ws = (t : List ℕ) × (ws ≡ (codes "category=" ++ t) ∷ []) × IsName t c
     × (k ≡ Event)
 
+-- The words after the name of a rule that joins output.
+abbrev pub joining_words : Joining → List (List ℕ)
+joining_words Whole = []
+joining_words PerStop = codes "per-stop" ∷ []
+
+-- The word represents this value of a rule that sets a member: `true`, `false`, an integer of 64
+-- bits as JSON writes it, or a JSON string.
+pub data IsValue : List ℕ → Scalar → Type 0 where
+  plain : {w : List ℕ} {v : Scalar} → (value : json.Data) → begins_with is_plain w ≡ true
+      → all_of is_plain w ≡ true → Reads w value → scalar_in (Some value) ≡ Some v → IsValue w v
+  in_quotes : {w s : List ℕ} → IsQuotedName w s → IsValue w (string s)
+
 -- The words represent this rule: `VERB KIND NAME PLACE`, `VERB event NAME category=TEXT PLACE`,
--- `drop event NAME`, `drop event NAME category=TEXT`, `swap KIND NAME KIND NAME`, `per-stop`, or
--- `word TEXT WORD`. TEXT and WORD are written as names are.
+-- `drop event NAME`, `drop event NAME category=TEXT`, `swap KIND NAME KIND NAME`, `per-stop`,
+-- `join event output`, `join event output per-stop`, `word TEXT WORD`, or `fill KIND NAME PLACE
+-- VALUE`. TEXT and WORD are written as names are, and so is `output`.
 abbrev pub AreWordsOf : List (List ℕ) → Statement → Type 0
 AreWordsOf ws (change r) = (n : List ℕ) × (cs : List (List ℕ)) × (p : List ℕ)
     × (ws ≡ verb_word r.verb ∷ kind_word r.kind ∷ n ∷ (cs ++ p ∷ [])) × IsNameOrAny n r.name
@@ -125,8 +141,13 @@ AreWordsOf ws (swap s) = (n : List ℕ) × (m : List ℕ)
     × (ws ≡ codes "swap" ∷ kind_word s.one.kind ∷ n ∷ kind_word s.another.kind ∷ m ∷ [])
     × IsNameOrAny n s.one.name × IsNameOrAny m s.another.name
 AreWordsOf ws restart = ws ≡ codes "per-stop" ∷ []
+AreWordsOf ws (join j) = (n : List ℕ)
+    × (ws ≡ codes "join" ∷ codes "event" ∷ n ∷ joining_words j) × IsName n output_name
 AreWordsOf ws (put p) = (t : List ℕ) × (w : List ℕ) × (ws ≡ codes "word" ∷ t ∷ w ∷ [])
     × IsName t p.text × IsName w p.word
+AreWordsOf ws (fill f) = (n : List ℕ) × (p : List ℕ) × (w : List ℕ)
+    × (ws ≡ codes "fill" ∷ kind_word f.kind ∷ n ∷ p ∷ w ∷ []) × IsNameOrAny n f.name
+    × IsPlace p (f.parent ++ f.last ∷ []) × IsValue w f.value
 
 -- The line consists of the words of this rule.
 abbrev pub SaysRule : List ℕ → Statement → Type 0

@@ -2,8 +2,10 @@
 use Rattle.std.specs.Prelude.{Bool, List, ℕ, Option}
 use Rattle.dap_mask.specs.Categories.{CategoryRule}
 use Rattle.dap_mask.specs.ListedRules.{listed_changes, listed_dropped, listed_swaps, listed_mask}
-use Rattle.dap_mask.specs.ListedRules.{listed_categories, listed_per_stop, listed_words}
+use Rattle.dap_mask.specs.ListedRules.{listed_categories, listed_per_stop, listed_joining}
+use Rattle.dap_mask.specs.{Fills.Fill, ListedRules.{listed_words, listed_fills}}
 use Rattle.dap_mask.specs.{Mask.Mask, Rules.Rule, declared.mask_rules.MaskRules.MaskRules}
+use Rattle.dap_mask.specs.declared.joining.Joining.{Joining}
 use Rattle.dap_message.specs.SwapRules.{SwapRule}
 use Rattle.dap_words.specs.Words.{Pair}
 
@@ -23,9 +25,17 @@ swaps_of_mask r = listed_swaps r.list
 abbrev pub per_stop_of : MaskRules → Bool
 per_stop_of r = listed_per_stop r.list
 
+-- How the line `join event output` of the file joins output, if the file has this line.
+abbrev pub joining_of : MaskRules → Option Joining
+joining_of r = listed_joining r.list
+
 -- The words that are put in the place of texts before the rules apply.
 abbrev pub words_of_mask : MaskRules → List Pair
 words_of_mask r = listed_words r.list
+
+-- The rules that set members before the other rules apply.
+abbrev pub fills_of_mask : MaskRules → List Fill
+fills_of_mask r = listed_fills r.list
 
 abbrev pub mask_of : MaskRules → Mask
 mask_of r = listed_mask r.list

@@ -2,10 +2,11 @@
 use Rattle.std.specs.Prelude.{◌≡◌, ◌↔◌, ℕ, true, false, List, Option, Some, None, option_map}
 use Rattle.std.specs.Prelude.{IsPermutation}
 use Rattle.dap_tree.specs.{Doc.{Doc, is_ordered, is_sound, all_utf8}, Path.{Step, at}}
-use Rattle.dap_message.specs.Marks.{top, edit}
+use Rattle.dap_message.specs.{Capabilities.is_given, Marks.{top, edit}, Places.is_object}
 use Rattle.dap_mask.specs.RuleSteps.{RuleStep, plain_place, is_unnamed, has_names, change_at_place}
 use Rattle.dap_mask.specs.Rules.{Rule, are_safe, are_idempotent, is_dropped}
-use Rattle.dap_mask.specs.{Categories.keep_categories, Mask.{Mask, leaves_out}}
+use Rattle.dap_mask.specs.{Categories.keep_categories, Fills.{Fill, filled, keep_fills}}
+use Rattle.dap_mask.specs.Mask.{Mask, leaves_out}
 use Rattle.dap_mask.specs.Masked.{IsMasked, AgreeBut, is_apart, masked, named_by}
 use Rattle.dap_mask.specs.Texts.{AreDigitsOf, IsHexOf, digits, hex}
 
@@ -50,6 +51,25 @@ StaysIn = (mask : Mask) (d : Doc) → are_safe mask.changes ≡ true
 abbrev pub MaskedOnce : Type 0
 MaskedOnce = (rules : List Rule) (d : Doc) → are_safe rules ≡ true → are_idempotent rules ≡ true
     → is_ordered d ≡ true → masked rules (masked rules d) ≡ masked rules d
+
+-- Setting members again in a masked document does not change it, if no change may remove a member
+-- that a rule sets.
+abbrev pub FilledOnce : Type 0
+FilledOnce = (mask : Mask) (d : Doc) → are_safe mask.changes ≡ true
+    → keep_fills mask.changes mask.fills ≡ true
+    → filled mask.fills (masked mask.changes (filled mask.fills d))
+    ≡ masked mask.changes (filled mask.fills d)
+
+-- The value y is x after members were set: an object is still an object, and every other value is
+-- unchanged. For an array, `top` is the number of elements; elements have paths of their own.
+pub record IsKept (x y : Doc) : Type 0 where
+  pub stays_object : is_object x ≡ true → is_object y ≡ true
+  pub other : is_object x ≡ false → top y ≡ top x
+
+-- Setting members keeps each value that is not null, at its path.
+abbrev pub FillsKeepValues : Type 0
+FillsKeepValues = (fills : List Fill) (d : Doc) (p : List Step) (x : Doc) → at p d ≡ Some x
+    → is_given (Some x) ≡ true → (y : Doc) × (at p (filled fills d) ≡ Some y) × IsKept x y
 
 -- ---- in any order
 

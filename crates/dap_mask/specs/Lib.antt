@@ -3,6 +3,7 @@ pub mod RuleSteps
 pub mod Rules
 pub mod Swaps
 pub mod Categories
+pub mod Fills
 pub mod Mask
 pub mod Masked
 pub mod Ids

@@ -1,7 +1,9 @@
 -- The mask that a `RuleList` represents.
 use Rattle.std.specs.Prelude.{Bool, List, map, ℕ, Option, option_map, string_bytes}
-use Rattle.dap_mask.specs.{Categories.{CategoryRule, categories_of}, Mask.Mask}
-use Rattle.dap_mask.specs.{Rules.{Rule, rules_of}, declared.rule_list.RuleList.RuleList}
+use Rattle.dap_mask.specs.{Categories.{CategoryRule, categories_of}, Fills.{Fill, fills_of}}
+use Rattle.dap_mask.specs.{Mask.Mask, Rules.{Rule, rules_of}}
+use Rattle.dap_mask.specs.declared.rule_list.RuleList.{RuleList}
+use Rattle.dap_mask.specs.declared.joining.Joining.{Joining}
 use Rattle.dap_message.specs.SwapRules.{SwapRule, swaps_of}
 use Rattle.dap_words.specs.{Words.Pair, Kept.pairs_in}
 
@@ -20,8 +22,14 @@ listed_swaps r = swaps_of r.swaps.items
 abbrev pub listed_per_stop : RuleList → Bool
 listed_per_stop r = r.per_stop
 
+abbrev pub listed_joining : RuleList → Option Joining
+listed_joining r = r.joining
+
 abbrev pub listed_words : RuleList → List Pair
 listed_words r = pairs_in r.words
+
+abbrev pub listed_fills : RuleList → List Fill
+listed_fills r = fills_of r.fills.items
 
 abbrev pub listed_mask : RuleList → Mask
 listed_mask r = record {
@@ -30,5 +38,7 @@ listed_mask r = record {
   categories = listed_categories r;
   swaps = listed_swaps r;
   per_stop = listed_per_stop r;
+  joining = listed_joining r;
   words = listed_words r;
+  fills = listed_fills r;
 }

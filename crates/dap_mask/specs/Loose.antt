@@ -6,8 +6,9 @@ use Rattle.dap_tree.specs.Doc.{Doc, null, boolean, whole, text, list, object, It
 use Rattle.dap_tree.specs.Doc.{Members, no_members, member, is_sound, is_ordered}
 use Rattle.dap_tree.specs.Json.{Reads, IsRead, HasNoReading, text_of}
 use Rattle.dap_tree.specs.declared.fault.TreeFault.{TreeFault, TheVariants.{Json, Fraction, Memory}}
+use Rattle.dap_mask.specs.Fills.{filled, AreFillsUtf8}
 use Rattle.dap_mask.specs.{Mask.{Mask, no_rules, leaves_out}, Masked.masked}
-use Rattle.dap_words.specs.{Words.{Pair, AreUtf8}, Worded.worded_message}
+use Rattle.dap_words.specs.{Words.AreUtf8, Worded.worded_message}
 
 -- An integer that is out of range and represents each number that is not an integer of 64 bits.
 abbrev pub no_whole : ℤ
@@ -42,9 +43,11 @@ abbrev mutual
 abbrev pub IsReadLoosely : List ℕ → Doc → Type 0
 IsReadLoosely bytes d = (v : json.Data) × Reads bytes v × (d ≡ loose v)
 
--- The content is JSON text, and this is its document, with words in the place of texts.
-abbrev pub IsReadWith : List Pair → List ℕ → Doc → Type 0
-IsReadWith words bytes d = (raw : Doc) × IsReadLoosely bytes raw × (d ≡ worded_message words raw)
+-- The content is JSON text, and this is its document before the other rules apply (own): with the
+-- words of the mask in the place of texts, and then with the members that its rules set.
+abbrev pub IsReadBy : Mask → List ℕ → Doc → Type 0
+IsReadBy mask bytes d = (raw : Doc) × IsReadLoosely bytes raw
+    × (d ≡ filled mask.fills (worded_message mask.words raw))
 
 -- The result of masking a document (own): `None` for an event that the rules drop, and otherwise
 -- the masked document, which must be serialisable.
@@ -58,13 +61,14 @@ abbrev pub HasFractionLeft : Mask → Doc → Type 0
 HasFractionLeft mask d = (leaves_out mask d ≡ false)
     × (is_sound (masked mask.changes d) ≡ false)
 
--- The content is JSON text, and this is the result of masking it, after the words were put in.
+-- The content is JSON text, and this is the result of masking it, after the words were put in and
+-- members were set.
 abbrev pub IsLeftOf : Mask → List ℕ → Option Doc → Type 0
-IsLeftOf mask bytes o = (d : Doc) × IsReadWith mask.words bytes d × IsLeft mask d o
+IsLeftOf mask bytes o = (d : Doc) × IsReadBy mask bytes d × IsLeft mask d o
 
 -- The content is JSON text, and a non-integer number remains after masking.
 abbrev pub LeavesFraction : Mask → List ℕ → Type 0
-LeavesFraction mask bytes = (d : Doc) × IsReadWith mask.words bytes d × HasFractionLeft mask d
+LeavesFraction mask bytes = (d : Doc) × IsReadBy mask bytes d × HasFractionLeft mask d
 
 -- Without rules, the result is the document that the content represents.
 abbrev pub UnmaskedIsRead : Type 0
@@ -79,10 +83,11 @@ OneLooseReading = (bytes : List ℕ) (d e : Doc) → IsReadLoosely bytes d → I
 abbrev pub LooseIsOrdered : Type 0
 LooseIsOrdered = (bytes : List ℕ) (d : Doc) → IsReadLoosely bytes d → is_ordered d ≡ true
 
--- The text of the masked document is read as the same document. Words that a program has are UTF-8.
+-- The text of the masked document is read as the same document. Words and values that a program has
+-- are UTF-8.
 abbrev pub LeftIsRead : Type 0
 LeftIsRead = (mask : Mask) (bytes : List ℕ) (d : Doc) → AreUtf8 mask.words
-    → IsLeftOf mask bytes (Some d) → IsRead (text_of d) d
+    → AreFillsUtf8 mask.fills → IsLeftOf mask bytes (Some d) → IsRead (text_of d) d
 
 -- The meaning of an error for a content that is masked. `Memory` states nothing about the content.
 abbrev pub ExplainsMasked : Mask → List ℕ → TreeFault → Type 0

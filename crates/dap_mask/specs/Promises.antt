@@ -1,10 +1,9 @@
 -- The guarantees for a masked content.
 use Rattle.std.specs.Prelude.{◌≡◌, ◌↔◌, ℕ, List}
 use Rattle.dap_tree.specs.Doc.{Doc}
-use Rattle.dap_mask.specs.{Ids.KeepsIds, Loose.IsReadWith, Mask.Mask}
+use Rattle.dap_mask.specs.{Ids.KeepsIds, Loose.IsReadBy, Mask.Mask}
 use Rattle.dap_mask.specs.Masked.{IsMasked, AgreeBut, KeepsElsewhere, HasNoNewPath, masked}
 use Rattle.dap_mask.specs.Rules.{Rule}
-use Rattle.dap_words.specs.Words.{Pair}
 
 -- The document e is d masked by the rules of a rules file.
 pub record IsMaskedAs (rules : List Rule) (d e : Doc) : Type 0 where
@@ -21,12 +20,12 @@ pub record IsMaskedAs (rules : List Rule) (d e : Doc) : Type 0 where
   pub again : masked rules e ≡ e
   -- Masking another content yields e if and only if the two agree except for the parts that the
   -- rules redact.
-  pub equal : (words : List Pair) (bytes : List ℕ) (f : Doc) → IsReadWith words bytes f
+  pub equal : (other : Mask) (bytes : List ℕ) (f : Doc) → IsReadBy other bytes f
       → (e ≡ masked rules f)
       ↔ AgreeBut rules d f
 
 -- The document e is the masked form of every document that the content represents, with the words
--- in the place of texts.
+-- in the place of texts and the members that rules set.
 abbrev pub IsContentMasked : Mask → List ℕ → Doc → Type 0
-IsContentMasked mask bytes e = (d : Doc) → IsReadWith mask.words bytes d
+IsContentMasked mask bytes e = (d : Doc) → IsReadBy mask bytes d
     → IsMaskedAs mask.changes d e

@@ -1,15 +1,18 @@
 -- The meaning of a line of a rules file, parsed from its start.
-use Rattle.std.specs.Prelude.{ℕ, zero, suc, ◌==◌, false, cond, List, [], ◌∷◌, length, take, drop}
-use Rattle.std.specs.Prelude.{Option, Some, None, option_map, option_and_then, codes, bytes_eq}
+use Rattle.std.specs.Prelude.{ℕ, zero, suc, ◌==◌, Bool, false, cond, ◌&&◌, List, [], ◌∷◌, length}
+use Rattle.std.specs.Prelude.{take, drop, Option, Some, None, option_map, option_and_then, codes}
+use Rattle.std.specs.Prelude.{bytes_eq, pos}
 use Rattle.std.specs.Str.{is_utf8}
 use Rattle.serde_json.specs.Data as json
 use Rattle.serde_json.specs.Read.{read}
 use Rattle.dap_profile.specs.declared.profile.Kind.{Kind, TheVariants.{Request, Response, Event}}
 use Rattle.dap_mask.specs.Mask.{Statement, change, leave_out, leave_out_category, swap, restart}
-use Rattle.dap_mask.specs.Mask.{put, Line, nothing, rule, bad}
-use Rattle.dap_mask.specs.{RuleSteps.{RuleStep, named, elements}, Rules.same_kind}
+use Rattle.dap_mask.specs.Mask.{join, put, fill, Line, nothing, rule, bad}
+use Rattle.dap_mask.specs.{Categories.output_name, Fills.{Scalar, flag, number, string}}
+use Rattle.dap_mask.specs.{RuleSteps.{RuleStep, named, elements}, Rules.{same_kind, same_name}}
 use Rattle.dap_mask.specs.Runs.{is_plain, front, behind, closing, is_closed, gap, is_end, is_blank}
 use Rattle.dap_message.specs.SwapRules.{Half}
+use Rattle.dap_mask.specs.declared.joining.Joining.TheVariants.{Whole, PerStop}
 use Rattle.dap_mask.specs.declared.rules.Verb.{Verb, TheVariants.{Blank, Digits, Hex, Long, Uuid}}
 
 -- ---- names
@@ -195,6 +198,27 @@ swap_at s = option_and_then (λ h. option_and_then (swap_with h.0) (half_at h.1)
 abbrev pub restart_at : List ℕ → Option Statement
 restart_at s = cond (is_end s) (Some restart) None
 
+-- The kind and the name are those of `output` events.
+abbrev pub is_output : Kind → Option (List ℕ) → Bool
+is_output k n = same_kind k Event && same_name n (Some output_name)
+
+-- The rule that joins output between stops, if the line ends.
+abbrev pub join_ended : List ℕ → Option Statement
+join_ended s = cond (is_end s) (Some (join PerStop)) None
+
+-- The rule that joins output between stops, if the text is the word `per-stop` and the line ends.
+abbrev pub join_stops : List ℕ → Option Statement
+join_stops s =
+    cond (bytes_eq (front is_plain s) (codes "per-stop")) (join_ended (behind is_plain s)) None
+
+-- The rule that joins output, between stops unless the line ends.
+abbrev pub joined_at : List ℕ → Option Statement
+joined_at s = cond (is_end s) (Some (join Whole)) (option_and_then join_stops (gap s))
+
+-- The rule that joins output, whose name is in the text.
+abbrev pub join_at : List ℕ → Option Statement
+join_at s = option_and_then (λ h. cond (is_output h.0 h.1) (joined_at h.2) None) (head_at s)
+
 -- The text or the word of a rule, with which the text starts after blanks, and the rest.
 abbrev pub part_at : List ℕ → Option (List ℕ × List ℕ)
 part_at s = option_and_then name_at (gap s)
@@ -207,13 +231,66 @@ word_with t w = cond (is_end w.1) (Some (put (record { text = t; word = w.0 })))
 abbrev pub put_at : List ℕ → Option Statement
 put_at s = option_and_then (λ t. option_and_then (word_with t.0) (part_at t.1)) (part_at s)
 
+-- The value that a JSON value is, if it is a boolean, an integer of 64 bits, or a string.
+abbrev pub scalar_in : Option json.Data → Option Scalar
+scalar_in (Some (json.boolean b)) = Some (flag b)
+scalar_in (Some (json.number (json.unsigned n))) = Some (number (pos n))
+scalar_in (Some (json.number (json.negative z))) = Some (number z)
+scalar_in (Some (json.string s)) = Some (string s)
+scalar_in _ = None
+
+-- The value that these bytes represent as JSON (serde_json), if they represent one.
+unfoldable pub scalar_at : List ℕ → Option Scalar
+scalar_at token = cond (is_utf8 token) (scalar_in (read token)) None
+
+abbrev pub string_value : List ℕ × List ℕ → Scalar × List ℕ
+string_value n = (string n.0, n.1)
+
+abbrev pub before_rest : List ℕ → Scalar → Scalar × List ℕ
+before_rest rest v = (v, rest)
+
+abbrev pub plain_value : List ℕ × List ℕ → Option (Scalar × List ℕ)
+plain_value n = option_map (before_rest n.1) (scalar_at n.0)
+
+-- The value with which the text starts: a JSON string in quotes, or plain bytes; and the rest.
+abbrev pub value_at : List ℕ → Option (Scalar × List ℕ)
+value_at [] = None
+value_at (b ∷ s) = cond (b == 34) (option_map string_value (quoted_at (b ∷ s)))
+    (option_and_then plain_value (plain_at (b ∷ s)))
+
+-- The last step of a place, and the steps before it.
+abbrev pub split_last : List RuleStep → Option (List RuleStep × RuleStep)
+split_last [] = None
+split_last (p ∷ []) = Some ([], p)
+split_last (p ∷ q ∷ ps) = option_map (λ r. (p ∷ r.0, r.1)) (split_last (q ∷ ps))
+
+-- The rule that sets a member to this value, if the line ends after it.
+abbrev pub valued : Kind → Option (List ℕ) → List RuleStep × RuleStep → Scalar × List ℕ
+    → Option Statement
+valued k n p v = cond (is_end v.1)
+    (Some (fill (record { kind = k; name = n; parent = p.0; last = p.1; value = v.0 }))) None
+
+abbrev pub value_behind : Kind → Option (List ℕ) → List ℕ → List RuleStep × RuleStep
+    → Option Statement
+value_behind k n s p = option_and_then (valued k n p) (option_and_then value_at (gap s))
+
+abbrev pub fill_behind : Kind → Option (List ℕ) → List RuleStep × List ℕ → Option Statement
+fill_behind k n p = option_and_then (value_behind k n p.1) (split_last p.0)
+
+-- The rule that sets a member, whose messages, place and value are in the text.
+abbrev pub fill_at : List ℕ → Option Statement
+fill_at s = option_and_then (λ h. option_and_then (fill_behind h.0 h.1)
+    (option_and_then place_at (gap h.2))) (head_at s)
+
 abbrev pub statement_at : List ℕ → Option Statement
 statement_at s =
     cond (bytes_eq (front is_plain s) (codes "drop")) (leave_out_at (behind is_plain s))
     (cond (bytes_eq (front is_plain s) (codes "swap")) (swap_at (behind is_plain s))
     (cond (bytes_eq (front is_plain s) (codes "per-stop")) (restart_at (behind is_plain s))
+    (cond (bytes_eq (front is_plain s) (codes "join")) (join_at (behind is_plain s))
     (cond (bytes_eq (front is_plain s) (codes "word")) (put_at (behind is_plain s))
-    (option_and_then (λ v. change_at v (behind is_plain s)) (verb_named (front is_plain s))))))
+    (cond (bytes_eq (front is_plain s) (codes "fill")) (fill_at (behind is_plain s))
+    (option_and_then (λ v. change_at v (behind is_plain s)) (verb_named (front is_plain s))))))))
 
 abbrev pub reported : Option Statement → Line
 reported None = bad

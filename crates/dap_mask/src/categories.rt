@@ -1,6 +1,7 @@
-//! Rules for the events of one category.
-ghost use Rattle.std.specs.{Prelude.{◌≡◌}, List.list_any};
+//! Rules for the events of one category, and changes of the categories of events.
+ghost use Rattle.std.specs.{Prelude.{◌≡◌, option_map}, List.list_any};
 ghost use Rattle.dap_mask.specs.{Categories.{category_of, same_category, moves}, Rules.rule_of};
+ghost use Rattle.dap_mask.specs.Categories.{moves_events, moves_output};
 ghost use Rattle.dap_mask.specs.Rules.{place_of, holds_category, recategorises, disturb};
 ghost use Rattle.dap_mask.specs.RuleSteps.{plain_place};
 
@@ -33,12 +34,19 @@ pub(crate) fn is_category_among(rule: &CategoryRule, rules: &[CategoryRule]) -> 
     rules.iter().any(|other| same_category(rule, other))
 }
 
-fn moves(change: &MaskRule, rule: &CategoryRule) -> bool
-    ensures { result ≡ moves (rule_of change.now) (category_of rule.now) }
+// Returns whether the change may give events of this name another category.
+fn moves_events(change: &MaskRule, name: Option<&str>) -> bool
+    ensures { result ≡ moves_events (rule_of change.now) (option_map (λ s. s.now) name.entry) }
 {
     is_at(&change.place, Place::Inner("body", "category"))
         && same_kind(change.kind, Kind::Event)
-        && share_name(text_of(&change.name), text_of(&rule.name))
+        && share_name(text_of(&change.name), name)
+}
+
+fn moves(change: &MaskRule, rule: &CategoryRule) -> bool
+    ensures { result ≡ moves (rule_of change.now) (category_of rule.now) }
+{
+    moves_events(change, text_of(&rule.name))
 }
 
 /// Returns whether the change may give an event a category by which one of the rules drops it.
@@ -53,6 +61,20 @@ pub(crate) fn is_moved_by(changes: &[MaskRule], rule: &CategoryRule) -> bool
     ensures { result ≡ list_any (λ r. moves (rule_of r) (category_of rule.now)) changes.now }
 {
     changes.iter().any(|change| moves(change, rule))
+}
+
+/// Returns whether the change may give an `output` event another category.
+pub(crate) fn moves_output(change: &MaskRule) -> bool
+    ensures { result ≡ moves_output (rule_of change.now) }
+{
+    moves_events(change, Some("output"))
+}
+
+/// Returns whether one of the changes may give an `output` event another category.
+pub(crate) fn is_output_moved_by(changes: &[MaskRule]) -> bool
+    ensures { result ≡ list_any (λ r. moves_output (rule_of r)) changes.now }
+{
+    changes.iter().any(|change| moves_output(change))
 }
 
 fn holds_category(place: &[Step]) -> bool

@@ -22,24 +22,26 @@ pub enum RulesCause {
     /// The line is not a rule, not empty and not only a comment.
     ///
     /// - Cause: a missing word, or a name with other characters that is not in quotes.
-    /// - Fix: write a verb, a kind, a name and a place, or `swap` with two kinds and names, or
-    ///   `word` with a text and its word, with spaces between them, or `per-stop` alone. Only a
-    ///   rule for events may have a category, which precedes the place.
+    /// - Fix: write a line of one of these forms: `ACTION KIND NAME PLACE`, `ACTION event NAME
+    ///   category=TEXT PLACE`, `drop event NAME`, `drop event NAME category=TEXT`, `swap KIND NAME
+    ///   KIND NAME`, `word TEXT WORD`, `per-stop`, `join event output`, `join event output
+    ///   per-stop`, or `fill KIND NAME PLACE VALUE`.
     BadRule,
     /// A thousand rules precede it.
     ///
     /// - Cause: rules made by a script, one for each name.
-    /// - Fix: join rules, with `*` for the name.
+    /// - Fix: merge rules, with `*` for the name.
     TooMany,
     /// The place never changes: it is an id that the profile renames, the message itself, its
     /// `type`, `command`, `event` or `success`, or the name by which the rule selects an element.
-    /// For a rule with a category, the place is also never `body` or `body.category`.
+    /// For a rule with a category, the place is also never `body` or `body.category`. The place of
+    /// a `fill` rule ends in a member and selects no element by its name.
     ///
     /// - Cause: a rule for a number that `normalise` renames anyway.
     /// - Fix: leave the rule out.
     BadPlace,
-    /// The same rule precedes it, or another word for the same text. A `swap` rule with its halves
-    /// exchanged is the same rule.
+    /// The same rule precedes it, or another word for the same text, or another `join` rule, or a
+    /// `fill` rule for the same member. A `swap` rule with its halves exchanged is the same rule.
     ///
     /// - Cause: two rules files put together.
     /// - Fix: leave it out.
@@ -48,9 +50,12 @@ pub enum RulesCause {
     /// be the same, so masking twice could change a text again. Or one of the two changes
     /// `body.category` of events that the other drops by their category. Or one of the two changes
     /// `body` or `body.category` of events, and the other applies only to events of one category.
+    /// Or one of the two changes `body.category` of `output` events, and the other joins them by
+    /// their category. Or both may set the same member of one message, or one of them sets a member
+    /// of a value that the other blanks.
     ///
-    /// - Cause: `uuid` and `digits` at one place, or a change of a category by which events are
-    ///   dropped or selected.
+    /// - Cause: `uuid` and `digits` at one place, a change of a category by which events are
+    ///   dropped, selected or joined, or a `blank` of a value that contains the place of a `fill`.
     /// - Fix: leave one of the two out, or give two rules for events different categories.
     Clash,
     /// The text of a `word` line is empty, or a word of the file can overlap a text of the file:

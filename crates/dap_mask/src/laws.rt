@@ -3,7 +3,7 @@
 ghost use Rattle.dap_mask.specs.Grammar.{ParserFindsLine, LineSaysOne};
 ghost use Rattle.dap_mask.specs.Laws.{MaskedByPath, OneMasked, KeepsOthers, NoneNew, DropsAlike};
 ghost use Rattle.dap_mask.specs.Laws.{MaskedOnce, EqualWhereAgree, KeepsOrder, KeepsSound};
-ghost use Rattle.dap_mask.specs.Laws.{InAnyOrder};
+ghost use Rattle.dap_mask.specs.Laws.{InAnyOrder, FilledOnce, FillsKeepValues};
 ghost use Rattle.dap_mask.specs.Laws.{KeepsUtf8, StaysIn, DigitsAre, HexIs, PlainPlaces};
 ghost use Rattle.dap_mask.specs.Loose.{UnmaskedIsRead, OneLooseReading, LooseIsOrdered, LeftIsRead};
 ghost use Rattle.dap_mask.specs.{Ids.LeavesIds, WordLines.OneMoreLine};
@@ -24,6 +24,13 @@ pub fn exactly_those_places()
 /// Masking a masked document again does not change it, if its members are in order.
 pub fn masked_once()
     ensures { MaskedOnce }
+{}
+
+/// Setting members keeps each value that is not null, and setting them again in a masked document
+/// does not change it.
+pub fn fills_keep_values()
+    ensures values { FillsKeepValues }
+    ensures once { FilledOnce }
 {}
 
 /// The order of the lines of a rules file does not matter: two lists of the same rules, in the

@@ -4,23 +4,28 @@
 //! the places of the rules. [`read_masked_flat`] does the same to the nodes of a flat document, and
 //! [`write_masked`] writes the result. `specs/` defines the meaning of the rules, and [`laws`]
 //! states the theorems. The file may also contain texts and their words, [`MaskRules::words`],
-//! which [`read_masked`] puts in before the other rules apply; rules for the order of messages,
-//! [`MaskRules::swaps`]; and the line `per-stop`, [`MaskRules::per_stop`]. Masking does not use the
-//! last two.
+//! and rules that set members that are absent or null. [`read_masked`] puts in the words, sets the
+//! members, and then applies the other rules. The file may contain rules for the order of messages,
+//! [`MaskRules::swaps`]; the line `per-stop`, [`MaskRules::per_stop`]; and a line that joins
+//! output, [`MaskRules::joining`]. Masking does not use the last three.
 //!
 //! [`digits`] and [`hex`] apply two of the actions to a text.
 //!
 //! A program that explains why a line is not a rule parses the parts of the line with
-//! [`split_run`], [`gap`], [`is_end`], [`name_at`], [`any_name`] and [`place_at`].
+//! [`split_run`], [`gap`], [`is_end`], [`name_at`], [`any_name`], [`place_at`] and [`value_at`].
 #![tactic(auto)]
 
 mod categories;
 mod element_names;
 mod fault;
+mod fill_lines;
+mod filling;
+mod fills;
 mod flat_masking;
 mod flat_places;
 mod flat_told;
 mod index;
+mod joining;
 pub mod laws;
 mod loose;
 mod mask_rules;
@@ -42,8 +47,11 @@ mod word_lines;
 pub use categories::CategoryRule;
 pub use dap_message::{Half, SwapRule};
 pub use fault::{RulesCause, RulesFault};
+pub use fill_lines::value_at;
+pub use fills::Scalar;
 pub use flat_masking::read_masked_flat;
-pub use loose::{read_loosely, read_masked, read_with_words};
+pub use joining::Joining;
+pub use loose::{read_by_rules, read_loosely, read_masked};
 pub use mask_rules::MaskRules;
 pub use masked_text::write_masked;
 pub use masking::{is_dropped, mask};

@@ -3,11 +3,12 @@ ghost use Rattle.std.specs.Prelude.{◌≡◌, ◌<◌, length, IfOk, IfErr, IsE
 ghost use Rattle.serde_json.specs.View.{number_view, view as value_view, items_view as values_view};
 ghost use Rattle.serde_json.specs.View.{members_view as pairs_view};
 ghost use Rattle.dap_tree.specs.View.{view, items_view, members_view};
-ghost use Rattle.dap_mask.specs.KeptRules.{mask_of, words_of_mask};
+ghost use Rattle.dap_mask.specs.KeptRules.{mask_of};
 ghost use Rattle.dap_mask.specs.Loose.{loose, loose_items, loose_members, loose_number};
-ghost use Rattle.dap_mask.specs.Loose.{IsReadLoosely, IsReadWith, IsLeftOf, ExplainsLoosely};
+ghost use Rattle.dap_mask.specs.Loose.{IsReadLoosely, IsReadBy, IsLeftOf, ExplainsLoosely};
 ghost use Rattle.dap_mask.specs.{Loose.ExplainsMasked, Promises.IsContentMasked};
 
+use crate::filling::fill;
 use crate::mask_rules::MaskRules;
 use crate::masking::{is_dropped, mask};
 use dap_tree::{Scratch, Tree, TreeFault, read_tree_with};
@@ -20,8 +21,8 @@ use std::collections::BTreeMap;
 /// therefore not serialisable.
 const NO_WHOLE: i128 = 18_446_744_073_709_551_616;
 
-/// Reads the tree of a content, puts the words of the rules in the place of texts, and masks it.
-/// Reuses the buffers in `scratch` between calls. Returns `None` for an event that the rules drop.
+/// Reads the tree of a content as [`read_by_rules`] does, and masks it. Reuses the buffers in
+/// `scratch` between calls. Returns `None` for an event that the rules drop.
 ///
 /// # Errors
 ///
@@ -43,7 +44,7 @@ pub fn read_masked(
     ensures masked { IfOk result (λ o. IfSome (option_map view o)
         (IsContentMasked (mask_of rules.now) content.now)) }
 {
-    let mut tree = read_with_words(alloc, content, rules, scratch)?;
+    let mut tree = read_by_rules(alloc, content, rules, scratch)?;
     if is_dropped(&tree, rules) {
         return Ok(None);
     }
@@ -55,25 +56,26 @@ pub fn read_masked(
     }
 }
 
-/// Reads the tree of a content, as [`read_loosely`] does, and puts the words of the rules in the
-/// place of texts.
+/// Reads the tree of a content as [`read_loosely`] does, puts the words of the rules in the place
+/// of texts, and sets the members that rules set if they are absent or null.
 ///
 /// # Errors
 ///
 /// - `Json`: the content is not JSON text.
 /// - `Memory`: an allocation failed. The content is not empty, and may be valid or not.
-pub fn read_with_words(
+pub fn read_by_rules(
     alloc: Global,
     content: &[u8],
     rules: &MaskRules,
     scratch: &mut Scratch,
 ) -> Result<Tree, TreeFault>
-    ensures ok { IfOk result (λ t. IsReadWith (words_of_mask rules.now) content.now (view t)) }
+    ensures ok { IfOk result (λ t. IsReadBy (mask_of rules.now) content.now (view t)) }
     ensures err { IfErr result (ExplainsLoosely content.now) }
     ensures memory { IsErrOf result TreeFault.Memory → 0 < length content.now }
 {
     let read = read_loosely(alloc, content, scratch)?;
-    let tree = put_words(alloc, read, rules.words())?;
+    let mut tree = put_words(alloc, read, rules.words())?;
+    fill(alloc, &mut tree, rules.fills())?;
     Ok(tree)
 }
 

@@ -6,7 +6,9 @@ ghost use Rattle.dap_mask.specs.{Index.IsIndex, ListedRules.listed_changes};
 
 use crate::categories::CategoryRule;
 use crate::fault::{RulesCause, RulesFault};
+use crate::fills::FillRule;
 use crate::index::KindRules;
+use crate::joining::Joining;
 use crate::rule_list::RuleList;
 use crate::rules::MaskRule;
 use dap_message::{Kind, SwapRule};
@@ -17,7 +19,8 @@ use std::alloc::{AllocError, Global};
 ///
 /// The place of a rule is never the message itself, its `type`, `command`, `event` or `success`, or
 /// an id that the profile renames. No rule changes `body` or `body.category` of events to which it
-/// or another rule applies by their category. Masking a masked message again does not change it, if
+/// or another rule applies by their category, and none changes `body.category` of `output` events
+/// if [`MaskRules::joining`] is not `None`. Masking a masked message again does not change it, if
 /// its members are in order.
 #[derive(Drop)]
 pub struct MaskRules {
@@ -33,8 +36,10 @@ pub struct MaskRules {
 impl MaskRules {
     ghost use Rattle.dap_mask.specs.Index.{positions};
     ghost use Rattle.dap_mask.specs.KeptRules.{mask_of, changes_of, dropped_of, categories_of_mask};
-    ghost use Rattle.dap_mask.specs.KeptRules.{swaps_of_mask, per_stop_of, words_of_mask};
+    ghost use Rattle.dap_mask.specs.KeptRules.{swaps_of_mask, per_stop_of, joining_of};
+    ghost use Rattle.dap_mask.specs.KeptRules.{words_of_mask, fills_of_mask};
     ghost use Rattle.dap_mask.specs.{Categories.categories_of, ListedRules.listed_mask};
+    ghost use Rattle.dap_mask.specs.{Fills.fills_of};
     ghost use Rattle.dap_mask.specs.{Mask.no_rules, Rules.rules_of, RulesFile.rules_said};
     ghost use Rattle.dap_words.specs.Kept.{pairs_in};
     ghost use Rattle.dap_message.specs.SwapRules.{swaps_of};
@@ -115,11 +120,28 @@ impl MaskRules {
         self.list.per_stop
     }
 
+    /// Returns how the line `join event output` joins output, or `None` if the file has no such
+    /// line. The line joins the `output` events of each category, in the whole recording or between
+    /// two `stopped` events, before the other rules apply. `dap_join` applies it. Masking does not
+    /// use it.
+    pub fn joining(&self) -> Option<Joining>
+        ensures { result ≡ joining_of self.now }
+    {
+        self.list.joining
+    }
+
     /// Returns the words that are put in the place of texts before the changes apply.
     pub fn words(&self) -> &Words
         ensures { pairs_in result.now ≡ words_of_mask self.now }
     {
         &self.list.words
+    }
+
+    /// Returns the rules that set members before the other rules apply, in the order of the file.
+    pub(crate) fn fills(&self) -> &[FillRule]
+        ensures { fills_of result.now ≡ fills_of_mask self.now }
+    {
+        self.list.fills.as_slice()
     }
 
     /// Returns the positions of the changes that may apply to messages of this kind and name, in

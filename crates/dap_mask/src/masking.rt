@@ -181,13 +181,15 @@ fn has_text(tree: &Tree, name: &str, word: &str) -> bool
     }
 }
 
-fn is_of_kind(tree: &Tree, kind: Kind) -> bool
+/// Returns whether the message is of this kind.
+pub(crate) fn is_of_kind(tree: &Tree, kind: Kind) -> bool
     ensures { result ≡ is_of_kind kind (view tree.now) }
 {
     has_text(tree, "type", kind.word())
 }
 
-fn has_name(tree: &Tree, kind: Kind, name: Option<&str>) -> bool
+/// Returns whether the message has this name, by the member that names messages of the kind.
+pub(crate) fn has_name(tree: &Tree, kind: Kind, name: Option<&str>) -> bool
     ensures { result ≡ has_name kind (option_map (λ s. s.now) name.entry) (view tree.now) }
 {
     match name {
@@ -283,7 +285,8 @@ fn mask_element(tree: &mut Tree, name: Option<&str>, path: &[Step], verb: Verb)
     }
 }
 
-fn is_called(tree: &Tree, name: Option<&str>) -> bool
+/// Returns whether the value is an object whose member `name` is this string.
+pub(crate) fn is_called(tree: &Tree, name: Option<&str>) -> bool
     ensures { result ≡ is_called (option_map (λ s. s.now) name.entry) (Some (view tree.now)) }
 {
     match name {

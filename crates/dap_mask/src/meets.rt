@@ -52,7 +52,7 @@ fn same_verb(verb: Verb, other: Verb) -> bool
     verb == other
 }
 
-fn same_rule_step(step: &Step, other: &Step) -> bool
+pub(crate) fn same_rule_step(step: &Step, other: &Step) -> bool
     ensures { result ≡ same_rule_step (step_of step.now) (step_of other.now) }
 {
     match (step, other) {
@@ -63,7 +63,7 @@ fn same_rule_step(step: &Step, other: &Step) -> bool
     }
 }
 
-fn same_rule_place(place: &[Step], other: &[Step]) -> bool
+pub(crate) fn same_rule_place(place: &[Step], other: &[Step]) -> bool
     ensures { result ≡ same_rule_place (place_of place.now) (place_of other.now) }
 {
     let mut rest = other;
@@ -161,7 +161,7 @@ fn is_naming(name: &str) -> bool
     name == "command" || name == "event"
 }
 
-fn is_telling(name: &str) -> bool
+pub(crate) fn is_telling(name: &str) -> bool
     ensures { result ≡ is_telling name.now }
 {
     name == "type" || is_naming(name) || name == "success"

@@ -4,6 +4,8 @@ ghost use Rattle.std.specs.Prelude.{◌≡◌, ◌≢◌, ◌≤◌, true, cond,
 ghost use Rattle.std.specs.Prelude.{IfOk, IfErr, OnOk, length, string_bytes, ◌+◌, vec_len, ◌||◌};
 ghost use Rattle.std.specs.{Str.is_utf8, List.list_any};
 ghost use Rattle.dap_mask.specs.Categories.{category_of, categories_of, keep_categories};
+ghost use Rattle.dap_mask.specs.Categories.{keep_output};
+ghost use Rattle.dap_mask.specs.Fills.{fill_of, fills_of, keep_fills};
 ghost use Rattle.dap_mask.specs.Ids.{leave_ids, takes_profile_id};
 ghost use Rattle.dap_mask.specs.Rules.{rule_of, rules_of, are_safe, are_idempotent, same_name};
 ghost use Rattle.dap_mask.specs.Rules.{is_misplaced};
@@ -11,10 +13,15 @@ ghost use Rattle.dap_mask.specs.RulesFile.{last_line, cause_of_word};
 ghost use Rattle.dap_words.specs.{Words.pair_of, Kept.pairs_in};
 
 use crate::categories::{
-    CategoryRule, disturbs_one_of, is_category_among, is_moved_by, moves_one_of, recategorises,
+    CategoryRule, disturbs_one_of, is_category_among, is_moved_by, is_output_moved_by,
+    moves_one_of, moves_output, recategorises,
 };
 use crate::element_names::renames;
 use crate::fault::{RulesCause, RulesFault};
+use crate::fills::{
+    FillRule, clashes_with_fills, is_fill_among, is_fill_misplaced, is_removed_by, removes_one_of,
+};
+use crate::joining::Joining;
 use crate::meets::{clashes_with, is_among, is_telling_place, same_name, text_of};
 use crate::profile_ids::takes_profile_id;
 use crate::rule_order::place_in;
@@ -38,8 +45,9 @@ const MAX_RULES: usize = 1_000;
 ///
 /// The place of a rule is never the message itself, its `type`, `command`, `event` or `success`, or
 /// an id that the profile renames. No rule changes `body` or `body.category` of events to which it
-/// or another rule applies by their category. Masking a masked message again does not change it, if
-/// its members are in order.
+/// or another rule applies by their category, and none changes `body.category` of `output` events
+/// if output is joined. No rule removes a member that another rule sets. Masking a masked message
+/// again does not change it, if its members are in order.
 #[derive(Drop)]
 pub(crate) struct RuleList {
     changes: Vec<MaskRule>,
@@ -47,24 +55,31 @@ pub(crate) struct RuleList {
     pub(crate) categories: Vec<CategoryRule>,
     pub(crate) swaps: Vec<SwapRule>,
     pub(crate) per_stop: bool,
+    pub(crate) joining: Option<Joining>,
     pub(crate) words: Words,
+    pub(crate) fills: Vec<FillRule>,
     ghost few: { vec_len changes + vec_len dropped + vec_len categories + vec_len swaps
-        + length (pairs_in words) ≤ 1000 },
+        + length (pairs_in words) + vec_len fills ≤ 1000 },
     ghost safe: { are_safe (rules_of changes.items) ≡ true },
     ghost settled: { are_idempotent (rules_of changes.items) ≡ true },
     ghost leave: { leave_ids (rules_of changes.items) ≡ true },
     ghost kept: { keep_categories (rules_of changes.items) (categories_of categories.items)
         ≡ true },
+    ghost apart: { keep_output (rules_of changes.items) joining ≡ true },
+    ghost full: { keep_fills (rules_of changes.items) (fills_of fills.items) ≡ true },
 }
 
 impl RuleList {
-    ghost use Rattle.dap_mask.specs.{Categories.moves_one_of, Rules.clashes_with};
+    ghost use Rattle.dap_mask.specs.{Categories.{moves_one_of, moves_joined}, Rules.clashes_with};
     ghost use Rattle.dap_mask.specs.Rules.{disturbs_one_of};
     ghost use Rattle.dap_mask.specs.ListedRules.{listed_mask, listed_changes, listed_categories};
+    ghost use Rattle.dap_mask.specs.ListedRules.{listed_joining, listed_fills};
+    ghost use Rattle.dap_mask.specs.Fills.{removes_one_of, clashes_with_fills, is_removed_by};
     ghost use Rattle.dap_mask.specs.Mask.{no_rules, rule_count, with_rule, statement_of, nothing};
-    ghost use Rattle.dap_mask.specs.{Mask.{change, leave_out_category, put}, RuleText.line_said};
+    ghost use Rattle.dap_mask.specs.Mask.{change, leave_out_category, join, put, fill};
+    ghost use Rattle.dap_mask.specs.RuleText.{line_said};
     ghost use Rattle.dap_mask.specs.RulesFile.{cause_against, line_outcome, rules_from, rules_said};
-    ghost use Rattle.dap_mask.specs.RulesFile.{change_cause};
+    ghost use Rattle.dap_mask.specs.RulesFile.{change_cause, join_cause, fill_cause};
     ghost use Rattle.dap_mask.specs.Runs.{lines_of};
 
     /// Reads the rules of a file.
@@ -103,7 +118,9 @@ impl RuleList {
             categories: Vec::new(alloc),
             swaps: Vec::new(alloc),
             per_stop: false,
+            joining: None,
             words: Words::new(alloc),
+            fills: Vec::new(alloc),
         }
     }
 
@@ -119,8 +136,12 @@ impl RuleList {
         ensures { result ≡ rule_count (listed_mask self.now) }
     {
         let values = self.changes.len() + self.dropped.len() + self.categories.len();
-        let lists = values + self.swaps.len() + self.words.len();
-        if self.per_stop { lists + 1 } else { lists }
+        let lists = values + self.swaps.len() + self.words.len() + self.fills.len();
+        let stops = if self.per_stop { lists + 1 } else { lists };
+        match self.joining {
+            Some(_) => stops + 1,
+            None => stops,
+        }
     }
 
     fn take_lines(&mut self, alloc: Global, text: &[u8]) -> Result<(), RulesFault>
@@ -176,14 +197,29 @@ impl RuleList {
         }
     }
 
-    // Returns whether the change may change the category by which another rule selects events, or
-    // another change the category of this one.
+    // Returns whether the change may give an event another category, by which a rule drops it or
+    // by which it is joined, or may remove a member that a rule sets.
+    #[tactic(auto, using(crate::proofs::Lists::any_mapped))]
+    fn moves(&self, rule: &MaskRule) -> bool
+        ensures { result ≡ (moves_one_of (rule_of rule.now) (listed_categories self.now)
+            || (moves_joined (rule_of rule.now) (listed_joining self.now)
+            || removes_one_of (rule_of rule.now) (listed_fills self.now))) }
+    {
+        moves_one_of(rule, &self.categories)
+            || (self.joining.is_some() && moves_output(rule))
+            || removes_one_of(rule, &self.fills)
+    }
+
+    // Returns whether the change may change the category by which another rule selects or joins
+    // events, or another change the category of this one, or may remove a member that a rule sets.
     #[tactic(auto, using(crate::proofs::Lists::any_mapped))]
     fn disturbs(&self, rule: &MaskRule) -> bool
         ensures { result ≡ (disturbs_one_of (rule_of rule.now) (listed_changes self.now)
-            || moves_one_of (rule_of rule.now) (listed_categories self.now)) }
+            || (moves_one_of (rule_of rule.now) (listed_categories self.now)
+            || (moves_joined (rule_of rule.now) (listed_joining self.now)
+            || removes_one_of (rule_of rule.now) (listed_fills self.now)))) }
     {
-        disturbs_one_of(rule, &self.changes) || moves_one_of(rule, &self.categories)
+        disturbs_one_of(rule, &self.changes) || self.moves(rule)
     }
 
     // Returns whether the change excludes one of the changes, or disturbs a rule.
@@ -191,7 +227,9 @@ impl RuleList {
     fn clashes(&self, rule: &MaskRule) -> bool
         ensures { result ≡ (clashes_with (rule_of rule.now) (listed_changes self.now)
             || (disturbs_one_of (rule_of rule.now) (listed_changes self.now)
-            || moves_one_of (rule_of rule.now) (listed_categories self.now))) }
+            || (moves_one_of (rule_of rule.now) (listed_categories self.now)
+            || (moves_joined (rule_of rule.now) (listed_joining self.now)
+            || removes_one_of (rule_of rule.now) (listed_fills self.now))))) }
     {
         clashes_with(rule, &self.changes) || self.disturbs(rule)
     }
@@ -207,6 +245,43 @@ impl RuleList {
             Some(RulesCause::Repeated)
         } else {
             cause_if(self.clashes(rule), RulesCause::Clash)
+        }
+    }
+
+    // Returns why a rule that joins output may not follow the rules read so far, apart from their
+    // number.
+    #[tactic(auto, using(crate::proofs::Lists::any_mapped))]
+    fn join_cause(&self) -> Option<RulesCause>
+        ensures { result ≡ join_cause (listed_mask self.now) }
+    {
+        if self.joining.is_some() {
+            Some(RulesCause::Repeated)
+        } else {
+            cause_if(is_output_moved_by(&self.changes), RulesCause::Clash)
+        }
+    }
+
+    // Returns whether another rule may set the same member, or a change may remove it.
+    #[tactic(auto, using(crate::proofs::Lists::any_mapped))]
+    fn excludes_fill(&self, rule: &FillRule) -> bool
+        ensures { result ≡ (clashes_with_fills (fill_of rule.now) (listed_fills self.now)
+            || is_removed_by (listed_changes self.now) (fill_of rule.now)) }
+    {
+        clashes_with_fills(rule, &self.fills) || is_removed_by(&self.changes, rule)
+    }
+
+    // Returns why a rule that sets a member may not follow the rules read so far, apart from their
+    // number.
+    #[tactic(auto, using(crate::proofs::Lists::any_mapped))]
+    fn fill_cause(&self, rule: &FillRule) -> Option<RulesCause>
+        ensures { result ≡ fill_cause (listed_mask self.now) (fill_of rule.now) }
+    {
+        if is_fill_misplaced(rule) {
+            Some(RulesCause::BadPlace)
+        } else if is_fill_among(rule, &self.fills) {
+            Some(RulesCause::Repeated)
+        } else {
+            cause_if(self.excludes_fill(rule), RulesCause::Clash)
         }
     }
 
@@ -234,12 +309,14 @@ impl RuleList {
                 cause_if(is_swap_among(swap, &self.swaps), RulesCause::Repeated)
             }
             Statement::PerStop => cause_if(self.per_stop, RulesCause::Repeated),
+            Statement::Join(_) => self.join_cause(),
             Statement::Put(word) => {
                 match self.words.cause_against(word) {
                     Some(cause) => Some(cause_of_word(cause)),
                     None => None,
                 }
             }
+            Statement::Fill(rule) => self.fill_cause(rule),
         }
     }
 
@@ -263,12 +340,28 @@ impl RuleList {
         Ok(())
     }
 
+    fn take_joining(&mut self, joining: Joining)
+        requires { cause_against (listed_mask self.old) (join joining) ≡ None }
+        ensures { listed_mask self.new ≡ with_rule (listed_mask self.old) (join joining) }
+    {
+        self.joining = Some(joining);
+    }
+
     fn take_word(&mut self, word: Word) -> Result<(), AllocError>
         requires { cause_against (listed_mask self.old) (put (pair_of word)) ≡ None }
         ensures { OnOk result
             (listed_mask self.new ≡ with_rule (listed_mask self.old) (put (pair_of word))) }
     {
         self.words.push(word)?;
+        Ok(())
+    }
+
+    fn take_fill(&mut self, rule: FillRule) -> Result<(), AllocError>
+        requires { cause_against (listed_mask self.old) (fill (fill_of rule)) ≡ None }
+        ensures { OnOk result
+            (listed_mask self.new ≡ with_rule (listed_mask self.old) (fill (fill_of rule))) }
+    {
+        self.fills.push(rule)?;
         Ok(())
     }
 
@@ -283,7 +376,9 @@ impl RuleList {
             Statement::LeaveOutCategory(rule) => self.take_category(rule)?,
             Statement::Swap(swap) => self.swaps.push(swap)?,
             Statement::PerStop => self.per_stop = true,
+            Statement::Join(joining) => self.take_joining(joining),
             Statement::Put(word) => self.take_word(word)?,
+            Statement::Fill(rule) => self.take_fill(rule)?,
         }
         Ok(())
     }

@@ -3,11 +3,16 @@ ghost use Rattle.std.specs.Prelude.{◌≡◌, ◌≢◌, IfOk, IfErr, option_ma
 ghost use Rattle.dap_mask.specs.Mask.{statement_of, line_of, nothing};
 ghost use Rattle.dap_mask.specs.RuleText.{verb_named, kind_named, head_at, change_at, category_at};
 ghost use Rattle.dap_mask.specs.RuleText.{limit_at, category_then, category_behind, leave_out_at};
-ghost use Rattle.dap_mask.specs.RuleText.{half_at, swap_at};
+ghost use Rattle.dap_mask.specs.RuleText.{half_at, swap_at, is_output, join_ended, join_stops};
+ghost use Rattle.dap_mask.specs.RuleText.{joined_at, join_at};
 ghost use Rattle.dap_mask.specs.RuleText.{restart_at, part_at, put_at, statement_at, line_said};
 ghost use Rattle.dap_message.specs.SwapRules.{half_of};
 
 use crate::categories::CategoryRule;
+use crate::fill_lines::fill_at;
+use crate::fills::FillRule;
+use crate::joining::Joining;
+use crate::meets::{same_kind, same_name, text_of};
 use crate::names::{any_name, name_at};
 use crate::places::place_at;
 use crate::rules::{MaskRule, Verb};
@@ -29,8 +34,12 @@ pub(crate) enum Statement {
     Swap(SwapRule),
     /// Numbers ids again from each stop.
     PerStop,
+    /// Joins output.
+    Join(Joining),
     /// Puts a word in the place of a text.
     Put(Word),
+    /// Sets a member that is absent or null.
+    Fill(FillRule),
 }
 
 /// The meaning of a line.
@@ -71,8 +80,14 @@ fn statement_at(alloc: Global, text: &[u8]) -> Result<Option<Statement>, AllocEr
     if word == b"per-stop".as_slice() {
         return Ok(restart_at(rest));
     }
+    if word == b"join".as_slice() {
+        return join_at(alloc, rest);
+    }
     if word == b"word".as_slice() {
         return put_at(alloc, rest);
+    }
+    if word == b"fill".as_slice() {
+        return fill_at(alloc, rest);
     }
     match verb_named(word) {
         Some(verb) => change_at(alloc, verb, rest),
@@ -112,8 +127,11 @@ fn kind_named(word: &[u8]) -> Option<Kind>
     }
 }
 
-// Returns the kind and name of the messages to which a rule applies, and the rest of the text.
-fn head_at(alloc: Global, text: &[u8]) -> Result<Option<(Kind, Option<String>, &[u8])>, AllocError>
+/// Returns the kind and name of the messages to which a rule applies, and the rest of the text.
+pub(crate) fn head_at(
+    alloc: Global,
+    text: &[u8],
+) -> Result<Option<(Kind, Option<String>, &[u8])>, AllocError>
     ensures { IfOk result
         (λ o. option_map (λ h. (h.0, option_map string_bytes h.1, h.2.now)) o ≡ head_at text.now) }
 {
@@ -252,6 +270,56 @@ fn restart_at(text: &[u8]) -> Option<Statement>
 {
     if is_end(text) {
         Some(Statement::PerStop)
+    } else {
+        None
+    }
+}
+
+fn join_at(alloc: Global, text: &[u8]) -> Result<Option<Statement>, AllocError>
+    ensures { IfOk result (λ o. option_map statement_of o ≡ join_at text.now) }
+{
+    match head_at(alloc, text)? {
+        Some((kind, name, rest)) if is_output(kind, &name) => Ok(joined_at(rest)),
+        _ => Ok(None),
+    }
+}
+
+// Returns whether the kind and the name are those of `output` events.
+fn is_output(kind: Kind, name: &Option<String>) -> bool
+    ensures { result ≡ is_output kind (option_map string_bytes name.now) }
+{
+    same_kind(kind, Kind::Event) && same_name(text_of(name), Some("output"))
+}
+
+// Returns the rule that joins output: between stops, if the text is `per-stop`.
+fn joined_at(text: &[u8]) -> Option<Statement>
+    ensures { option_map statement_of result ≡ joined_at text.now }
+{
+    if is_end(text) {
+        return Some(Statement::Join(Joining::Whole));
+    }
+    match gap(text) {
+        Some(text) => join_stops(text),
+        None => None,
+    }
+}
+
+fn join_stops(text: &[u8]) -> Option<Statement>
+    ensures { option_map statement_of result ≡ join_stops text.now }
+{
+    let (word, rest) = split_run(text, ByteClass::Plain);
+    if word == b"per-stop".as_slice() {
+        join_ended(rest)
+    } else {
+        None
+    }
+}
+
+fn join_ended(text: &[u8]) -> Option<Statement>
+    ensures { option_map statement_of result ≡ join_ended text.now }
+{
+    if is_end(text) {
+        Some(Statement::Join(Joining::PerStop))
     } else {
         None
     }

@@ -12,17 +12,19 @@ use Rattle.dap_normalise.specs.{Accepting.{Payload, text}, Normalising.RefusesBy
 use Rattle.dap_normalise.specs.RecordTexts.{FitRecords}
 use Rattle.dap_normalise.specs.declared.normal_session.NormalSession.{NormalSession}
 use Rattle.dap_recording.specs.Recording.{recording_text}
-use Rattle.dap_rules.specs.{MaskedRecordings.IsMaskedTo, MaskedSessions.{Holds, IsMaskedSession}}
+use Rattle.dap_rules.specs.MaskedSessions.{Holds}
 use Rattle.dap_rules.specs.declared.masked_session.MaskedSession.{MaskedSession}
 use Rattle.dap_order.specs.MessageOrder.{ordered}
 use Rattle.dap_rules.specs.OrderingSteps.{Arranges, Measures}
 use Rattle.dap_rules.specs.Ordering.{IsNotOrdered, NormalisesInOrder, Orders, RefusesToOrder}
 use Rattle.dap_rules.specs.Applying.{AppliesRules, IsNotNormalised, IsNotOrderedBy}
 use Rattle.dap_rules.specs.Applying.{IsRefusedByRules, NormalisesBy, OrdersBy, RefusesNormalBy}
-use Rattle.dap_rules.specs.Applying.{MakesSession, RefusesToMask}
-use Rattle.dap_rules.specs.ApplyingSteps.{MakesSessionBy, mask_refusal, order_refusal}
+use Rattle.dap_rules.specs.Applying.{IsMaskedByRules, MakesSession, RefusesToMaskByRules}
+use Rattle.dap_rules.specs.ApplyingSteps.{IsMaskedSessionByRules, MakesSessionBy, mask_refusal}
+use Rattle.dap_rules.specs.ApplyingSteps.{order_refusal}
 use Rattle.dap_rules.specs.declared.fault.ApplyRefused.{ApplyRefused, TheVariants.Order}
 use Rattle.dap_rules.proofs.{MaskedSessions.{fit, masks, records}, OneOrderOutcome.outcome}
+use Rattle.dap_rules.proofs.JoinOutcomes.{masks_of}
 use Rattle.dap_rules.proofs.OrderAnswers.{arranged_text, not_written, recording_refused}
 
 -- Some of the rules are for the order.
@@ -82,20 +84,27 @@ module _ (limits : Limits) (mode : Mode) (recording : List ℕ) where
   refuses_normal (rule ∷ rules) some because is = is
 
   module _ (mask : Mask) where
-    pub cannot_mask : (because : Refused) → RefusesToMask limits mask recording because
+    pub cannot_mask : (because : Refused) → RefusesToMaskByRules limits mask recording because
         → IsRefusedByRules limits mode mask recording (mask_refusal because)
     cannot_mask Memory is = tt
     cannot_mask because is = is
 
-    pub not_masked : (because : Refused) → RefusesToMask limits mask recording because
+    pub not_masked : (because : Refused) → RefusesToMaskByRules limits mask recording because
         → IsNotNormalised limits mode mask recording (mask_refusal because)
     not_masked Memory is = tt
     not_masked because is = is
 
-    module _ (masked : List ℕ) (masks : IsMaskedTo limits mask recording masked) where
+    module _ (masked : List ℕ) (masks : IsMaskedByRules limits mask recording masked) where
       pub applies : (written : List ℕ) → OrdersBy limits mode mask.swaps masked written
           → AppliesRules limits mode mask recording written
-      applies written orders = record { masked = masked; masks = masks; orders = orders }
+      applies written orders = record {
+        joined = masks.0;
+        numbers = masks.1;
+        joins = masks.2;
+        masked = masked;
+        masks = masks.3;
+        orders = orders;
+      }
 
       is_refused : (rules : List SwapRule) → (rules ≡ [] → ⊥) → (because : Refused)
           → IsNotOrdered limits mode rules masked because
@@ -134,7 +143,7 @@ module _ (limits : Limits) (mode : Mode) (recording : List ℕ) where
 -- A masked session, and the rules for the order.
 module _ (limits : Limits) (sound : AreSound limits) (mode : Mode) (rules : MaskRules)
     (recording : List ℕ) (session : MaskedSession)
-    (is : IsMaskedSession limits (mask_of rules) recording session) (swaps : List SwapRule)
+    (is : IsMaskedSessionByRules limits (mask_of rules) recording session) (swaps : List SwapRule)
     (same : swaps ≡ (mask_of rules).swaps) where
   -- A fact about the text of any records that the session contains.
   abbrev OfRecords : (List ℕ → Type 0) → Type 0
@@ -143,12 +152,12 @@ module _ (limits : Limits) (sound : AreSound limits) (mode : Mode) (rules : Mask
 
   -- The same fact about the masked recording.
   of_masked : (fact : List ℕ → Type 0) → OfRecords fact
-      → (masked : List ℕ) × IsMaskedTo limits (mask_of rules) recording masked × fact masked
+      → (masked : List ℕ) × IsMaskedByRules limits (mask_of rules) recording masked × fact masked
   of_masked fact made =
-      let all = records limits sound rules recording session is in (
+      let all = records limits sound rules is.joined session is.is_masked in (
         recording_text all,
-        masks limits sound rules recording session is,
-        made all (fit limits sound rules recording session is) is.holds,
+        (is.joined, is.numbers, is.joins, masks limits sound rules is.joined session is.is_masked),
+        made all (fit limits sound rules is.joined session is.is_masked) is.is_masked.holds,
       )
 
   pub session_applied : (fact : List ℕ → Type 0) → OfRecords (λ masked. (written : List ℕ)
@@ -192,6 +201,9 @@ module _ (limits : Limits) (mode : Mode) (mask : Mask) (some : mask.swaps ≡ []
     abbrev masked_text : List ℕ
     masked_text = made.applies.masked
 
+    masks_to : IsMaskedByRules limits mask recording masked_text
+    masks_to = masks_of limits mode mask recording made.written made.applies
+
     arranges : Arranges limits mode mask.swaps masked_text messages
     arranges = (
       made.written,
@@ -202,12 +214,12 @@ module _ (limits : Limits) (mode : Mode) (mask : Mask) (some : mask.swaps ≡ []
     pub text_applied : (written : List ℕ) → written ≡ text messages
         → AppliesRules limits mode mask recording written
     text_applied written same =
-        applies limits mode recording mask masked_text made.applies.masks written
+        applies limits mode recording mask masked_text masks_to written
         (orders limits mode masked_text mask.swaps some written
         (arranged_text limits mode mask.swaps masked_text messages arranges written same))
 
     pub text_refused : (because : Refused) → Measures limits messages (Err because)
         → IsRefusedByRules limits mode mask recording (order_refusal because)
     text_refused because long =
-        cannot_order limits mode recording mask masked_text made.applies.masks some because
+        cannot_order limits mode recording mask masked_text masks_to some because
         (not_written limits mode mask.swaps masked_text messages arranges because long)

@@ -1,6 +1,6 @@
 -- The result of applying rules to an input.
-use Rattle.std.proofs.Common.{◌≡◌, inl, inr, ℕ, ◌+◌, List, length, Result, Ok, Err, refl, sym}
-use Rattle.std.proofs.Common.{ap, subst, arith, length-append}
+use Rattle.std.proofs.Common.{◌≡◌, inl, inr, ℕ, List, Result, Ok, Err, refl, sym}
+use Rattle.std.proofs.Common.{subst, arith}
 use Rattle.std.specs.Prelude.{IfErr, IfOk}
 use Rattle.dap_device.specs.declared.device.Source.{Ghosts as Source}
 use Rattle.dap_device.specs.Reading.{HasReadInput}
@@ -18,6 +18,7 @@ use Rattle.dap_rules.specs.ApplyingSteps.{result_of_input}
 use Rattle.dap_rules.specs.Inputs.{ReadsSessionByRules}
 use Rattle.dap_rules.specs.declared.fault.ApplyRefused.{ApplyRefused}
 use Rattle.dap_rules.specs.declared.fault.ApplyRefused.TheVariants as because
+use Rattle.dap_rules.proofs.JoinOutcomes.{masking_not_cut, short_of_joined}
 
 module _ {R : Type 0} (source : Source R) (limits : Limits) (mode : Mode) (mask : Mask)
     (old new : R) (bytes : List ℕ) where
@@ -26,13 +27,6 @@ module _ {R : Type 0} (source : Source R) (limits : Limits) (mode : Mode) (mask 
 
   abbrev Returns : Result StoredSession ApplyRefused → Type 0
   Returns = ReadsSessionByRules source limits mode mask old new
-
-  -- An input that exceeds its limit is not incomplete.
-  not_cut : (n : ℕ) → IsRefusedByRules limits mode mask bytes (because.Mask (Record n Cut))
-      → length bytes ≡ limits.input + 1 → ⊥
-  not_cut n first long =
-      let within = first.refuses.in_time in
-      omega (arith, long, within, ap length first.split, length-append first.front first.rest)
 
   refuses : (why : Refused) (stop : Stop) → Came stop
       → IsRefusedByRules limits mode mask bytes (because.Mask why)
@@ -47,7 +41,9 @@ module _ {R : Type 0} (source : Source R) (limits : Limits) (mode : Mode) (mask 
   returned (Ok made) End came makes none =
       record { whole = bytes; came = came; gives = makes }
   returned (Ok made) Full came makes none =
-      let short = makes.applies.masks.masks.accepts.short in
+      let rules = makes.applies in
+      let short = short_of_joined limits mask.joining bytes rules.joined rules.numbers rules.joins
+      rules.masks.masks.accepts.short in
       let long = came.has_length in
       absurd (omega (arith, short, long))
   returned (Ok made) Failed came makes none =
@@ -55,7 +51,7 @@ module _ {R : Type 0} (source : Source R) (limits : Limits) (mode : Mode) (mask 
   returned (Err (because.Mask (Record n Cut))) End came none is =
       refuses (Record n Cut) End came is (λ m e. refl)
   returned (Err (because.Mask (Record n Cut))) Full came none is =
-      absurd (not_cut n is came.has_length)
+      absurd (masking_not_cut limits mask bytes n is came.has_length)
   returned (Err (because.Mask (Record n Cut))) Failed came none is =
       record { bytes = bytes; came = came; not_refused = inr (n, is) }
   returned (Err (because.Mask why)) stop came none is =

@@ -1,6 +1,9 @@
 pub mod MemoryRuns
 pub mod Applied
 pub mod InputAnswers
+pub mod InputTexts
+pub mod MaskOutcomes
+pub mod JoinOutcomes
 pub mod OneOutcome
 pub mod LeftLists
 pub mod MaskingFacts

@@ -6,6 +6,7 @@ use Rattle.dap_words.specs.Words.{Pair, have_own_texts}
 use Rattle.dap_words.proofs.Alike.{worded_alike}
 use Rattle.dap_input.specs.declared.limits.Limits.{Limits}
 use Rattle.dap_normalise.specs.Accepting.{Payload}
+use Rattle.dap_mask.specs.Fills.{filled}
 use Rattle.dap_mask.specs.Mask.{Mask}
 use Rattle.dap_rules.specs.Masking.{AreMessages, masked_text}
 use Rattle.dap_rules.specs.MaskedRecordings.{Masks, with_words}
@@ -28,8 +29,8 @@ module _ (mask : Mask) (pairs others : List Pair) (own : have_own_texts pairs �
       (side, docs, alike) =
       let doc : m.doc ≡ n.doc =
       one.1.2
-      ∙ worded_alike pairs others own own_other same true one.1.0 two.1.0
-      (docs one.1.0 two.1.0 one.1.1 two.1.1)
+      ∙ ap (filled mask.fills) (worded_alike pairs others own own_other same true one.1.0 two.1.0
+      (docs one.1.0 two.1.0 one.1.1 two.1.1))
       ∙ sym two.1.2 in
       ap₂ (λ k ks. k ∷ ks)
       (ap₂ (λ s d. record { side = s; doc = d }) (one.0 ∙ side ∙ sym two.0) doc)

@@ -13,6 +13,7 @@ use Rattle.dap_mask.specs.Mask.{Mask}
 use Rattle.dap_mask.specs.declared.mask_rules.MaskRules.{MaskRules}
 use Rattle.dap_mask.proofs.LooseReading.{left_is_read}
 use Rattle.dap_words.proofs.WordsUtf8.{strings_utf8}
+use Rattle.dap_mask.proofs.FilledDocs.{fills_utf8}
 use Rattle.dap_stored.specs.Sessions.{messages_of}
 use Rattle.dap_input.specs.Limits.{AreSound}
 use Rattle.dap_input.specs.declared.limits.Limits.{Limits}
@@ -102,6 +103,7 @@ pub left_read : (rules : MaskRules) (bytes : List ℕ) (e : Doc)
     → IsLeftOf (mask_of rules) bytes (Some e) → IsRead (text_of e) e
 left_read rules bytes e =
     left_is_read (mask_of rules) bytes e (strings_utf8 rules.list.words.list.items)
+    (fills_utf8 rules.list.fills.items)
 
 module _ (limits : Limits) (mask : Mask) (messages : List Sent) (held : Payload) (n written : ℕ)
     (session : MaskedSession)

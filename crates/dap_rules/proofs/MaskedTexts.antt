@@ -19,15 +19,15 @@ use Rattle.dap_normalise.specs.RecordTexts.{contents_of}
 use Rattle.dap_normalise.proofs.NormalFormLaws.{equal_texts_tell, recording_of}
 use Rattle.dap_mask.specs.Ids.{leave_ids}
 use Rattle.dap_mask.specs.Categories.{keep_categories}
-use Rattle.dap_mask.specs.Loose.{IsReadWith}
+use Rattle.dap_mask.specs.Fills.{filled, keep_fills, AreFillsUtf8}
+use Rattle.dap_mask.specs.Loose.{IsReadBy, IsReadLoosely}
 use Rattle.dap_mask.specs.Mask.{Mask, leaves_out}
 use Rattle.dap_mask.specs.Masked.{masked}
 use Rattle.dap_mask.specs.Rules.{are_safe, are_idempotent}
 use Rattle.dap_mask.proofs.ByPath.{agree_from_equal, equal_from_agree}
 use Rattle.dap_mask.proofs.Dropping.{stays_in}
-use Rattle.dap_mask.proofs.LooseReading.{content_masked, left_is_read, ordered_with}
+use Rattle.dap_mask.proofs.LooseReading.{content_masked, filled_again, left_is_read, ordered_by}
 use Rattle.dap_words.specs.Words.{AreUtf8}
-use Rattle.dap_words.specs.Worded.{worded_message}
 use Rattle.dap_words.proofs.WordedDocs.{worded_none}
 use Rattle.dap_mask.proofs.LooseReading.{one_loose_reading}
 use Rattle.dap_mask.proofs.Loosening.{read_loose}
@@ -43,7 +43,7 @@ use Rattle.dap_rules.proofs.MaskingFacts.{accepted_facts, value_laws}
 
 -- Some content is read as the message.
 abbrev IsSomeRead : Mask → Sent → Type 0
-IsSomeRead mask m = (content : List ℕ) × IsReadWith mask.words content m.doc
+IsSomeRead mask m = (content : List ℕ) × IsReadBy mask content m.doc
 
 all_read : (mask : Mask) (records : List Payload) (messages : List Sent)
     → AreMessages mask records messages → AllByRecursion (IsSomeRead mask) messages
@@ -54,7 +54,7 @@ all_read mask (held ∷ records) (m ∷ messages) read =
     ((held.1, read.0.1), all_read mask records messages read.1)
 
 ordered : (mask : Mask) (m : Sent) → IsSomeRead mask m → is_ordered m.doc ≡ true
-ordered mask m read = ordered_with mask.words read.0 m.doc read.1
+ordered mask m read = ordered_by mask read.0 m.doc read.1
 
 kept_read : (mask : Mask) (messages : List Sent) → AllByRecursion (IsSomeRead mask) messages
     → AllByRecursion (IsSomeRead mask) (kept mask messages)
@@ -62,6 +62,18 @@ kept_read mask [] read = tt
 kept_read mask (m ∷ messages) read =
     by_bool (is_kept mask m) (λ yes. rw yes (read.0, kept_read mask messages read.1))
     (λ no. rw no (kept_read mask messages read.1))
+
+-- The contents are read as these documents, without words and before members are set.
+abbrev AreReadLoosely : List Payload → List Sent → Type 0
+AreReadLoosely [] [] = Unit {0}
+AreReadLoosely [] (m ∷ ms) = ⊥
+AreReadLoosely (held ∷ records) [] = ⊥
+AreReadLoosely (held ∷ records) (m ∷ ms) = (m.side ≡ held.0) × IsReadLoosely held.1 m.doc
+    × AreReadLoosely records ms
+
+-- The rules set no member of the messages.
+abbrev AreFilled : Mask → List Sent → Type 0
+AreFilled mask ms = AllByRecursion (λ m. filled mask.fills m.doc ≡ m.doc) ms
 
 not_true : (b : Bool) → not b ≡ true → b ≡ false
 not_true true h = cc
@@ -121,71 +133,76 @@ module _ (mask : Mask) (safe : are_safe mask.changes ≡ true)
       (all_equal ms ns read.1 agree.1)
 
   -- The masked messages are read from their own text.
-  read_again : AreUtf8 mask.words → (messages : List Sent)
+  read_again : AreUtf8 mask.words → AreFillsUtf8 mask.fills → (messages : List Sent)
       → AllByRecursion (IsSomeRead mask) messages → AreWhole (left_of mask messages)
-      → AreMessages (with_words [] mask) (contents_of (left_of mask messages))
-      (left_of mask messages)
-  read_again utf8 [] read whole = tt
-  read_again utf8 (m ∷ messages) read whole =
+      → AreReadLoosely (contents_of (left_of mask messages)) (left_of mask messages)
+  read_again utf8 fills [] read whole = tt
+  read_again utf8 fills (m ∷ messages) read whole =
       by_bool (leaves_out mask m.doc)
-      (λ yes. rw yes (read_again utf8 messages read.1 (rw yes at whole)))
+      (λ yes. rw yes (read_again utf8 fills messages read.1 (rw yes at whole)))
       (λ no.
       let sound = rw no at whole in
       let e = masked mask.changes m.doc in
       rw no (
-        (
-          refl,
-          (
-            e,
-            read_loose (text_of e) e
-                (left_is_read mask read.0.0 e utf8 (m.doc, read.0.1, (no, refl, sound.0))),
-            sym (worded_none true e),
-          ),
-        ),
-        read_again utf8 messages read.1 sound.1,
+        refl,
+        read_loose (text_of e) e
+            (left_is_read mask read.0.0 e utf8 fills (m.doc, read.0.1, (no, refl, sound.0))),
+        read_again utf8 fills messages read.1 sound.1,
       ))
 
--- Messages without a text of the words are read with the words as without.
-read_with : (mask : Mask) (records : List Payload) (ms : List Sent)
-    → AreMessages (with_words [] mask) records ms → HaveNoText mask.words ms
-    → AreMessages mask records ms
-read_with mask [] [] read none = tt
-read_with mask [] (m ∷ ms) read none = absurd read
-read_with mask (held ∷ records) [] read none = absurd read
-read_with mask (held ∷ records) (m ∷ ms) (one, read) (none, others) =
-    let raw = one.1.0 in
-    let same : m.doc ≡ raw = one.1.2 ∙ worded_none true raw in (
-      (one.0, (raw, one.1.1, sym none ∙ ap (worded_message mask.words) same)),
-      read_with mask records ms read others,
-    )
+  -- No member of the masked messages is left to be set.
+  all_filled : keep_fills mask.changes mask.fills ≡ true → (messages : List Sent)
+      → AllByRecursion (IsSomeRead mask) messages → AreFilled mask (left_of mask messages)
+  all_filled full [] read = tt
+  all_filled full (m ∷ messages) read =
+      by_bool (leaves_out mask m.doc)
+      (λ yes. rw yes (all_filled full messages read.1))
+      (λ no. rw no (
+        filled_again mask read.0.0 m.doc safe full read.0.1,
+        all_filled full messages read.1,
+      ))
+
+-- Messages without a text of the words, in which no member is left to be set, are read by the mask.
+read_as : (mask : Mask) (records : List Payload) (ms : List Sent) → AreReadLoosely records ms
+    → AreFilled mask ms → HaveNoText mask.words ms → AreMessages mask records ms
+read_as mask [] [] read full none = tt
+read_as mask [] (m ∷ ms) read full none = absurd read
+read_as mask (held ∷ records) [] read full none = absurd read
+read_as mask (held ∷ records) (m ∷ ms) (side, one, read) (full, fulls) (none, others) = (
+  (side, (m.doc, one, sym (ap (filled mask.fills) none ∙ full))),
+  read_as mask records ms read fulls others,
+)
+
+no_text : (ms : List Sent) → HaveNoText [] ms
+no_text [] = tt
+no_text (m ∷ ms) = (worded_none true m.doc, no_text ms)
 
 -- A message typed from a content is typed from the document that is read from that content.
-typed_as : (mask : Mask) (records : List Payload) (ms ts : List Sent)
-    → AreMessages (with_words [] mask) records ms
+typed_as : (records : List Payload) (ms ts : List Sent) → AreReadLoosely records ms
     → AreTypedMessages records ts → AllZip IsTypedAs ms ts
-typed_as mask [] [] [] read typed = tt
-typed_as mask [] [] (t ∷ ts) read typed = absurd typed
-typed_as mask [] (m ∷ ms) ts read typed = absurd read
-typed_as mask (held ∷ records) [] ts read typed = absurd read
-typed_as mask (held ∷ records) (m ∷ ms) [] read typed = absurd typed
-typed_as mask (held ∷ records) (m ∷ ms) (t ∷ ts) (one, read) (two, typed) =
-    let side : held.0 ≡ m.side = sym one.0 in
+typed_as [] [] [] read typed = tt
+typed_as [] [] (t ∷ ts) read typed = absurd typed
+typed_as [] (m ∷ ms) ts read typed = absurd read
+typed_as (held ∷ records) [] ts read typed = absurd read
+typed_as (held ∷ records) (m ∷ ms) [] read typed = absurd typed
+typed_as (held ∷ records) (m ∷ ms) (t ∷ ts) (sided, one, read) (two, typed) =
+    let side : held.0 ≡ m.side = sym sided in
     let doc : two.1.0 ≡ m.doc =
-    one_loose_reading held.1 two.1.0 one.1.0 (read_loose held.1 two.1.0 two.1.1) one.1.1
-    ∙ sym (one.1.2 ∙ worded_none true one.1.0) in (
+    one_loose_reading held.1 two.1.0 m.doc (read_loose held.1 two.1.0 two.1.1) one in (
       (
         two.0 ∙ side,
         subst (λ s. IsTyped s m.doc t.doc) side
             (subst (λ d. IsTyped held.0 d t.doc) doc two.1.2),
       ),
-      typed_as mask records ms ts read typed,
+      typed_as records ms ts read typed,
     )
 
 module _ (limits : Limits) (sound : AreSound limits) where
   module _ (mask : Mask) (safe : are_safe mask.changes ≡ true)
       (settled : are_idempotent mask.changes ≡ true)
       (keep : keep_categories mask.changes mask.categories ≡ true)
-      (utf8 : AreUtf8 mask.words) where
+      (full : keep_fills mask.changes mask.fills ≡ true) (utf8 : AreUtf8 mask.words)
+      (fills : AreFillsUtf8 mask.fills) where
     -- ---- masked output masks to itself
 
     -- The mask by its rules alone.
@@ -201,7 +218,10 @@ module _ (limits : Limits) (sound : AreSound limits) where
           short = let fits = accepted.fits in fits.whole;
           records = contents_of (left_of mask messages);
           recording = let fits = accepted.fits in recording_of limits sound (left_of mask messages) fits.each;
-          read = read_again mask safe settled keep utf8 messages read accepted.whole;
+          read = read_as rules_alone (contents_of (left_of mask messages)) (left_of mask messages)
+              (read_again mask safe settled keep utf8 fills messages read accepted.whole)
+              (all_filled mask safe settled keep full messages read)
+              (no_text (left_of mask messages));
           whole = subst AreWhole same accepted.whole;
           fits = subst (Fits limits) same accepted.fits;
         }
@@ -209,13 +229,17 @@ module _ (limits : Limits) (sound : AreSound limits) where
     left_with : (bytes : List ℕ) (messages : List Sent) → IsAccepted limits mask bytes messages
         → HaveNoText mask.words (left_of mask messages)
         → IsAccepted limits mask (text (left_of mask messages)) (left_of mask messages)
+    unfolding left_accepted
     left_with bytes messages accepted none =
         let again = left_accepted bytes messages accepted in
+        let read = all_read mask accepted.records messages accepted.read in
         record {
           short = again.short;
           records = again.records;
           recording = again.recording;
-          read = read_with mask again.records (left_of mask messages) again.read none;
+          read = read_as mask (contents_of (left_of mask messages)) (left_of mask messages)
+              (read_again mask safe settled keep utf8 fills messages read accepted.whole)
+              (all_filled mask safe settled keep full messages read) none;
           whole = again.whole;
           fits = again.fits;
         }
@@ -287,6 +311,7 @@ module _ (limits : Limits) (sound : AreSound limits) where
         → (mode : Mode) (normal : List ℕ)
         (n : Normalises limits mode (text (left_of mask messages)) normal)
         → AllZip IsTypedAs (left_of mask messages) n.messages
+    unfolding left_accepted
     left_typed bytes messages accepted mode normal n =
         let again = left_accepted bytes messages accepted in
         let typed = n.accepts in
@@ -294,7 +319,9 @@ module _ (limits : Limits) (sound : AreSound limits) where
         items.one_list (record_grammar limits.frame) (not_empty (readable limits.frame))
         (text (left_of mask messages)) typed.records again.records typed.recording again.recording
         in
-        typed_as mask again.records (left_of mask messages) n.messages again.read
+        typed_as again.records (left_of mask messages) n.messages
+        (read_again mask safe settled keep utf8 fills messages
+        (all_read mask accepted.records messages accepted.read) accepted.whole)
         (subst (λ records. AreTypedMessages records n.messages) same typed.typed)
 
     -- ---- all guarantees
@@ -306,7 +333,7 @@ module _ (limits : Limits) (sound : AreSound limits) where
       each_masked (m ∷ messages) read = (
         record {
           side = refl;
-          doc = content_masked mask.changes mask.words read.0.0 m.doc safe settled leave read.0.1;
+          doc = content_masked mask.changes mask read.0.0 m.doc safe settled leave read.0.1;
         },
         each_masked messages read.1,
       )

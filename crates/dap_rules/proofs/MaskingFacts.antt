@@ -13,6 +13,7 @@ use Rattle.dap_input.proofs.Runs.{Run, run_within, ValueLaws, ValueFacts, Accept
 use Rattle.dap_normalise.specs.Accepting.{Payload, Fits}
 use Rattle.dap_normalise.specs.JudgingSteps.{payload_of}
 use Rattle.dap_normalise.proofs.NormalTexts.{fits_front, fits_or_not}
+use Rattle.dap_mask.specs.Fills.{filled}
 use Rattle.dap_mask.specs.Mask.{Mask}
 use Rattle.dap_words.specs.Worded.{worded_message}
 use Rattle.dap_mask.proofs.LooseReading.{one_reading, some_loose_reading}
@@ -25,7 +26,7 @@ pub message_once : (mask : Mask) (held : Payload) (m n : Sent) → IsMessage mas
     → IsMessage mask held n → m ≡ n
 message_once mask held m n one two =
     ap₂ (λ s d. record { side = s; doc = d }) (one.0 ∙ sym two.0)
-    (one_reading mask.words held.1 m.doc n.doc one.1 two.1)
+    (one_reading mask held.1 m.doc n.doc one.1 two.1)
 
 module _ (limits : Limits) (mask : Mask) where
   -- ---- at most one outcome
@@ -103,7 +104,7 @@ module _ (limits : Limits) (mask : Mask) where
     judge_held : Judgement
     judge_held =
         elim (some_loose_reading held.1) [
-          | inl read ↦ let doc = worded_message mask.words read.0 in
+          | inl read ↦ let doc = filled mask.fills (worded_message mask.words read.0) in
               let m : Sent = record { side = held.0; doc = doc } in
               judge_message m (refl, (read.0, read.1, refl)) (whole_or_not (left_of mask (m ∷ [])))
           | inr none ↦ inr (no_message no_reading, none)

@@ -37,6 +37,7 @@ use Rattle.dap_rules.specs.Masking.{IsAccepted, left_of, masked_text, masking}
 use Rattle.dap_rules.specs.MaskedRecordings.{IsMaskedTo, Masks}
 use Rattle.dap_rules.specs.MaskingSteps.{IsTaken, Masked}
 use Rattle.dap_words.proofs.WordsUtf8.{strings_utf8}
+use Rattle.dap_mask.proofs.FilledDocs.{fills_utf8}
 use Rattle.dap_rules.proofs.MaskedTexts.{masked_to}
 use Rattle.dap_rules.proofs.MaskingFacts.{accepted_facts, fits_none, reads_records}
 
@@ -60,7 +61,8 @@ pub promised : (limits : Limits) → AreSound limits → (rules : MaskRules) (by
     → IsMaskedTo limits (mask_of rules) bytes (masked_text (mask_of rules) messages)
 promised limits sound rules =
     masked_to limits sound (mask_of rules) rules.list.safe rules.list.settled rules.list.kept
-    (strings_utf8 rules.list.words.list.items) rules.list.leave
+    rules.list.full (strings_utf8 rules.list.words.list.items) (fills_utf8 rules.list.fills.items)
+    rules.list.leave
 
 masks : (limits : Limits) (mask : Mask) (bytes : List ℕ) (messages : List Sent)
     → IsAccepted limits mask bytes messages → Masks limits mask bytes (masked_text mask messages)

@@ -1,71 +1,40 @@
--- Rules turn a recording into at most one text. If they do, there is no error.
-use Rattle.std.proofs.Common.{◌≡◌, ℕ, List, [], ◌∷◌, refl, sym, ◌∙◌, ap, subst}
-use Rattle.dap_recording.proofs.Records.{readable}
-use Rattle.dap_mask.specs.Mask.{Mask}
-use Rattle.dap_message.specs.SwapRules.{SwapRule}
-use Rattle.dap_rename.specs.declared.mode.Mode.{Mode}
+-- Rules turn a recording into at most one text. If they do, it is not rejected.
+use Rattle.std.proofs.Common.{◌≡◌, ℕ, List, refl, subst}
 use Rattle.dap_input.specs.declared.limits.Limits.{Limits}
-use Rattle.dap_input.specs.declared.refused.Refused.{Refused}
-use Rattle.dap_input.specs.Refusals.{IsRefused}
-use Rattle.dap_input.proofs.ItemReaders.{shown_cause}
-use Rattle.dap_input.proofs.OneOutcome.{has_one_outcome}
-use Rattle.dap_input.proofs.Outcomes.{one_list}
-use Rattle.dap_rules.specs.MaskedRecordings.{IsMaskedTo}
-use Rattle.dap_rules.specs.Masking.{masked_text, masking}
-use Rattle.dap_rules.proofs.MaskingFacts.{accepted_facts, value_facts, value_laws}
-use Rattle.dap_rules.proofs.OneOrderOutcome.{ordered_has_no_error}
-use Rattle.dap_rules.proofs.OrderedTexts.{one_ordered_text}
-use Rattle.dap_rules.specs.Applying.{IsNotOrderedBy, OrdersBy}
+use Rattle.dap_mask.specs.Mask.{Mask}
+use Rattle.dap_rename.specs.declared.mode.Mode.{Mode}
+use Rattle.dap_rules.specs.Applying.{AppliesRules, IsMaskedByRules, IsNotOrderedBy, OrdersBy}
 use Rattle.dap_rules.specs.Laws.{AppliedHasNoError, OneTextByRules}
 use Rattle.dap_rules.specs.declared.fault.ApplyRefused.TheVariants as because
+use Rattle.dap_rules.proofs.JoinOutcomes.{masked_by_not_refused, masks_of, one_joined_by}
+use Rattle.dap_rules.proofs.MaskOutcomes.{one_masked, one_order, ordered_not_refused}
+use Rattle.dap_rules.specs.MaskedRecordings.{IsMaskedTo}
 
-module _ (limits : Limits) where
-  pub one_masked : (mask : Mask) (recording masked other : List ℕ)
-      → IsMaskedTo limits mask recording masked → IsMaskedTo limits mask recording other
-      → masked ≡ other
-  one_masked mask recording masked other one two =
-      one.masks.text_is ∙ ap (masked_text mask)
-      (one_list (masking limits mask) (readable limits.frame) (value_laws limits mask)
-      (accepted_facts limits mask) recording one.masks.messages two.masks.messages
-      one.masks.accepts two.masks.accepts)
-      ∙ sym two.masks.text_is
-
-  pub masked_not_refused : (mask : Mask) (recording masked : List ℕ) (refused : Refused)
-      → IsMaskedTo limits mask recording masked
-      → IsRefused (masking limits mask) recording refused → ⊥
-  masked_not_refused mask recording masked refused is =
-      (has_one_outcome (masking limits mask) (shown_cause limits.frame) (readable limits.frame)
-      (value_facts limits mask) (accepted_facts limits mask)).not_both recording
-      is.masks.messages refused is.masks.accepts
-
-  module _ (mode : Mode) where
-    pub one_order : (rules : List SwapRule) (recording written other : List ℕ)
-        → OrdersBy limits mode rules recording written
-        → OrdersBy limits mode rules recording other → written ≡ other
-    one_order [] recording written other one two = one ∙ sym two
-    one_order (rule ∷ rules) recording written other one two =
-        one_ordered_text limits mode (rule ∷ rules) recording written other one two
-
-    pub ordered_not_refused : (rules : List SwapRule) (recording written : List ℕ)
-        (refused : Refused) → OrdersBy limits mode rules recording written
-        → IsNotOrderedBy limits mode rules recording refused → ⊥
-    ordered_not_refused [] recording written refused one is = is
-    ordered_not_refused (rule ∷ rules) recording written refused one is =
-        ordered_has_no_error limits mode (rule ∷ rules) recording written refused one is
+-- The rules mask a recording to one text.
+one_masked_by : (limits : Limits) (mode : Mode) (mask : Mask) (recording written masked : List ℕ)
+    (a : AppliesRules limits mode mask recording written)
+    → IsMaskedByRules limits mask recording masked → masked ≡ a.masked
+one_masked_by limits mode mask recording written masked a (joined, numbers, joins, masks) =
+    one_masked limits mask a.joined masked a.masked
+    (subst (λ bytes. IsMaskedTo limits mask bytes masked)
+    (one_joined_by limits mask.joining recording joined numbers a.joined a.numbers joins a.joins)
+    masks) a.masks
 
 pub one_text_by_rules : OneTextByRules
 one_text_by_rules limits mode mask recording written other a b =
     one_order limits mode mask.swaps a.masked written other a.orders
     (subst (λ masked. OrdersBy limits mode mask.swaps masked other)
-    (one_masked limits mask recording b.masked a.masked b.masks a.masks) b.orders)
+    (one_masked_by limits mode mask recording written b.masked a
+    (masks_of limits mode mask recording other b)) b.orders)
 
 pub applied_has_no_error : AppliedHasNoError
 applied_has_no_error limits mode mask recording written (because.Mask refused) a is =
-    absurd (masked_not_refused limits mask recording a.masked refused a.masks is)
+    absurd (masked_by_not_refused limits mask recording a.joined a.numbers a.joins a.masked refused
+    a.masks is)
 applied_has_no_error limits mode mask recording written (because.Order refused) a
     (masked, masks, is) =
     absurd (ordered_not_refused limits mode mask.swaps a.masked written refused a.orders
     (subst (λ bytes. IsNotOrderedBy limits mode mask.swaps bytes refused)
-    (one_masked limits mask recording masked a.masked masks a.masks) is))
+    (one_masked_by limits mode mask recording written masked a masks) is))
 applied_has_no_error limits mode mask recording written because.ReadFault a is = absurd is
 applied_has_no_error limits mode mask recording written because.Memory a is = refl

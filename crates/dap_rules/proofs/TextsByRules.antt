@@ -22,12 +22,13 @@ use Rattle.dap_order.specs.Swaps.{Reordered, unmoved, swapped}
 use Rattle.dap_order.specs.MessageOrder.{ordered}
 use Rattle.dap_order.proofs.MessageOrder.{to_ordered}
 use Rattle.dap_order.proofs.SameMessages.{same_orders, from_same_orders}
-use Rattle.dap_rules.specs.Applying.{MakesSession, NormalisesByRules, OrdersBy}
+use Rattle.dap_rules.specs.Applying.{IsMaskedByRules, MakesSession, NormalisesByRules, OrdersBy}
 use Rattle.dap_rules.specs.Laws.{EqualTextsByRules, EqualTextsInEachMode, OneMaskedList}
 use Rattle.dap_rules.specs.Laws.{SameSessionsByRules, SessionIsOrdered}
 use Rattle.dap_rules.specs.MaskedMessages.{AreMaskedMessages}
-use Rattle.dap_rules.specs.MaskedRecordings.{IsMaskedTo, IsTypedAs}
-use Rattle.dap_rules.specs.Masking.{left_of, masking}
+use Rattle.dap_rules.specs.MaskedRecordings.{IsTypedAs}
+use Rattle.dap_rules.specs.Masking.{IsAccepted as IsAcceptedMasked, left_of, masking}
+use Rattle.dap_rules.proofs.JoinOutcomes.{masks_of, one_joined_by}
 use Rattle.dap_rules.proofs.MaskingFacts as mask_facts
 use Rattle.dap_rules.proofs.OrderedTexts.{one_accepted}
 
@@ -51,9 +52,12 @@ all_typed (old ∷ olds) (new ∷ news) (other ∷ others) one two =
 
 pub one_masked_list : OneMaskedList
 one_masked_list limits mask recording messages others one two =
+    let joined = one_joined_by limits mask.joining recording one.joined one.numbers two.joined
+    two.numbers one.joins two.joins in
     let same = one_list (masking limits mask) (readable limits.frame)
-    (mask_facts.value_laws limits mask) (mask_facts.accepted_facts limits mask) recording two.read
-    one.read two.accepts one.accepts in
+    (mask_facts.value_laws limits mask) (mask_facts.accepted_facts limits mask) two.joined two.read
+    one.read two.accepts
+    (subst (λ bytes. IsAcceptedMasked limits mask bytes one.read) joined one.accepts) in
     all_typed (left_of mask one.read) messages others one.typed
     (subst (λ read. AllZip IsTypedAs (left_of mask read) others) same two.typed)
 
@@ -93,10 +97,13 @@ module _ (limits : Limits) (mode : Mode) where
   }
 
   module _ (mask : Mask) (recording : List ℕ) where
-    are_masked : (masked : List ℕ) (messages : List Sent) → IsMaskedTo limits mask recording masked
-        → IsAccepted limits mode masked messages
+    are_masked : (masked : List ℕ) (messages : List Sent)
+        → IsMaskedByRules limits mask recording masked → IsAccepted limits mode masked messages
         → AreMaskedMessages limits mask recording messages
-    are_masked masked messages is accepted = record {
+    are_masked masked messages (joined, numbers, joins, is) accepted = record {
+      joined = joined;
+      numbers = numbers;
+      joins = joins;
       read = is.masks.messages;
       accepts = is.masks.accepts;
       typed = is.typed mode (text (normal_of (stop_in mode) messages)) record {
@@ -123,7 +130,8 @@ module _ (limits : Limits) (mode : Mode) where
         let from = made_from session makes in
         let masked = makes.applies.masked in
         let same : from.messages ≡ ms = one_masked_list limits mask recording from.messages ms
-        (are_masked masked from.messages makes.applies.masks from.accepted) are in (
+        (are_masked masked from.messages
+        (masks_of limits mode mask recording makes.written makes.applies) from.accepted) are in (
           masked,
           subst (IsAccepted limits mode masked) same from.accepted,
           from.in_order ∙ ap (ordered mask.swaps) same,
@@ -133,8 +141,8 @@ pub session_is_ordered : SessionIsOrdered
 session_is_ordered limits mode mask recording session makes =
     let from = made_from limits mode mask recording session makes in (
       from.messages,
-      are_masked limits mode mask recording makes.applies.masked from.messages makes.applies.masks
-          from.accepted,
+      are_masked limits mode mask recording makes.applies.masked from.messages
+          (masks_of limits mode mask recording makes.written makes.applies) from.accepted,
       from.in_order,
     )
 

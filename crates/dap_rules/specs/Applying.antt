@@ -1,6 +1,8 @@
 -- The text into which the rules of a file turn a recording, its messages, and the errors for which
--- they cannot. Source: own, over masks and the order of messages.
-use Rattle.std.specs.Prelude.{◌≡◌, ◌⊎◌, ℕ, List, [], ◌∷◌}
+-- they cannot. Source: own, over joined output, masks and the order of messages.
+use Rattle.std.specs.Prelude.{◌≡◌, ◌⊎◌, ℕ, List, [], ◌∷◌, Option, Some, None}
+use Rattle.dap_join.specs.Joining.{IsNotJoined, Joins}
+use Rattle.dap_mask.specs.declared.joining.Joining.{Joining}
 use Rattle.dap_mask.specs.Mask.{Mask}
 use Rattle.dap_message.specs.{Message.Sent, SwapRules.SwapRule}
 use Rattle.dap_rename.specs.declared.mode.Mode.{Mode}
@@ -10,12 +12,26 @@ use Rattle.dap_normalise.specs.Accepting.{IsAccepted, accepting}
 use Rattle.dap_normalise.specs.NormalSession.{IsNormalSession}
 use Rattle.dap_normalise.specs.Normalising.{RefusesBytes}
 use Rattle.dap_normalise.specs.declared.normal_session.NormalSession.{NormalSession}
-use Rattle.dap_rules.specs.{MaskedRecordings.IsMaskedTo, Masking.masking}
+use Rattle.dap_rules.specs.{MaskedRecordings.IsMaskedTo, Masking.masking, Renumbering.renumbered}
 use Rattle.dap_rules.specs.Ordering.{IsNotOrdered, Orders, RefusesToOrder}
 use Rattle.dap_rules.specs.declared.fault.ApplyRefused.{ApplyRefused}
 use Rattle.dap_rules.specs.declared.fault.ApplyRefused.TheVariants as because
 
 -- ---- the text
+
+-- If the rules join output, `joined` is the recording with its output joined, and `numbers` are the
+-- numbers that its records have in the recording. Otherwise the recording is unchanged, and the
+-- list of numbers is empty.
+abbrev pub JoinsBy : Limits → Option Joining → List ℕ → List ℕ → List ℕ → Type 0
+JoinsBy limits None recording joined numbers = (joined ≡ recording) × (numbers ≡ [])
+JoinsBy limits (Some joining) recording joined numbers =
+    Joins limits joining recording joined numbers
+
+-- The output of the recording is joined if the rules say so, and the result is masked.
+abbrev pub IsMaskedByRules : Limits → Mask → List ℕ → List ℕ → Type 0
+IsMaskedByRules limits mask recording written = (joined : List ℕ) × (numbers : List ℕ)
+    × JoinsBy limits mask.joining recording joined numbers
+    × IsMaskedTo limits mask joined written
 
 -- The rules for the order put the recording in order. Without such rules it is unchanged.
 abbrev pub OrdersBy : Limits → Mode → List SwapRule → List ℕ → List ℕ → Type 0
@@ -23,11 +39,15 @@ OrdersBy limits mode [] recording written = written ≡ recording
 OrdersBy limits mode (rule ∷ rules) recording written =
     Orders limits mode (rule ∷ rules) recording written
 
--- The recording is masked, and the masked recording is put in order: `written` is its text.
+-- The output of the recording is joined if the rules say so, the joined recording is masked, and
+-- the masked recording is put in order: `written` is its text.
 pub record AppliesRules (limits : Limits) (mode : Mode) (mask : Mask)
     (recording written : List ℕ) : Type 0 where
+  pub joined : List ℕ
+  pub numbers : List ℕ
+  pub joins : JoinsBy limits mask.joining recording joined numbers
   pub masked : List ℕ
-  pub masks : IsMaskedTo limits mask recording masked
+  pub masks : IsMaskedTo limits mask joined masked
   pub orders : OrdersBy limits mode mask.swaps masked written
 
 -- The rules turn the recording into a text, which is accepted, and these are its messages.
@@ -50,6 +70,30 @@ NormalisesByRules limits mode mask recording session = (written : List ℕ)
 
 -- ---- errors
 
+-- The rules join output, and the output of the recording cannot be joined for this reason.
+abbrev pub IsNotJoinedBy : Limits → Option Joining → List ℕ → Refused → Type 0
+IsNotJoinedBy limits None recording refused = ⊥
+IsNotJoinedBy limits (Some joining) recording refused =
+    IsNotJoined limits joining recording refused
+
+-- The output of the recording is joined if the rules say so, and the joined recording cannot be
+-- masked. The error is reported with the number that its record has in the recording.
+pub record CannotMaskJoined (limits : Limits) (mask : Mask) (recording : List ℕ)
+    (refused : Refused) : Type 0 where
+  pub joined : List ℕ
+  pub numbers : List ℕ
+  pub joins : JoinsBy limits mask.joining recording joined numbers
+  pub because : Refused
+  pub is_refused : IsRefused (masking limits mask) joined because
+  pub is_renumbered : refused ≡ renumbered numbers because
+
+-- The rules cannot mask the recording, for this reason: its output cannot be joined, or the joined
+-- recording cannot be masked.
+abbrev pub IsNotMaskedByRules : Limits → Mask → List ℕ → Refused → Type 0
+IsNotMaskedByRules limits mask recording refused =
+    IsNotJoinedBy limits mask.joining recording refused
+    ⊎ CannotMaskJoined limits mask recording refused
+
 -- There are rules for the order, and they cannot put the recording in order for this reason.
 abbrev pub IsNotOrderedBy : Limits → Mode → List SwapRule → List ℕ → Refused → Type 0
 IsNotOrderedBy limits mode [] recording refused = ⊥
@@ -60,14 +104,20 @@ IsNotOrderedBy limits mode (rule ∷ rules) recording refused =
 -- masking succeeded.
 abbrev pub IsRefusedByRules : Limits → Mode → Mask → List ℕ → ApplyRefused → Type 0
 IsRefusedByRules limits mode mask recording (because.Mask refused) =
-    IsRefused (masking limits mask) recording refused
+    IsNotMaskedByRules limits mask recording refused
 IsRefusedByRules limits mode mask recording (because.Order refused) =
-    (masked : List ℕ) × IsMaskedTo limits mask recording masked
+    (masked : List ℕ) × IsMaskedByRules limits mask recording masked
     × IsNotOrderedBy limits mode mask.swaps masked refused
 IsRefusedByRules limits mode mask recording because.ReadFault = ⊥
 IsRefusedByRules limits mode mask recording because.Memory = Unit {0}
 
--- The recording cannot be masked for this reason, or an allocation failed.
+-- The rules cannot mask the recording for this reason, or an allocation failed.
+abbrev pub RefusesToMaskByRules : Limits → Mask → List ℕ → Refused → Type 0
+RefusesToMaskByRules limits mask recording Memory = Unit {0}
+RefusesToMaskByRules limits mask recording refused =
+    IsNotMaskedByRules limits mask recording refused
+
+-- The recording cannot be masked for this reason, or an allocation failed. Output is not joined.
 abbrev pub RefusesToMask : Limits → Mask → List ℕ → Refused → Type 0
 RefusesToMask limits mask recording Memory = Unit {0}
 RefusesToMask limits mask recording refused = IsRefused (masking limits mask) recording refused

@@ -1,5 +1,8 @@
 -- What the steps of applying rules do, for private clauses.
-use Rattle.std.specs.Prelude.{ℕ, List, Result, Ok, Err}
+use Rattle.std.specs.Prelude.{ℕ, List, [], Option, Some, None, Result, Ok, Err}
+use Rattle.dap_join.specs.declared.joined.Joined.{Joined}
+use Rattle.dap_mask.specs.declared.joining.Joining.{Joining}
+use Rattle.dap_mask.specs.Mask.{Mask}
 use Rattle.dap_device.specs.{declared.reading.Stop.Stop, declared.reading.Stop.TheVariants.Failed}
 use Rattle.dap_message.specs.{Message.Sent, SwapRules.SwapRule}
 use Rattle.dap_rename.specs.declared.mode.Mode.{Mode}
@@ -7,9 +10,26 @@ use Rattle.dap_input.specs.{declared.limits.Limits.Limits, declared.refused.Refu
 use Rattle.dap_input.specs.declared.refused.Refused.TheVariants.{Memory, Record}
 use Rattle.dap_normalise.specs.Accepting.{IsAccepted}
 use Rattle.dap_recording.specs.declared.record_fault.RecordCause.TheVariants.{Cut}
-use Rattle.dap_rules.specs.Applying.{OrdersBy}
+use Rattle.dap_rules.specs.Applying.{JoinsBy, OrdersBy}
+use Rattle.dap_rules.specs.MaskedSessions.{IsMaskedSession}
+use Rattle.dap_rules.specs.declared.masked_session.MaskedSession.{MaskedSession}
 use Rattle.dap_rules.specs.declared.fault.ApplyRefused.{ApplyRefused}
 use Rattle.dap_rules.specs.declared.fault.ApplyRefused.TheVariants as because
+
+-- The recording with its output joined, or nothing if the rules do not join output.
+abbrev pub JoinsIf : Limits → Option Joining → List ℕ → Option Joined → Type 0
+JoinsIf limits joining recording (Some joined) =
+    JoinsBy limits joining recording joined.recording.items joined.numbers.items
+JoinsIf limits joining recording None = JoinsBy limits joining recording recording []
+
+-- The output of the recording is joined if the rules say so, and the session has the masked
+-- messages of the result.
+pub record IsMaskedSessionByRules (limits : Limits) (mask : Mask) (recording : List ℕ)
+    (session : MaskedSession) : Type 0 where
+  pub joined : List ℕ
+  pub numbers : List ℕ
+  pub joins : JoinsBy limits mask.joining recording joined numbers
+  pub is_masked : IsMaskedSession limits mask joined session
 
 -- The error of masking, with its step.
 abbrev pub mask_refusal : Refused → ApplyRefused

@@ -1,6 +1,7 @@
 pub mod Applying
 pub mod ApplyingSteps
 pub mod Inputs
+pub mod Renumbering
 pub mod Laws
 pub mod Memory
 pub mod Modes

@@ -1,20 +1,26 @@
--- The masked messages of a recording: its messages after all rules but those for the order. And
--- what the rules for the order do with them. Source: own, over the rules of a mask, the types of
--- the profile and the order of messages.
+-- The masked messages of a recording: its messages after all rules but those for the order. If the
+-- rules join output, they are the messages of the joined recording. And what the rules for the
+-- order do with them. Source: own, over joined output, the rules of a mask, the types of the
+-- profile and the order of messages.
 use Rattle.std.specs.{Prelude.{ℕ, List}, List.AllZip}
 use Rattle.dap_message.specs.Message.{Sent}
 use Rattle.dap_mask.specs.Mask.{Mask}
 use Rattle.dap_input.specs.declared.limits.Limits.{Limits}
 use Rattle.dap_order.specs.{MessageOrder.ordered, SameButOrder.AreSameButOrder}
-use Rattle.dap_rules.specs.{Masking.{IsAccepted, left_of}, MaskedRecordings.IsTypedAs}
+use Rattle.dap_rules.specs.{Applying.JoinsBy, Masking.{IsAccepted, left_of}}
+use Rattle.dap_rules.specs.MaskedRecordings.{IsTypedAs}
 
--- The recording contains the messages `read`, with the words of the mask in the place of texts.
--- `messages` are those of them that no rule drops, in their order: each one changed by the rules,
--- and typed by the profile.
+-- The output of the recording is joined if the rules say so. The joined recording contains the
+-- messages `read`, with the words of the mask in the place of texts and the members that its rules
+-- set. `messages` are those of them that no rule drops, in their order: each one changed by the
+-- rules, and typed by the profile.
 pub record AreMaskedMessages (limits : Limits) (mask : Mask) (recording : List ℕ)
     (messages : List Sent) : Type 0 where
+  pub joined : List ℕ
+  pub numbers : List ℕ
+  pub joins : JoinsBy limits mask.joining recording joined numbers
   pub read : List Sent
-  pub accepts : IsAccepted limits mask recording read
+  pub accepts : IsAccepted limits mask joined read
   pub typed : AllZip IsTypedAs (left_of mask read) messages
 
 -- The messages in the order of the `swap` rules.

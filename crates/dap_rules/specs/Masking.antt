@@ -5,16 +5,16 @@ use Rattle.std.specs.List.{filter, AllByRecursion}
 use Rattle.dap_tree.specs.{Doc.is_sound, Json.HasNoReading}
 use Rattle.dap_message.specs.Message.{Sent, no_reading, fraction}
 use Rattle.dap_recording.specs.Recording.{IsRecording, records}
-use Rattle.dap_mask.specs.{Loose.IsReadWith, Mask.{Mask, leaves_out}, Masked.masked}
+use Rattle.dap_mask.specs.{Loose.IsReadBy, Mask.{Mask, leaves_out}, Masked.masked}
 use Rattle.dap_input.specs.declared.limits.Limits.{Limits}
 use Rattle.dap_input.specs.Validation.{Validation, ContentError, no_message, grew}
 use Rattle.dap_normalise.specs.Accepting.{Payload, Fits, text}
 
 -- The content of the record is JSON, and `message` is the message that its side sent, with the
--- words of the mask in the place of texts. A number that is not an integer of 64 bits is read as
--- out of range.
+-- words of the mask in the place of texts and the members that its rules set. A number that is not
+-- an integer of 64 bits is read as out of range.
 abbrev pub IsMessage : Mask → Payload → Sent → Type 0
-IsMessage mask held message = (message.side ≡ held.0) × IsReadWith mask.words held.1 message.doc
+IsMessage mask held message = (message.side ≡ held.0) × IsReadBy mask held.1 message.doc
 
 -- The records contain these messages, in order.
 abbrev pub AreMessages : Mask → List Payload → List Sent → Type 0

@@ -24,7 +24,7 @@ OneOrderError = (limits : Limits) (mode : Mode) (rules : List SwapRule) (bytes :
     (because other : Refused) → IsNotOrdered limits mode rules bytes because
     → IsNotOrdered limits mode rules bytes other → because ≡ other
 
--- A recording that is ordered has no error.
+-- A recording that is ordered is not rejected.
 abbrev pub OrderedHasNoError : Type 0
 OrderedHasNoError = (limits : Limits) (mode : Mode) (rules : List SwapRule)
     (bytes written : List ℕ) (because : Refused) → Orders limits mode rules bytes written

@@ -31,8 +31,8 @@ abbrev pub Arranges : Limits → Mode → List SwapRule → List ℕ → List Se
 Arranges limits mode rules bytes messages = (written : List ℕ)
     × Orders limits mode rules bytes written × IsAccepted limits mode written messages
 
--- The result of `order` for an input whose reader stopped for this reason, given the result of
--- ordering the bytes read.
+-- The text to be written for an input whose reader stopped for this reason, given the text for the
+-- bytes read.
 abbrev pub result_of_input : {T : Type 0} → Result T Refused → Stop → Result T Refused
 result_of_input (Ok text) Failed = Err ReadFault
 result_of_input (Err (Record n Cut)) Failed = Err ReadFault

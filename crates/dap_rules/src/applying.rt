@@ -13,8 +13,9 @@ ghost use Rattle.dap_rules.specs.MaskedSessions.{Holds};
 ghost use Rattle.dap_stored.specs.Sessions.{messages_of};
 
 use crate::fault::ApplyRefused;
-use crate::masked_session::{MaskedSession, check_masked, normalise_masked, read_masked_session};
-use crate::masking::mask_bytes;
+use crate::joined_masking::mask_by_rules;
+use crate::joined_session::{into_session, read_session_of};
+use crate::masked_session::{MaskedSession, check_masked, normalise_masked};
 use crate::ordering::{arranged, normalise_in_order};
 use crate::writing::text_of_session;
 use dap_input::{Limits, Refused};
@@ -98,7 +99,8 @@ fn order_refusal(refused: Refused) -> ApplyRefused
     }
 }
 
-/// Masks a recording, and then puts it in order if some of the rules are for the order.
+/// Joins the output of a recording if the rules say so, masks the result, and then puts it in order
+/// if some of the rules are for the order.
 ///
 /// If no rules are for the order, returns the masked text and does not check its session. Otherwise
 /// the masked recording and the returned text are both checked in the same way as by
@@ -108,7 +110,7 @@ fn order_refusal(refused: Refused) -> ApplyRefused
 ///
 /// The error of the first step that fails:
 ///
-/// - `Mask`: the rules cannot mask a record of the recording.
+/// - `Mask`: the output of the recording cannot be joined, or the rules cannot mask a record.
 /// - `Order`: the masked recording, or its text in order, was rejected.
 /// - `Memory`: an allocation failed.
 pub fn apply_rules(
@@ -127,14 +129,14 @@ pub fn apply_rules(
     ensures err { IfErr result (IsRefusedByRules limits mode (mask_of rules.now) recording.now) }
     ensures empty { recording.now ≡ [] → IsOk result }
 {
+    if recording.is_empty() {
+        return Ok(Vec::new(alloc));
+    }
     if rules.swaps().is_empty() {
-        return match mask_bytes(alloc, rules, recording, limits) {
+        return match mask_by_rules(alloc, rules, recording, limits) {
             Ok(masked) => Ok(masked),
             Err(refused) => Err(mask_refusal(refused)),
         };
-    }
-    if recording.is_empty() {
-        return Ok(Vec::new(alloc));
     }
     let session = session_by_rules(alloc, rules, recording, limits, mode)?;
     match text_of_session(alloc, &session, limits) {
@@ -144,8 +146,10 @@ pub fn apply_rules(
 }
 
 /// Returns the normal form of the text that [`apply_rules`] returns, and its counts, as
-/// [`normalise_session`](dap_normalise::normalise_session) does. Reads the recording once, drops it
-/// once its messages are read, and creates neither the masked text nor the text in order.
+/// [`normalise_session`](dap_normalise::normalise_session) does. Creates neither the masked text
+/// nor the text in order. Drops the recording once its output is joined, and the joined recording
+/// once its messages are read. If the rules do not join output, reads the recording once, and drops
+/// it once its messages are read.
 ///
 /// # Errors
 ///
@@ -163,20 +167,20 @@ pub fn normalise_by_rules(
         (NormalisesByRules limits mode (mask_of rules.now) recording.items) }
     ensures err { IfErr result (IsNotNormalised limits mode (mask_of rules.now) recording.items) }
 {
-    let masked = match read_masked_session(alloc, rules, recording.as_slice(), limits) {
+    let masked = match into_session(alloc, rules, recording, limits) {
         Ok(masked) => masked,
         Err(refused) => return Err(mask_refusal(refused)),
     };
-    drop(recording);
     match normalise_by(alloc, rules.swaps(), masked, limits, mode) {
         Ok(normal) => Ok(normal),
         Err(refused) => Err(order_refusal(refused)),
     }
 }
 
-/// Masks a recording and, if some of the rules are for the order, puts it in order. Returns the
-/// messages of the result, which is checked in the same way as by [`check`](dap_normalise::check)
-/// in this mode. Reads the recording once, and creates no text.
+/// Joins the output of a recording if the rules say so, masks the result and, if some of the rules
+/// are for the order, puts it in order. Returns the messages of the result, which is checked in the
+/// same way as by [`check`](dap_normalise::check) in this mode. Creates no text but that of the
+/// joined recording.
 ///
 /// # Errors
 ///
@@ -193,7 +197,7 @@ pub fn session_by_rules(
         (messages_of session)) }
     ensures err { IfErr result (IsNotNormalised limits mode (mask_of rules.now) recording.now) }
 {
-    let masked = match read_masked_session(alloc, rules, recording, limits) {
+    let masked = match read_session_of(alloc, rules, recording, limits) {
         Ok(masked) => masked,
         Err(refused) => return Err(mask_refusal(refused)),
     };

@@ -5,7 +5,8 @@ use thiserror::Error;
 /// Why rules cannot be applied to a recording. The variants are in the order of the steps.
 #[derive(Clone, Copy, Debug, PartialEq, Eq, Error)]
 pub enum ApplyRefused {
-    /// The rules cannot mask the recording. Records are numbered from 1 in the recording.
+    /// The rules cannot join the output of the recording, or cannot mask the recording. Records are
+    /// numbered from 1 in the recording.
     #[error("{0}")]
     Mask(Refused),
     /// The masked recording was rejected, and its records are numbered from 1; or its text in order

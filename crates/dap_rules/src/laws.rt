@@ -11,10 +11,10 @@ pub fn rules_have_one_outcome()
 {}
 
 /// States what rules make of the messages of a recording. The *masked messages* of a recording are
-/// its messages after all rules but those for the order: after the words, without the events that
-/// are dropped, and with their values changed. A recording has at most one list of them. If the
-/// rules turn the recording into a session, the messages of the session are the masked ones, in
-/// the order of the `swap` rules.
+/// its messages after all rules but those for the order: with its output joined if the rules say
+/// so, after the words, without the events that are dropped, and with their values changed. A
+/// recording has at most one list of them. If the rules turn the recording into a session, the
+/// messages of the session are the masked ones, in the order of the `swap` rules.
 pub fn messages_by_rules()
     ensures one { OneMaskedList }
     ensures ordered { SessionIsOrdered }

@@ -1,15 +1,22 @@
-//! Applies rules files to recordings: masks their values, and puts their messages in order.
+//! Applies rules files to recordings: joins their output, masks their values, and puts their
+//! messages in order.
 //!
-//! [`mask`] removes from each message the values that change from run to run. [`order`] and
-//! [`order_bytes`] write the records in the order that [`dap_order::put_in_order`] defines for
-//! their messages. [`apply_rules`] masks a recording and then puts it in order, if some of the
-//! rules are for the order. [`session_by_rules`] returns the messages of the result, and
-//! [`read_session_by_rules`] does this for a complete input. [`mode_by`] is the mode in which ids
-//! are numbered then. `specs/` defines the terms, and the modules `laws` contain the theorems.
+//! [`mask`] removes from each message the values that change from run to run. [`join_and_mask`]
+//! joins the output of a recording first, if the rules say so: [`dap_join::join`] replaces the
+//! `output` events by one event per category. [`order`] and [`order_bytes`] write the records in
+//! the order that [`dap_order::put_in_order`] defines for their messages.
+//!
+//! [`apply_rules`] joins output if the rules say so, masks the result, and then puts it in order if
+//! some of the rules are for the order. [`session_by_rules`] returns the messages of the result,
+//! and [`read_session_by_rules`] does this for a complete input. [`mode_by`] is the mode in which
+//! ids are numbered then. `specs/` defines the terms, and the modules `laws` contain the theorems.
 #![tactic(auto)]
 
 mod applying;
 mod fault;
+mod joined_masking;
+mod joined_session;
+mod joining;
 pub mod laws;
 pub mod mask_laws;
 mod mask_records;
@@ -19,11 +26,13 @@ mod modes;
 pub mod order_laws;
 mod ordering;
 mod reading;
+mod renumbering;
 mod text_sink;
 mod writing;
 
 pub use applying::{apply_rules, normalise_by_rules, session_by_rules};
 pub use fault::ApplyRefused;
+pub use joined_masking::{join_and_mask, mask_by_rules};
 pub use mask_records::mask;
 pub use masking::mask_bytes;
 pub use modes::mode_by;

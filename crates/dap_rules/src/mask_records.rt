@@ -119,8 +119,9 @@ fn mask_records<R: Source, W: Sink>(
 /// Reads a recording and writes it masked, record by record.
 ///
 /// Applies the rules to each message and writes its canonical content. Events that the rules drop
-/// are not written. A message is checked only for being JSON whose numbers, after masking, are
-/// integers of 64 bits.
+/// are not written. Does not join output: for rules that do, call
+/// [`join_and_mask`](crate::join_and_mask). A message is checked only for being JSON whose numbers,
+/// after masking, are integers of 64 bits.
 ///
 /// Reads at most 65,536 bytes past a record before that record is written, and at most one byte
 /// past `limits.input`. Masked records that are buffered together are written together. If a record

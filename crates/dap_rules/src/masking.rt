@@ -11,8 +11,8 @@ use dap_input::{Limits, Refused};
 use dap_mask::MaskRules;
 use std::alloc::Global;
 
-/// Returns the text of a masked recording, as [`mask`] writes it. An empty recording has an empty
-/// text, and does not allocate.
+/// Returns the text of a masked recording, as [`mask`] writes it. Does not join output. An empty
+/// recording has an empty text, and does not allocate.
 ///
 /// # Errors
 ///

@@ -264,14 +264,14 @@ pub fn order<R: Source, W: Sink>(
     }
 }
 
-/// Returns the result of ordering the bytes of an input. If the reader failed after them and they
-/// contain no error other than being incomplete, returns `ReadFault`.
-fn text_of_input(ordered: Result<Vec<u8>, Refused>, stop: Stop) -> Result<Vec<u8>, Refused>
-    ensures { result ≡ result_of_input ordered stop }
+/// Returns the text to be written for an input, given the text for its bytes. If the reader failed
+/// after them and they contain no error other than being incomplete, returns `ReadFault`.
+pub(crate) fn text_of_input(text: Result<Vec<u8>, Refused>, stop: Stop) -> Result<Vec<u8>, Refused>
+    ensures { result ≡ result_of_input text stop }
 {
-    match (ordered, stop) {
+    match (text, stop) {
         (Ok(_), Stop::Failed) => Err(Refused::ReadFault),
         (Err(Refused::Record(_, RecordCause::Cut)), Stop::Failed) => Err(Refused::ReadFault),
-        (ordered, _) => ordered,
+        (text, _) => text,
     }
 }

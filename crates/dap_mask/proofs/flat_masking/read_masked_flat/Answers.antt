@@ -1,12 +1,12 @@
-use Rattle.std.proofs.Common.{◌≡◌, ◌∙◌, ◌++◌, [], ap, drop, length, rules, sym, subst, take}
+use Rattle.std.proofs.Common.{◌≡◌, ◌∙◌, ◌++◌, ap, drop, length, rules, sym, subst, take}
 use Rattle.std.proofs.Math.Seq.{take-append_seam}
 use Rattle.dap_flat.specs.Pieces.{Represents}
 use Rattle.dap_flat.proofs.SomeContents.{some_content}
 use Rattle.dap_flat_message.proofs.Heads.{holds_whole}
-use Rattle.dap_mask.specs.KeptRules.{changes_of, mask_of, words_of_mask}
+use Rattle.dap_mask.specs.KeptRules.{changes_of, mask_of}
 use Rattle.dap_mask.specs.Masked.{masked}
 use Rattle.dap_mask.proofs.FlatChanges.{shown_whole}
-use Rattle.dap_mask.proofs.LooseReading.{left_unworded, masked_unworded, read_unworded}
+use Rattle.dap_mask.proofs.LooseReading.{left_plainly, masked_plainly, read_plainly}
 use Rattle.dap_mask.proofs.flat_masking.read_masked_flat.Goals as goal
 
 pub returns-in_err-mask_flat-clause-memory : goal.returns-in_err-mask_flat-clause-memory
@@ -17,11 +17,11 @@ pub returns-then-dropped-clause-ok : goal.returns-then-dropped-clause-ok
 returns-then-dropped-clause-ok c =
     let read = c.in_ok-nodes.ensures.ok in
     let now = c.deref.result.now in
-    let words = words_of_mask c.args.rules.now in
-    let none : words ≡ [] = sym c.words.ensures ∙ c.is_empty.ensures.0 c.if-not-is_empty.false in
+    let none = (c.is_plain.ensures c.if-not-is_plain.false).0 in
+    let bare = (c.is_plain.ensures c.if-not-is_plain.false).1 in
     let shown = subst (λ ns. Represents ns read.0) (sym c.deref.ensures.value) read.2 in (
       read.0,
-      read_unworded words c.args.content.now read.0 none read.1,
+      read_plainly (mask_of c.args.rules.now) c.args.content.now read.0 none bare read.1,
       sym (c.in_ok-dropped.ensures read.0 (holds_whole now read.0 shown)) ∙ c.if-dropped.true,
     )
 
@@ -33,8 +33,8 @@ returns c =
     let list = c.args.rules.now.list in
     let mask = mask_of c.args.rules.now in
     let e = masked (changes_of c.args.rules.now) d in
-    let none : words_of_mask c.args.rules.now ≡ [] =
-    sym c.words.ensures ∙ c.is_empty.ensures.0 c.if-not-is_empty.false in
+    let none = (c.is_plain.ensures c.if-not-is_plain.false).0 in
+    let bare = (c.is_plain.ensures c.if-not-is_plain.false).1 in
     let before = subst (λ ns. Represents ns d) (sym c.deref.ensures.value) read.2 in
     let kept = sym (c.in_ok-dropped.ensures d (holds_whole now d before)) ∙ c.if-dropped.false in
     let old = c.in_ok-nodes.nodes in
@@ -50,11 +50,11 @@ returns c =
     (shown_whole was new d e showed c.mask_flat.auto.nodes
     (c.in_ok-mask_flat.ensures d (holds_whole was d showed))) in
     record {
-      ok = (e, left_unworded mask c.args.content.now d none read.1 kept, shows);
+      ok = (e, left_plainly mask c.args.content.now d none bare read.1 kept, shows);
       memory = search rules;
       masked = (
         e,
-        masked_unworded mask c.args.content.now d list.safe list.settled list.leave none
+        masked_plainly mask c.args.content.now d list.safe list.settled list.leave none bare
             read.1,
         shows,
       );

@@ -1,24 +1,18 @@
-use Rattle.std.proofs.Common.{◌∙◌, [], sym, subst}
+use Rattle.std.proofs.Common.{◌∙◌, sym, subst}
 use Rattle.std.proofs.lemmas.Result.{err_from_is_err_and}
 use Rattle.dap_mask.specs.KeptRules.{mask_of}
 use Rattle.dap_stored.specs.Sessions.{messages_of}
 use Rattle.dap_rules.specs.Applying.{IsRefusedByRules}
-use Rattle.dap_rules.proofs.Applied.{applies, not_made, orders, some_are, text_applied}
+use Rattle.dap_rules.proofs.Applied.{not_made, some_are, text_applied}
 use Rattle.dap_rules.proofs.Applied.{text_refused}
-use Rattle.dap_rules.proofs.EmptyRecordings.{no_bytes, none_masked, none_ordered}
+use Rattle.dap_rules.proofs.EmptyRecordings.{no_bytes, none_applied}
 use Rattle.dap_rules.proofs.applying.apply_rules.Goals as goal
 
-pub returns-then-is_empty-2-clause-ok : goal.returns-then-is_empty-2-clause-ok
-returns-then-is_empty-2-clause-ok c =
-    let mask = mask_of c.args.rules.now in
-    let none = no_bytes c.args.recording.now (sym c.is_empty-2.ensures ∙ c.if-is_empty-2.true) in
+pub returns-then-is_empty-clause-ok : goal.returns-then-is_empty-clause-ok
+returns-then-is_empty-clause-ok c =
+    let none = no_bytes c.args.recording.now (sym c.is_empty.ensures ∙ c.if-is_empty.true) in
     rw (none, c.new.ensures.items)
-    (applies c.args.limits c.args.mode [] mask [] (none_masked c.args.limits c.requires.limits
-    c.args.rules.now) []
-    (orders c.args.limits c.args.mode [] mask.swaps
-    (some_are c.swaps.result.now mask.swaps c.swaps.ensures
-    (sym c.is_empty.ensures ∙ c.if-is_empty.false)) []
-    (none_ordered c.args.limits c.requires.limits c.args.mode mask.swaps)))
+    (none_applied c.args.limits c.requires.limits c.args.mode c.args.rules.now)
 
 pub returns-in_err-session-clause-err : goal.returns-in_err-session-clause-err
 returns-in_err-session-clause-err c =
@@ -26,7 +20,7 @@ returns-in_err-session-clause-err c =
     let mask = mask_of c.args.rules.now in
     rw (because.1, because.2)
     (not_made c.args.limits c.args.mode mask (some_are c.swaps.result.now mask.swaps c.swaps.ensures
-    (sym c.is_empty.ensures ∙ c.if-is_empty.false)) c.args.recording.now _
+    (sym c.is_empty-2.ensures ∙ c.if-is_empty-2.false)) c.args.recording.now _
     c.in_err-session.ensures.err)
 
 pub returns-in-Ok-text_of_session-clause-ok : goal.returns-in-Ok-text_of_session-clause-ok
@@ -34,7 +28,7 @@ returns-in-Ok-text_of_session-clause-ok c =
     let mask = mask_of c.args.rules.now in
     text_applied c.args.limits c.args.mode mask
     (some_are c.swaps.result.now mask.swaps c.swaps.ensures
-    (sym c.is_empty.ensures ∙ c.if-is_empty.false)) c.args.recording.now
+    (sym c.is_empty-2.ensures ∙ c.if-is_empty-2.false)) c.args.recording.now
     (messages_of c.in_ok-session.session) c.in_ok-session.ensures.ok _
     c.in-Ok-text_of_session.ensures.ok
 
@@ -45,6 +39,6 @@ returns-clause-err c =
     (sym c.order_refusal.ensures)
     (text_refused c.args.limits c.args.mode mask
     (some_are c.swaps.result.now mask.swaps c.swaps.ensures
-    (sym c.is_empty.ensures ∙ c.if-is_empty.false)) c.args.recording.now
+    (sym c.is_empty-2.ensures ∙ c.if-is_empty-2.false)) c.args.recording.now
     (messages_of c.in_ok-session.session) c.in_ok-session.ensures.ok _
     c.in-Err-text_of_session.ensures.err)

@@ -20,4 +20,6 @@ invariant_of-self c =
           c.push.new.self.items c.push.ensures.items (keep_categories changes) old.kept
           (category_kept changes (listed_categories c.args.self.now) rule old.kept
           (category_not_moved (listed_mask c.args.self.now) rule c.requires));
+      apart = old.apart;
+      full = old.full;
     }

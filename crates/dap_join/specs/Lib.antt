@@ -1,0 +1,6 @@
+pub mod Outputs
+pub mod Joined
+pub mod Joining
+pub mod JoiningSteps
+pub mod Laws
+pub mod FlatEvents

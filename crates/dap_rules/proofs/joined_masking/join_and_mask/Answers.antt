@@ -1,0 +1,27 @@
+use Rattle.std.proofs.Common.{inl, inr, sym, ◌∙◌}
+use Rattle.std.proofs.lemmas.Result.{IfErr-weaker, err_from_is_err_and}
+use Rattle.dap_mask.specs.KeptRules.{mask_of}
+use Rattle.dap_rules.specs.Applying.{IsMaskedByRules, IsNotMaskedByRules}
+use Rattle.dap_rules.proofs.{InputTexts.returns_error, JoinOutcomes.{bounded, refused_mask}}
+use Rattle.dap_rules.proofs.joined_masking.join_and_mask.Goals as goal
+
+pub returns-in_err-text-clause-outcome : goal.returns-in_err-text-clause-outcome
+returns-in_err-text-clause-outcome g c =
+    let because = err_from_is_err_and c.from_residual.result c.from_residual.ensures.1 in
+    let limits = c.args.limits in
+    let mask = mask_of c.args.rules.now in
+    let bytes = c.in-Ok.input.bytes.items in
+    rw (because.1, because.2)
+    (returns_error limits.input (IsMaskedByRules limits mask) (IsNotMaskedByRules limits mask) bytes
+    (bounded limits mask bytes) g.R.Source c.args.reader.now c.read_all.new.reader g.W.Sink
+    c.args.writer.now c.mask_input.result c.in-Ok.input.stop c.in-Ok.ensures.came
+    c.mask_input.ensures.ok
+    (IfErr-weaker c.mask_input.result _ _ (refused_mask limits mask bytes) c.mask_input.ensures.err)
+    c.in_err-text.field-0.0 (sym c.text_of_input.ensures ∙ c.in_err-text.was))
+
+pub returns-in_err-text-clause-memory : goal.returns-in_err-text-clause-memory
+returns-in_err-text-clause-memory g c = λ _.
+    inr (c.in-Ok.input.bytes.items, c.in-Ok.input.stop, c.in-Ok.ensures.came)
+
+pub returns-in-Err-clause-memory : goal.returns-in-Err-clause-memory
+returns-in-Err-clause-memory g c = λ _. inl c.in-Err.ensures.partly
