@@ -32,7 +32,8 @@ ADDED = ["x", "seen", "other", "list"]
 TEXTS = ["", "12", "0x7f3a", "at 7f3a1c90", "123e4567-e89b-12d3-a456-426614174000", "/home/me/x", "é\n"]
 VALUES = [*TEXTS, 7, -1, 2**63 - 1, True, None, [], {}, [1, "a"]]
 EXTRA_RULES = [
-    "drop event output", "drop event thread", "drop event output category=12", 'word "/home/me" "<home>"', "per-stop", "# none", "",
+    "drop event output", "drop event thread", "drop event output category=12", "join event output per-stop", "fill event * x 0",
+    'word "/home/me" "<home>"', "per-stop", "# none", "",
 ]
 
 

@@ -322,6 +322,17 @@ def categories(report):
     check("a category that a given rule changes", [], [sent], (0, 1, "output"), given=b"hex event output body.category\n")
     check("another event", [("x", {"category": "a"})], [("x", {"category": "a"}), ("x", {"category": "b"})], (0, 1, "x category=b"))
     check("equal numbers", [sent, printed], [sent, printed])
+    stopped = ("stopped", {"reason": "pause"})
+    for name, a, b, line in (
+        ("two pieces", [output("stdout", "ab"), stopped], [output("stdout", "a"), ("thread", {"reason": "started", "threadId": 1}), output("stdout", "b"), stopped], " per-stop"),
+        ("pieces of two categories", [output("stdout", "ab"), output("stderr")], [output("stdout", "a"), output("stderr"), output("stdout", "b")], " per-stop"),
+        ("a piece after a stop", [output(None, "a"), stopped, output(None, "b")], [stopped, output("console", "ab")], ""),
+    ):
+        dropped = "# 0 in A, 1 in B\ndrop   event    thread\n\n" if "thread" in dict(b) else ""
+        wanted = f"# in B output comes in other pieces\njoin   event output{line}\n\n{dropped}# with these rules: same\n"
+        with Folder(a=said(*a), b=said(*b)) as folder:
+            answer = folder.run("suggest", "a", "b")
+        report.check(f"{name} are joined", answer == (0, wanted.encode(), b""), repr(answer))
     with Folder(a=said(), b=said(("continued", {"threadId": 1, "category": "a"}))) as folder:
         answer = folder.run("suggest", "a", "b")
     line = b'no rules can: record 3 of B, event "continued", has no counterpart in A\n'

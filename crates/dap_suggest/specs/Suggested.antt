@@ -50,6 +50,14 @@ HasBroad rules broad = (mask : Mask) → rules_said rules ≡ Ok mask → broad_
 abbrev pub HasGuarded : List ℕ → ℕ → Type 0
 HasGuarded rules n = (mask : Mask) → rules_said rules ≡ Ok mask → guarded_count mask ≡ n
 
+-- The rules make both recordings the same in this mode. They have as many broad rules as those that
+-- were given, and blank this number of guarded places more.
+pub record IsConfirmedBy (inputs : Inputs) (mask : Mask) (added : ℕ) (mode : Mode) : Type 0 where
+  pub mode_is : mode ≡ mode_by mask Whole
+  pub one : HaveOneNormal inputs.limits mode mask inputs.a.now inputs.b.now
+  pub broad : broad_of mask ≡ inputs.broad
+  pub guarded : guarded_count mask ≡ inputs.guarded + added
+
 -- The file of rules makes both recordings the same in this mode. It has as many broad rules as the
 -- rules that were given, and blanks this number of guarded places more.
 pub record IsConfirmed (inputs : Inputs) (rules : List ℕ) (mode : Mode) (added : ℕ) : Type 0 where

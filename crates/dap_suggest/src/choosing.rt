@@ -1,5 +1,5 @@
 //! Chooses the cheapest rules for one place.
-use crate::candidates::{Actions, BLANK, CANDIDATES, Candidate, DIGITS, UUID};
+use crate::candidates::{Actions, BLANK, CANDIDATES, Candidates, DIGITS, UUID, only, strength_of};
 use crate::spot::{ALL, Rule, Spot};
 use std::alloc::{AllocError, Global};
 
@@ -7,131 +7,108 @@ use std::alloc::{AllocError, Global};
 /// name.
 const MAX_RULES: usize = 170;
 
-/// The price of a rule. The fields are compared in their order.
-#[derive(Clone, Copy, PartialEq, Eq, PartialOrd, Ord)]
-struct Price {
-    /// Whether the rule hides what a test looks at.
-    is_guarded: bool,
-    /// How many equal values it hides that no other rule of the place hides.
-    hidden: u64,
-    strength: u64,
-    /// Whether the candidate prefers the other scope.
-    is_other_scope: bool,
-    /// The highest number minus the number of pairs that it makes equal.
-    unequal: u64,
-}
+/// The price of a rule. These numbers are compared in their order:
+///
+/// - 1 if the rule hides what a test looks at, otherwise 0;
+/// - how many equal values it hides that no other rule of the place hides;
+/// - how much of a text it can hide;
+/// - 1 if its candidate prefers the other scope, otherwise 0;
+/// - the highest number minus the number of pairs that it makes equal.
+type Price = [u64; 5];
 
-/// What rules do to the values of a tally.
-#[derive(Clone, Copy)]
-struct Effect {
-    actions: Actions,
-    candidates: u16,
-}
-
-/// Returns whether rules of a scope apply to the values of a tally.
-fn applies(scope: usize, tally: usize) -> bool {
-    scope == ALL || scope == tally
-}
-
-/// Returns what the rules do to the values of a tally, except for the rule of one index.
-fn effect_without(rules: &[Rule], left_out: Option<usize>, tally: usize) -> Effect {
+/// Returns what rules, except for the one of an index, do to the values of a tally: their actions,
+/// and their candidates.
+fn effect(rules: &[Rule], left_out: Option<usize>, tally: usize) -> (Actions, Candidates) {
     let mut actions = 0;
     let mut candidates = 0;
     for (index, rule) in rules.iter().enumerate() {
-        if applies(rule.scope, tally) && left_out != Some(index) {
-            actions |= rule.candidate.actions;
-            candidates |= rule.candidate.bit;
+        if rule.applies(tally) && left_out != Some(index) {
+            actions |= rule.actions;
+            candidates |= only(rule.actions);
         }
     }
-    Effect {
-        actions,
-        candidates,
+    (actions, candidates)
+}
+
+/// Returns whether the rules of the place, except for the one of an index, make all pairs of values
+/// equal.
+fn are_enough(spot: &Spot, left_out: Option<usize>) -> bool {
+    let rules = spot.rules.as_slice();
+    for (place, tally) in spot.tallies.iter().enumerate() {
+        let (_, candidates) = effect(rules, left_out, place);
+        if !tally.is_equated(candidates) {
+            return false;
+        }
     }
+    true
 }
 
-/// Returns whether the rules, except for the one of an index, make all pairs of values equal.
-fn are_enough(spot: &Spot, rules: &[Rule], left_out: Option<usize>) -> bool {
-    spot.tallies.iter().enumerate().all(|(place, tally)| tally.is_equated(
-        effect_without(rules, left_out, place).candidates,
-    ))
-}
-
-/// Returns whether a file refuses two sets of actions at one place.
-fn clash(actions: Actions, others: Actions) -> bool {
-    (actions & UUID != 0 && others & DIGITS != 0) || (actions & DIGITS != 0 && others & UUID != 0)
-}
-
-/// Returns how many equal values a candidate hides in a scope that the rules do not hide.
-fn hidden_by(spot: &Spot, rules: &[Rule], actions: Actions, scope: usize) -> u64 {
+/// Returns how many equal values a rule hides that the rules before it do not hide.
+pub fn hidden_by(spot: &Spot, before: &[Rule], rule: &Rule) -> u64 {
     let mut hidden = 0u64;
     for (place, tally) in spot.tallies.iter().enumerate() {
-        if applies(scope, place) {
-            let effect = effect_without(rules, None, place);
-            hidden = hidden.saturating_add(tally.hidden(actions, effect.actions));
+        if rule.applies(place) {
+            let (actions, _) = effect(before, None, place);
+            hidden = hidden.saturating_add(tally.hidden(rule.actions, actions));
         }
     }
     hidden
 }
 
-/// Returns how many pairs a candidate makes equal in a scope that the rules do not make equal, or
-/// `None` if a file refuses its rules beside these.
-fn equated_by(spot: &Spot, rules: &[Rule], candidate: &Candidate, scope: usize) -> Option<u64> {
+/// Returns how many pairs a rule makes equal that the rules of the place do not make equal, or
+/// `None` if a file refuses it beside these.
+fn equated_by(spot: &Spot, rule: &Rule) -> Option<u64> {
     let mut equated = 0u64;
     for (place, tally) in spot.tallies.iter().enumerate() {
-        if applies(scope, place) {
-            let effect = effect_without(rules, None, place);
-            if clash(candidate.actions, effect.actions) {
+        if rule.applies(place) {
+            let (actions, candidates) = effect(spot.rules.as_slice(), None, place);
+            // A file refuses `uuid` and `digits` at one place.
+            if (rule.actions | actions) & (UUID | DIGITS) == UUID | DIGITS {
                 return None;
             }
-            equated = equated.saturating_add(tally.equated(candidate.bit, effect.candidates));
+            equated = equated.saturating_add(tally.equated(only(rule.actions), candidates));
         }
     }
     Some(equated)
 }
 
-/// Returns whether a candidate is tried for one name before it is tried for all elements.
-fn prefers_names(actions: Actions) -> bool {
-    actions & (DIGITS + BLANK) != 0
+/// Returns whether a rule hides what a test looks at.
+fn is_guarded(spot: &Spot, rule: &Rule) -> bool {
+    spot.hidden.is_some() && rule.actions & BLANK != 0
 }
 
-/// Returns whether a candidate hides what a test looks at.
-fn is_guarded(spot: &Spot, candidate: &Candidate) -> bool {
-    spot.hidden.is_some() && candidate.actions & BLANK != 0
-}
-
-/// Returns the price of a candidate in a scope, or `None` if it makes no further pair equal, or a
-/// file cannot have it.
-fn price_of(spot: &Spot, rules: &[Rule], candidate: &Candidate, scope: usize) -> Option<Price> {
-    if spot.is_excluded(candidate, scope) {
+/// Returns the price of a further rule, or `None` if it makes no further pair equal, or a file
+/// cannot have it.
+fn price_of(spot: &Spot, rule: &Rule) -> Option<Price> {
+    if spot.is_excluded(rule) {
         return None;
     }
-    let equated = equated_by(spot, rules, candidate, scope)?;
+    let equated = equated_by(spot, rule)?;
     if equated == 0 {
         return None;
     }
-    Some(Price {
-        is_guarded: is_guarded(spot, candidate),
-        hidden: hidden_by(spot, rules, candidate.actions, scope),
-        strength: candidate.strength,
-        is_other_scope: prefers_names(candidate.actions) == (scope == ALL),
-        unequal: u64::MAX - equated,
-    })
+    let prefers_names = rule.actions & (DIGITS + BLANK) != 0;
+    Some([
+        u64::from(is_guarded(spot, rule)),
+        hidden_by(spot, spot.rules.as_slice(), rule),
+        strength_of(rule.actions),
+        u64::from(prefers_names == (rule.scope == ALL)),
+        u64::MAX - equated,
+    ])
 }
 
 /// Returns the cheapest rule that makes a further pair equal. The first one of several is taken.
-fn cheapest(spot: &Spot, rules: &[Rule], scopes: &[usize]) -> Option<Rule> {
+fn cheapest(spot: &Spot, scopes: &[usize]) -> Option<Rule> {
     let mut best: Option<(Price, Rule)> = None;
-    for candidate in CANDIDATES.iter() {
+    for actions in CANDIDATES.iter() {
         for scope in scopes {
-            let Some(price) = price_of(spot, rules, candidate, *scope) else {
-                continue;
+            let rule = Rule {
+                actions: *actions,
+                scope: *scope,
             };
-            if best.is_none_or(|(lowest, _)| price < lowest) {
-                let rule = Rule {
-                    candidate: *candidate,
-                    scope: *scope,
-                    hidden: 0,
-                };
+            if let Some(price) = price_of(spot, &rule)
+                && best.is_none_or(|(lowest, _)| price < lowest)
+            {
                 best = Some((price, rule));
             }
         }
@@ -140,32 +117,18 @@ fn cheapest(spot: &Spot, rules: &[Rule], scopes: &[usize]) -> Option<Rule> {
 }
 
 /// Removes each rule without which all pairs are still equal, the strongest first.
-fn remove_needless(spot: &Spot, rules: &mut Vec<Rule>) {
-    for candidate in CANDIDATES.iter().rev() {
-        for index in (0..rules.len()).rev() {
-            let is_candidate = rules
-                .get(index)
-                .is_some_and(|rule| rule.candidate.bit == candidate.bit);
-            if is_candidate
-                && are_enough(spot, rules.as_slice(), Some(index))
-                && index < rules.len()
+fn remove_needless(spot: &mut Spot) {
+    for actions in CANDIDATES.iter().rev() {
+        for index in (0..spot.rules.len()).rev() {
+            let rule = spot.rules.get(index);
+            if rule.is_some_and(|rule| rule.actions == *actions)
+                && are_enough(spot, Some(index))
+                && index < spot.rules.len()
             {
-                let _ = rules.remove(index);
+                let _ = spot.rules.remove(index);
             }
         }
     }
-}
-
-/// Appends the rules to the place, each with the number of equal values that it alone hides of
-/// those so far.
-fn set_rules(alloc: Global, spot: &mut Spot, rules: &[Rule]) -> Result<(), AllocError> {
-    let mut chosen = Vec::with_capacity(alloc, rules.len())?;
-    for rule in rules {
-        let hidden = hidden_by(spot, chosen.as_slice(), rule.candidate.actions, rule.scope);
-        chosen.push(Rule { hidden, ..*rule })?;
-    }
-    spot.rules = chosen;
-    Ok(())
 }
 
 /// Chooses the rules of a place. If rules are joined, all of them are for all elements. If they are
@@ -177,17 +140,16 @@ pub fn choose(
     are_strict: bool,
 ) -> Result<bool, AllocError> {
     let scopes = spot.scopes(alloc, are_joined)?;
-    let mut rules = Vec::new(alloc);
+    spot.rules.clear();
     for _ in 0..MAX_RULES {
-        if are_enough(spot, rules.as_slice(), None) {
+        if are_enough(spot, None) {
             break;
         }
-        match cheapest(spot, rules.as_slice(), scopes.as_slice()) {
-            Some(rule) if !are_strict || !is_guarded(spot, &rule.candidate) => rules.push(rule)?,
+        match cheapest(spot, scopes.as_slice()) {
+            Some(rule) if !are_strict || !is_guarded(spot, &rule) => spot.rules.push(rule)?,
             _ => return Ok(false),
         }
     }
-    remove_needless(spot, &mut rules);
-    set_rules(alloc, spot, rules.as_slice())?;
+    remove_needless(spot);
     Ok(true)
 }

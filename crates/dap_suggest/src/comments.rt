@@ -1,6 +1,6 @@
 //! The comments of the rules for values.
 use crate::matched::Pair;
-use crate::words::json_of;
+use crate::words::{json_of, push_parts};
 use dap_compare::Which;
 use dap_difference::push_window;
 use dap_tree::Tree;
@@ -9,25 +9,44 @@ use std::alloc::{AllocError, Global};
 /// How many characters of a value a comment has at most.
 const SHOWN: usize = 120;
 
-/// Returns the comment that shows a pair of values, or the part of a long value in which it differs
-/// from the other value.
-pub fn comment_of(
+/// Appends the line that shows the value of a record, or the part of a long value in which it
+/// differs from the other value.
+fn push_value(
+    alloc: Global,
+    (which, number): (Which, u64),
+    value: &str,
+    other: &str,
+    out: &mut Vec<u8>,
+) -> Result<(), AllocError> {
+    out.extend_from_slice(format!(in alloc; "# {which} record {number}: ")?.as_bytes())?;
+    push_window(value, other, SHOWN, out)?;
+    out.extend_from_slice(b"\n")
+}
+
+/// Appends the comment that shows a pair of values.
+pub fn push_values(
     alloc: Global,
     pair: &Pair<'_>,
     a: &Tree,
     b: &Tree,
-) -> Result<Vec<u8>, AllocError> {
-    let (a, b) = (json_of(alloc, a)?, json_of(alloc, b)?);
-    let (a, b) = (a.as_str(), b.as_str());
-    let mut comment = Vec::new(alloc);
-    for (which, entry, text, other) in [(Which::A, pair.a, a, b), (Which::B, pair.b, b, a)] {
-        let number = entry.number;
-        let start = format!(in alloc; "# {which} record {number}: ")?;
-        comment.extend_from_slice(start.as_bytes())?;
-        push_window(text, other, SHOWN, &mut comment)?;
-        comment.push(b'\n')?;
-    }
-    Ok(comment)
+    out: &mut Vec<u8>,
+) -> Result<(), AllocError> {
+    let a = json_of(alloc, a)?;
+    let b = json_of(alloc, b)?;
+    push_value(
+        alloc,
+        (Which::A, pair.a.number),
+        a.as_str(),
+        b.as_str(),
+        out,
+    )?;
+    push_value(
+        alloc,
+        (Which::B, pair.b.number),
+        b.as_str(),
+        a.as_str(),
+        out,
+    )
 }
 
 /// Appends the comment on the equal values that a rule hides, if it hides some.
@@ -38,4 +57,9 @@ pub fn push_hidden(alloc: Global, hidden: u64, out: &mut Vec<u8>) -> Result<(), 
         _ => format!(in alloc; "# also hides {hidden} values that are equal\n")?,
     };
     out.extend_from_slice(line.as_bytes())
+}
+
+/// Appends the comment on a rule that hides what a test looks at.
+pub fn push_check(hidden: &str, out: &mut Vec<u8>) -> Result<(), AllocError> {
+    push_parts(&[b"# CHECK: hides ", hidden.as_bytes(), b"\n"], out)
 }

@@ -3,12 +3,13 @@ ghost use Rattle.std.specs.Prelude.{◌≡◌, true, IfOk, OnOk, string_bytes};
 ghost use Rattle.dap_input.specs.Limits.{AreSound};
 ghost use Rattle.dap_mask.specs.KeptRules.{mask_of};
 ghost use Rattle.dap_rules.specs.Applying.{NormalisesByRules};
-ghost use Rattle.dap_suggest.specs.Suggested.{HaveOneNormal, IsConfirmed, IsSuggestion};
+ghost use Rattle.dap_suggest.specs.Suggested.{HaveOneNormal, IsConfirmed, IsConfirmedBy};
+ghost use Rattle.dap_suggest.specs.Suggested.{IsSuggestion};
 ghost use Rattle.dap_suggest.specs.Suggested.{check_note, last_line, verdict};
 
 use crate::broad::broad_of;
 use crate::guarded::guarded_count;
-use crate::joined_rules::joined;
+use crate::joined_rules::{joined, read_joined};
 use crate::obstacle::{Obstacle, Unsolved};
 use crate::suggestion::{Inputs, Suggestion};
 use dap_compare::Which;
@@ -84,10 +85,8 @@ fn normal_by(
     let Ok(recording) = Vec::from_slice(alloc, recording) else {
         return Err((which, ApplyRefused::Memory));
     };
-    match normalise_by_rules(alloc, rules, recording, limits, mode) {
-        Ok(normal) => Ok(normal),
-        Err(refused) => Err((which, refused)),
-    }
+    let normal = normalise_by_rules(alloc, rules, recording, limits, mode);
+    normal.map_err(|refused| (which, refused))
 }
 
 /// Compares what the rules make of two recordings.
@@ -115,13 +114,37 @@ fn compare_by(
     Err(Unsolved::NoRules(Obstacle::StillDiffers(record)))
 }
 
-/// Compares two recordings by the rules of a text, as `compare --rules` does. Returns the mode in
-/// which they are the same.
+/// Compares two recordings by these rules, as `compare --rules` does. Returns the mode in which they
+/// are the same.
 ///
 /// # Errors
 ///
-/// The text is not a rules file, has more broad rules than those that were given, or does not have
-/// `to_check` rules more for guarded places; and the errors of [`compare_by`].
+/// There are more broad rules than those that were given, or not `to_check` rules more for guarded
+/// places; and the errors of [`compare_by`].
+fn same_by_rules(
+    alloc: Global,
+    rules: &MaskRules,
+    inputs: &Inputs<'_>,
+    to_check: usize,
+) -> Result<Mode, Unsolved>
+    requires { AreSound inputs.now.limits }
+    ensures { IfOk result (IsConfirmedBy inputs.now (mask_of rules.now) to_check) }
+{
+    let guarded = guarded_count(rules);
+    if broad_of(rules) != inputs.broad || guarded.checked_sub(inputs.guarded) != Some(to_check) {
+        return Err(Unsolved::NoRules(Obstacle::Unread));
+    }
+    let mode = mode_by(rules, Mode::Whole);
+    compare_by(alloc, rules, inputs, mode)?;
+    Ok(mode)
+}
+
+/// Compares two recordings by the rules of a text. Returns the mode in which they are the same.
+///
+/// # Errors
+///
+/// The text is not a rules file, and those of [`same_by_rules`].
+#[tactic(auto, using(crate::proofs::Confirmations::confirmed_by))]
 fn same_by(
     alloc: Global,
     text: &[u8],
@@ -132,13 +155,7 @@ fn same_by(
     ensures { IfOk result (λ mode. IsConfirmed inputs.now text.now mode to_check) }
 {
     let rules = MaskRules::read(alloc, text)?;
-    let guarded = guarded_count(&rules);
-    if broad_of(&rules) != inputs.broad || guarded.checked_sub(inputs.guarded) != Some(to_check) {
-        return Err(Unsolved::NoRules(Obstacle::Unread));
-    }
-    let mode = mode_by(&rules, Mode::Whole);
-    compare_by(alloc, &rules, inputs, mode)?;
-    Ok(mode)
+    same_by_rules(alloc, &rules, inputs, to_check)
 }
 
 /// Suggests these rules, if two recordings are the same by them in this mode.
@@ -164,8 +181,7 @@ fn suggested(
 
 /// Returns how many of these rules hide what a test looks at.
 fn to_check_in(alloc: Global, inputs: &Inputs<'_>, found: &[u8]) -> Result<usize, Unsolved> {
-    let whole = joined(alloc, inputs.given, found)?;
-    let rules = MaskRules::read(alloc, whole.as_slice())?;
+    let rules = read_joined(alloc, inputs.given, found)?;
     Ok(guarded_count(&rules).saturating_sub(inputs.guarded))
 }
 

@@ -1,7 +1,7 @@
 //! Counts the events of two sessions, and drops those of which they have different numbers.
 use crate::broad::is_needed_event;
 use crate::sessions::Sessions;
-use crate::words::{class_of, push_parts, text_at};
+use crate::words::{class_of, text_at};
 use dap_compare::Which;
 use dap_difference::{Step, push_path};
 use dap_message::{AnyMessage, Kind};
@@ -52,23 +52,71 @@ impl Events {
         }
     }
 
+    /// Counts an event by its category.
+    fn count(&mut self, which: Which, category: Option<String>) -> Result<(), AllocError> {
+        match category {
+            Some(category) => self.by_category.entry(category)?.or_default().add(which),
+            None => self.others.add(which),
+        }
+        Ok(())
+    }
+
+    /// Returns whether an event is dropped.
+    fn drops(
+        &self,
+        alloc: Global,
+        event: &StoredMessage<'_>,
+        scratch: &mut Scratch,
+    ) -> Result<bool, AllocError> {
+        if self.others.differ() {
+            return Ok(true);
+        }
+        match category_of(alloc, event, scratch)? {
+            Some(category) => {
+                let counts = self.by_category.get(category.as_str());
+                Ok(counts.is_some_and(|counts| counts.differ()))
+            }
+            None => Ok(false),
+        }
+    }
+
     /// Appends the rules that drop events of this name: all of them, if no categories explain the
     /// difference.
-    fn push_drops(&self, alloc: Global, name: &str, out: &mut Vec<u8>) -> Result<(), AllocError> {
-        let class = class_of(alloc, Kind::Event, name)?;
+    pub fn push_drops(
+        &self,
+        alloc: Global,
+        name: &str,
+        out: &mut Vec<u8>,
+    ) -> Result<(), AllocError> {
         if self.others.differ() {
-            return push_drop(alloc, &self.all, class.as_slice(), out);
+            return push_drop(alloc, &self.all, name, None, out);
         }
         for (category, counts) in self.by_category.iter() {
             if counts.differ() {
-                let mut events = class.clone()?;
-                events.extend_from_slice(b" category=")?;
-                push_path(alloc, &[Step::Member(category.as_str())], &mut events)?;
-                push_drop(alloc, counts, events.as_slice(), out)?;
+                push_drop(alloc, counts, name, Some(category.as_str()), out)?;
             }
         }
         Ok(())
     }
+}
+
+/// Appends the rule that drops events of a name, all of them or those of a category, after a
+/// comment with their counts.
+fn push_drop(
+    alloc: Global,
+    counts: &Counts,
+    name: &str,
+    category: Option<&str>,
+    out: &mut Vec<u8>,
+) -> Result<(), AllocError> {
+    let (a, b) = (counts.a, counts.b);
+    out.extend_from_slice(format!(in alloc; "# {a} in A, {b} in B\ndrop   ")?.as_bytes())?;
+    out.extend_from_slice(class_of(alloc, Kind::Event, name)?.as_slice())?;
+    if let Some(category) = category {
+        out.extend_from_slice(b" category=")?;
+        push_path(alloc, &[Step::Member(category)], out)?;
+    }
+    out.extend_from_slice(b"\n\n")
 }
 
 /// Returns the category of an event, if that is a text.
@@ -112,32 +160,32 @@ fn count_categories(
     which: Which,
     session: &StoredSession,
     events: &mut EventsByName,
+    scratch: &mut Scratch,
 ) -> Result<(), AllocError> {
-    let mut scratch = Scratch::new(alloc);
     for place in 0..session.len() {
         if let Some(event) = session.message(place)
             && event.kind() == Kind::Event
             && let Some(found) = events.get_mut(event.name())
         {
-            match category_of(alloc, &event, &mut scratch)? {
-                Some(category) => found.by_category.entry(category)?.or_default().add(which),
-                None => found.others.add(which),
-            }
+            found.count(which, category_of(alloc, &event, scratch)?)?;
         }
     }
     Ok(())
 }
 
-/// Returns the events of which two sessions have different numbers, counted by their categories.
-/// Those that a session needs are left out.
-pub fn differing_events(alloc: Global, sessions: &Sessions) -> Result<EventsByName, AllocError> {
-    let mut events = BTreeMap::new(alloc);
-    count_names(alloc, Which::A, &sessions.a, &mut events)?;
-    count_names(alloc, Which::B, &sessions.b, &mut events)?;
+/// Adds the events of which two sessions have different numbers, counted by their categories. Those
+/// that a session needs are left out.
+pub fn add_differing(
+    alloc: Global,
+    sessions: &Sessions,
+    events: &mut EventsByName,
+) -> Result<(), AllocError> {
+    count_names(alloc, Which::A, &sessions.a, events)?;
+    count_names(alloc, Which::B, &sessions.b, events)?;
     events.retain(|_, found| found.all.differ());
-    count_categories(alloc, Which::A, &sessions.a, &mut events)?;
-    count_categories(alloc, Which::B, &sessions.b, &mut events)?;
-    Ok(events)
+    let mut scratch = Scratch::new(alloc);
+    count_categories(alloc, Which::A, &sessions.a, events, &mut scratch)?;
+    count_categories(alloc, Which::B, &sessions.b, events, &mut scratch)
 }
 
 /// Returns whether some event is counted by its category.
@@ -160,41 +208,8 @@ pub fn is_dropped(
     events: &EventsByName,
     scratch: &mut Scratch,
 ) -> Result<bool, AllocError> {
-    if message.kind() != Kind::Event {
-        return Ok(false);
+    match events.get(message.name()) {
+        Some(found) if message.kind() == Kind::Event => found.drops(alloc, message, scratch),
+        _ => Ok(false),
     }
-    let Some(found) = events.get(message.name()) else {
-        return Ok(false);
-    };
-    if found.others.differ() {
-        return Ok(true);
-    }
-    Ok(match category_of(alloc, message, scratch)? {
-        Some(category) => found
-            .by_category
-            .get(category.as_str())
-            .is_some_and(|counts| counts.differ()),
-        None => false,
-    })
-}
-
-/// Appends the rule that drops these events, after a comment with their counts.
-fn push_drop(
-    alloc: Global,
-    counts: &Counts,
-    events: &[u8],
-    out: &mut Vec<u8>,
-) -> Result<(), AllocError> {
-    let (a, b) = (counts.a, counts.b);
-    let start = format!(in alloc; "# {a} in A, {b} in B\ndrop   ")?;
-    push_parts(&[start.as_bytes(), events, b"\n\n"], out)
-}
-
-/// Returns the rules that drop events.
-pub fn drops(alloc: Global, events: &EventsByName) -> Result<Vec<u8>, AllocError> {
-    let mut out = Vec::new(alloc);
-    for (name, found) in events.iter() {
-        found.push_drops(alloc, name.as_str(), &mut out)?;
-    }
-    Ok(out)
 }

@@ -1,5 +1,6 @@
 //! The elements of lists on the way to a place, and their names.
 use crate::candidates::{Actions, text_after};
+use crate::spot::NamedList;
 use crate::words::text_at;
 use dap_tree::Tree;
 use std::alloc::{AllocError, Global};
@@ -19,6 +20,22 @@ pub struct Named<'t> {
 /// if it has one there.
 pub type Elements<'t> = Vec<Option<Named<'t>>>;
 
+/// Returns the name of the element of a list, after the rules for names, if both messages have one
+/// then.
+pub fn name_in(
+    alloc: Global,
+    elements: &Elements<'_>,
+    list: Option<NamedList>,
+) -> Result<Option<String>, AllocError> {
+    let Some(Some(element)) = list.and_then(|list| elements.get(list.depth)) else {
+        return Ok(None);
+    };
+    let name = text_after(alloc, element.actions, element.name)?;
+    let other = text_after(alloc, element.actions, element.other)?;
+    let is_one = name.as_str() == other.as_str() && !name.is_empty();
+    Ok(if is_one { Some(name) } else { None })
+}
+
 /// Returns an element of two lists with its names.
 pub fn element_of<'t>(
     item: &'t Tree,
@@ -32,14 +49,4 @@ pub fn element_of<'t>(
         actions,
         start,
     })
-}
-
-impl Named<'_> {
-    /// Returns the name of the element after the rules for names, if both messages have one then.
-    pub fn name(&self, alloc: Global) -> Result<Option<String>, AllocError> {
-        let name = text_after(alloc, self.actions, self.name)?;
-        let other = text_after(alloc, self.actions, self.other)?;
-        let is_one = name.as_str() == other.as_str() && !name.is_empty();
-        Ok(if is_one { Some(name) } else { None })
-    }
 }

@@ -1,116 +1,94 @@
 //! Finds the numbers that are not integers of 64 bits, and suggests rules that blank them.
 ghost use Rattle.dap_input.specs.Limits.{AreSound};
 
-use crate::candidates::{BLANK, push_rules};
-use crate::guards::hidden_at;
-use crate::joined_rules::{joined, missing_end};
+use crate::comments::push_check;
+use crate::guarded::hidden_at;
+use crate::joined_rules::{fault_after, missing_end};
 use crate::suggestion::Inputs;
-use crate::words::{class_of, push_member, text_at};
+use crate::words::{class_of, push_member, push_parts, text_at};
 use dap_compare::Which;
-use dap_mask::{MaskRules, RulesCause, is_dropped, mask, read_with_words};
+use dap_mask::{MaskRules, is_dropped, mask, read_by_rules};
 use dap_message::Kind;
-use dap_recording::{FedRecord, RecordCause, RecordReader};
+use dap_recording::{FedRecord, Record, RecordCause, RecordReader};
 use dap_tree::{Scratch, Tree, TreeFault};
 use serde_json::{Map, Value};
 use std::alloc::{AllocError, Global};
 use std::collections::BTreeMap;
 
-/// The comments on rules, by the messages and the places of the rules.
-type Comments = BTreeMap<Vec<u8>, String>;
-
-/// A record, as comments name it.
-#[derive(Clone, Copy)]
-struct Origin {
+/// A search for the numbers of two recordings that are not integers of 64 bits.
+#[derive(Drop)]
+struct Numbers<'r> {
+    alloc: Global,
+    /// The rules that were given.
+    rules: &'r MaskRules,
+    /// The comments on the rules that blank the numbers, by the messages and the places of the
+    /// rules.
+    comments: BTreeMap<Vec<u8>, Vec<u8>>,
+    /// The recording that is searched, and the record, as comments name them.
     which: Which,
-    number: u64,
-    /// How many bytes of a target are before the place.
-    start: usize,
+    record: u64,
+    /// The messages and the place that are searched, as rules have them.
+    target: Vec<u8>,
+    scratch: Scratch,
 }
 
 /// Adds the rule for a value, with a comment that shows it, if it is a number that is not an
 /// integer of 64 bits, and the first at its place.
-fn add_number(
-    alloc: Global,
-    origin: Origin,
-    value: &Value,
-    target: &[u8],
-    comments: &mut Comments,
-) -> Result<(), AllocError> {
-    if value.is_f64() && !comments.contains_key(target) {
-        let Origin {
-            which,
-            number,
-            start,
-        } = origin;
-        let mut comment = format!(in alloc; "# {which} record {number}: {value}\n")?;
-        let class = target.get(..start).unwrap_or(&[]);
-        let place = target.get(start..).unwrap_or(&[]);
-        if let Some(hidden) = hidden_at(class, place) {
-            comment.push_str(format!(in alloc; "# CHECK: hides {hidden}\n")?.as_str())?;
+fn add_number(numbers: &mut Numbers<'_>, value: &Value) -> Result<(), AllocError> {
+    let (alloc, target) = (numbers.alloc, numbers.target.as_slice());
+    if value.is_f64() && !numbers.comments.contains_key(target) {
+        let (which, record) = (numbers.which, numbers.record);
+        let hidden = hidden_at(alloc, target)?;
+        let target = numbers.target.clone()?;
+        let comment = format!(in alloc; "# {which} record {record}: {value}\n")?;
+        let mut comment = comment.into_bytes();
+        if let Some(hidden) = hidden {
+            push_check(hidden, &mut comment)?;
         }
-        drop(comments.insert(Vec::from_slice(alloc, target)?, comment)?);
+        drop(numbers.comments.insert(target, comment)?);
     }
     Ok(())
 }
 
 /// Adds the rules for the numbers in a value that remain in `left`, which is what the rules that
-/// were given leave of it. `target` is its messages and its place, as rules have them.
+/// were given leave of it.
 #[cycle(search)]
-fn search(
-    alloc: Global,
-    origin: Origin,
-    value: &Value,
-    left: &Tree,
-    target: &mut Vec<u8>,
-    comments: &mut Comments,
-) -> Result<(), AllocError> {
+fn search(numbers: &mut Numbers<'_>, value: &Value, left: &Tree) -> Result<(), AllocError> {
     match (value, left) {
-        (Value::Array(values), Tree::List(items)) => {
-            search_items(alloc, origin, values, items, target, comments)
-        }
-        (Value::Object(values), Tree::Object(members)) => {
-            search_members(alloc, origin, values, members, target, comments)
-        }
-        (Value::Number(_), Tree::Whole(_)) if !left.sound() => {
-            add_number(alloc, origin, value, target.as_slice(), comments)
-        }
+        (Value::Array(values), Tree::List(items)) => search_items(numbers, values, items),
+        (Value::Object(values), Tree::Object(members)) => search_members(numbers, values, members),
+        (Value::Number(_), Tree::Whole(_)) if !left.sound() => add_number(numbers, value),
         _ => Ok(()),
     }
 }
 
 #[cycle(search)]
 fn search_items(
-    alloc: Global,
-    origin: Origin,
+    numbers: &mut Numbers<'_>,
     values: &Vec<Value>,
     items: &Vec<Tree>,
-    target: &mut Vec<u8>,
-    comments: &mut Comments,
 ) -> Result<(), AllocError> {
-    let start = target.len();
-    target.extend_from_slice(b"[]")?;
+    let start = numbers.target.len();
+    numbers.target.extend_from_slice(b"[]")?;
     for (value, item) in values.iter().zip(items.iter()) {
-        search(alloc, origin, value, item, target, comments)?;
+        search(numbers, value, item)?;
     }
-    target.truncate(start);
+    numbers.target.truncate(start);
     Ok(())
 }
 
 #[cycle(search)]
 fn search_members(
-    alloc: Global,
-    origin: Origin,
+    numbers: &mut Numbers<'_>,
     values: &Map<String, Value>,
     members: &BTreeMap<String, Tree>,
-    target: &mut Vec<u8>,
-    comments: &mut Comments,
 ) -> Result<(), AllocError> {
-    let start = target.len();
+    let start = numbers.target.len();
     for (name, value) in values.iter() {
         if let Some(member) = members.get(name.as_str()) {
-            push_member(alloc, name.as_str(), target)?;
-            search(alloc, origin, value, member, target, comments)?;
-            target.truncate(start);
+            push_member(numbers.alloc, name.as_str(), &mut numbers.target)?;
+            search(numbers, value, member)?;
+            numbers.target.truncate(start);
         }
     }
     Ok(())
@@ -126,90 +104,89 @@ fn head_of(message: &Tree) -> Option<(Kind, &str)> {
     Some((kind, name?))
 }
 
-/// Adds the rules for the numbers of a record that remain in its tree after the rules that were
-/// given.
-fn add_numbers(
-    alloc: Global,
-    origin: Origin,
+/// Adds the rules for the numbers of a content that remain in `left`.
+fn search_content(
+    numbers: &mut Numbers<'_>,
     content: &[u8],
     left: &Tree,
-    comments: &mut Comments,
 ) -> Result<(), AllocError> {
-    let Some((kind, name)) = head_of(left) else {
-        return Ok(());
-    };
-    let message = Value::from_slice(alloc, content).map_err(|_| AllocError)?;
-    let mut target = class_of(alloc, kind, name)?;
-    target.push(b' ')?;
-    let origin = Origin {
-        start: target.len(),
-        ..origin
-    };
-    search(alloc, origin, &message, left, &mut target, comments)
+    let message = Value::from_slice(numbers.alloc, content).map_err(|_| AllocError)?;
+    search(numbers, &message, left)
 }
 
-/// Adds the rules for the numbers of a record, if it has some after the rules that were given.
-/// Returns whether these rules keep the record.
-fn add_record(
-    alloc: Global,
-    origin: Origin,
+/// Adds the rules for the numbers of a record. `left` is its tree with the words of the rules that
+/// were given. Returns whether these rules keep the record.
+fn add_left(
+    numbers: &mut Numbers<'_>,
     content: &[u8],
-    rules: &MaskRules,
-    scratch: &mut Scratch,
-    comments: &mut Comments,
+    left: &mut Tree,
 ) -> Result<bool, AllocError> {
-    let mut left = match read_with_words(alloc, content, rules, scratch) {
-        Ok(tree) => tree,
-        Err(TreeFault::Memory) => return Err(AllocError),
-        Err(_) => return Ok(true),
-    };
-    if is_dropped(&left, rules) {
+    let alloc = numbers.alloc;
+    if is_dropped(left, numbers.rules) {
         return Ok(false);
     }
-    mask(&mut left, rules);
-    if !left.sound() {
-        add_numbers(alloc, origin, content, &left, comments)?;
+    mask(left, numbers.rules);
+    if !left.sound()
+        && let Some((kind, name)) = head_of(left)
+    {
+        numbers.target = class_of(alloc, kind, name)?;
+        numbers.target.push(b' ')?;
+        search_content(numbers, content, left)?;
     }
     Ok(true)
 }
 
+/// Adds the rules for the numbers of a record, if it has some after the rules that were given.
+/// Returns whether these rules keep the record.
+fn add_record(numbers: &mut Numbers<'_>, content: &[u8]) -> Result<bool, AllocError> {
+    match read_by_rules(numbers.alloc, content, numbers.rules, &mut numbers.scratch) {
+        Ok(mut left) => add_left(numbers, content, &mut left),
+        Err(TreeFault::Memory) => Err(AllocError),
+        Err(_) => Ok(true),
+    }
+}
+
+/// Returns the next record of a recording and the number of its bytes, or `None` at the end of the
+/// recording and after an error in its bytes.
+fn next_record(
+    reader: &mut RecordReader,
+    rest: &[u8],
+) -> Result<Option<(Record, usize)>, AllocError> {
+    match reader.feed(rest) {
+        Ok(FedRecord { used, whole }) => Ok(whole.map(|record| (record, used))),
+        Err(fault) if fault.cause == RecordCause::Memory => Err(AllocError),
+        Err(_) => Ok(None),
+    }
+}
+
 /// Adds the rules for the numbers of a recording, up to an error in its bytes.
 fn add_recording(
-    alloc: Global,
-    which: Which,
+    numbers: &mut Numbers<'_>,
     recording: &[u8],
-    rules: &MaskRules,
     reader: &mut RecordReader,
-    comments: &mut Comments,
 ) -> Result<(), AllocError> {
     let mut rest = recording;
-    let mut scratch = Scratch::new(alloc);
-    let mut number = 1u64;
+    numbers.record = 1;
     for _ in 1..u64::MAX {
-        match reader.feed(rest) {
-            Ok(
-                FedRecord {
-                    used,
-                    whole: Some(record),
-                },
-            ) => {
-                let origin = Origin {
-                    which,
-                    number,
-                    start: 0,
-                };
-                let content = record.content.as_slice();
-                if add_record(alloc, origin, content, rules, &mut scratch, comments)? {
-                    number = number.saturating_add(1);
-                }
-                rest = rest.get(used..).unwrap_or(&[]);
-            }
-            Ok(_) => break,
-            Err(fault) => match fault.cause {
-                RecordCause::Memory => return Err(AllocError),
-                _ => break,
-            },
+        let Some((record, used)) = next_record(reader, rest)? else {
+            break;
+        };
+        if add_record(numbers, record.content.as_slice())? {
+            numbers.record = numbers.record.saturating_add(1);
         }
+        rest = rest.get(used..).unwrap_or(&[]);
+    }
+    Ok(())
+}
+
+/// Adds the rules for the numbers of two recordings.
+fn add_recordings(numbers: &mut Numbers<'_>, inputs: &Inputs<'_>) -> Result<(), AllocError>
+    requires { AreSound inputs.now.limits }
+{
+    for (which, recording) in [(Which::A, inputs.a), (Which::B, inputs.b)] {
+        let mut reader = RecordReader::new(numbers.alloc, inputs.limits.frame);
+        numbers.which = which;
+        add_recording(numbers, recording, &mut reader)?;
     }
     Ok(())
 }
@@ -223,27 +200,28 @@ pub fn fraction_rules(
 ) -> Result<Vec<u8>, AllocError>
     requires { AreSound inputs.now.limits }
 {
-    let mut comments = BTreeMap::new(alloc);
-    for (which, recording) in [(Which::A, inputs.a), (Which::B, inputs.b)] {
-        let mut reader = RecordReader::new(alloc, inputs.limits.frame);
-        add_recording(alloc, which, recording, rules, &mut reader, &mut comments)?;
-    }
-    accepted_rules(alloc, inputs.given, &comments)
+    let mut numbers = Numbers {
+        alloc,
+        rules,
+        comments: BTreeMap::new(alloc),
+        which: Which::A,
+        record: 1,
+        target: Vec::new(alloc),
+        scratch: Scratch::new(alloc),
+    };
+    add_recordings(&mut numbers, inputs)?;
+    accepted_rules(inputs.given, &numbers)
 }
 
 /// Returns those rules that can follow the rules that were given.
-fn accepted_rules(alloc: Global, given: &[u8], comments: &Comments) -> Result<Vec<u8>, AllocError> {
-    let mut out = Vec::from_slice(alloc, missing_end(given))?;
-    for (target, comment) in comments.iter() {
+fn accepted_rules(given: &[u8], numbers: &Numbers<'_>) -> Result<Vec<u8>, AllocError> {
+    let mut out = Vec::from_slice(numbers.alloc, missing_end(given))?;
+    for (target, comment) in numbers.comments.iter() {
         let length = out.len();
-        out.extend_from_slice(comment.as_bytes())?;
-        push_rules(BLANK, target.as_slice(), &mut out)?;
-        out.push(b'\n')?;
-        let whole = joined(alloc, given, out.as_slice())?;
-        match MaskRules::read(alloc, whole.as_slice()) {
-            Err(fault) if fault.cause == RulesCause::Memory => return Err(AllocError),
-            Err(_) => out.truncate(length),
-            Ok(_) => {}
+        let rule = [comment.as_slice(), b"blank  ", target.as_slice(), b"\n\n"];
+        push_parts(&rule, &mut out)?;
+        if fault_after(numbers.alloc, given, out.as_slice())?.is_some() {
+            out.truncate(length);
         }
     }
     Ok(out)

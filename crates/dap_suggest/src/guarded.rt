@@ -1,12 +1,14 @@
-//! Counts the rules that hide what a test looks at.
+//! The rules that hide what a test looks at.
 ghost use Rattle.std.specs.Prelude.{◌≡◌, count_by, option_map, string_bytes};
 ghost use Rattle.dap_mask.specs.{KeptRules.mask_of, Rules.{place_of, rule_of}};
 ghost use Rattle.dap_suggest.specs.Guarded.{guarded_count, is_guarded, is_guarded_event};
 ghost use Rattle.dap_suggest.specs.Guarded.{is_guarded_inside, is_guarded_list, is_guarded_member};
 ghost use Rattle.dap_suggest.specs.Guarded.{is_guarded_place, is_list_or_names};
 
-use dap_mask::{MaskRule, MaskRules, Step, Verb};
+use crate::words::parts_of;
+use dap_mask::{MaskRule, MaskRules, RulesCause, Step, Verb};
 use dap_message::Kind;
+use std::alloc::{AllocError, Global};
 
 fn is_guarded_list(name: &str) -> bool
     ensures { result ≡ is_guarded_list name.now }
@@ -60,7 +62,7 @@ fn is_guarded_inside(kind: Kind, name: &Option<String>, place: &[Step]) -> bool
 
 /// Returns whether a test looks at the place, or at a value inside it: the body of a response or of
 /// a `stopped` or `exited` event, or a guarded member of it.
-pub fn is_guarded_place(kind: Kind, name: &Option<String>, place: &[Step]) -> bool
+fn is_guarded_place(kind: Kind, name: &Option<String>, place: &[Step]) -> bool
     ensures { result
         ≡ is_guarded_place kind (option_map string_bytes name.now) (place_of place.now) }
 {
@@ -90,4 +92,45 @@ pub fn guarded_count(rules: &MaskRules) -> usize
     ensures { result ≡ guarded_count (mask_of rules.now) }
 {
     guarded_changes(rules.changes())
+}
+
+/// What is hidden if a guarded member of a body is blanked, or the names of its elements.
+static HIDDEN: [(&str, &str); 8] = [
+    ("reason", "why the program stopped"),
+    ("allThreadsStopped", "whether all threads stopped"),
+    ("exitCode", "the exit code"),
+    ("threads", "which threads exist"),
+    ("stackFrames", "which frames exist"),
+    ("scopes", "which scopes exist"),
+    ("variables", "which variables exist"),
+    ("breakpoints", "which breakpoints exist"),
+];
+
+/// Returns what a rule hides that blanks a guarded place.
+fn hidden_by(rule: &MaskRule) -> &'static str {
+    if let Some(Step::Member(member)) = rule.place.get(1) {
+        for (name, hidden) in HIDDEN.iter() {
+            if member.as_str() == *name {
+                return *hidden;
+            }
+        }
+    }
+    "the whole body"
+}
+
+fn hidden_in(rules: &MaskRules) -> Option<&'static str> {
+    let rule = rules.changes().first()?;
+    is_guarded(rule).then_some(hidden_by(rule))
+}
+
+/// Returns what is hidden if a place is blanked, if a test looks at it. `target` is the messages
+/// and the place, as rules have them.
+pub fn hidden_at(alloc: Global, target: &[u8]) -> Result<Option<&'static str>, AllocError> {
+    let line = parts_of(alloc, &[b"blank ", target])?;
+    match MaskRules::read(alloc, line.as_slice()) {
+        Ok(rules) => Ok(hidden_in(&rules)),
+        Err(fault) if fault.cause == RulesCause::Memory => Err(AllocError),
+        // No file can have the rule.
+        Err(_) => Ok(None),
+    }
 }

@@ -2,18 +2,17 @@
 ghost use Rattle.std.specs.Prelude.{◌≡◌, ◌++◌, IfOk};
 ghost use Rattle.dap_input.specs.Limits.{AreSound};
 
-use crate::candidates::target_of;
 use crate::choices::Choices;
-use crate::counting::{EventsByName, drops};
-use crate::matched::{Pair, kept_entries, pairs_of};
-use crate::obstacle::{Obstacle, Reason, Remaining, Unsolved};
+use crate::counting::EventsByName;
+use crate::matched::{add_matched, pairs_of};
+use crate::obstacle::{Reason, Remaining, Unsolved};
+use crate::pairs::Pairs;
 use crate::sessions::Sessions;
 use crate::suggestion::Inputs;
-use crate::swapping::{Order, Swaps};
-use crate::trees::Trees;
-use crate::value_rules::RuleText;
+use crate::swapping::Order;
+use crate::value_rules::Found;
 use dap_compare::Which;
-use dap_diff::{StoredEntry, match_records};
+use dap_diff::StoredEntry;
 use dap_mask::{MaskRules, RulesCause, RulesFault};
 use std::alloc::{AllocError, Global};
 
@@ -38,189 +37,153 @@ pub fn missing_end(given: &[u8]) -> &'static [u8] {
     }
 }
 
-/// Returns the number of bytes before the line of this number, counted from 1.
-fn start_of(text: &[u8], number: usize) -> usize {
+/// Reads the rules that were given, and further rules after them.
+///
+/// # Errors
+///
+/// A file cannot have the rules, or an allocation failed.
+pub fn read_joined(alloc: Global, given: &[u8], rules: &[u8]) -> Result<MaskRules, Unsolved> {
+    let whole = joined(alloc, given, rules)?;
+    Ok(MaskRules::read(alloc, whole.as_slice())?)
+}
+
+/// Returns why a file cannot have these rules after those that were given, or `None` if it can.
+pub fn fault_after(
+    alloc: Global,
+    given: &[u8],
+    rules: &[u8],
+) -> Result<Option<RulesFault>, AllocError> {
+    let whole = joined(alloc, given, rules)?;
+    match MaskRules::read(alloc, whole.as_slice()).err() {
+        Some(fault) if fault.cause == RulesCause::Memory => Err(AllocError),
+        fault => Ok(fault),
+    }
+}
+
+/// Returns the number of bytes before the line of this number, counted from 0, and the line.
+fn line_at(text: &[u8], number: usize) -> (usize, &[u8]) {
     let mut start = 0usize;
-    for line in text
-        .split(|byte| *byte == b'\n')
-        .take(number.saturating_sub(1))
-    {
+    for (earlier, line) in text.split(|byte| *byte == b'\n').enumerate() {
+        if earlier >= number {
+            return (start, line);
+        }
         start = start.saturating_add(line.len()).saturating_add(1);
     }
-    start
+    (start, &[])
 }
 
-/// Returns the line that starts at this place, without its LF.
-fn line_at(text: &[u8], start: usize) -> &[u8] {
-    let rest = text.get(start..).unwrap_or(&[]);
-    rest.split(|byte| *byte == b'\n').next().unwrap_or(&[])
-}
-
-/// Returns the rules that were found, as a text.
-fn written(
-    alloc: Global,
-    before: &[u8],
-    choices: &Choices,
-    swaps: &Swaps,
-) -> Result<RuleText, AllocError> {
-    let mut rules = RuleText::new(alloc, before)?;
-    rules.push_spots(alloc, &choices.spots)?;
-    swaps.push(&mut rules.text)?;
-    Ok(rules)
-}
-
-/// The rules that are searched for, and the pairs of records.
-#[derive(Clone, Copy)]
-struct Search<'s, 'm> {
+/// A search for rules, and what it has found.
+#[derive(Drop)]
+struct Search<'s> {
     given: &'s [u8],
-    is_strict: bool,
-    /// The rules before those for values.
-    before: &'s [u8],
-    pairs: &'s [Pair<'m>],
+    pairs: Pairs<'s>,
+    choices: Choices,
+    order: Order<'s>,
 }
 
-/// Replaces the rule of a line that is rejected. If there are too many rules, joins those for
-/// elements by their name. Returns whether that is possible.
-fn replace(
-    alloc: Global,
-    search: &Search<'_, '_>,
-    rules: &RuleText,
-    fault: RulesFault,
-    choices: &mut Choices,
-    swaps: &mut Swaps,
-    trees: &mut Trees,
-) -> Result<bool, AllocError> {
-    if matches!(fault.cause, RulesCause::TooLong | RulesCause::TooMany) {
-        return choices.join(alloc);
-    }
-    let whole = joined(alloc, search.given, rules.text.as_slice())?;
-    let start = start_of(whole.as_slice(), fault.line);
-    match rules.origin(start.saturating_sub(search.given.len())) {
-        Some(origin) => {
-            choices.exclude(alloc, origin, search.pairs, trees)?;
-            Ok(true)
+impl Search<'_> {
+    /// Replaces the rule of a line that is rejected. If there are too many rules, joins those for
+    /// elements by their name. Returns whether that is possible.
+    fn replace(&mut self, fault: RulesFault, found: &Found) -> Result<bool, AllocError> {
+        if matches!(fault.cause, RulesCause::TooLong | RulesCause::TooMany) {
+            return self.choices.join();
         }
-        None => Ok(swaps.exclude(target_of(line_at(whole.as_slice(), start)))),
-    }
-}
-
-/// Returns the rules that a file can have after the rules that were given, or `None` if it cannot
-/// have enough of them.
-fn accepted(
-    alloc: Global,
-    search: &Search<'_, '_>,
-    choices: &mut Choices,
-    swaps: &mut Swaps,
-    trees: &mut Trees,
-) -> Result<Option<Vec<u8>>, AllocError> {
-    for _ in 0..ATTEMPTS {
-        let rules = written(alloc, search.before, choices, swaps)?;
-        let whole = joined(alloc, search.given, rules.text.as_slice())?;
-        let Err(fault) = MaskRules::read(alloc, whole.as_slice()) else {
-            let RuleText { text, .. } = rules;
-            return Ok(Some(text));
+        // The rules that were given end with LF, or those before the others start with it.
+        let given = self.given.iter().filter(|byte| **byte == b'\n').count();
+        let number = fault.line.saturating_sub(given).saturating_sub(1);
+        let (start, line) = line_at(found.text.as_slice(), number);
+        let Some(origin) = found.origin(start) else {
+            return Ok(self.order.exclude(line));
         };
-        if fault.cause == RulesCause::Memory {
-            return Err(AllocError);
+        self.choices.exclude(origin, &mut self.pairs)?;
+        Ok(true)
+    }
+
+    /// Writes the rules, as far as a file can have them after the rules that were given. Returns
+    /// whether it can have enough of them.
+    fn write(&mut self, found: &mut Found) -> Result<bool, AllocError> {
+        let alloc = self.pairs.alloc;
+        for _ in 0..ATTEMPTS {
+            found.write_spots(alloc, &self.choices.spots)?;
+            self.order.push_swaps(&mut found.text)?;
+            let Some(fault) = fault_after(alloc, self.given, found.text.as_slice())? else {
+                return Ok(true);
+            };
+            if !self.replace(fault, found)? {
+                return Ok(false);
+            }
         }
-        if !replace(alloc, search, &rules, fault, choices, swaps, trees)? {
-            return Ok(None);
+        Ok(false)
+    }
+
+    /// Adds the pairs that differ in values that no rule may change, and those whose order is fixed.
+    fn add_failed(&self, remaining: &mut Remaining) -> Result<(), AllocError> {
+        for index in self.choices.failed.iter() {
+            if let Some(pair) = self.pairs.list.get(*index) {
+                remaining.add(Reason::Differs, Which::A, pair.a)?;
+            }
         }
-    }
-    Ok(None)
-}
-
-/// Adds the pairs that differ at places that no rule may change, and those whose order is fixed.
-fn add_pairs(
-    pairs: &[Pair<'_>],
-    choices: &Choices,
-    order: &Order<'_>,
-    remaining: &mut Remaining,
-) -> Result<(), AllocError> {
-    for index in choices.failed.iter() {
-        if let Some(pair) = pairs.get(*index) {
-            remaining.add(Reason::Differs, Which::A, pair.a)?;
+        for pair in self.order.fixed.iter() {
+            remaining.add(Reason::OutOfOrder, Which::A, pair.a)?;
         }
+        Ok(())
     }
-    for pair in order.fixed.iter() {
-        remaining.add(Reason::OutOfOrder, Which::A, pair.a)?;
+
+    /// Searches rules, and writes them. Adds the records for which there are none.
+    fn search(&mut self, sessions: &Sessions, found: &mut Found) -> Result<(), AllocError> {
+        self.pairs.number(sessions)?;
+        self.order.search(&mut self.pairs)?;
+        self.choices.search(&mut self.pairs)?;
+        found.is_accepted = self.write(found)?;
+        self.add_failed(&mut found.remaining)
     }
-    Ok(())
 }
 
-/// Searches rules for the pairs whose order was searched.
-///
-/// # Errors
-///
-/// No rules make some record the same, or an allocation failed.
-fn ordered_rules(
-    alloc: Global,
-    search: &Search<'_, '_>,
-    order: &mut Order<'_>,
-    remaining: &mut Remaining,
-    trees: &mut Trees,
-) -> Result<Option<Vec<u8>>, AllocError> {
-    let mut choices = Choices::new(alloc, search.is_strict);
-    choices.search(alloc, search.pairs, trees)?;
-    let found = accepted(alloc, search, &mut choices, &mut order.swaps, trees)?;
-    add_pairs(search.pairs, &choices, order, remaining)?;
-    Ok(found)
-}
-
-/// Returns what was found, if no records remain.
-fn solved(found: Option<Vec<u8>>, remaining: Remaining) -> Result<Vec<u8>, Unsolved> {
-    if !remaining.is_empty() {
-        return Err(Unsolved::NoRules(Obstacle::Remaining(remaining)));
-    }
-    found.ok_or(Unsolved::NoRules(Obstacle::Unread))
-}
-
-/// Returns the rules for the records of two sessions that are matched, after the rules `before`
-/// them.
-///
-/// # Errors
-///
-/// No rules make some record the same, or an allocation failed.
-fn matched_rules<'m>(
+/// Searches rules for the records of two sessions that are matched.
+fn search_pairs<'m>(
     alloc: Global,
     inputs: &Inputs<'_>,
-    before: &[u8],
+    sessions: &Sessions,
     a: &'m [StoredEntry<'m>],
     b: &'m [StoredEntry<'m>],
-    trees: &mut Trees,
-) -> Result<Vec<u8>, Unsolved> {
-    let mut remaining = Remaining::new(alloc);
-    let pairs = pairs_of(alloc, a, b, &mut remaining)?;
-    let mut order = Order::new(alloc);
-    order.search(alloc, pairs.as_slice())?;
-    let search = Search {
+    found: &mut Found,
+) -> Result<(), AllocError>
+    requires { AreSound inputs.now.limits }
+{
+    let pairs = pairs_of(alloc, a, b, &mut found.remaining)?;
+    let mut search = Search {
         given: inputs.given,
-        is_strict: inputs.strict,
-        before,
-        pairs: pairs.as_slice(),
+        pairs: Pairs::new(alloc, pairs.as_slice(), inputs.limits),
+        choices: Choices::new(alloc, inputs.strict),
+        order: Order::new(alloc),
     };
-    let found = ordered_rules(alloc, &search, &mut order, &mut remaining, trees)?;
-    solved(found, remaining)
+    search.search(sessions, found)
 }
 
-/// Returns the rules for two sessions of which some events are dropped, after the rules `before`
-/// them. Reads the messages through `trees`.
-fn rules_with(
+/// Searches rules for two sessions of which some events are dropped, after the rules `before` them.
+fn search_sessions(
     alloc: Global,
     inputs: &Inputs<'_>,
     before: &[u8],
     sessions: &Sessions,
     events: &EventsByName,
-    trees: &mut Trees,
-) -> Result<Vec<u8>, Unsolved> {
-    let mut a = kept_entries(alloc, &sessions.a, events)?;
-    let mut b = kept_entries(alloc, &sessions.b, events)?;
-    match_records(alloc, a.as_mut_slice(), b.as_mut_slice())?;
-    matched_rules(alloc, inputs, before, a.as_slice(), b.as_slice(), trees)
+    found: &mut Found,
+) -> Result<(), AllocError>
+    requires { AreSound inputs.now.limits }
+{
+    found.text.extend_from_slice(before)?;
+    for (name, counted) in events.iter() {
+        counted.push_drops(alloc, name.as_str(), &mut found.text)?;
+    }
+    found.start = found.text.len();
+    let mut a = Vec::new(alloc);
+    let mut b = Vec::new(alloc);
+    add_matched(alloc, sessions, events, &mut a, &mut b)?;
+    search_pairs(alloc, inputs, sessions, a.as_slice(), b.as_slice(), found)
 }
 
 /// Returns the rules for two sessions of which some events are dropped, after the rules `before`
-/// them. They can follow the rules that were given.
+/// them. They can follow the rules that were given. Drops the sessions from memory.
 ///
 /// # Errors
 ///
@@ -229,20 +192,12 @@ pub fn rules_for(
     alloc: Global,
     inputs: &Inputs<'_>,
     before: &[u8],
-    sessions: &Sessions,
+    sessions: Sessions,
     events: &EventsByName,
 ) -> Result<Vec<u8>, Unsolved>
     requires { AreSound inputs.now.limits }
 {
-    let drops = drops(alloc, events)?;
-    let before = joined(alloc, before, drops.as_slice())?;
-    let mut trees = Trees::new(alloc, sessions, inputs.limits)?;
-    rules_with(
-        alloc,
-        inputs,
-        before.as_slice(),
-        sessions,
-        events,
-        &mut trees,
-    )
+    let mut found = Found::new(alloc);
+    search_sessions(alloc, inputs, before, &sessions, events, &mut found)?;
+    found.into_text()
 }

@@ -4,7 +4,6 @@
 //! compared the results. `specs/` defines the terms.
 #![tactic(auto)]
 
-mod actions;
 mod broad;
 mod candidates;
 mod choices;
@@ -16,10 +15,11 @@ mod elements;
 mod finding;
 mod fractions;
 mod guarded;
-mod guards;
 mod joined_rules;
 mod matched;
 mod obstacle;
+mod pairs;
+mod pieces;
 mod places;
 mod recording;
 mod sessions;
@@ -29,7 +29,6 @@ mod suggesting;
 mod suggestion;
 mod swapping;
 mod tallies;
-mod trees;
 mod value_rules;
 mod values;
 mod words;

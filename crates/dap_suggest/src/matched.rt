@@ -1,8 +1,9 @@
 //! The records of two sessions, and those that are matched.
 use crate::counting::{EventsByName, is_dropped};
 use crate::obstacle::{Reason, Remaining};
+use crate::sessions::Sessions;
 use dap_compare::Which;
-use dap_diff::{Entry, StoredEntry};
+use dap_diff::{Entry, StoredEntry, match_records};
 use dap_stored::StoredSession;
 use dap_tree::Scratch;
 use std::alloc::{AllocError, Global};
@@ -23,22 +24,36 @@ impl<'m> Pair<'m> {
     }
 }
 
-/// Returns the records of a session, without the events that are dropped.
-pub fn kept_entries<'m>(
+/// Adds the records of a session, without the events that are dropped.
+fn add_entries<'m>(
     alloc: Global,
     session: &'m StoredSession,
     events: &EventsByName,
-) -> Result<Vec<StoredEntry<'m>>, AllocError> {
-    let mut scratch = Scratch::new(alloc);
-    let mut entries = Vec::new(alloc);
+    scratch: &mut Scratch,
+    entries: &mut Vec<StoredEntry<'m>>,
+) -> Result<(), AllocError> {
     for place in 0..session.len() {
         if let Some(message) = session.message(place)
-            && !is_dropped(alloc, &message, events, &mut scratch)?
+            && !is_dropped(alloc, &message, events, scratch)?
         {
             entries.push(Entry::new(alloc, place as u64 + 1, 0, message)?)?;
         }
     }
-    Ok(entries)
+    Ok(())
+}
+
+/// Adds the records of two sessions, without the events that are dropped, and matches them.
+pub fn add_matched<'m>(
+    alloc: Global,
+    sessions: &'m Sessions,
+    events: &EventsByName,
+    a: &mut Vec<StoredEntry<'m>>,
+    b: &mut Vec<StoredEntry<'m>>,
+) -> Result<(), AllocError> {
+    let mut scratch = Scratch::new(alloc);
+    add_entries(alloc, &sessions.a, events, &mut scratch, a)?;
+    add_entries(alloc, &sessions.b, events, &mut scratch, b)?;
+    match_records(alloc, a.as_mut_slice(), b.as_mut_slice())
 }
 
 /// Returns a record of A with its counterpart.

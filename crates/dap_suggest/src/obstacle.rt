@@ -3,7 +3,7 @@ use dap_compare::Which;
 use dap_diff::StoredEntry;
 use dap_mask::{RulesCause, RulesFault};
 use dap_rules::ApplyRefused;
-use std::alloc::{AllocError, AllocFailed, Global};
+use std::alloc::{AllocError, Global};
 use std::fmt::{self, Display, Formatter, Write};
 
 /// What is wrong with a record that no rule can make the same.
@@ -27,45 +27,22 @@ impl Display for Reason {
     }
 }
 
-/// A record that no rule can make the same.
-#[derive(Drop)]
-struct Place {
-    reason: Reason,
-    which: Which,
-    number: u64,
-    /// The side, the kind and the name of the record.
-    head: String,
-}
-
-impl Display for Place {
-    fn fmt<W: Write>(&self, f: &mut Formatter<W>) -> fmt::Result {
-        let (reason, which, number) = (self.reason, self.which, self.number);
-        let other = match which {
-            Which::A => Which::B,
-            Which::B => Which::A,
-        };
-        // The kind and the name follow the marker of the side and a space.
-        let message = self.head.get(2..).unwrap_or(self.head.as_str());
-        write!(f, "record {number} of {which}, {message}, {reason} {other}")
-    }
-}
-
 /// How many remaining records are shown.
-const MAX_SHOWN: usize = 20;
+const MAX_SHOWN: u64 = 20;
 
 /// The records that no rule can make the same. Records count from 1 in what the rules that were
 /// given leave.
 #[derive(Drop)]
 pub struct Remaining {
-    /// The first of them.
-    shown: Vec<Place>,
+    /// The lines for the first of them, each after an LF and two spaces.
+    shown: String,
     count: u64,
 }
 
 impl Remaining {
     pub fn new(alloc: Global) -> Remaining {
         Remaining {
-            shown: Vec::new(alloc),
+            shown: String::new(alloc),
             count: 0,
         }
     }
@@ -81,30 +58,32 @@ impl Remaining {
         which: Which,
         entry: &StoredEntry<'_>,
     ) -> Result<(), AllocError> {
-        self.count = self.count.saturating_add(1);
-        if self.shown.len() < MAX_SHOWN {
-            self.shown.push(Place {
-                reason,
-                which,
-                number: entry.number,
-                head: entry.head.clone()?,
-            })?;
+        if self.count < MAX_SHOWN {
+            let number = entry.number;
+            // The kind and the name follow the marker of the side and a space.
+            let message = entry.head.get(2..).unwrap_or(entry.head.as_str());
+            let other = match which {
+                Which::A => Which::B,
+                Which::B => Which::A,
+            };
+            write!(
+                self.shown,
+                "\n  record {number} of {which}, {message}, {reason} {other}"
+            )?;
         }
+        self.count = self.count.saturating_add(1);
         Ok(())
     }
 }
 
 impl Display for Remaining {
     fn fmt<W: Write>(&self, f: &mut Formatter<W>) -> fmt::Result {
-        if let [place] = self.shown.as_slice() {
-            return write!(f, "{place}");
+        let (shown, count) = (self.shown.as_str(), self.count);
+        if count == 1 {
+            return f.write_str(shown.get(3..).unwrap_or(shown));
         }
-        let count = self.count;
-        write!(f, "{count} places remain")?;
-        for place in self.shown.iter() {
-            write!(f, "\n  {place}")?;
-        }
-        let more = count.saturating_sub(self.shown.len() as u64);
+        write!(f, "{count} places remain{shown}")?;
+        let more = count.saturating_sub(MAX_SHOWN);
         if more > 0 {
             write!(f, "\n  and {more} more")?;
         }
@@ -150,12 +129,6 @@ pub enum Unsolved {
 
 impl From<AllocError> for Unsolved {
     fn from(_: AllocError) -> Unsolved {
-        Unsolved::Memory
-    }
-}
-
-impl<T: Drop> From<AllocFailed<T>> for Unsolved {
-    fn from(_: AllocFailed<T>) -> Unsolved {
         Unsolved::Memory
     }
 }

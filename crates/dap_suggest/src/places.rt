@@ -51,7 +51,7 @@ impl Places {
         } else {
             class.has_others
         };
-        if has_spots { Some(class.root) } else { None }
+        has_spots.then_some(class.root)
     }
 
     /// Returns the place of a member, if it has one.
@@ -109,23 +109,14 @@ impl Places {
         Ok(elements)
     }
 
-    /// Returns the spot of the member `name` of the elements at a place.
-    pub fn spot_of_names(&self, elements: usize) -> Option<usize> {
-        let name = self.member_at(elements, "name")?;
-        self.node(name)?.spot
-    }
-
     /// Sets the spot of a place in the messages with a head.
     pub fn set_spot(&mut self, head: &str, node: usize, spot: usize, is_name: bool) {
         if let Some(node) = self.nodes.get_mut(node) {
             node.spot = Some(spot);
         }
         if let Some(class) = self.classes.get_mut(head) {
-            if is_name {
-                class.has_names = true;
-            } else {
-                class.has_others = true;
-            }
+            class.has_names |= is_name;
+            class.has_others |= !is_name;
         }
     }
 }

@@ -1,5 +1,5 @@
 //! A place at which pairs differ, what the candidates do there, and the rules that are chosen.
-use crate::candidates::{Actions, BLANK, Candidate};
+use crate::candidates::{Actions, BLANK, only};
 use crate::tallies::{Different, Tally};
 use std::alloc::{AllocError, Global};
 use std::collections::BTreeMap;
@@ -22,10 +22,26 @@ pub struct NamedList {
 /// The rules of one candidate at a place.
 #[derive(Clone, Copy)]
 pub struct Rule {
-    pub candidate: Candidate,
+    pub actions: Actions,
     pub scope: usize,
-    /// How many equal values it changes that no earlier rule of the place changes.
-    pub hidden: u64,
+}
+
+impl Rule {
+    /// Returns whether the rules apply to the values of a tally.
+    pub fn applies(&self, tally: usize) -> bool {
+        self.scope == ALL || self.scope == tally
+    }
+}
+
+/// Returns the actions of the rules of a scope.
+pub fn actions_in(rules: &[Rule], scope: usize) -> Actions {
+    let mut actions = 0;
+    for rule in rules {
+        if rule.scope == scope {
+            actions |= rule.actions;
+        }
+    }
+    actions
 }
 
 /// A place at which pairs differ.
@@ -44,7 +60,7 @@ pub struct Spot {
     names: BTreeMap<String, usize>,
     /// How many pairs that differ here were recorded.
     pub seen: u64,
-    /// The tally of all other elements, and those of the names.
+    /// The tally of all other elements, and those of the names. A new place has none.
     pub tallies: Vec<Tally>,
     /// The rules that a file cannot have.
     excluded: Vec<Rule>,
@@ -53,14 +69,8 @@ pub struct Spot {
 
 impl Spot {
     /// Returns a place that no candidates were tried at.
-    pub fn new(
-        alloc: Global,
-        target: Vec<u8>,
-        hidden: Option<&'static str>,
-    ) -> Result<Spot, AllocError> {
-        let mut tallies = Vec::new(alloc);
-        tallies.push(Tally::new(alloc))?;
-        Ok(Spot {
+    pub fn new(alloc: Global, target: Vec<u8>, hidden: Option<&'static str>) -> Spot {
+        Spot {
             is_name: target.ends_with(b"[].name"),
             target,
             hidden,
@@ -68,10 +78,10 @@ impl Spot {
             list: None,
             names: BTreeMap::new(alloc),
             seen: 0,
-            tallies,
+            tallies: Vec::new(alloc),
             excluded: Vec::new(alloc),
             rules: Vec::new(alloc),
-        })
+        }
     }
 
     /// Forgets all names, and all that was counted.
@@ -111,11 +121,7 @@ impl Spot {
 
     /// Returns the scope that has an element of this name alone, or `ALL` if there is none.
     pub fn scope_of(&self, name: &str) -> usize {
-        if self.has_names() {
-            self.names.get(name).copied().unwrap_or(ALL)
-        } else {
-            ALL
-        }
+        self.names.get(name).copied().unwrap_or(ALL)
     }
 
     /// Returns the scopes of rules: all elements, and each name.
@@ -148,20 +154,17 @@ impl Spot {
         Ok(())
     }
 
-    /// Returns whether a file cannot have the rules of a candidate in this scope.
-    pub fn is_excluded(&self, candidate: &Candidate, scope: usize) -> bool {
-        self.excluded.iter().any(|rule| rule.candidate.bit == candidate.bit && rule.scope == scope)
+    /// Returns whether a file cannot have a rule.
+    pub fn is_excluded(&self, rule: &Rule) -> bool {
+        let (actions, scope) = (rule.actions, rule.scope);
+        self.excluded
+            .iter()
+            .any(|other| other.actions == actions && other.scope == scope)
     }
 
     /// Returns the actions of the rules for all elements.
     pub fn actions(&self) -> Actions {
-        let mut actions = 0;
-        for rule in self.rules.iter() {
-            if rule.scope == ALL {
-                actions |= rule.candidate.actions;
-            }
-        }
-        actions
+        actions_in(self.rules.as_slice(), ALL)
     }
 
     /// Returns whether some rules are for the elements of one name.
@@ -178,16 +181,13 @@ impl Spot {
     pub fn comment_of(&self, rule: &Rule) -> Option<&[u8]> {
         let mut first: Option<&Different> = None;
         for (scope, tally) in self.tallies.iter().enumerate() {
-            if (rule.scope == ALL || rule.scope == scope)
-                && let Some(different) = tally.first(rule.candidate.bit)
+            if rule.applies(scope)
+                && let Some(different) = tally.first(only(rule.actions))
                 && first.is_none_or(|other| different.before < other.before)
             {
                 first = Some(different);
             }
         }
-        match first {
-            Some(different) => Some(different.comment.as_slice()),
-            None => None,
-        }
+        first.map(|different| different.comment.as_slice())
     }
 }

@@ -1,7 +1,7 @@
 //! All places at which pairs differ.
 use crate::candidates::Actions;
-use crate::elements::Elements;
-use crate::guards::hidden_at;
+use crate::elements::{Elements, name_in};
+use crate::guarded::hidden_at;
 use crate::places::Places;
 use crate::spot::{NamedList, Spot};
 use std::alloc::{AllocError, Global};
@@ -14,21 +14,16 @@ pub struct Spots {
     pub list: Vec<Spot>,
     /// The spots by the messages and the place of their rules for all elements.
     pub by_target: BTreeMap<Vec<u8>, usize>,
-    /// Whether all rules are for all elements.
-    pub are_joined: bool,
-    /// Whether nothing that a test looks at may be blanked.
-    pub are_strict: bool,
 }
 
 /// The place that a walk over two messages of a pair has reached.
 #[derive(Drop)]
 pub struct Position<'t> {
+    pub alloc: Global,
     /// The index of the pair.
     pub pair: usize,
     /// The kind and the name of the messages, as heads have them.
     pub head: &'t str,
-    /// How many bytes of the target are before the place.
-    pub start: usize,
     /// The messages and the place, as rules have them.
     pub target: Vec<u8>,
     pub elements: Elements<'t>,
@@ -42,37 +37,25 @@ fn add_element(alloc: Global, spot: &mut Spot, elements: &Elements<'_>) -> Resul
     if spot.list.is_none() {
         spot.list = innermost(elements);
     }
-    let depth = spot.list.map(|list| list.depth);
-    if let Some(Some(element)) = depth.and_then(|depth| elements.get(depth))
-        && let Some(name) = element.name(alloc)?
-    {
-        return spot.add_name(alloc, name.as_str());
+    match name_in(alloc, elements, spot.list)? {
+        Some(name) => spot.add_name(alloc, name.as_str()),
+        None => Ok(()),
     }
-    Ok(())
 }
 
 /// Returns the innermost list whose element has a name.
 fn innermost(elements: &Elements<'_>) -> Option<NamedList> {
-    let mut list = None;
-    for (depth, element) in elements.iter().enumerate() {
-        if let Some(element) = element {
-            list = Some(NamedList {
-                depth,
-                start: element.start,
-            });
-        }
-    }
-    list
+    let depth = elements.iter().rposition(|element| element.is_some())?;
+    let start = (*elements.get(depth)?)?.start;
+    Some(NamedList { depth, start })
 }
 
 impl Spots {
-    pub fn new(alloc: Global, are_strict: bool) -> Spots {
+    pub fn new(alloc: Global) -> Spots {
         Spots {
             places: Places::new(alloc),
             list: Vec::new(alloc),
             by_target: BTreeMap::new(alloc),
-            are_joined: false,
-            are_strict,
         }
     }
 
@@ -93,7 +76,9 @@ impl Spots {
 
     /// Returns the actions of the rules for the names of the elements at a place.
     pub fn actions_on_names(&self, elements: usize) -> Actions {
-        let spot = self.places.spot_of_names(elements);
+        let name = self.places.member_at(elements, "name");
+        let node = name.and_then(|name| self.places.node(name));
+        let spot = node.and_then(|node| node.spot);
         match spot.and_then(|spot| self.list.get(spot)) {
             Some(spot) => spot.actions(),
             None => 0,
@@ -101,38 +86,29 @@ impl Spots {
     }
 
     /// Returns the spot at a place.
-    fn spot_at(
-        &mut self,
-        alloc: Global,
-        node: usize,
-        position: &Position<'_>,
-    ) -> Result<usize, AllocError> {
+    fn spot_at(&mut self, node: usize, position: &Position<'_>) -> Result<usize, AllocError> {
         if let Some(spot) = self.places.node(node).and_then(|node| node.spot) {
             return Ok(spot);
         }
         let index = self.list.len();
-        let target = position.target.as_slice();
-        let class = target.get(..position.start).unwrap_or(&[]);
-        let place = target.get(position.start..).unwrap_or(&[]);
-        let spot = Spot::new(alloc, position.target.clone()?, hidden_at(class, place))?;
+        drop(self.by_target.insert(position.target.clone()?, index)?);
+        let hidden = hidden_at(position.alloc, position.target.as_slice())?;
+        let spot = Spot::new(position.alloc, position.target.clone()?, hidden);
         self.places
             .set_spot(position.head, node, index, spot.is_name);
         self.list.push(spot)?;
-        drop(self.by_target.insert(position.target.clone()?, index)?);
         Ok(index)
     }
 
     /// Adds a place at which two values differ.
-    pub fn add(
-        &mut self,
-        alloc: Global,
-        node: usize,
-        position: &Position<'_>,
-    ) -> Result<(), AllocError> {
-        let index = self.spot_at(alloc, node, position)?;
+    pub fn add(&mut self, node: usize, position: &Position<'_>) -> Result<(), AllocError> {
+        let index = self.spot_at(node, position)?;
         if let Some(spot) = self.list.get_mut(index) {
+            if spot.tallies.is_empty() {
+                spot.reset(position.alloc)?;
+            }
             spot.add_pair(position.pair)?;
-            add_element(alloc, spot, &position.elements)?;
+            add_element(position.alloc, spot, &position.elements)?;
         }
         Ok(())
     }

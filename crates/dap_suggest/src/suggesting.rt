@@ -9,11 +9,12 @@ ghost use Rattle.dap_suggest.specs.Suggested.{AreSameBy, IsSuggestion, SaysWhatT
 
 use crate::broad::broad_of;
 use crate::confirming::confirm;
-use crate::counting::{EventsByName, differing_events, forget_categories, have_categories};
+use crate::counting::{EventsByName, add_differing, forget_categories, have_categories};
 use crate::fractions::fraction_rules;
 use crate::guarded::guarded_count;
-use crate::joined_rules::{joined, missing_end, rules_for};
+use crate::joined_rules::{joined, missing_end, read_joined, rules_for};
 use crate::obstacle::Unsolved;
+use crate::pieces::{JOINS, has_other_pieces};
 use crate::sessions::{Sessions, sessions_by};
 use crate::suggestion::{Inputs, SuggestRefused, Suggestion};
 use dap_input::{Limits, Refused};
@@ -21,6 +22,7 @@ use dap_mask::MaskRules;
 use dap_rename::Mode;
 use dap_rules::{ApplyRefused, mode_by};
 use std::alloc::Global;
+use std::collections::BTreeMap;
 
 /// Searches rules for two recordings and their sessions, which the rules that were given and those
 /// `before` the others make. Some of these events are dropped. Confirms the rules, after the
@@ -35,9 +37,31 @@ fn find_by(
     requires { AreSound inputs.now.limits }
     ensures { IfOk result (IsSuggestion inputs.now) }
 {
-    let rules = rules_for(alloc, inputs, before, &sessions, events)?;
-    drop(sessions);
+    let rules = rules_for(alloc, inputs, before, sessions, events)?;
     confirm(alloc, inputs, rules.as_slice())
+}
+
+/// Searches and confirms rules by events of one category, or by all events of a name, if no rules
+/// are found otherwise. No events are known yet.
+fn find_by_events(
+    alloc: Global,
+    rules: &MaskRules,
+    inputs: &Inputs<'_>,
+    before: &[u8],
+    sessions: Sessions,
+    events: &mut EventsByName,
+) -> Result<Suggestion, Unsolved>
+    requires { AreSound inputs.now.limits }
+    ensures { IfOk result (IsSuggestion inputs.now) }
+{
+    add_differing(alloc, &sessions, events)?;
+    let found = find_by(alloc, inputs, before, sessions, events);
+    if !have_categories(events) || !matches!(&found, Err(Unsolved::NoRules(_))) {
+        return found;
+    }
+    forget_categories(events);
+    let sessions = sessions_by(alloc, rules, inputs)?;
+    find_by(alloc, inputs, before, sessions, events)
 }
 
 /// Searches and confirms rules. Events are dropped by their category, or by their name alone if no
@@ -52,14 +76,91 @@ fn find_confirmed(
     requires { AreSound inputs.now.limits }
     ensures { IfOk result (IsSuggestion inputs.now) }
 {
-    let mut events = differing_events(alloc, &sessions)?;
-    let found = find_by(alloc, inputs, before, sessions, &events);
-    if !have_categories(&events) || !matches!(&found, Err(Unsolved::NoRules(_))) {
-        return found;
+    let mut events = BTreeMap::new(alloc);
+    find_by_events(alloc, rules, inputs, before, sessions, &mut events)
+}
+
+/// Searches rules after those `before` them and a rule that joins output. Returns `None` if a file
+/// cannot have this rule, if the rules make no sessions, or if the joined output differs.
+fn find_with_join(
+    alloc: Global,
+    inputs: &Inputs<'_>,
+    before: &[u8],
+    join: &[u8],
+) -> Result<Option<Suggestion>, Unsolved>
+    requires { AreSound inputs.now.limits }
+    ensures { IfOk result (λ o. IfSome o (IsSuggestion inputs.now)) }
+{
+    let before = joined(alloc, before, join)?;
+    let rules = read_joined(alloc, inputs.given, before.as_slice())?;
+    let Ok(sessions) = sessions_by(alloc, &rules, inputs) else {
+        return Ok(None);
+    };
+    if has_other_pieces(alloc, &sessions)? {
+        return Ok(None);
     }
-    forget_categories(&mut events);
+    let found = find_confirmed(alloc, &rules, inputs, before.as_slice(), sessions)?;
+    Ok(Some(found))
+}
+
+/// Searches rules after those `before` them and one that joins output. Returns `None` if none are
+/// found.
+fn find_joined(
+    alloc: Global,
+    inputs: &Inputs<'_>,
+    before: &[u8],
+) -> Result<Option<Suggestion>, Unsolved>
+    requires { AreSound inputs.now.limits }
+    ensures { IfOk result (λ o. IfSome o (IsSuggestion inputs.now)) }
+{
+    for join in JOINS {
+        match find_with_join(alloc, inputs, before, join) {
+            Ok(None) | Err(Unsolved::NoRules(_)) => {}
+            found => return found,
+        }
+    }
+    Ok(None)
+}
+
+/// Searches and confirms rules. If the sessions have equal output in other pieces, and the rules
+/// that were given do not join it, a rule that joins it is tried first.
+fn find_joined_first(
+    alloc: Global,
+    rules: &MaskRules,
+    inputs: &Inputs<'_>,
+    before: &[u8],
+    sessions: Sessions,
+) -> Result<Suggestion, Unsolved>
+    requires { AreSound inputs.now.limits }
+    ensures { IfOk result (IsSuggestion inputs.now) }
+{
+    if rules.joining().is_some() || !has_other_pieces(alloc, &sessions)? {
+        return find_confirmed(alloc, rules, inputs, before, sessions);
+    }
+    drop(sessions);
+    if let Some(found) = find_joined(alloc, inputs, before)? {
+        return Ok(found);
+    }
     let sessions = sessions_by(alloc, rules, inputs)?;
-    find_by(alloc, inputs, before, sessions, &events)
+    find_confirmed(alloc, rules, inputs, before, sessions)
+}
+
+/// Searches rules after those `before` them. The sessions are those that `rules` make of the
+/// recordings. Returns `None` if these make no sessions.
+fn find_after(
+    alloc: Global,
+    rules: &MaskRules,
+    inputs: &Inputs<'_>,
+    before: &[u8],
+) -> Result<Option<Suggestion>, Unsolved>
+    requires { AreSound inputs.now.limits }
+    ensures { IfOk result (λ o. IfSome o (IsSuggestion inputs.now)) }
+{
+    match sessions_by(alloc, rules, inputs) {
+        Ok(sessions) => Ok(Some(find_joined_first(alloc, rules, inputs, before, sessions)?)),
+        Err((_, ApplyRefused::Memory)) => Err(Unsolved::Memory),
+        Err(_) => Ok(None),
+    }
 }
 
 /// Searches rules after those that blank the numbers of which no session can be made. Returns
@@ -73,16 +174,8 @@ fn find_after_fractions(
     ensures { IfOk result (λ o. IfSome o (IsSuggestion inputs.now)) }
 {
     let before = fraction_rules(alloc, rules, inputs)?;
-    let known = joined(alloc, inputs.given, before.as_slice())?;
-    let rules = MaskRules::read(alloc, known.as_slice())?;
-    match sessions_by(alloc, &rules, inputs) {
-        Ok(sessions) => {
-            let found = find_confirmed(alloc, &rules, inputs, before.as_slice(), sessions)?;
-            Ok(Some(found))
-        }
-        Err((_, ApplyRefused::Memory)) => Err(Unsolved::Memory),
-        Err(_) => Ok(None),
-    }
+    let rules = read_joined(alloc, inputs.given, before.as_slice())?;
+    find_after(alloc, &rules, inputs, before.as_slice())
 }
 
 /// Returns whether a recording is rejected for a number that is not an integer of 64 bits.
@@ -132,19 +225,21 @@ fn suggest_by(
             return suggest_after(alloc, rules, inputs, SuggestRefused::from(rejected));
         }
     };
-    let found = find_confirmed(alloc, rules, inputs, missing_end(inputs.given), sessions)?;
+    let before = missing_end(inputs.given);
+    let found = find_joined_first(alloc, rules, inputs, before, sessions)?;
     Ok(found)
 }
 
 /// Suggests rules that make two recordings of one scenario the same, in addition to the rules that
 /// were given.
 ///
-/// The records are matched as those of [`diff_all_with`](dap_diff::diff_all_with). Events that the
-/// recordings have in different numbers are dropped, only those of some categories if these explain
-/// the difference. At each place at which pairs differ, the rules that hide the fewest equal values
-/// are suggested, for all elements of a list or for those of one name; or a parent is blanked.
-/// Pairs in another order may change places. Numbers that are not integers of 64 bits are blanked.
-/// Then the rules are applied to both recordings, and the results are compared.
+/// The records are matched as those of [`diff_all_with`](dap_diff::diff_all_with). Equal output in
+/// other pieces is joined. Events that the recordings have in different numbers are dropped, only
+/// those of some categories if these explain the difference. At each place at which pairs differ,
+/// the rules that hide the fewest equal values are suggested, for all elements of a list or for
+/// those of one name; or a parent is blanked. Pairs in another order may change places. Numbers
+/// that are not integers of 64 bits are blanked. Then the rules are applied to both recordings, and
+/// the results are compared.
 ///
 /// Each rule follows a comment with the two values and their records, and with the number of equal
 /// values that it also hides. The last line says in which mode the recordings are the same:

@@ -1,18 +1,11 @@
 //! The pairs that come in another order in B, and the rules that let them change places.
 use crate::matched::Pair;
-use crate::trees::tree_of;
-use crate::words::{class_of, parts_of, push_parts};
+use crate::pairs::Pairs;
+use crate::words::{class_of, push_parts};
 use dap_message::{AnyMessage, Message};
 use dap_order::{Half, SwapRule, is_free};
-use dap_tree::Scratch;
 use std::alloc::{AllocError, Global};
 use std::collections::BTreeMap;
-
-/// The rules for the order, by their two halves, each with its comment.
-#[derive(Drop)]
-pub struct Swaps {
-    by_halves: BTreeMap<Vec<u8>, String>,
-}
 
 /// Returns the half that names all messages of the kind of a message.
 fn half_of(message: &Message) -> Half {
@@ -24,11 +17,8 @@ fn half_of(message: &Message) -> Half {
 
 /// Returns whether two messages may change places if a rule names them.
 fn may_pass(x: &Message, y: &Message) -> bool {
-    let rule = SwapRule {
-        one: half_of(x),
-        another: half_of(y),
-    };
-    is_free(&[rule], x, y)
+    let (one, another) = (half_of(x), half_of(y));
+    is_free(&[SwapRule { one, another }], x, y)
 }
 
 /// Returns the kind and the name of the messages of a pair, as rules have them.
@@ -37,56 +27,19 @@ fn class_of_pair(alloc: Global, pair: &Pair<'_>) -> Result<Vec<u8>, AllocError> 
     class_of(alloc, message.kind(), message.name())
 }
 
-impl Swaps {
-    /// Adds the rule for two pairs, the second of which comes first in B, unless there is one,
-    /// whichever half comes first.
-    fn add(&mut self, alloc: Global, x: &Pair<'_>, y: &Pair<'_>) -> Result<(), AllocError> {
-        let one = class_of_pair(alloc, x)?;
-        let another = class_of_pair(alloc, y)?;
-        let halves = parts_of(alloc, &[one.as_slice(), b" ", another.as_slice()])?;
-        let exchanged = parts_of(alloc, &[another.as_slice(), b" ", one.as_slice()])?;
-        if self.by_halves.contains_key(halves.as_slice())
-            || self.by_halves.contains_key(exchanged.as_slice())
-        {
-            return Ok(());
-        }
-        let (first, second) = (x.a.number, y.a.number);
-        let comment = format!(in alloc;
-            "# in A records {first} and {second}, in B the other way round\n"
-        )?;
-        drop(self.by_halves.insert(halves, comment)?);
-        Ok(())
-    }
-
-    /// Appends the rules, each after its comment.
-    pub fn push(&self, out: &mut Vec<u8>) -> Result<(), AllocError> {
-        for (halves, comment) in self.by_halves.iter() {
-            push_parts(
-                &[comment.as_bytes(), b"swap   ", halves.as_slice(), b"\n\n"],
-                out,
-            )?;
-        }
-        Ok(())
-    }
-
-    /// Leaves out the rule with these halves. Returns whether there was one.
-    pub fn exclude(&mut self, halves: &[u8]) -> bool {
-        self.by_halves.remove(halves).is_some()
-    }
-}
-
-/// A pair, and the message of its record of A.
-#[derive(Drop)]
-struct Late<'m> {
-    pair: Pair<'m>,
-    message: Message,
+/// Returns the two halves of the rule for two pairs.
+fn halves_of(alloc: Global, x: &Pair<'_>, y: &Pair<'_>) -> Result<Vec<u8>, AllocError> {
+    let mut halves = class_of_pair(alloc, x)?;
+    halves.push(b' ')?;
+    halves.extend_from_slice(class_of_pair(alloc, y)?.as_slice())?;
+    Ok(halves)
 }
 
 /// The pair of each class that comes last in B, of the pairs so far.
 #[derive(Drop)]
 struct Latest<'m> {
-    /// The pairs, by their places in B.
-    by_place: BTreeMap<usize, Late<'m>>,
+    /// The pairs by their places in B, each with the message of its record of A.
+    by_place: BTreeMap<usize, (Pair<'m>, Message)>,
     /// The place of the pair of each class.
     places: BTreeMap<Vec<u8>, usize>,
 }
@@ -100,15 +53,17 @@ impl<'m> Latest<'m> {
     }
 
     /// Adds a pair, in place of the latest one of its class if it comes after that in B.
-    fn add(&mut self, alloc: Global, late: Late<'m>) -> Result<(), AllocError> {
-        let class = class_of_pair(alloc, &late.pair)?;
-        let after = late.pair.place;
-        let place = self.places.entry(class)?.or_insert(after);
+    fn add(&mut self, alloc: Global, pair: Pair<'m>, message: Message) -> Result<(), AllocError> {
+        let after = pair.place;
+        let place = self
+            .places
+            .entry(class_of_pair(alloc, &pair)?)?
+            .or_insert(after);
         let before = *place;
         if before <= after {
             *place = after;
             let _ = self.by_place.remove(&before);
-            let _ = self.by_place.insert(after, late)?;
+            let _ = self.by_place.insert(after, (pair, message))?;
         }
         Ok(())
     }
@@ -137,7 +92,8 @@ fn crossing<'m>(alloc: Global, pairs: &[Pair<'m>]) -> Result<Vec<Pair<'m>>, Allo
 /// What a search for the order of pairs finds.
 #[derive(Drop)]
 pub struct Order<'m> {
-    pub swaps: Swaps,
+    /// The comments on the rules, by the two halves of the rules.
+    comments: BTreeMap<Vec<u8>, String>,
     /// The pairs whose order is fixed.
     pub fixed: Vec<Pair<'m>>,
 }
@@ -145,10 +101,45 @@ pub struct Order<'m> {
 impl<'m> Order<'m> {
     pub fn new(alloc: Global) -> Order<'m> {
         Order {
-            swaps: Swaps {
-                by_halves: BTreeMap::new(alloc),
-            },
+            comments: BTreeMap::new(alloc),
             fixed: Vec::new(alloc),
+        }
+    }
+
+    /// Returns whether there is a rule for two pairs, whose halves come in this order.
+    fn has(&self, alloc: Global, x: &Pair<'_>, y: &Pair<'_>) -> Result<bool, AllocError> {
+        let halves = halves_of(alloc, x, y)?;
+        Ok(self.comments.contains_key(halves.as_slice()))
+    }
+
+    /// Adds the rule for two pairs, the second of which comes first in B, unless there is one,
+    /// whichever half comes first.
+    fn add(&mut self, alloc: Global, x: &Pair<'_>, y: &Pair<'_>) -> Result<(), AllocError> {
+        if self.has(alloc, x, y)? || self.has(alloc, y, x)? {
+            return Ok(());
+        }
+        let (first, second) = (x.a.number, y.a.number);
+        let comment = format!(in alloc;
+            "# in A records {first} and {second}, in B the other way round\n"
+        )?;
+        drop(self.comments.insert(halves_of(alloc, x, y)?, comment)?);
+        Ok(())
+    }
+
+    /// Appends the rules, each after its comment.
+    pub fn push_swaps(&self, out: &mut Vec<u8>) -> Result<(), AllocError> {
+        for (halves, comment) in self.comments.iter() {
+            let rule = [comment.as_bytes(), b"swap   ", halves.as_slice(), b"\n\n"];
+            push_parts(&rule, out)?;
+        }
+        Ok(())
+    }
+
+    /// Leaves out the rule of a line. Returns whether there was one.
+    pub fn exclude(&mut self, line: &[u8]) -> bool {
+        match line.strip_prefix(b"swap   ") {
+            Some(halves) => self.comments.remove(halves).is_some(),
+            None => false,
         }
     }
 
@@ -160,11 +151,26 @@ impl<'m> Order<'m> {
         pair: &Pair<'m>,
         message: &Message,
     ) -> Result<(), AllocError> {
-        for (_, before) in latest.by_place.range(pair.place..) {
-            if !may_pass(&before.message, message) {
+        for (_, (before, other)) in latest.by_place.range(pair.place..) {
+            if !may_pass(other, message) {
                 return Ok(self.fixed.push(*pair)?);
             }
-            self.swaps.add(alloc, &before.pair, pair)?;
+            self.add(alloc, before, pair)?;
+        }
+        Ok(())
+    }
+
+    /// Adds pairs, of which those so far are the latest ones.
+    fn pass_all(
+        &mut self,
+        latest: &mut Latest<'m>,
+        crossing: &[Pair<'m>],
+        pairs: &mut Pairs<'m>,
+    ) -> Result<(), AllocError> {
+        for pair in crossing {
+            let message = pairs.read_one(pair)?;
+            self.pass(pairs.alloc, latest, pair, &message)?;
+            latest.add(pairs.alloc, *pair, message)?;
         }
         Ok(())
     }
@@ -174,14 +180,9 @@ impl<'m> Order<'m> {
     ///
     /// The time per pair is logarithmic in the number of pairs, and linear in the number of classes
     /// that the pair passes.
-    pub fn search(&mut self, alloc: Global, pairs: &[Pair<'m>]) -> Result<(), AllocError> {
-        let mut latest = Latest::new(alloc);
-        let mut scratch = Scratch::new(alloc);
-        for pair in crossing(alloc, pairs)? {
-            let message = tree_of(alloc, &pair.a.message, &mut scratch)?;
-            self.pass(alloc, &latest, &pair, &message)?;
-            latest.add(alloc, Late { pair, message })?;
-        }
-        Ok(())
+    pub fn search(&mut self, pairs: &mut Pairs<'m>) -> Result<(), AllocError> {
+        let mut latest = Latest::new(pairs.alloc);
+        let found = crossing(pairs.alloc, pairs.list)?;
+        self.pass_all(&mut latest, found.as_slice(), pairs)
     }
 }

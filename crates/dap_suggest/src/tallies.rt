@@ -1,12 +1,12 @@
 //! Counts what the candidates do to the pairs of values at one place.
-use crate::candidates::Actions;
+use crate::candidates::{Actions, Candidates};
 use std::alloc::{AllocError, Global};
 use std::collections::BTreeMap;
 
 /// Pairs of different values that the same candidates make equal.
 #[derive(Drop)]
 pub struct Different {
-    pub count: u64,
+    count: u64,
     /// How many pairs of values came before the first of these.
     pub before: u64,
     /// The comment that shows the first pair.
@@ -19,7 +19,7 @@ pub struct Tally {
     /// The numbers of equal pairs, by the actions that change them.
     equal: BTreeMap<Actions, u64>,
     /// The pairs that differ, by the candidates that make them equal.
-    different: BTreeMap<u16, Different>,
+    different: BTreeMap<Candidates, Different>,
 }
 
 impl Tally {
@@ -39,31 +39,26 @@ impl Tally {
         Ok(())
     }
 
-    /// Adds a pair of different values that these candidates make equal, if a pair of their set is
-    /// there. Returns whether there is one.
-    pub fn add_different(&mut self, candidates: u16) -> bool {
-        match self.different.get_mut(&candidates) {
-            Some(different) => {
-                different.count = different.count.saturating_add(1);
-                true
-            }
-            None => false,
-        }
+    /// Returns whether some different values are made equal by exactly these candidates.
+    pub fn has(&self, candidates: Candidates) -> bool {
+        self.different.contains_key(&candidates)
     }
 
-    /// Adds the first pair of different values that exactly these candidates make equal.
-    pub fn add_first(
+    /// Adds a pair of different values that exactly these candidates make equal. The comment is
+    /// that of the first such pair.
+    pub fn add_different(
         &mut self,
-        candidates: u16,
+        candidates: Candidates,
         before: u64,
         comment: Vec<u8>,
     ) -> Result<(), AllocError> {
         let first = Different {
-            count: 1,
+            count: 0,
             before,
             comment,
         };
-        drop(self.different.insert(candidates, first)?);
+        let different = self.different.entry(candidates)?.or_insert(first);
+        different.count = different.count.saturating_add(1);
         Ok(())
     }
 
@@ -78,11 +73,11 @@ impl Tally {
         hidden
     }
 
-    /// Returns how many pairs a candidate makes equal that other candidates do not make equal.
-    pub fn equated(&self, candidate: u16, others: u16) -> u64 {
+    /// Returns how many pairs candidates make equal that other candidates do not make equal.
+    pub fn equated(&self, candidates: Candidates, others: Candidates) -> u64 {
         let mut equated = 0u64;
         for (equating, different) in self.different.iter() {
-            if *equating & candidate != 0 && *equating & others == 0 {
+            if *equating & candidates != 0 && *equating & others == 0 {
                 equated = equated.saturating_add(different.count);
             }
         }
@@ -90,18 +85,18 @@ impl Tally {
     }
 
     /// Returns whether each pair is made equal by one of these candidates.
-    pub fn is_equated(&self, candidates: u16) -> bool {
+    pub fn is_equated(&self, candidates: Candidates) -> bool {
         self.different
             .keys()
             .all(|equating| *equating & candidates != 0)
     }
 
     /// Returns the first pair that a candidate makes equal, and those like it.
-    pub fn first(&self, candidate: u16) -> Option<&Different> {
+    pub fn first(&self, candidates: Candidates) -> Option<&Different> {
         let mut first: Option<&Different> = None;
         for (equating, different) in self.different.iter() {
             let is_first = first.is_none_or(|other| different.before < other.before);
-            if *equating & candidate != 0 && is_first {
+            if *equating & candidates != 0 && is_first {
                 first = Some(different);
             }
         }

@@ -1,11 +1,11 @@
-//! The text of the rules for values.
-use crate::candidates::{Actions, BLANK, ORDER, push_rules};
-use crate::comments::push_hidden;
-use crate::guards::push_check;
-use crate::spot::{ALL, Rule, Spot};
+//! The text of the rules that are found.
+use crate::candidates::{ACTIONS, Actions, BLANK};
+use crate::choosing::hidden_by;
+use crate::comments::{push_check, push_hidden};
+use crate::obstacle::{Obstacle, Remaining, Unsolved};
+use crate::spot::{ALL, Rule, Spot, actions_in};
 use crate::spots::Spots;
-use crate::words::{json_of, parts_of};
-use dap_tree::Tree;
+use crate::words::{json_of_text, parts_of, push_parts};
 use std::alloc::{AllocError, Global};
 use std::collections::BTreeMap;
 
@@ -16,21 +16,45 @@ pub struct Origin {
     pub rule: usize,
 }
 
-/// The text of rules.
+/// The rules that a search finds, and the records for which it finds none.
 #[derive(Drop)]
-pub struct RuleText {
+pub struct Found {
     pub text: Vec<u8>,
+    /// How many bytes of the text are before the rules for values.
+    pub start: usize,
     /// The rules of the lines, by the places in the text at which the lines start.
     origins: BTreeMap<usize, Origin>,
+    pub remaining: Remaining,
+    /// Whether a file can have enough rules after those that were given.
+    pub is_accepted: bool,
 }
 
-impl RuleText {
-    /// Returns the text of the rules before those for values.
-    pub fn new(alloc: Global, before: &[u8]) -> Result<RuleText, AllocError> {
-        Ok(RuleText {
-            text: Vec::from_slice(alloc, before)?,
+impl Found {
+    pub fn new(alloc: Global) -> Found {
+        Found {
+            text: Vec::new(alloc),
+            start: 0,
             origins: BTreeMap::new(alloc),
-        })
+            remaining: Remaining::new(alloc),
+            is_accepted: false,
+        }
+    }
+
+    /// Returns the text of the rules, if they make all records the same and a file can have them.
+    pub fn into_text(self) -> Result<Vec<u8>, Unsolved> {
+        let Found {
+            text,
+            remaining,
+            is_accepted,
+            ..
+        } = self;
+        if !remaining.is_empty() {
+            Err(Unsolved::NoRules(Obstacle::Remaining(remaining)))
+        } else if is_accepted {
+            Ok(text)
+        } else {
+            Err(Unsolved::NoRules(Obstacle::Unread))
+        }
     }
 
     /// Returns the rule of a line that starts at a place of the text.
@@ -45,79 +69,60 @@ impl RuleText {
         target: &[u8],
         origin: Origin,
     ) -> Result<(), AllocError> {
-        for action in ORDER {
-            if actions & action != 0 {
-                let start = self.text.len();
-                let _ = self.origins.insert(start, origin)?;
-                push_rules(action, target, &mut self.text)?;
+        for (action, _, word, _) in ACTIONS.iter() {
+            if actions & *action != 0 {
+                let _ = self.origins.insert(self.text.len(), origin)?;
+                push_parts(&[word.as_bytes(), target, b"\n"], &mut self.text)?;
+            }
+        }
+        self.text.push(b'\n')?;
+        Ok(())
+    }
+
+    /// Appends the comments of a rule.
+    fn push_comments(
+        &mut self,
+        alloc: Global,
+        spot: &Spot,
+        rule: &Rule,
+        before: &[Rule],
+    ) -> Result<(), AllocError> {
+        if let Some(comment) = spot.comment_of(rule) {
+            self.text.extend_from_slice(comment)?;
+        }
+        push_hidden(alloc, hidden_by(spot, before, rule), &mut self.text)?;
+        match spot.hidden {
+            Some(hidden) if rule.actions & BLANK != 0 => push_check(hidden, &mut self.text),
+            _ => Ok(()),
+        }
+    }
+
+    /// Appends the rules of a spot, except for the actions that their scope already has.
+    fn push_spot(&mut self, alloc: Global, spot: &Spot, index: usize) -> Result<(), AllocError> {
+        for (place, rule) in spot.rules.iter().enumerate() {
+            let before = spot.rules.get(..place).unwrap_or(&[]);
+            let actions = rule.actions & !actions_in(before, rule.scope);
+            if actions != 0 {
+                let target = target_in(alloc, spot, rule.scope)?;
+                self.push_comments(alloc, spot, rule, before)?;
+                let origin = Origin {
+                    spot: index,
+                    rule: place,
+                };
+                self.push_lines(actions, target.as_slice(), origin)?;
             }
         }
         Ok(())
     }
 
-    /// Appends the comments of a rule.
-    fn push_comments(&mut self, alloc: Global, spot: &Spot, rule: &Rule) -> Result<(), AllocError> {
-        if let Some(comment) = spot.comment_of(rule) {
-            self.text.extend_from_slice(comment)?;
-        }
-        push_hidden(alloc, rule.hidden, &mut self.text)?;
-        if rule.candidate.actions & BLANK != 0
-            && let Some(hidden) = spot.hidden
-        {
-            push_check(hidden, &mut self.text)?;
-        }
-        Ok(())
-    }
-
-    /// Appends a rule of a spot, except for the actions that its scope already has.
-    fn push_rule(
-        &mut self,
-        alloc: Global,
-        spot: &Spot,
-        rule: &Rule,
-        origin: Origin,
-    ) -> Result<(), AllocError> {
-        let actions = rule.candidate.actions & !actions_before(spot, origin.rule, rule.scope);
-        if actions == 0 {
-            return Ok(());
-        }
-        let target = target_in(alloc, spot, rule.scope)?;
-        self.push_comments(alloc, spot, rule)?;
-        self.push_lines(actions, target.as_slice(), origin)?;
-        self.text.push(b'\n')?;
-        Ok(())
-    }
-
-    /// Appends the rules of a spot.
-    fn push_spot(&mut self, alloc: Global, spot: &Spot, index: usize) -> Result<(), AllocError> {
-        for (place, rule) in spot.rules.iter().enumerate() {
-            let origin = Origin {
-                spot: index,
-                rule: place,
-            };
-            self.push_rule(alloc, spot, rule, origin)?;
-        }
-        Ok(())
-    }
-
-    /// Appends the rules of all spots that are not inside a place that is blanked for all elements.
-    pub fn push_spots(&mut self, alloc: Global, spots: &Spots) -> Result<(), AllocError> {
-        // The blanked places whose targets are prefixes of the target, the longest last. None is
-        // inside another one, so only the last one can have the target inside it.
-        let mut blanked: Vec<&[u8]> = Vec::new(alloc);
+    /// Writes the rules of all spots that are not inside a place that is blanked for all elements.
+    pub fn write_spots(&mut self, alloc: Global, spots: &Spots) -> Result<(), AllocError> {
+        self.text.truncate(self.start);
+        self.origins.clear();
         for (target, index) in spots.by_target.iter() {
-            let target = target.as_slice();
-            let last = blanked.iter().rposition(|whole| target.starts_with(*whole));
-            blanked.truncate(last.map_or(0, |last| last.saturating_add(1)));
-            let is_hidden = blanked
-                .last()
-                .is_some_and(|whole| is_inside(target, *whole));
             if let Some(spot) = spots.list.get(*index)
-                && !is_hidden
+                && !is_hidden(spots, target.as_slice())
             {
-                if spot.is_blanked() {
-                    blanked.push(target)?;
-                }
                 self.push_spot(alloc, spot, *index)?;
             }
         }
@@ -125,20 +130,18 @@ impl RuleText {
     }
 }
 
-/// Returns whether a target is a place inside that of another target.
-fn is_inside(target: &[u8], whole: &[u8]) -> bool {
-    target.starts_with(whole) && matches!(target.get(whole.len()), Some(b'.' | b'['))
-}
-
-/// Returns the actions of the rules of a scope before one of them.
-fn actions_before(spot: &Spot, rule: usize, scope: usize) -> Actions {
-    let mut actions = 0;
-    for earlier in spot.rules.iter().take(rule) {
-        if earlier.scope == scope {
-            actions |= earlier.candidate.actions;
+/// Returns whether a place is inside one that is blanked for all elements.
+fn is_hidden(spots: &Spots, target: &[u8]) -> bool {
+    for (end, byte) in target.iter().enumerate() {
+        if matches!(*byte, b'.' | b'[')
+            && let Some(whole) = target.get(..end)
+            && let Some(index) = spots.by_target.get(whole)
+            && spots.list.get(*index).is_some_and(|spot| spot.is_blanked())
+        {
+            return true;
         }
     }
-    actions
+    false
 }
 
 /// Returns the messages and the place of the rules of a scope.
@@ -146,7 +149,7 @@ fn target_in(alloc: Global, spot: &Spot, scope: usize) -> Result<Vec<u8>, AllocE
     let target = spot.target.as_slice();
     match (spot.list, spot.name_of(scope)) {
         (Some(list), Some(name)) if scope != ALL => {
-            let name = json_of(alloc, &Tree::Text(String::from_str(alloc, name)?))?;
+            let name = json_of_text(alloc, name)?;
             let before = target.get(..list.start).unwrap_or(&[]);
             // Two bytes are the brackets of the place.
             let after = target.get(list.start.saturating_add(2)..).unwrap_or(&[]);

@@ -44,11 +44,9 @@ fn are_equal_members(members: &BTreeMap<String, Tree>, others: &BTreeMap<String,
         return false;
     }
     for (name, member) in members.iter() {
-        let Some(other) = others.get(name.as_str()) else {
-            return false;
-        };
-        if !are_equal(member, other) {
-            return false;
+        match others.get(name.as_str()) {
+            Some(other) if are_equal(member, other) => {}
+            _ => return false,
         }
     }
     true
@@ -69,11 +67,6 @@ fn have_one_blank(a: &Tree, b: &Tree) -> bool {
             | (Tree::List(_), Tree::List(_))
             | (Tree::Object(_), Tree::Object(_))
     )
-}
-
-/// Returns whether rules can make two members equal.
-fn can_equate_members(a: &Tree, b: &Tree) -> bool {
-    have_one_blank(a, b) || are_one_scalar(a, b)
 }
 
 /// Returns whether rules for the parts of two values can make these equal. Equal values need none.
@@ -102,17 +95,15 @@ fn can_equate_items(items: &Vec<Tree>, others: &Vec<Tree>) -> bool {
     true
 }
 
-/// Returns whether two objects have members of the same names and sorts.
+/// Returns whether two objects have members of the same names, and rules can make these equal.
 fn can_equate_all(members: &BTreeMap<String, Tree>, others: &BTreeMap<String, Tree>) -> bool {
     if members.len() != others.len() {
         return false;
     }
     for (name, member) in members.iter() {
-        let Some(other) = others.get(name.as_str()) else {
-            return false;
-        };
-        if !can_equate_members(member, other) {
-            return false;
+        match others.get(name.as_str()) {
+            Some(other) if have_one_blank(member, other) || are_one_scalar(member, other) => {}
+            _ => return false,
         }
     }
     true

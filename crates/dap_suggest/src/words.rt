@@ -51,3 +51,8 @@ pub fn json_of(alloc: Global, value: &Tree) -> Result<String, AllocError> {
     }
     write_tree(alloc, value).map_err(|_| AllocError)
 }
+
+/// Returns a text as JSON.
+pub fn json_of_text(alloc: Global, text: &str) -> Result<String, AllocError> {
+    json_of(alloc, &Tree::Text(String::from_str(alloc, text)?))
+}

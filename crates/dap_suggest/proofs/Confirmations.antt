@@ -1,0 +1,20 @@
+-- Rules that are confirmed for a text that is read as them.
+use Rattle.std.proofs.Common.{◌≡◌, ℕ, ◌+◌, List, Ok, subst}
+use Rattle.dap_mask.specs.{Mask.Mask, RulesFile.rules_said}
+use Rattle.dap_rename.specs.declared.mode.Mode.{Mode}
+use Rattle.dap_suggest.specs.{Broad.broad_of, Guarded.guarded_count}
+use Rattle.dap_suggest.specs.Suggested.{IsConfirmed, IsConfirmedBy}
+use Rattle.dap_suggest.specs.declared.suggestion.Inputs.{Inputs}
+
+pub confirmed_by : (inputs : Inputs) (text : List ℕ) (mask : Mask) (added : ℕ) (mode : Mode)
+    → rules_said text ≡ Ok mask → IsConfirmedBy inputs mask added mode
+    → IsConfirmed inputs text mode added
+confirmed_by inputs text mask added mode said by = record {
+  same = record { mask = mask; said = said; mode_is = by.mode_is; one = by.one };
+  broad = λ other read.
+      let same : mask ≡ other = cc in
+      subst (λ m. broad_of m ≡ inputs.broad) same by.broad;
+  guarded = λ other read.
+      let same : mask ≡ other = cc in
+      subst (λ m. guarded_count m ≡ inputs.guarded + added) same by.guarded;
+}
