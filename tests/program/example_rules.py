@@ -54,7 +54,7 @@ def compared(folder, rules, a, b, command="compare"):
 def files(report, _folder):
     """Each file is read by each command that takes rules, and a comment says why it has the rules after it."""
     names = sorted(os.listdir(RULES))
-    report.check("there are rules for four adapters", names == [f"{it}.rules" for it in ("debugpy", "delve", "lldb", "rdbg")], repr(names))
+    report.check("there are rules for five adapters", names == [f"{it}.rules" for it in ("debugpy", "delve", "lldb", "perl", "rdbg")], repr(names))
     for name in [*(os.path.join(RULES, it) for it in names), os.path.join(EXAMPLES, "session.rules")]:
         for command in ("mask", "order"):
             answer = run([command, name])
