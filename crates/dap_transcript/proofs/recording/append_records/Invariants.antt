@@ -1,0 +1,10 @@
+use Rattle.std.proofs.Common.{◌≡◌, ◌++◌, map, take}
+use Rattle.dap_stored.specs.Sessions.{stored_sent}
+use Rattle.dap_transcript.specs.Recordings.{frames}
+use Rattle.dap_transcript.proofs.recording.append_records.Given as goal
+
+abbrev pub invariant-loop-message : goal.invariant-loop-message
+invariant-loop-message l =
+    (l.number ≡ l.message-index)
+    × (l.out.items
+    ≡ l.initial.out.items ++ frames (map stored_sent (take l.message-index l.messages)))

@@ -1,0 +1,14 @@
+pub mod Scalars
+pub mod Names
+pub mod Lines
+pub mod Walk
+pub mod Expected
+pub mod Transcript
+pub mod Members
+pub mod Numbers
+pub mod Requests
+pub mod Records
+pub mod Recordings
+pub mod SameText
+pub mod Laws
+pub mod TranscriptCauseText
