@@ -26,9 +26,16 @@ commands : Selects (codes "dapnorm check -") (Check false Whole (Some (codes "-"
     (Stream (Mask (codes "rules")) (Some (codes "in")) (Some (codes "out")))
     × Selects (codes "dapnorm show --faulty --record=3 in --explain") (Stream (Show (record {
       full = false;
+      yaml = false;
       faulty = true;
       «record» = Some (codes "3");
     })) (Some (codes "in")) None)
+    × Selects (codes "dapnorm show --yaml -o out") (Stream (Show (record {
+      full = false;
+      yaml = true;
+      faulty = false;
+      «record» = None;
+    })) None (Some (codes "out")))
     × Selects (codes "dapnorm diff a --all b")
     (Pair AllDifferences (codes "a") (codes "b") None Whole)
     × Selects (codes "dapnorm compare --rules rules a b --per-stop")
@@ -36,7 +43,7 @@ commands : Selects (codes "dapnorm check -") (Check false Whole (Some (codes "-"
     × Selects (codes "dapnorm order -o out rules")
     (Stream (Order (codes "rules")) None (Some (codes "out")))
 unfolding clap_on_literals
-commands = (refl, refl, refl, refl, refl, refl)
+commands = (refl, refl, refl, refl, refl, refl, refl)
 
 -- Each use of the option has a value, in order.
 words : (words_named program (split (codes "dapnorm mask --word b=<b> rules --word=a== in"))

@@ -45,8 +45,8 @@ program = program_with (subcommand (codes "golden") (option (codes "rules")
     ∷ subcommand (codes "compare") (two_files (per_stop ∷ explain ∷ []))
     ∷ subcommand (codes "diff") (two_files (per_stop ∷ explain ∷ flag (codes "all") ∷ []))
     ∷ subcommand (codes "suggest") (two_files (flag (codes "strict") ∷ explain ∷ []))
-    ∷ subcommand (codes "show") (flag (codes "full") ∷ flag (codes "faulty")
-    ∷ option (codes "record") ∷ explain ∷ streams)
+    ∷ subcommand (codes "show") (flag (codes "full") ∷ flag (codes "yaml")
+    ∷ flag (codes "faulty") ∷ option (codes "record") ∷ explain ∷ streams)
     ∷ subcommand (codes "mask") (file (codes "RULES") ∷ repeated (codes "word") ∷ explain ∷ streams)
     ∷ subcommand (codes "order") (file (codes "RULES") ∷ streams)
     ∷ subcommand (codes "compact") (explain ∷ streams)
@@ -63,6 +63,7 @@ task_of name given =
     (task.Normalise (mode_for (has_flag (codes "per-stop") given)))
     else if bytes_eq name (codes "show") then Some (task.Show (record {
       full = has_flag (codes "full") given;
+      yaml = has_flag (codes "yaml") given;
       faulty = has_flag (codes "faulty") given;
       «record» = first_of (codes "record") given;
     }))

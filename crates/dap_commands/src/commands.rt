@@ -97,7 +97,7 @@ pub enum Task<'a> {
     Record,
     /// Write the normal form of a recording.
     Normalise(Mode),
-    /// Print a recording as lines.
+    /// Print a recording for people.
     Show(Show<'a>),
     /// Mask a recording by the rules in the file with this name, and the words.
     Mask(Name<'a>),
@@ -110,6 +110,8 @@ pub enum Task<'a> {
 pub struct Show<'a> {
     /// Whether to print each value of each record.
     pub full: bool,
+    /// Whether to print the recording as a transcript.
+    pub yaml: bool,
     /// Whether to continue after a record that is rejected, and mark it.
     pub faulty: bool,
     /// The number of the only record whose content is printed, as given.
@@ -125,6 +127,7 @@ pub(crate) fn task_by<'a>(name: &str, rows: &ArgMatches<'a>) -> Option<Task<'a>>
         "normalise" => Task::Normalise(mode_for(has_flag(rows, "per-stop"))),
         "show" => Task::Show(Show {
             full: has_flag(rows, "full"),
+            yaml: has_flag(rows, "yaml"),
             faulty: has_flag(rows, "faulty"),
             record: name_of(rows, "record"),
         }),

@@ -78,6 +78,7 @@ pub(crate) const PROGRAM: Program = define_program! {
     ): "Prints rules that make the recordings of two files the same", "run1.rec run2.rec";
     "show"(
         Argument("full", Flag, "Prints each value of each record, with its path"),
+        Argument("yaml", Flag, "Prints the recording as a transcript, in YAML"),
         Argument("faulty", Flag, "Marks rejected records and continues"),
         Argument("record", Value("N"), "Prints only the content of record N, as indented JSON"),
         EXPLAIN, INPUT, OUTPUT

@@ -1,7 +1,7 @@
 //! Reads the head of a message: its sender, its kind and its name.
 use crate::lines::Lines;
 use crate::words::Quoted;
-use dap_mask::{MaskRules, mask, read_loosely, read_with_words};
+use dap_mask::{MaskRules, mask, read_by_rules, read_loosely};
 use dap_profile::Kind;
 use dap_tree::{Scratch, Side, Tree, TreeFault};
 use std::alloc::Global;
@@ -118,7 +118,7 @@ fn read(alloc: Global, content: &[u8], rules: Option<&MaskRules>) -> Result<Tree
     if let Some(rules) = rules
         && !tree.sound()
     {
-        tree = read_with_words(alloc, content, rules, &mut scratch)?;
+        tree = read_by_rules(alloc, content, rules, &mut scratch)?;
         mask(&mut tree, rules);
     }
     Ok(tree)

@@ -111,3 +111,9 @@ pub(crate) fn is_lf(byte: &u8) -> bool {
 pub(crate) fn first_line(bytes: &[u8]) -> &[u8] {
     bytes.split(is_lf).next().unwrap_or(bytes)
 }
+
+/// Returns the line of a text with this number, counted from 1, without its LF. After a last LF
+/// comes one more line, which is empty.
+pub(crate) fn line_at(text: &[u8], number: usize) -> Option<&[u8]> {
+    text.split(is_lf).nth(number.saturating_sub(1))
+}

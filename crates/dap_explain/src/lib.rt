@@ -3,8 +3,8 @@
 //! A rejection is reported in one line, such as `dapnorm: record 68: Fraction`. [`explain`] reads
 //! the rejected input again and returns the lines that may follow: which message the record
 //! contains, which value is at the position of the error, what is expected there, and what to do.
-//! [`explain_rules`] does the same for a file of rules, and [`explain_unreadable`] for a file that
-//! cannot be read.
+//! [`explain_rules`] does the same for a file of rules, [`explain_transcript`] for a text that is
+//! not a transcript, and [`explain_unreadable`] for a file that cannot be read.
 //!
 //! # What is proved
 //!
@@ -34,9 +34,12 @@ mod rules_file;
 mod rules_line;
 mod session_rules;
 mod trace_faults;
+mod transcript_differences;
+mod transcript_faults;
 mod unanswered;
 mod words;
 
 pub use explaining::{Input, explain, explain_unreadable};
 pub use records::Format;
 pub use rules_file::explain_rules;
+pub use transcript_faults::explain_transcript;

@@ -155,7 +155,7 @@ fn escaped(alloc: Global, text: &str) -> Result<String, AllocError> {
 
 /// Returns whether a terminal prints a character. This excludes control characters of Unicode, line
 /// separators, and characters that change the direction of text.
-fn is_printed(character: char) -> bool
+pub(crate) fn is_printed(character: char) -> bool
     ensures { result ≡ true → (32 ≤ character) × (character ≢ 127) }
 {
     !matches!(

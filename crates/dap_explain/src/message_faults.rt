@@ -7,6 +7,9 @@ use dap_message::{MessageFault, first_break};
 use dap_profile::{Place, Row, Want, profile_rows};
 use dap_tree::Tree;
 
+/// The types of messages.
+const TYPES: &str = "a message has the type \"request\", \"response\" or \"event\"";
+
 /// Returns the type that a row expects, in words.
 fn want_words(want: Want) -> &'static str {
     match want {
@@ -46,7 +49,7 @@ fn add_unknown_type(lines: &mut Lines, record: Record<'_>, message: &Tree) {
     } else {
         lines.write(format_args!("the message of record {number} has no member \"type\""));
     }
-    lines.add("a message has the type \"request\", \"response\" or \"event\"");
+    lines.add(TYPES);
     if message.child("jsonrpc").is_none() {
         add_sender(lines, record.side);
     } else {
@@ -57,9 +60,9 @@ fn add_unknown_type(lines: &mut Lines, record: Record<'_>, message: &Tree) {
     }
 }
 
-/// Returns the path of a row of the profile, with the index of the array element, in the notation
+/// Returns the path of a row of the profile, with this index of the array element, in the notation
 /// of `diff`.
-fn path_of(lines: &mut Lines, place: Place, element: usize) -> String {
+fn path_of(lines: &mut Lines, place: Place, element: &str) -> String {
     match place {
         Place::Member(name) => lines.display(name),
         Place::Inner(outer, name) => lines.display(format_args!("{outer}.{name}")),
@@ -71,21 +74,30 @@ fn path_of(lines: &mut Lines, place: Place, element: usize) -> String {
     }
 }
 
+/// Returns the row of the profile with this number.
+fn row_at(number: u16) -> Option<&'static Row> {
+    let rows: &[Row] = profile_rows();
+    rows.get(usize::from(number).saturating_sub(1))
+}
+
+/// Adds the line about a value that violates a row: what is there, at this index of the array, and
+/// what the profile requires.
+fn add_break(lines: &mut Lines, row: &Row, element: &str, found: &str) {
+    let path = path_of(lines, row.place, element);
+    let (number, found, wanted) = (row.number, Cut(found), want_words(row.want));
+    lines.write(format_args!(
+        "{path} is {found}; the profile requires {wanted} there (dapnorm rows {number})",
+    ));
+}
+
 /// Adds the lines about a message that violates the row with this number.
 fn add_row(lines: &mut Lines, record: Record<'_>, message: &Tree, number: u16) {
     add_head(lines, record.number, &Head::of(record.side, message));
-    let rows: &[Row] = profile_rows();
-    if let Some(row) = rows.get(usize::from(number).saturating_sub(1))
+    if let Some(row) = row_at(number)
         && let Some(fault) = first_break(row, message)
     {
-        let (path, found) = (
-            path_of(lines, row.place, fault.element),
-            lines.json(fault.value),
-        );
-        let (found, wanted) = (Cut(found.as_str()), want_words(row.want));
-        lines.write(format_args!(
-            "{path} is {found}; the profile requires {wanted} there (dapnorm rows {number})",
-        ));
+        let (element, found) = (lines.display(fault.element), lines.json(fault.value));
+        add_break(lines, row, element.as_str(), found.as_str());
         add_sender(lines, record.side);
     }
 }
@@ -110,5 +122,27 @@ pub(crate) fn explain_message(
             add_row(lines, record, message, row)
         }
         MessageFault::Memory => {}
+    }
+}
+
+/// Adds the lines about a record of a transcript that violates the row with this number. Its value
+/// there is described so.
+fn add_transcript_row(lines: &mut Lines, number: u16, found: &str) {
+    let Some(row) = row_at(number) else {
+        return;
+    };
+    add_break(lines, row, "", found);
+    if row.place == Place::Member("request_seq") {
+        lines.add("no earlier request of this command is open: add the request, or request_seq");
+    }
+}
+
+/// Explains that a record of a transcript is not a message.
+pub(crate) fn explain_transcript_message(lines: &mut Lines, fault: MessageFault) {
+    match fault {
+        MessageFault::UnknownType => lines.add(TYPES),
+        MessageFault::Missing(row) => add_transcript_row(lines, row, "missing"),
+        MessageFault::WrongType(row) => add_transcript_row(lines, row, "of another type"),
+        MessageFault::NotObject | MessageFault::Memory => {}
     }
 }

@@ -2,9 +2,9 @@
 ghost use Rattle.std.specs.Prelude.{◌≡◌, IfOk, string_bytes};
 ghost use Rattle.dap_explain.specs.{Lines.AreLines, Unexplained.IsEmpty};
 
-use crate::header::is_lf;
+use crate::header::{is_lf, line_at};
 use crate::lines::Lines;
-use crate::rules_line::{place_of, split_verb};
+use crate::rules_line::{has_category, place_of, split_verb};
 use crate::words::{Bytes, Cut};
 use dap_mask::{MaskRules, RulesCause, RulesFault, is_end};
 use std::alloc::{AllocError, Global};
@@ -17,6 +17,17 @@ const CATEGORY_ADVICE: &str =
 const LIMIT_ADVICE: &str =
     "no rule changes the category by which a rule selects events: leave one of them out";
 
+/// What to do about a rule for the category by which output is joined.
+const JOIN_ADVICE: &str =
+    "no rule changes the category by which output is joined: leave one of them out";
+
+/// What to do about a rule that sets a member of a value that another rule blanks.
+const FILL_ADVICE: &str =
+    "no rule blanks a value in which another one sets a member: leave one of them out";
+
+/// What to do about two rules that exclude each other.
+const ONE_ADVICE: &str = "leave one of them out";
+
 /// What to do about a word that can overlap a text.
 const WORD_ADVICE: &str =
     "choose a word that shares no start or end with a text, such as \"<home>\"";
@@ -24,10 +35,10 @@ const WORD_ADVICE: &str =
 /// What to do about a `uuid` and a `digits` rule for one place.
 const UUID_ADVICE: &str = "no place has both: leave one of them out";
 
-/// Returns the line of a file with this number, counted from 1, without its LF.
+/// Returns the line of a file with this number, without its LF. A line that the file does not have
+/// is empty.
 fn line_of(rules: &[u8], number: usize) -> &[u8] {
-    let mut lines = rules.split(is_lf);
-    lines.nth(number.saturating_sub(1)).unwrap_or(&[])
+    line_at(rules, number).unwrap_or(&[])
 }
 
 /// Returns whether a line starts with a verb.
@@ -35,10 +46,13 @@ fn has_verb(line: &[u8], verb: &str) -> bool {
     split_verb(line).0 == verb.as_bytes()
 }
 
+/// What is wrong with a path to a member of the message itself that no rule may change.
+const RECOGNISED: &str = "a member by which dapnorm recognises messages";
+
 /// Returns what is wrong with a path that no rule may change.
 fn place_words(place: &[u8]) -> &'static str {
     if matches!(place, b"type" | b"command" | b"event" | b"success") {
-        "a member by which dapnorm recognises messages"
+        RECOGNISED
     } else if place.ends_with(b".name") || place.ends_with(b".\"name\"") {
         "the name by which the rule finds its element"
     } else if matches!(place, b"body" | b"body.category") {
@@ -50,6 +64,18 @@ fn place_words(place: &[u8]) -> &'static str {
     }
 }
 
+/// Adds the line about a place that no rule may change, or that is not that of a member to set.
+fn add_bad_place(lines: &mut Lines, line: &[u8], place: &[u8]) {
+    let (what, place) = (place_words(place), Bytes(place));
+    if has_verb(line, "fill") && what != RECOGNISED {
+        lines.write(format_args!(
+            "{place} is not a place of fill: end it with a name, and write [] for elements"
+        ));
+    } else {
+        lines.write(format_args!("{place} is {what}: leave the rule out"));
+    }
+}
+
 /// Adds the line about a line that is not a rule, or whose path no rule may change.
 fn add_bad_line(lines: &mut Lines, line: &[u8], cause: RulesCause) {
     let Some(place) = place_of(lines, line) else {
@@ -57,11 +83,10 @@ fn add_bad_line(lines: &mut Lines, line: &[u8], cause: RulesCause) {
     };
     if cause == RulesCause::BadRule {
         lines.add(
-            "a rule is VERB KIND NAME PLACE, drop event NAME, swap KIND NAME KIND NAME, word TEXT WORD, or per-stop",
+            "a rule is VERB KIND NAME PLACE, VERB event NAME category=TEXT PLACE, drop event NAME, drop event NAME category=TEXT, join event output, fill KIND NAME PLACE VALUE, swap KIND NAME KIND NAME, word TEXT WORD, or per-stop",
         );
     } else {
-        let (place, what) = (Bytes(place), place_words(place));
-        lines.write(format_args!("{place} is {what}: leave the rule out"));
+        add_bad_place(lines, line, place);
     }
 }
 
@@ -91,15 +116,25 @@ fn is_by_category(lines: &mut Lines, earlier: &[u8], line: &[u8]) -> bool {
 
 /// Returns how an earlier line clashes with a line, and what to do.
 fn clash_words(lines: &mut Lines, earlier: &[u8], line: &[u8]) -> (&'static str, &'static str) {
-    if has_verb(line, "drop") {
+    if has_verb(line, "fill") && has_verb(earlier, "fill") {
+        ("may set the same member", ONE_ADVICE)
+    } else if has_verb(line, "fill") {
+        ("blanks a value that contains the member", FILL_ADVICE)
+    } else if has_verb(earlier, "fill") {
+        (
+            "sets a member of the value that this line blanks",
+            FILL_ADVICE,
+        )
+    } else if has_verb(line, "join") {
+        ("changes the category", JOIN_ADVICE)
+    } else if has_verb(earlier, "join") {
+        ("joins output by this category", JOIN_ADVICE)
+    } else if has_verb(line, "drop") {
         ("changes the category", CATEGORY_ADVICE)
     } else if has_verb(earlier, "drop") {
         ("drops events by this category", CATEGORY_ADVICE)
     } else if is_by_category(lines, earlier, line) {
-        (
-            "selects events by the category that this line changes, or the other way round",
-            LIMIT_ADVICE,
-        )
+        (limit_words(lines, line), LIMIT_ADVICE)
     } else if has_verb(line, "uuid") {
         ("has a digits rule for the same place", UUID_ADVICE)
     } else {
@@ -107,13 +142,23 @@ fn clash_words(lines: &mut Lines, earlier: &[u8], line: &[u8]) -> (&'static str,
     }
 }
 
+/// Returns how an earlier line clashes with a line, if one of them changes the category by which
+/// the other one selects events. A rule that changes the category has none.
+fn limit_words(lines: &mut Lines, line: &[u8]) -> &'static str {
+    if has_category(lines, line) {
+        "changes the category by which this line selects events"
+    } else {
+        "selects events by the category that this line changes"
+    }
+}
+
 /// Adds the lines about an earlier line that excludes a line for this reason, and what to do.
 fn add_earlier(lines: &mut Lines, number: usize, earlier: &[u8], line: &[u8], cause: RulesCause) {
     let (what, advice) = match cause {
-        RulesCause::Repeated if has_verb(line, "word") => {
-            ("has a word for this text", "leave one of them out")
-        }
-        RulesCause::Repeated => ("has the same rule", "leave one of them out"),
+        RulesCause::Repeated if has_verb(line, "word") => ("has a word for this text", ONE_ADVICE),
+        RulesCause::Repeated if has_verb(line, "join") => ("joins output, too", ONE_ADVICE),
+        RulesCause::Repeated if has_verb(line, "fill") => ("sets the same member", ONE_ADVICE),
+        RulesCause::Repeated => ("has the same rule", ONE_ADVICE),
         RulesCause::BadWord => (
             "has a text or a word that can overlap those of this line",
             WORD_ADVICE,

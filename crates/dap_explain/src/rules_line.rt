@@ -1,8 +1,11 @@
 //! Finds what is wrong with a line of a file of rules that is not a rule.
 use crate::lines::Lines;
 use crate::words::Bytes;
-use RulePart::{Category, Event, Kind, Limit, Name, Place, SecondKind, Text};
-use dap_mask::{ByteClass, any_name, is_end, name_at, place_at, split_run};
+use RulePart::{
+    Category, Event, JoinedKind, JoinedName, Kind, Limit, Name, Place, SecondKind, Span, Text,
+    Value,
+};
+use dap_mask::{ByteClass, any_name, is_end, name_at, place_at, split_run, value_at};
 use dap_profile::Kind as MessageKind;
 use std::str;
 
@@ -39,13 +42,23 @@ enum RulePart {
     Category,
     /// The category of the events that a rule changes, which may be missing.
     Limit,
+    /// The kind of the events that a rule joins.
+    JoinedKind,
+    /// The name of the events that a rule joins.
+    JoinedName,
+    /// The word `per-stop` after these, which may be missing.
+    Span,
+    /// The value of a member that a rule sets.
+    Value,
 }
 
-/// Returns the parts of a rule with a verb. A place is the last one.
+/// Returns the parts of a rule with a verb. A place is the last one, except for a value.
 fn parts_of(verb: &[u8]) -> Option<&'static [RulePart]> {
     match verb {
         b"blank" | b"digits" | b"hex" | b"long" | b"uuid" => Some(&[Kind, Name, Limit, Place]),
         b"drop" => Some(&[Event, Name, Category]),
+        b"fill" => Some(&[Kind, Name, Place, Value]),
+        b"join" => Some(&[JoinedKind, JoinedName, Span]),
         b"swap" => Some(&[Kind, Name, SecondKind, Name]),
         b"word" => Some(&[Text, Text]),
         b"per-stop" => Some(&[]),
@@ -72,6 +85,8 @@ impl RulePart {
             Name => "after the kind comes a command or an event, or * for any",
             Text => "a text and its word are needed: write word TEXT WORD",
             Place | Category | Limit => "after the name comes a place, such as body.reason",
+            JoinedKind | JoinedName | Span => "only output is joined: write join event output",
+            Value => "after the place comes a value: an integer, true, false or a string in quotes",
         }
     }
 
@@ -87,6 +102,9 @@ impl RulePart {
             Place =>
                 "is not a place: write names with dots between them, [] for elements, and quotes as for names",
             Category | Limit => "is not a category: write category= and a word or a JSON string",
+            JoinedKind | JoinedName => "cannot be joined: write join event output",
+            Span => "is not per-stop: write join event output per-stop, or leave it out",
+            Value => "is not a value: write an integer, true, false or a string in quotes",
         }
     }
 
@@ -96,7 +114,10 @@ impl RulePart {
         let (word, rest) = split_run(bytes, ByteClass::Word);
         match self {
             Kind | SecondKind => kind_of(word).map(|_| rest),
-            Event => (kind_of(word)? == MessageKind::Event).then_some(rest),
+            Event | JoinedKind => (kind_of(word)? == MessageKind::Event).then_some(rest),
+            JoinedName => matches!(word, b"output" | b"\"output\"").then_some(rest),
+            Span => matches!(word, b"per-stop").then_some(rest),
+            Value => Some(lines.value_of(value_at(alloc, bytes))??.1),
             Name => Some(lines.value_of(any_name(alloc, bytes))??.1),
             Text => Some(lines.value_of(name_at(alloc, bytes))??.1),
             Place => Some(lines.value_of(place_at(alloc, bytes))??.1),
@@ -110,7 +131,7 @@ impl RulePart {
     /// Returns whether the part may be missing, and is not at the start of the text.
     fn is_left_out(self, text: &[u8]) -> bool {
         match self {
-            Category => is_end(text),
+            Category | Span => is_end(text),
             Limit => !after_blanks(text).starts_with(b"category="),
             _ => false,
         }
@@ -137,15 +158,22 @@ impl RulePart {
     }
 }
 
-/// Returns the last part of a rule, which is the place of a rule that has one. For a line that is
-/// not a rule, adds the line about what is wrong with it, if that is recognised.
+/// Returns whether a line is a rule for the events of one category.
+pub(crate) fn has_category(lines: &mut Lines, line: &[u8]) -> bool {
+    let kind = Kind.read(lines, split_verb(line).1);
+    let name = kind.and_then(|(_, rest)| Name.read(lines, rest));
+    name.is_some_and(|(_, rest)| !Limit.is_left_out(rest))
+}
+
+/// Returns the last part of a rule before its value, which is the place of a rule that has one. For
+/// a line that is not a rule, adds the line about what is wrong with it, if that is recognised.
 pub(crate) fn place_of<'l>(lines: &mut Lines, line: &'l [u8]) -> Option<&'l [u8]> {
     let (mut last, mut rest) = split_verb(line);
     let Some(parts) = parts_of(last) else {
         add_wrong(
             lines,
             last,
-            "is not a verb: write blank, digits, hex, long, uuid, drop, swap, word or per-stop",
+            "is not a verb: write blank, digits, hex, long, uuid, drop, fill, join, swap, word or per-stop",
         );
         return None;
     };
@@ -157,7 +185,11 @@ pub(crate) fn place_of<'l>(lines: &mut Lines, line: &'l [u8]) -> Option<&'l [u8]
             lines.add("only a rule for events has a category: leave category= out");
             return None;
         }
-        (last, rest) = part.read(lines, rest)?;
+        let (bytes, after) = part.read(lines, rest)?;
+        if *part != Value {
+            last = bytes;
+        }
+        rest = after;
     }
     if !is_end(rest) {
         add_wrong(

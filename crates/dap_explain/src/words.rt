@@ -60,6 +60,12 @@ pub(crate) fn first_characters(text: &str, count: usize) -> &str {
     end.and_then(|(end, _)| text.get(..end)).unwrap_or(text)
 }
 
+/// Returns the characters of a string after this number of them.
+pub(crate) fn after_characters(text: &str, count: usize) -> &str {
+    let start = text.char_indices().nth(count);
+    start.and_then(|(start, _)| text.get(start..)).unwrap_or("")
+}
+
 /// Writes a character as in a JSON string, or as in a byte string of Rust.
 fn write_escaped<W: Write>(f: &mut Formatter<W>, character: char, is_byte: bool) -> fmt::Result {
     match character {

@@ -49,7 +49,7 @@ golden allow_open session some zero limits mode recording is = record {
 -- ---- the rules
 
 module _ (limits : Limits) (mode : Mode) where
-  no_normal : (session : List ℕ) (why : Refused) → (why ≡ Memory → ⊥)
+  pub no_normal : (session : List ℕ) (why : Refused) → (why ≡ Memory → ⊥)
       → RefusesBytes limits mode session why → IsRefused (accepting limits mode) session why
   no_normal session Memory some is = absurd (some refl)
   no_normal session why some is = is
@@ -97,7 +97,7 @@ module _ (limits : Limits) (mode : Mode) (mask : Option Mask) (allow_open : Bool
     refused_session session (Incomplete client adapter) is = absurd is
     refused_session session why is = is
 
-    -- If the recording is not normalised by the rules, its input has no golden text.
+    -- If the recording is not normalised by the rules, its input does not have a golden text.
     pub no_session : (refused : GoldenRefused) → RefusesNormal limits mode mask recording refused
         → IsRefusedGolden limits mode mask allow_open input refused
     no_session (because.Mask why) is = has mask refl (step.Mask why) is

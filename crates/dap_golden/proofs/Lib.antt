@@ -1,6 +1,9 @@
 pub mod ComparedTexts
+pub mod EqualFiles
+pub mod FileUpdates
 pub mod GoldenTexts
 pub mod MemoryRuns
 pub mod OneGoldenText
 pub mod TraceHeads
 pub mod TextsByRules
+pub mod WrittenFiles

@@ -9,7 +9,10 @@ use Rattle.dap_rules.specs.MaskedMessages.{AreSameButOrderBy, ordered_by}
 use Rattle.dap_golden.specs.declared.fault.GoldenRefused.{GoldenRefused}
 use Rattle.dap_golden.specs.declared.fault.GoldenRefused.TheVariants.{Memory}
 use Rattle.dap_golden.specs.declared.golden.GoldenText.{GoldenText}
+use Rattle.dap_golden.specs.declared.forms.GoldenForm.{GoldenForm}
 use Rattle.dap_golden.specs.Golden.{AreMaskedMessagesOf, IsGolden, IsRefusedGolden, messages_of}
+use Rattle.dap_golden.specs.GoldenFiles.{IsNormalText}
+use Rattle.dap_golden.specs.GoldenForms.{IsRecordingOfFile, IsWrittenAs}
 
 -- Two inputs whose golden texts are created in the same mode, by any rules. The golden texts are
 -- equal if and only if a renaming of ids maps the messages of the first session to those of the
@@ -76,3 +79,24 @@ EqualGoldenTextsInEachMode = (limits : Limits) (mode : Mode) → AreSound limits
     → AreMaskedMessagesOf limits mask input ms → AreMaskedMessagesOf limits mask other ns
     → (a.bytes.items ≡ b.bytes.items)
     ↔ AreSame (stop_in mode) (ordered_by mask ms) (ordered_by mask ns)
+
+-- ---- golden files in their forms
+
+-- A normal text has at most one golden file in each form.
+abbrev pub OneGoldenFile : Type 0
+OneGoldenFile = (limits : Limits) (mode : Mode) (form : GoldenForm) (normal a b : List ℕ)
+    → IsWrittenAs limits mode form normal a → IsWrittenAs limits mode form normal b → a ≡ b
+
+-- The golden file of a normal text represents this text, in each form.
+abbrev pub GoldenFileIsRead : Type 0
+GoldenFileIsRead = (limits : Limits) (mode : Mode) (form : GoldenForm) (normal bytes : List ℕ)
+    → AreSound limits → IsNormalText limits mode normal
+    → IsWrittenAs limits mode form normal bytes → IsRecordingOfFile form bytes normal
+
+-- Two normal texts are written as golden files of the same form. The golden files are equal if and
+-- only if the texts are.
+abbrev pub EqualGoldenFiles : Type 0
+EqualGoldenFiles = (limits : Limits) (mode : Mode) (form : GoldenForm) (normal other a b : List ℕ)
+    → AreSound limits → IsNormalText limits mode normal → IsNormalText limits mode other
+    → IsWrittenAs limits mode form normal a → IsWrittenAs limits mode form other b
+    → (a ≡ b) ↔ (normal ≡ other)

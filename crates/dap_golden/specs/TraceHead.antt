@@ -5,6 +5,7 @@ use Rattle.std.specs.Prelude.{◌≡◌, ◌<◌, ◌⊎◌, ℕ, true, List, []
 use Rattle.std.specs.{Char.is_ascii_digit, List.list_all, Str.str_eq_ignore_ascii_case}
 use Rattle.dap_recording.specs.Marker.{marker}
 use Rattle.dap_tree.specs.declared.side.Side.{Side}
+use Rattle.dap_transcript.specs.Transcript.{starts_with_head}
 
 -- The byte is the marker of a side.
 abbrev pub IsMarker : ℕ → Type 0
@@ -44,6 +45,8 @@ pub record IsRecordingHead (bytes : List ℕ) : Type 0 where
   pub is_marker : IsMarker byte
   pub field : StartsWithField rest
 
--- A file with these bytes can become a golden file: it is empty or starts like a recording.
+-- A file with these bytes can become a golden file: it is empty, or starts like a recording or like
+-- a transcript.
 abbrev pub CanBecomeGolden : List ℕ → Type 0
-CanBecomeGolden bytes = (bytes ≡ []) ⊎ IsRecordingHead bytes
+CanBecomeGolden bytes =
+    (bytes ≡ []) ⊎ (IsRecordingHead bytes ⊎ (starts_with_head bytes ≡ true))

@@ -16,13 +16,13 @@ use std::alloc::Global;
 /// The result of comparing a golden file with the text of a later session.
 #[derive(Debug, Drop)]
 pub enum GoldenVerdict {
-    /// The golden file equals the text, byte for byte.
+    /// The golden file has exactly the bytes that an update would write.
     Same,
     /// The first record in which the sessions differ is this one. The lines are those of [`diff`],
     /// with the golden file first.
     Differs { record: u64, lines: Vec<u8> },
-    /// The sessions are the same except for ids, but the golden file is not a normal text: someone
-    /// edited it, or an older version wrote it.
+    /// The sessions are the same except for ids, but an update would write other bytes: someone
+    /// edited the golden file, an older version wrote it, or it has the other form.
     NotNormal,
 }
 

@@ -1,8 +1,12 @@
 //! Theorems about golden texts. Each function is empty: calling it makes its clauses available to
 //! the caller's proof.
-ghost use Rattle.dap_golden.specs.Laws.{EqualGoldenTexts, EqualGoldenTextsByRules};
-ghost use Rattle.dap_golden.specs.Laws.{EqualGoldenTextsInEachMode, GoldenIsNotRefused};
-ghost use Rattle.dap_golden.specs.Laws.{GoldenIsOrdered, OneGoldenText, OneMaskedListOfInput};
+ghost use Rattle.dap_golden.specs.Laws.{EqualGoldenFiles, EqualGoldenTexts};
+ghost use Rattle.dap_golden.specs.Laws.{EqualGoldenTextsByRules};
+ghost use Rattle.dap_golden.specs.Laws.{EqualGoldenTextsInEachMode, GoldenFileIsRead};
+ghost use Rattle.dap_golden.specs.Laws.{GoldenIsNotRefused, GoldenIsOrdered, OneGoldenFile};
+ghost use Rattle.dap_golden.specs.Laws.{OneGoldenText, OneMaskedListOfInput};
+
+use dap_transcript::laws::equal_transcripts;
 
 /// States that the golden texts of two inputs are equal if and only if a renaming of ids maps the
 /// messages of the first session to those of the second.
@@ -36,3 +40,14 @@ pub fn equal_golden_texts_by_rules()
     ensures whole { EqualGoldenTextsByRules }
     ensures each_mode { EqualGoldenTextsInEachMode }
 {}
+
+/// States that a normal text has at most one golden file in each form, that the golden file
+/// represents this text when it is read, and that two golden files of the same form are equal if
+/// and only if their normal texts are.
+pub fn golden_files_in_forms()
+    ensures one { OneGoldenFile }
+    ensures read { GoldenFileIsRead }
+    ensures equal { EqualGoldenFiles }
+{
+    equal_transcripts();
+}

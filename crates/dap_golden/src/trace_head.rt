@@ -1,8 +1,11 @@
-//! Recognises a trace and a recording by their first bytes.
+//! Recognises a trace, a recording and a golden file by their first bytes.
 ghost use Rattle.std.specs.{Prelude.{◌≡◌, ◌≤◌, ◌↔◌, IsTrue, length}, Char.is_ascii_digit};
 ghost use Rattle.std.specs.List.{prefix_len};
-ghost use Rattle.dap_golden.specs.TraceHead.{CanBecomeGolden, IsLineEnd, IsMarker, IsTraceHead};
-ghost use Rattle.dap_golden.specs.TraceHead.{StartsWithCount, StartsWithField};
+ghost use Rattle.dap_golden.specs.TraceHead.{CanBecomeGolden, IsLineEnd, IsMarker};
+ghost use Rattle.dap_golden.specs.TraceHead.{IsRecordingHead, IsTraceHead, StartsWithCount};
+ghost use Rattle.dap_golden.specs.TraceHead.{StartsWithField};
+
+use dap_transcript::is_transcript;
 
 /// How the names of the header fields of a message start.
 const FIELD: &[u8] = b"Content-";
@@ -60,13 +63,20 @@ fn starts_with_field(bytes: &[u8]) -> bool
     bytes[..bytes.len().min(FIELD.len())].eq_ignore_ascii_case(FIELD)
 }
 
-/// Returns whether a file with these bytes can become a golden file: it is empty or starts like a
-/// recording.
+/// Returns whether the bytes start like a recording: with a marker and the name of a header field.
+pub(crate) fn is_recording(bytes: &[u8]) -> bool
+    ensures { IsTrue result ↔ IsRecordingHead bytes.now }
+{
+    match bytes {
+        [] => false,
+        [byte, rest @ ..] => is_marker(*byte) && starts_with_field(rest),
+    }
+}
+
+/// Returns whether a file with these bytes can become a golden file: it is empty, or starts like a
+/// recording or like a transcript.
 pub(crate) fn can_become_golden(bytes: &[u8]) -> bool
     ensures { IsTrue result ↔ CanBecomeGolden bytes.now }
 {
-    match bytes {
-        [] => true,
-        [byte, rest @ ..] => is_marker(*byte) && starts_with_field(rest),
-    }
+    bytes.is_empty() || is_recording(bytes) || is_transcript(bytes)
 }

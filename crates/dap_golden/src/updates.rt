@@ -3,17 +3,19 @@ ghost use Rattle.std.specs.Prelude.{◌≡◌, ◌↔◌, ◌+◌, ◌<◌, ◌�
 ghost use Rattle.dap_device.specs.{Crash.LeavesOnly, Replacing.IsOldOrNew};
 ghost use Rattle.dap_input.specs.Limits.{AreSound};
 ghost use Rattle.dap_golden.specs.{Golden.{mask_given, mode_given}, GoldenFiles.IsNormalText};
-ghost use Rattle.dap_golden.specs.GoldenUpdates.{Answers, Compares, Finds, HasNoText, HasText};
-ghost use Rattle.dap_golden.specs.GoldenUpdates.{MayBeLeft, Updates};
+ghost use Rattle.dap_golden.specs.{GoldenSteps.bytes_of, GoldenUpdates.{Answers, Compares, Finds}};
+ghost use Rattle.dap_golden.specs.GoldenUpdates.{HasFile, HasNoFile, HasText, MayBeLeft, Updates};
 
-use crate::comparing::{GoldenVerdict, compare_golden};
-use crate::fault::{GoldenFault, GoldenRefused};
+use crate::comparing::GoldenVerdict;
+use crate::fault::GoldenRefused;
+use crate::forms::{GoldenBytes, GoldenForm, compare_in, written_in};
 use crate::golden::{GoldenText, golden_text, mode_given};
 use crate::trace_head::can_become_golden;
 use dap_device::{ReadFault, ReplaceFault, Replaceable, replace};
 use dap_input::{Limits, Refused};
 use dap_mask::MaskRules;
 use dap_rename::Mode;
+use dap_transcript::TranscriptFault;
 use std::alloc::Global;
 
 /// The options of `golden`.
@@ -24,6 +26,8 @@ pub struct GoldenRequest {
     pub update: bool,
     /// Whether to accept a session in which a request has no response.
     pub allow_open: bool,
+    /// The form in which the golden file is written. See [`GoldenForm::of_name`].
+    pub form: GoldenForm,
     /// The mode in which the ids of the session are numbered, unless the rules have the line
     /// `per-stop`.
     pub mode: Mode,
@@ -34,7 +38,7 @@ pub struct GoldenRequest {
 pub enum GoldenDone {
     /// The session was compared with the golden file.
     Compared(GoldenVerdict),
-    /// The golden file already had the text of the session.
+    /// The golden file already had these bytes.
     Unchanged,
     /// The golden file was created or replaced. The text of the session has this many records.
     Written { records: u64 },
@@ -51,10 +55,15 @@ pub enum GoldenStop {
     GoldenUnread,
     /// The golden file is longer than the limit for an input.
     GoldenTooLong,
-    /// The golden file is not an accepted recording.
+    /// The golden file is read as a transcript, and is not one. The cause is never `Memory`.
+    Transcript(TranscriptFault),
+    /// The golden file does not represent an accepted recording.
     Golden(Refused),
-    /// The golden file is neither empty nor a recording, so it is not replaced.
+    /// The golden file is not empty, and starts neither like a recording nor like a transcript. So
+    /// it is not replaced.
     NotRecording,
+    /// The transcript of the session is longer than the limit for an input.
+    TranscriptTooLong,
     /// The golden file could not be written.
     Unwritten(ReplaceFault),
     /// An allocation failed.
@@ -71,7 +80,7 @@ fn text_of(
 ) -> Result<GoldenText, GoldenStop>
     requires { AreSound limits }
     ensures ok { IfOk result (HasText limits (mask_given rules.entry) request input.items) }
-    ensures err { IfErr result (HasNoText limits (mask_given rules.entry) request input.items) }
+    ensures err { IfErr result (HasNoFile limits (mask_given rules.entry) request input.items) }
     ensures normal { IfOk result (λ text. IsNormalText limits
         (mode_given (mask_given rules.entry) request.mode) text.bytes.items) }
     ensures short { IfOk result (λ text. length text.bytes.items ≤ limits.input) }
@@ -90,18 +99,41 @@ fn text_of(
     }
 }
 
+/// Creates the golden text of an input, and the bytes of its golden file.
+fn file_of(
+    alloc: Global,
+    input: Vec<u8>,
+    rules: Option<&MaskRules>,
+    request: GoldenRequest,
+    limits: Limits,
+) -> Result<GoldenBytes, GoldenStop>
+    requires { AreSound limits }
+    ensures ok { IfOk result (λ made.
+        HasFile limits (mask_given rules.entry) request input.items made.text (bytes_of made)) }
+    ensures err { IfErr result (HasNoFile limits (mask_given rules.entry) request input.items) }
+    ensures normal { IfOk result (λ made. IsNormalText limits
+        (mode_given (mask_given rules.entry) request.mode) made.text.bytes.items) }
+    ensures short { IfOk result (λ made. length (bytes_of made) ≤ limits.input) }
+{
+    let text = text_of(alloc, input, rules, request, limits)?;
+    let mode = mode_given(rules, request.mode);
+    written_in(alloc, request.form, text, limits, mode)
+}
+
 /// Compares the golden file with the text of the session.
 fn compare_file<F: Replaceable>(
     alloc: Global,
     file: &mut F,
-    text: &GoldenText,
+    made: &GoldenBytes,
+    form: GoldenForm,
     limits: Limits,
     mode: Mode,
 ) -> Result<GoldenDone, GoldenStop>
     requires limits { AreSound limits }
-    requires text { IsNormalText limits mode text.now.bytes.items }
+    requires text { IsNormalText limits mode made.now.text.bytes.items }
     requires few { F.failures file.old < 2 ^ 62 }
-    ensures compares { Compares F.Replaceable file.old file.new limits mode text.now result }
+    ensures compares { Compares F.Replaceable file.old file.new limits mode form
+        made.now.text.bytes.items (bytes_of made.now) result }
     ensures any_moment { F.is_known file.old
         → LeavesOnly F.moment F.left_since (F.may_leave file.old) file.old file.new }
 {
@@ -112,10 +144,9 @@ fn compare_file<F: Replaceable>(
         Err(ReadFault::TooLong) => return Err(GoldenStop::GoldenTooLong),
         Err(ReadFault::Memory) => return Err(GoldenStop::Memory),
     };
-    match compare_golden(alloc, golden.as_slice(), text, limits, mode) {
+    match compare_in(alloc, form, golden, made, limits, mode) {
         Ok(verdict) => Ok(GoldenDone::Compared(verdict)),
-        Err(GoldenFault::Golden(refused)) => Err(GoldenStop::Golden(refused)),
-        Err(GoldenFault::Memory) => Err(GoldenStop::Memory),
+        Err(stop) => Err(stop),
     }
 }
 
@@ -151,48 +182,57 @@ fn has_bytes<F: Replaceable>(
     }
 }
 
-/// Writes the text of the session to the golden file, unless the file already has it or may not be
-/// replaced.
+/// Writes these bytes to the golden file, unless the file already has them or may not be replaced.
+/// The text of the session has this many records.
 fn update_file<F: Replaceable>(
     alloc: Global,
     file: &mut F,
-    text: &GoldenText,
+    bytes: &[u8],
+    records: u64,
     limits: Limits,
 ) -> Result<GoldenDone, GoldenStop>
-    requires short { length text.now.bytes.items ≤ limits.input }
+    requires short { length bytes.now ≤ limits.input }
     requires few { F.failures file.old < 2 ^ 61 }
     requires none { F.is_known file.old → F.temporary file.old ≡ None }
-    ensures updates { Updates F.Replaceable file.old file.new limits.input text.now result }
+    ensures updates { Updates F.Replaceable file.old file.new limits.input bytes.now records
+        result }
     ensures any_moment { F.is_known file.old
-        → LeavesOnly F.moment F.left_since
-        (IsOldOrNew F.Replaceable file.old text.now.bytes.items) file.old file.new }
+        → LeavesOnly F.moment F.left_since (IsOldOrNew F.Replaceable file.old bytes.now)
+        file.old file.new }
 {
-    let bytes = text.bytes.as_slice();
     if has_bytes(alloc, file, bytes, limits)? {
         return Ok(GoldenDone::Unchanged);
     }
     match replace(file, bytes) {
-        Ok(()) => Ok(GoldenDone::Written {
-            records: text.records,
-        }),
+        Ok(()) => Ok(GoldenDone::Written { records }),
         Err(fault) => Err(GoldenStop::Unwritten(fault)),
     }
 }
 
 /// Compares a session with its golden file, or creates or updates the golden file.
 ///
-/// The input is a trace or a recording, as [`golden_text`] describes. With `update`, the golden
-/// file is replaced as a whole, as [`replace`] describes, unless it already has the text. A file
-/// that is neither empty nor a recording is not replaced: it is not a golden file.
+/// The input is a trace or a recording, as [`golden_text`] describes. The golden file is written in
+/// the form of the request. It is read as a transcript if it starts with the head of a record, as a
+/// recording if it starts like one, and otherwise in the form of the request. A file in the other
+/// form is compared by its messages; it is `NotNormal` if the session is the same.
+///
+/// With `update`, the golden file is replaced as a whole, as [`replace`] describes, unless it
+/// already has the bytes. A file that is neither empty nor starts like a recording or a transcript
+/// is not replaced: it is not a golden file.
 ///
 /// # Errors
 ///
 /// - `Input`: the input has no golden text. The golden file is not opened.
+/// - `TranscriptTooLong`: the transcript of the session has more than `limits.input` bytes. The
+///   golden file is not opened.
 /// - `Missing`: the golden file does not exist, and `update` is not set.
 /// - `GoldenUnread`: a read of the golden file failed.
 /// - `GoldenTooLong`: the golden file has more than `limits.input` bytes.
-/// - `Golden`: the golden file was rejected, and `update` is not set.
-/// - `NotRecording`: the golden file is neither empty nor a recording, and `update` is set.
+/// - `Transcript`: the golden file is read as a transcript, and is not one. `update` is not set.
+/// - `Golden`: the golden file, or the recording of its transcript, was rejected. `update` is not
+///   set.
+/// - `NotRecording`: the golden file is not empty and starts neither like a recording nor like a
+///   transcript, and `update` is set.
 /// - `Unwritten`: the golden file could not be replaced.
 /// - `Memory`: an allocation failed.
 pub fn golden_file<F: Replaceable>(
@@ -207,22 +247,24 @@ pub fn golden_file<F: Replaceable>(
     requires few { F.failures file.old < 2 ^ 61 }
     requires none { F.is_known file.old → F.temporary file.old ≡ None }
 
-    // The result is determined by the text of the input, in the mode that the rules want, and the
-    // golden file. The golden file is written only on an update, after the input was checked.
+    // The result is determined by the text of the input, in the mode that the rules want and the
+    // form of the request, and the golden file. The golden file is written only on an update, after
+    // the input was checked.
     ensures outcome { Answers F.Replaceable limits (mask_given rules.entry) request input.items
         file.old file.new result }
 
     // A crash, the end of the process or a loss of power may happen at any moment. It leaves a
-    // content that it could have left before the call, or, on an update, the complete text of the
-    // session.
+    // content that it could have left before the call, or, on an update, the complete golden file
+    // of the session.
     ensures any_moment { F.is_known file.old
         → LeavesOnly F.moment F.left_since (MayBeLeft F.Replaceable limits (mask_given rules.entry)
         request input.items file.old) file.old file.new }
 {
-    let text = text_of(alloc, input, rules, request, limits)?;
+    let made = file_of(alloc, input, rules, request, limits)?;
     if request.update {
-        update_file(alloc, file, &text, limits)
+        update_file(alloc, file, made.as_slice(), made.text.records, limits)
     } else {
-        compare_file(alloc, file, &text, limits, mode_given(rules, request.mode))
+        let mode = mode_given(rules, request.mode);
+        compare_file(alloc, file, &made, request.form, limits, mode)
     }
 }

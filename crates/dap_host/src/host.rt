@@ -5,6 +5,7 @@ ghost use Rattle.dap_host.specs.Files.{is_standard};
 use crate::limits::LIMITS;
 use dap_device::{Replaceable, Sink, Source};
 use dap_rename::{NameTable, Tables};
+use dap_transcript::TranscriptFault;
 use std::alloc::Global;
 use std::io::Error;
 
@@ -15,12 +16,15 @@ pub enum OpenFault {
     Memory,
     /// The operating system did not open it, for this reason.
     Unread(Error),
+    /// It starts like a transcript, but is not one.
+    Transcript(TranscriptFault),
 }
 
 /// What a file is opened for.
 #[derive(Clone, Copy, Debug, PartialEq, Eq)]
 pub enum Purpose {
-    /// It is an input: a recording, frames or a trace. The name `-` leads to standard input.
+    /// It is an input: a recording, frames or a trace. The name `-` leads to standard input. A
+    /// regular file that is a transcript is read as its recording.
     Input,
     /// It is a rules file. No name leads to standard input.
     Rules,

@@ -6,6 +6,7 @@ pub mod LeafLines
 pub mod RecordAnswers
 pub mod ShownInputs
 pub mod Stopping
+pub mod TranscriptInputs
 pub mod TreeLines
 pub mod ViewedInputs
 pub mod ViewingFacts

@@ -6,5 +6,7 @@ pub mod OneRecord
 pub mod OneRecordSteps
 pub mod Showing
 pub mod Stopping
+pub mod TranscriptSteps
+pub mod Transcripts
 pub mod Viewing
 pub mod ViewingSteps

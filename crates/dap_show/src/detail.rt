@@ -27,6 +27,8 @@ pub enum ShowRequest {
     Lines(Detail),
     /// The lines of its records, with errors marked.
     Faulty(Detail),
+    /// The transcript of the recording.
+    Transcript,
     /// The content of the record with this number, counted from 1.
     Record(u64),
 }

@@ -1,9 +1,9 @@
-//! The inputs of the program: files and standard input.
+//! The inputs of the program: files, the recordings of transcripts, and standard input.
 use arrayvec::ArrayVec;
 use dap_device::StdSource;
 use dap_golden::is_trace;
 use std::fs::File;
-use std::io::{self, Error, Read, Stdin};
+use std::io::{self, Cursor, Error, Read, Stdin};
 
 /// The number of first bytes of an input that are stored. The first line of a trace is shorter.
 const HEAD: usize = 32;
@@ -13,6 +13,8 @@ const HEAD: usize = 32;
 pub(crate) enum Origin {
     File(File),
     Standard(Stdin),
+    /// The recording of a transcript.
+    Recording(Cursor<Vec<u8>>),
 }
 
 /// An input that was opened. It has the reason of the last read, if that failed, and stores the
@@ -74,6 +76,7 @@ impl Read for OpenedInput {
         let read = match &mut self.origin {
             Origin::File(file) => file.read(buffer),
             Origin::Standard(stdin) => stdin.read(buffer),
+            Origin::Recording(recording) => recording.read(buffer),
         };
         self.failure = read.err();
         self.store(&buffer[..read?]);

@@ -4,13 +4,15 @@ ghost use Rattle.std.specs.IoError.{error_kind, raw_os_error};
 
 use crate::inputs::{OpenedInput, Origin, SystemInput};
 use crate::outputs::{self, OpenOutput, SystemOutput, Target};
+use crate::transcripts::{is_transcript_file, read_file, recording_in};
 use dap_device::{FileAt, StdSink, StdSource, stream_number};
 use dap_host::{Host, LIMITS, OpenFault, Purpose, Stream, is_standard};
 use dap_rename::{IndexNames, Tables};
+use dap_transcript::{TranscriptCause, TranscriptFault};
 use std::alloc::Global;
-use std::fs::{self, OpenOptions};
+use std::fs::{self, File, OpenOptions};
 use std::hash::{BuildHasher, Hasher, RandomState};
-use std::io::{self, Error, ErrorKind, IsTerminal, Write};
+use std::io::{self, Cursor, Error, ErrorKind, IsTerminal, Write};
 use std::os::unix::fs::MetadataExt;
 
 /// The path of standard input, as Linux names it.
@@ -46,23 +48,56 @@ fn fault_of(error: Error) -> OpenFault
     }
 }
 
+/// Returns why a transcript was not opened.
+fn transcript_fault(fault: TranscriptFault) -> OpenFault
+    ensures { result ≡ OpenFault.Memory ↔ (fault.cause ≡ TranscriptCause.Memory) }
+{
+    match fault.cause {
+        TranscriptCause::Memory => OpenFault::Memory,
+        _ => OpenFault::Transcript(fault),
+    }
+}
+
 impl<'a> System<'a> {
-    /// Opens a file, or standard input. Prints that standard input is read, if it is a terminal. A
-    /// folder is no rules file.
-    fn input(&self, purpose: Purpose, name: &str) -> io::Result<OpenedInput> {
-        let is_input = purpose == Purpose::Input;
-        if is_input && is_standard(name) {
-            if self.announces_terminal && self.rt.stdin().is_terminal() {
-                let _ = self.rt.stderr().write_all(READS_TERMINAL.as_bytes());
-            }
-            let stored = self.keeps_inputs.then(|| Vec::new(self.rt.alloc()));
-            return Ok(OpenedInput::new(Origin::Standard(self.rt.stdin()), stored));
+    /// Returns standard input. Prints that it is read, if it is a terminal.
+    fn standard_input(&self) -> OpenedInput {
+        if self.announces_terminal && self.rt.stdin().is_terminal() {
+            let _ = self.rt.stderr().write_all(READS_TERMINAL.as_bytes());
         }
+        let stored = self.keeps_inputs.then(|| Vec::new(self.rt.alloc()));
+        OpenedInput::new(Origin::Standard(self.rt.stdin()), stored)
+    }
+
+    /// Opens a file, and returns whether it is a regular file. A folder is no rules file.
+    fn file(&self, purpose: Purpose, name: &str) -> io::Result<(File, bool)> {
         let file = fs::open(self.rt, name)?;
-        if !is_input && file.metadata()?.is_dir() {
+        if purpose == Purpose::Rules && file.metadata()?.is_dir() {
             return Err(ErrorKind::IsADirectory.into());
         }
         let is_file = file.metadata().is_ok_and(|data| data.is_file());
+        Ok((file, is_file))
+    }
+
+    /// Reads a file that starts like a transcript, and returns its recording as an input.
+    fn transcript(&self, file: File) -> Result<OpenedInput, OpenFault> {
+        let alloc = self.rt.alloc();
+        let bytes = read_file(alloc, file).map_err(fault_of)?;
+        let recording = recording_in(alloc, bytes).map_err(transcript_fault)?;
+        let origin = Origin::Recording(Cursor::new(recording));
+        Ok(OpenedInput::new(origin, None))
+    }
+
+    /// Opens a file or standard input, of which nothing was read. An input that is a regular file
+    /// and starts like a transcript is its recording.
+    fn input(&self, purpose: Purpose, name: &str) -> Result<OpenedInput, OpenFault> {
+        let is_input = purpose == Purpose::Input;
+        if is_input && is_standard(name) {
+            return Ok(self.standard_input());
+        }
+        let (file, is_file) = self.file(purpose, name).map_err(fault_of)?;
+        if is_input && is_file && is_transcript_file(&file) {
+            return self.transcript(file);
+        }
         let is_kept = is_input && self.keeps_inputs && !is_file;
         let stored = is_kept.then(|| Vec::new(self.rt.alloc()));
         Ok(OpenedInput::new(Origin::File(file), stored))
@@ -108,7 +143,7 @@ impl<'a> Host for System<'a> {
     } };
 
     fn open(&self, purpose: Purpose, name: &str) -> Result<SystemInput, OpenFault> {
-        let input = self.input(purpose, name).map_err(fault_of)?;
+        let input = self.input(purpose, name)?;
         Ok(StdSource::new(input))
     }
 

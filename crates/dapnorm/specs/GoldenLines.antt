@@ -3,7 +3,7 @@ use Rattle.std.specs.Prelude.{ℕ, Bool, List, [], ◌∷◌, cond, codes}
 use Rattle.dap_golden.specs.declared.fault.GoldenRefused.{GoldenRefused}
 use Rattle.dap_golden.specs.declared.updates.GoldenStop.{GoldenStop}
 use Rattle.dap_input.specs.RefusedText.{refused_text}
-use Rattle.dapnorm.specs.{Lines.fault_line, Saving.unsaved_words}
+use Rattle.dapnorm.specs.{Lines.{fault_line, transcript_fault_text}, Saving.unsaved_words}
 
 -- a line of these texts
 abbrev pub golden_line : List (List ℕ) → List ℕ
@@ -22,6 +22,9 @@ stop_texts has_rules name GoldenStop.Missing =
     name ∷ codes " does not exist: --update makes it" ∷ []
 stop_texts has_rules name GoldenStop.GoldenUnread = name ∷ codes ": read fault" ∷ []
 stop_texts has_rules name GoldenStop.GoldenTooLong = name ∷ codes ": InputTooLong" ∷ []
+stop_texts has_rules name GoldenStop.TranscriptTooLong = name ∷ codes ": TranscriptTooLong" ∷ []
+stop_texts has_rules name (GoldenStop.Transcript why) =
+    name ∷ codes ": " ∷ transcript_fault_text why ∷ []
 stop_texts has_rules name (GoldenStop.Golden why) = name ∷ codes ": " ∷ refused_text why ∷ []
 stop_texts has_rules name GoldenStop.NotRecording =
     name ∷ codes ": not replaced, since it is not a recording: remove it first" ∷ []
@@ -42,6 +45,8 @@ stop_status (GoldenStop.Input why) = input_status why
 stop_status GoldenStop.Missing = 4
 stop_status GoldenStop.GoldenUnread = 4
 stop_status GoldenStop.GoldenTooLong = 2
+stop_status GoldenStop.TranscriptTooLong = 2
+stop_status (GoldenStop.Transcript why) = 2
 stop_status (GoldenStop.Golden why) = 2
 stop_status GoldenStop.NotRecording = 2
 stop_status (GoldenStop.Unwritten fault) = 4

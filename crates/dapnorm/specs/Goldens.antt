@@ -4,7 +4,7 @@ use Rattle.std.specs.{Prelude.{Err, Vec, option_map}, declared.alloc.Global.Glob
 use Rattle.dap_commands.specs.declared.commands.Golden.{Golden}
 use Rattle.dap_device.specs.Crash.{LeavesOnly}
 use Rattle.dap_device.specs.declared.file.Replaceable.{Ghosts as Replaceable}
-use Rattle.dap_golden.specs.GoldenUpdates.{Answers, MayBeLeft}
+use Rattle.dap_golden.specs.{GoldenForms.form_of_name, GoldenUpdates.{Answers, MayBeLeft}}
 use Rattle.dap_golden.specs.declared.updates.{GoldenDone.GoldenDone, GoldenRequest.GoldenRequest}
 use Rattle.dap_golden.specs.declared.updates.GoldenStop.{GoldenStop}
 use Rattle.dap_host.specs.{Files.Files, declared.host.Purpose.Purpose}
@@ -20,6 +20,7 @@ abbrev pub request_of : Golden → GoldenRequest
 request_of golden = record {
   update = golden.update;
   allow_open = golden.«open»;
+  form = form_of_name golden.golden;
   mode = golden.mode;
 }
 

@@ -1,11 +1,12 @@
 -- A file that is read whole. Source: own.
-use Rattle.std.specs.Prelude.{◌≡◌, ◌≢◌, ℕ, List, [], ◌∷◌, Option, None, Result, Ok, Err, Vec}
+use Rattle.std.specs.Prelude.{◌≡◌, ◌≢◌, ℕ, List, [], ◌∷◌, ◌++◌, Option, None, Result, Ok, Err}
+use Rattle.std.specs.Prelude.{Vec}
 use Rattle.std.specs.declared.alloc.Global.{Global}
 use Rattle.dap_device.specs.Reading.{HasReadInput, HasReadPartly}
 use Rattle.dap_device.specs.declared.{device.Source.Ghosts as Source, reading.Stop.Stop}
 use Rattle.dap_host.specs.{Files.Files, declared.host.{OpenFault.OpenFault, Purpose.Purpose}}
 use Rattle.dap_input.specs.{RefusedText.refused_text, declared.refused.Refused.Refused}
-use Rattle.dapnorm.specs.{Desks.IsLeft, Lines.fault_line}
+use Rattle.dapnorm.specs.{Desks.IsLeft, Lines.{fault_line, transcript_fault_text}}
 use Rattle.dapnorm.specs.declared.reading.Unread.{Unread, TheVariants.{Failed, Memory, Unopened}}
 
 -- These are the bytes of the file, or its first bytes up to one past the limit; or a read failed;
@@ -35,13 +36,17 @@ module _ {I O T : Type 0} (files : Files I O T) (source : Source I) (purpose : P
   IsFileRead (Err (Unopened fault)) = (file ≡ None) × files.closed purpose name fault
   IsFileRead outcome = Reads outcome
 
--- the line about a file that was not read, unless an allocation failed
-abbrev pub unless_memory : Unread → List ℕ → List ℕ
-unless_memory Memory line = fault_line (refused_text Refused.Memory ∷ [])
-unless_memory (Unopened OpenFault.Memory) line = fault_line (refused_text Refused.Memory ∷ [])
-unless_memory unread line = line
+-- the line about a file that was not read: this one if it did not open or a read failed; and these
+-- texts before the fault of a file that starts like a transcript and is none
+abbrev pub unread_text : Unread → List ℕ → List (List ℕ) → List ℕ
+unread_text Memory line texts = fault_line (refused_text Refused.Memory ∷ [])
+unread_text (Unopened OpenFault.Memory) line texts = fault_line (refused_text Refused.Memory ∷ [])
+unread_text (Unopened (OpenFault.Transcript fault)) line texts =
+    fault_line (texts ++ transcript_fault_text fault ∷ [])
+unread_text unread line texts = line
 
 abbrev pub unread_status : Unread → ℕ
 unread_status Memory = 5
 unread_status (Unopened OpenFault.Memory) = 5
+unread_status (Unopened (OpenFault.Transcript fault)) = 2
 unread_status unread = 4

@@ -9,7 +9,7 @@ use Rattle.dap_input.specs.declared.refused.Refused.TheVariants.{Memory, ReadFau
 use Rattle.dap_mask.specs.RulesCauseName.{rules_cause_name}
 use Rattle.dap_rules.specs.declared.fault.ApplyRefused.{ApplyRefused}
 use Rattle.dapnorm.specs.{GoldenLines.{golden_line, stop_line, stop_status}, Lines.fault_line}
-use Rattle.dapnorm.specs.Readings.{unless_memory, unread_status}
+use Rattle.dapnorm.specs.Readings.{unread_status, unread_text}
 use Rattle.dapnorm.specs.{Reporting.{refusal_status, refused_status}, Saving.unsaved_words}
 use Rattle.dapnorm.specs.declared.{reading.Unread.TheVariants.Unopened, rules.NoRules.NoRules}
 use Rattle.dapnorm.specs.declared.{stream.Unstreamed.Unstreamed, why.Mistake.Mistake}
@@ -22,9 +22,11 @@ mistake_line Mistake.TwoStandard = codes "error: only one of A and B can be stan
 mistake_line Mistake.NoRow =
     codes "error: no row has this number: dapnorm rows prints them all\n"
 mistake_line Mistake.RecordAlone =
-    codes "error: --record prints one content: use it without --full and --faulty\n"
+    codes "error: --record prints one content: use it without --full, --yaml and --faulty\n"
 mistake_line Mistake.RecordNumber =
     codes "error: --record needs the number of a record, from 1 on\n"
+mistake_line Mistake.YamlAlone =
+    codes "error: --yaml prints a transcript: use it without --full and --faulty\n"
 
 -- what the line says before the name of the file
 abbrev pub overlap_words : Overlap → List ℕ
@@ -42,6 +44,11 @@ unread_line None = fault_line (refused_text ReadFault ∷ [])
 unread_line (Some which) =
     fault_line (compare_refused_text (CompareRefused.Input which ReadFault) ∷ [])
 
+-- what the line about one of two inputs starts with
+abbrev pub which_texts : Option Which → List (List ℕ)
+which_texts None = [] ∷ [] ∷ []
+which_texts (Some which) = which_text which ∷ codes ": " ∷ []
+
 -- the input of `golden`
 abbrev pub unread_session_line : List ℕ
 unread_session_line = golden_line (codes "read fault" ∷ [])
@@ -58,7 +65,7 @@ no_rules_line (NoRules.Words (UsageFault.Usage text)) = string_bytes text
 no_rules_line (NoRules.Words (UsageFault.Help text)) = string_bytes text
 no_rules_line (NoRules.Words UsageFault.Memory) = fault_line (refused_text Memory ∷ [])
 no_rules_line (NoRules.File why) =
-    unless_memory why (fault_line (codes "rules: read fault" ∷ []))
+    unread_text why (fault_line (codes "rules: read fault" ∷ [])) (codes "rules: " ∷ [] ∷ [])
 no_rules_line (NoRules.Line why text) = fault_line
     (codes "rules: line " ∷ decimal why.line ∷ codes ": " ∷ rules_cause_name why.cause ∷ [])
 no_rules_line NoRules.Memory = fault_line (refused_text Memory ∷ [])
@@ -105,17 +112,19 @@ abbrev pub why_line : Why → List ℕ
 why_line (Why.Mistake one) = mistake_line one
 why_line (Why.SameFile files name) = fault_line (overlap_words files ∷ name ∷ [])
 why_line (Why.Rules one) = no_rules_line one
-why_line (Why.Unread which one) = unless_memory one (unread_line which)
+why_line (Why.Unread which one) = unread_text one (unread_line which) (which_texts which)
 why_line (Why.Input refused) = fault_line (refused_text refused ∷ [])
 why_line (Why.Stream one mask) = unstreamed_line one
 why_line (Why.Pair refused) = fault_line (compare_refused_text refused ∷ [])
 why_line (Why.Unapplied which refused mask) = unapplied_line which refused
 why_line (Why.Output name one) =
-    unless_memory (Unopened one) (fault_line (name ∷ codes ": write fault" ∷ []))
+    unread_text (Unopened one) (fault_line (name ∷ codes ": write fault" ∷ []))
+    (name ∷ codes ": " ∷ [])
 why_line (Why.Unsaved name one) = fault_line (name ∷ unsaved_words one.step ∷ [])
-why_line (Why.Session one) = unless_memory one unread_session_line
+why_line (Why.Session one) = unread_text one unread_session_line (codes "golden: " ∷ [] ∷ [])
 why_line (Why.GoldenFile name update one) =
-    unless_memory (Unopened one) (golden_line (name ∷ lost_words update ∷ []))
+    unread_text (Unopened one) (golden_line (name ∷ lost_words update ∷ []))
+    (name ∷ codes ": " ∷ [])
 why_line (Why.Golden name stop mask) = stop_line (is_some mask) name stop
 why_line (Why.NoSuggestion line) = string_bytes line
 

@@ -10,16 +10,18 @@ use Rattle.dap_host.specs.declared.host.{Purpose.Purpose, Stream.TheVariants.Byt
 use Rattle.dap_host.specs.declared.limits.TheConstants.{LIMITS}
 use Rattle.dap_input.specs.{Engine.Answers, Streaming.Streams}
 use Rattle.dap_input.specs.declared.refused.Refused.{Refused, TheVariants.Memory}
-use Rattle.dap_mask.specs.{KeptRules.mask_of, Mask.Mask, declared.mask_rules.MaskRules.MaskRules}
+use Rattle.dap_mask.specs.{KeptRules.mask_of, Mask.Mask, declared.joining.Joining.Joining}
+use Rattle.dap_mask.specs.declared.mask_rules.MaskRules.{MaskRules}
 use Rattle.dap_message.specs.SwapRules.{SwapRule}
 use Rattle.dap_record.specs.TracingRun.{RecordsTrace}
 use Rattle.dap_rename.specs.declared.mode.Mode.TheVariants.{Whole}
+use Rattle.dap_rules.specs.Applying.{IsMaskedByRules, IsNotMaskedByRules}
 use Rattle.dap_rules.specs.{MaskedRecordings.{IsMaskedTo, Masks}, Masking.masking}
 use Rattle.dap_rules.specs.{Memory.WrittenBytes, Ordering.{IsNotOrdered, Orders, ReadsSomeOrAll}}
 use Rattle.dap_show.specs.{OneRecord.ShowsRecord, Viewing.{ShowsInput, ViewsInput, with_marks}}
 use Rattle.dap_show.specs.declared.detail.Detail.{Detail, TheVariants.{Leaves, Lists}}
 use Rattle.dap_show.specs.declared.detail.ShowRequest.{ShowRequest}
-use Rattle.dap_show.specs.declared.one_record.RecordShown.{RecordShown}
+use Rattle.dap_show.specs.{Transcripts.ShowsTranscript, declared.one_record.RecordShown.RecordShown}
 use Rattle.dap_device.specs.Devices.{Read, Written, reads, writes}
 use Rattle.dapnorm.specs.Desks.{IsLeft, IsUnused, Place, empty}
 use Rattle.dapnorm.specs.{Rules.AreRules, Run.{HasCompacted, HasNormalised, HasShown}}
@@ -27,6 +29,7 @@ use Rattle.dapnorm.specs.{Saving.{Saves, no_text, text_sink}, declared.answer.An
 use Rattle.dapnorm.specs.declared.{desk.Desk.Desk, reading.Unread.TheVariants.Unopened}
 use Rattle.dapnorm.specs.declared.{rules.NoRules.NoRules, stream.Unstreamed.Unstreamed}
 use Rattle.dapnorm.specs.declared.why.Mistake.{Mistake, TheVariants.{RecordAlone, RecordNumber}}
+use Rattle.dapnorm.specs.declared.why.Mistake.TheVariants.{YamlAlone}
 use Rattle.dapnorm.specs.declared.why.{Overlap.TheVariants.OutputAndRules, Why.Why}
 
 -- ---- what the options of `show` request
@@ -40,11 +43,14 @@ pub record RequestsRecord (show : Show) (number : ℕ) : Type 0 where
   pub record_is : show.record ≡ Some text
   pub parsed : ParsesUnsigned {E = ParseIntError} 64 10 text (Ok number)
   pub from_1 : 0 < number
-  pub alone : (show.full || show.faulty) ≡ false
+  pub alone : ((show.full || show.faulty) || show.yaml) ≡ false
 
-abbrev pub RequestsLines : Show → Bool → Bool → Type 0
-RequestsLines show full faulty =
-    (show.record ≡ None) × (show.full ≡ full) × (show.faulty ≡ faulty)
+-- Lines of all records are printed.
+pub record RequestsLines (show : Show) (full faulty : Bool) : Type 0 where
+  pub no_record : show.record ≡ None
+  pub no_transcript : show.yaml ≡ false
+  pub full_is : show.full ≡ full
+  pub faulty_is : show.faulty ≡ faulty
 
 -- Without an option, the lists of each record are printed. Other tasks take no options.
 abbrev pub TaskRequests : Task → Result (Option ShowRequest) Mistake → Type 0
@@ -54,10 +60,14 @@ TaskRequests (Task.Show show) (Ok (Some (ShowRequest.Lines detail))) =
 TaskRequests (Task.Show show) (Ok (Some (ShowRequest.Faulty detail))) =
     RequestsLines show show.full true × (detail ≡ detail_of show.full)
 TaskRequests (Task.Show show) (Ok (Some (ShowRequest.Record number))) = RequestsRecord show number
+TaskRequests (Task.Show show) (Ok (Some ShowRequest.Transcript)) =
+    (show.record ≡ None) × (show.yaml ≡ true) × ((show.full || show.faulty) ≡ false)
 TaskRequests (Task.Show show) (Err RecordAlone) =
-    (is_some show.record ≡ true) × ((show.full || show.faulty) ≡ true)
+    (is_some show.record ≡ true) × (((show.full || show.faulty) || show.yaml) ≡ true)
 TaskRequests (Task.Show show) (Err RecordNumber) =
-    (is_some show.record ≡ true) × ((show.full || show.faulty) ≡ false)
+    (is_some show.record ≡ true) × (((show.full || show.faulty) || show.yaml) ≡ false)
+TaskRequests (Task.Show show) (Err YamlAlone) =
+    (show.record ≡ None) × (show.yaml ≡ true) × ((show.full || show.faulty) ≡ true)
 TaskRequests (Task.Show show) (Err mistake) = ⊥
 TaskRequests one outcome = outcome ≡ Ok None
 
@@ -76,6 +86,21 @@ pub record HasOrdered {R W : Type 0} (source : Source R) (sink : Sink W) (rules 
   pub answers : Answers source sink LIMITS.input (Orders LIMITS Whole rules)
       (IsNotOrdered LIMITS Whole rules) old new before after outcome
   pub memory : IsErrOf outcome Memory → ReadsSomeOrAll source LIMITS.input old new
+
+-- The result of `join_and_mask` by these rules. If an allocation failed, a prefix of the input was
+-- read, or all of it.
+pub record HasJoined {R W : Type 0} (source : Source R) (sink : Sink W) (mask : Mask)
+    (old new : R) (before after : W) (outcome : Result (Unit {0}) Refused) : Type 0 where
+  pub answers : Answers source sink LIMITS.input (IsMaskedByRules LIMITS mask)
+      (IsNotMaskedByRules LIMITS mask) old new before after outcome
+  pub memory : IsErrOf outcome Memory → ReadsSomeOrAll source LIMITS.input old new
+
+-- The result of `mask` by these rules: record by record, or of the whole input if output is joined.
+abbrev pub HasMasked : {R W : Type 0} → Source R → Sink W → Mask → Option Joining → R → R → W → W
+    → Result (Unit {0}) Refused → Type 0
+HasMasked source sink mask None = Streams (masking LIMITS mask) (Masks LIMITS mask)
+    (IsMaskedTo LIMITS mask) source sink
+HasMasked source sink mask (Some joining) = HasJoined source sink mask
 
 -- An engine leaves the devices like this with its result.
 abbrev pub unstreamed_of : Result (Unit {0}) Refused → Result (Unit {0}) Unstreamed
@@ -106,6 +131,8 @@ module _ {R W : Type 0} (input : Read R) (output : Written W) where
   -- the result.
   abbrev pub IsShown : Option ShowRequest → Result (Unit {0}) Unstreamed → Type 0
   IsShown None outcome = Over (HasShown input.source output.sink LIMITS) outcome
+  IsShown (Some ShowRequest.Transcript) outcome =
+      Over (ShowsTranscript LIMITS input.source output.sink) outcome
   IsShown (Some (ShowRequest.Lines detail)) outcome =
       Over (ShowsInput detail LIMITS input.source output.sink) outcome
   IsShown (Some (ShowRequest.Faulty detail)) (Ok done) = Views detail (Ok None)
@@ -127,8 +154,8 @@ module _ {R W : Type 0} (input : Read R) (output : Written W) where
   IsStreamed (Task.Normalise mode) shown mask outcome =
       Over (HasNormalised input.source output.sink LIMITS mode) outcome
   IsStreamed (Task.Show show) shown mask outcome = IsShown shown outcome
-  IsStreamed (Task.Mask rules) shown mask outcome = Over (Streams (masking LIMITS mask)
-      (Masks LIMITS mask) (IsMaskedTo LIMITS mask) input.source output.sink) outcome
+  IsStreamed (Task.Mask rules) shown mask outcome =
+      Over (HasMasked input.source output.sink mask mask.joining) outcome
   IsStreamed (Task.Order rules) shown mask outcome =
       Over (HasOrdered input.source output.sink mask.swaps) outcome
 

@@ -14,7 +14,7 @@ use crate::stream::{input_name, text_of};
 use crate::why::{Overlap, Why};
 use dap_commands::{Golden, Name};
 use dap_device::Replaceable;
-use dap_golden::{GoldenRequest, golden_file};
+use dap_golden::{GoldenForm, GoldenRequest, golden_file};
 use dap_host::{Host, LIMITS, Purpose};
 use dap_mask::MaskRules;
 use std::alloc::Global;
@@ -63,6 +63,7 @@ fn kept<'a, T: Replaceable>(
     let request = GoldenRequest {
         update: golden.update,
         allow_open: golden.open,
+        form: GoldenForm::of_name(golden.golden.as_str()),
         mode: golden.mode,
     };
     match golden_file(alloc, session, given(&rules), file, request, LIMITS) {

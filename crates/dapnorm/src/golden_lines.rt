@@ -51,6 +51,11 @@ pub(crate) fn stop_line<'a>(has_rules: bool, name: &'a str, stop: GoldenStop) ->
         ),
         GoldenStop::GoldenUnread => (name, Part::Text(": read fault"), FAULT),
         GoldenStop::GoldenTooLong => (name, Part::Text(": InputTooLong"), REFUSED),
+        GoldenStop::TranscriptTooLong => (name, Part::Text(": TranscriptTooLong"), REFUSED),
+        GoldenStop::Transcript(why) => {
+            let (golden, colon) = (Part::Text("golden: "), Part::Text(": "));
+            return (Line::Transcript(golden, name, colon, why), REFUSED);
+        }
         GoldenStop::Golden(why) => {
             let (golden, colon) = (Part::Text("golden: "), Part::Text(": "));
             let line = Line::Fault(golden, name, colon, Part::Refused(why));

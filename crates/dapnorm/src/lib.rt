@@ -29,33 +29,110 @@ pub use stream::Unstreamed;
 pub use why::{Mistake, Overlap, Why};
 
 // The engines, and what they take and return.
-pub use dap_commands::{
-    Command, Golden, Job, Name, Printed, Request, Show, Task, UsageFault, command, job,
-};
+pub use dap_commands::Command;
+pub use dap_commands::Golden;
+pub use dap_commands::Job;
+pub use dap_commands::Name;
+pub use dap_commands::Printed;
+pub use dap_commands::Request;
+pub use dap_commands::Show;
+pub use dap_commands::Task;
+pub use dap_commands::UsageFault;
+pub use dap_commands::command;
+pub use dap_commands::job;
 pub use dap_compact::compact;
-pub use dap_compare::{CompareRefused, Verdict, Which, compare, compare_sessions, compare_with};
-pub use dap_device::{
-    DeviceFault, FileAt, Input, MemoryFile, MemorySink, MemorySource, ReadFault, ReplaceFault,
-    Replaceable, Sink, Source, StdSink, StdSource, Step, Stop, read_all, replace,
-};
-pub use dap_diff::{
-    AllDifferences, Diff, diff, diff_all_sessions, diff_all_with, diff_sessions, diff_with,
-};
-pub use dap_golden::{
-    GoldenDone, GoldenFault, GoldenRefused, GoldenRequest, GoldenStop, GoldenText, GoldenVerdict,
-    TextSink, compare_golden, golden_file, golden_text, recording_of,
-};
-pub use dap_host::{Host, LIMITS, OpenFault, Purpose, Stream};
-pub use dap_input::{Limits, Refused};
-pub use dap_mask::{MaskRules, RulesCause, RulesFault};
+pub use dap_compare::CompareRefused;
+pub use dap_compare::Verdict;
+pub use dap_compare::Which;
+pub use dap_compare::compare;
+pub use dap_compare::compare_sessions;
+pub use dap_compare::compare_with;
+pub use dap_device::DeviceFault;
+pub use dap_device::FileAt;
+pub use dap_device::Input;
+pub use dap_device::MemoryFile;
+pub use dap_device::MemorySink;
+pub use dap_device::MemorySource;
+pub use dap_device::ReadFault;
+pub use dap_device::ReplaceFault;
+pub use dap_device::Replaceable;
+pub use dap_device::Sink;
+pub use dap_device::Source;
+pub use dap_device::StdSink;
+pub use dap_device::StdSource;
+pub use dap_device::Step;
+pub use dap_device::Stop;
+pub use dap_device::read_all;
+pub use dap_device::replace;
+pub use dap_diff::AllDifferences;
+pub use dap_diff::Diff;
+pub use dap_diff::diff;
+pub use dap_diff::diff_all_sessions;
+pub use dap_diff::diff_all_with;
+pub use dap_diff::diff_sessions;
+pub use dap_diff::diff_with;
+pub use dap_golden::GoldenDone;
+pub use dap_golden::GoldenFault;
+pub use dap_golden::GoldenForm;
+pub use dap_golden::GoldenRefused;
+pub use dap_golden::GoldenRequest;
+pub use dap_golden::GoldenStop;
+pub use dap_golden::GoldenText;
+pub use dap_golden::GoldenVerdict;
+pub use dap_golden::TextSink;
+pub use dap_golden::compare_golden;
+pub use dap_golden::golden_file;
+pub use dap_golden::golden_text;
+pub use dap_golden::recording_of;
+pub use dap_host::Host;
+pub use dap_host::LIMITS;
+pub use dap_host::OpenFault;
+pub use dap_host::Purpose;
+pub use dap_host::Stream;
+pub use dap_input::Limits;
+pub use dap_input::Refused;
+pub use dap_mask::MaskRules;
+pub use dap_mask::RulesCause;
+pub use dap_mask::RulesFault;
 pub use dap_message::MessageFault;
-pub use dap_normalise::{
-    Checked, Normalised, check, check_with, normalise, normalise_bytes, normalise_with,
-};
+pub use dap_normalise::Checked;
+pub use dap_normalise::Normalised;
+pub use dap_normalise::check;
+pub use dap_normalise::check_with;
+pub use dap_normalise::normalise;
+pub use dap_normalise::normalise_bytes;
+pub use dap_normalise::normalise_with;
 pub use dap_record::record;
-pub use dap_recording::{RecordCause, RecorderFault, TraceCause};
-pub use dap_rename::{IndexNames, Mode, NameTable, Pair, Renaming, Tables};
-pub use dap_rules::{ApplyRefused, mask, mode_by, order, order_bytes, read_session_by_rules};
+pub use dap_recording::RecordCause;
+pub use dap_recording::RecorderFault;
+pub use dap_recording::TraceCause;
+pub use dap_rename::IndexNames;
+pub use dap_rename::Mode;
+pub use dap_rename::NameTable;
+pub use dap_rename::Pair;
+pub use dap_rename::Renaming;
+pub use dap_rename::Tables;
+pub use dap_rules::ApplyRefused;
+pub use dap_rules::join_and_mask;
+pub use dap_rules::mask;
+pub use dap_rules::mode_by;
+pub use dap_rules::order;
+pub use dap_rules::order_bytes;
+pub use dap_rules::read_session_by_rules;
 pub use dap_session::Rule;
-pub use dap_show::{Detail, RecordShown, ShowRequest, show, show_faulty, show_record, show_with};
+pub use dap_show::Detail;
+pub use dap_show::RecordShown;
+pub use dap_show::ShowRequest;
+pub use dap_show::show;
+pub use dap_show::show_faulty;
+pub use dap_show::show_record;
+pub use dap_show::show_transcript;
+pub use dap_show::show_with;
 pub use dap_stored::StoredSession;
+pub use dap_transcript::TranscriptCause;
+pub use dap_transcript::TranscriptFault;
+pub use dap_transcript::is_transcript;
+pub use dap_transcript::read_transcript;
+pub use dap_transcript::recording_of_transcript;
+pub use dap_transcript::rewrite_transcript;
+pub use dap_transcript::write_transcript;

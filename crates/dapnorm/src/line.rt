@@ -1,12 +1,14 @@
 //! Texts that are written in parts, and the lines that report errors.
 ghost use Rattle.std.specs.Prelude.{◌≡◌, ◌<◌, ◌^◌, ◌∷◌, []};
 ghost use Rattle.dap_device.specs.{Devices.CanWrite, Written.{HasSentAll, HasWrittenAll}};
+ghost use Rattle.dap_message.specs.MessageFaultText.{digits_of};
 ghost use Rattle.dapnorm.specs.Lines.{fault_line, line_text, part_text, parts_text};
 ghost use Rattle.dapnorm.specs.Reporting.{HasSent};
 
 use dap_compare::CompareRefused;
 use dap_device::{DeviceFault, Sink, write_all};
 use dap_input::Refused;
+use dap_transcript::TranscriptFault;
 use itoa::Buffer;
 
 /// A part of a text.
@@ -28,6 +30,8 @@ pub(crate) enum Line<'a> {
     Whole(&'a str),
     /// `dapnorm: `, these parts and LF.
     Fault(Part<'a>, Part<'a>, Part<'a>, Part<'a>),
+    /// `dapnorm: `, these parts, why a text is not a transcript, and LF.
+    Transcript(Part<'a>, Part<'a>, Part<'a>, TranscriptFault),
 }
 
 /// Returns the line with one part.
@@ -81,16 +85,33 @@ fn send_parts<W: Sink>(writer: &mut W, parts: &[Part<'_>]) -> Result<(), DeviceF
     writer.flush()
 }
 
+/// Returns the digits of a number, if there is one.
+fn digits<'a>(number: Option<u64>) -> Part<'a>
+    ensures { part_text result ≡ digits_of number }
+{
+    match number {
+        Some(number) => Part::Number(number),
+        None => Part::Text(""),
+    }
+}
+
 /// Writes a line to the errors and flushes. A failure to write it is not reported.
 pub(crate) fn report_line<E: Sink>(errors: &mut E, line: Line<'_>)
     requires writer { CanWrite E.Sink errors.old }
     ensures { HasSent E.Sink errors.old errors.new (line_text line.entry) }
 {
+    let (start, end) = (Part::Text("dapnorm: "), Part::Text("\n"));
     let _ = match line {
         Line::Whole(text) => send_parts(errors, &[Part::Text(text)]),
-        Line::Fault(a, b, c, d) => {
-            let (start, end) = (Part::Text("dapnorm: "), Part::Text("\n"));
-            send_parts(errors, &[start, a, b, c, d, end])
+        Line::Fault(a, b, c, d) => send_parts(errors, &[start, a, b, c, d, end]),
+        Line::Transcript(a, b, c, fault) => {
+            let (words, row) = fault.cause.words();
+            let (line, number) = (Part::Text("line "), Part::Count(fault.line));
+            let (colon, words, row) = (Part::Text(": "), Part::Text(words), digits(row));
+            send_parts(
+                errors,
+                &[start, a, b, c, line, number, colon, words, row, end],
+            )
         }
     };
 }

@@ -1,11 +1,11 @@
 //! Reads a file whole.
-ghost use Rattle.std.specs.Prelude.{◌≡◌, ◌+◌, ◌≤◌, ◌^◌, None};
+ghost use Rattle.std.specs.Prelude.{◌≡◌, ◌+◌, ◌≤◌, ◌^◌, ◌∷◌, [], None};
 ghost use Rattle.dap_device.specs.Devices.{CanRead};
-ghost use Rattle.dapnorm.specs.{Desks.TakesAtMost, Lines.line_text};
-ghost use Rattle.dapnorm.specs.Readings.{IsFileRead, IsReadWhole, unless_memory, unread_status};
+ghost use Rattle.dapnorm.specs.{Desks.TakesAtMost, Lines.{line_text, part_text}};
+ghost use Rattle.dapnorm.specs.Readings.{IsFileRead, IsReadWhole, unread_status, unread_text};
 
 use crate::line::{Line, Part, fault};
-use crate::reporting::{FAULT, MEMORY};
+use crate::reporting::{FAULT, MEMORY, REFUSED};
 use dap_device::{Source, Stop, read_all};
 use dap_host::{Host, OpenFault, Purpose};
 use dap_input::Refused;
@@ -23,9 +23,16 @@ pub enum Unread {
 }
 
 impl Unread {
-    /// Returns this line for the file, unless an allocation failed, and the status of the program.
-    pub(crate) fn line_and_status<'a>(self, line: Line<'a>) -> (Line<'a>, u8)
-        ensures line { line_text result.0 ≡ unless_memory self (line_text line.entry) }
+    /// Returns the line that reports it, and the status of the program: this line if a read failed
+    /// or the file did not open, and these parts before the fault of a transcript.
+    pub(crate) fn line_and_status<'a>(
+        self,
+        line: Line<'a>,
+        first: Part<'a>,
+        second: Part<'a>,
+    ) -> (Line<'a>, u8)
+        ensures line { line_text result.0 ≡ unread_text self (line_text line.entry)
+            (part_text first.entry ∷ part_text second.entry ∷ []) }
         ensures status { result.1 ≡ unread_status self }
     {
         match self {
@@ -33,6 +40,12 @@ impl Unread {
                 (fault(Part::Refused(Refused::Memory)), MEMORY)
             }
             Unread::Failed | Unread::Unopened(OpenFault::Unread(_)) => (line, FAULT),
+            Unread::Unopened(OpenFault::Transcript(why)) => {
+                (
+                    Line::Transcript(first, second, Part::Text(""), why),
+                    REFUSED,
+                )
+            }
         }
     }
 }

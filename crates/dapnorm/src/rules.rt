@@ -40,7 +40,10 @@ impl NoRules {
             NoRules::Words(UsageFault::Usage(text) | UsageFault::Help(text)) => {
                 (Line::Whole(text), USAGE)
             }
-            NoRules::File(why) => { why.line_and_status(fault(Part::Text("rules: read fault"))) }
+            NoRules::File(why) => {
+                let line = fault(Part::Text("rules: read fault"));
+                why.line_and_status(line, Part::Text("rules: "), Part::Text(""))
+            }
             NoRules::Line(why, _) => {
                 let (words, name) = (Part::Text("rules: line "), Part::Text(why.cause.name()));
                 let line = Line::Fault(words, Part::Count(why.line), Part::Text(": "), name);

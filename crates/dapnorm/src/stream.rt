@@ -2,12 +2,13 @@
 ghost use Rattle.std.specs.Prelude.{◌≡◌, ◌+◌, ◌≤◌, [], IfErr, IfOk, None};
 ghost use Rattle.dap_commands.specs.Reading.{text_in};
 ghost use Rattle.dap_host.specs.declared.limits.TheConstants.{LIMITS};
-ghost use Rattle.dap_mask.specs.KeptRules.{mask_of};
+ghost use Rattle.dap_mask.specs.KeptRules.{joining_of, mask_of};
 ghost use Rattle.dap_normalise.specs.NameTables.{AreReady};
 ghost use Rattle.dap_device.specs.Devices.{CanRead, CanWrite, reads, writes};
 ghost use Rattle.dapnorm.specs.Desks.{TakesAtMost, empty, here};
 ghost use Rattle.dapnorm.specs.{Lines.line_text, Reasons.{unstreamed_line, unstreamed_status}};
-ghost use Rattle.dapnorm.specs.Streams.{GoesTo, IsNoOutput, IsOutput, IsSavedIn, IsShown};
+ghost use Rattle.dapnorm.specs.Streams.{GoesTo, HasJoined, HasMasked, IsNoOutput, IsOutput};
+ghost use Rattle.dapnorm.specs.Streams.{IsSavedIn, IsShown};
 ghost use Rattle.dapnorm.specs.Streams.{IsStreamed, IsWritten, LosesRules, StreamIsRun};
 ghost use Rattle.dapnorm.specs.Streams.{TaskRequests, input_name, output_name, task_rules};
 ghost use Rattle.dapnorm.specs.Streams.{unstreamed_of};
@@ -28,8 +29,10 @@ use dap_mask::MaskRules;
 use dap_normalise::normalise_with;
 use dap_record::record;
 use dap_rename::{Mode, NameTable, Tables};
-use dap_rules::{TextSink, mask, order};
-use dap_show::{Detail, RecordShown, ShowRequest, show, show_faulty, show_record, show_with};
+use dap_rules::{TextSink, join_and_mask, mask, order};
+use dap_show::{
+    Detail, RecordShown, ShowRequest, show, show_faulty, show_record, show_transcript, show_with,
+};
 use std::alloc::Global;
 
 /// Why a task was not done over an input.
@@ -71,11 +74,13 @@ fn request_of(task: &Task<'_>) -> Result<Option<ShowRequest>, Mistake>
         Detail::Lists
     };
     match &show.record {
-        Some(_) if show.full || show.faulty => Err(Mistake::RecordAlone),
+        Some(_) if show.full || show.faulty || show.yaml => Err(Mistake::RecordAlone),
         Some(name) => match name.as_str().parse::<u64>() {
             Ok(number) if number > 0 => Ok(Some(ShowRequest::Record(number))),
             _ => Err(Mistake::RecordNumber),
         },
+        None if show.yaml && (show.full || show.faulty) => Err(Mistake::YamlAlone),
+        None if show.yaml => Ok(Some(ShowRequest::Transcript)),
         None if show.faulty => Ok(Some(ShowRequest::Faulty(detail))),
         None if show.full => Ok(Some(ShowRequest::Lines(detail))),
         None => Ok(None),
@@ -130,6 +135,7 @@ fn shown<R: Source, W: Sink>(
 {
     match request {
         None => ended(show(alloc, reader, writer, LIMITS)),
+        Some(ShowRequest::Transcript) => ended(show_transcript(alloc, reader, writer, LIMITS)),
         Some(ShowRequest::Lines(detail)) => {
             ended(show_with(alloc, reader, writer, LIMITS, detail))
         }
@@ -159,6 +165,39 @@ fn ended(outcome: Result<(), Refused>) -> Result<(), Unstreamed>
     }
 }
 
+/// Joins the output of an input, and masks the result.
+fn joined<R: Source, W: Sink>(
+    alloc: Global,
+    rules: &MaskRules,
+    reader: &mut R,
+    writer: &mut W,
+) -> Result<(), Refused>
+    requires devices { CanRead R.Source reader.old × CanWrite W.Sink writer.old }
+    ensures joined { HasJoined R.Source W.Sink (mask_of rules.now) reader.old reader.new writer.old
+        writer.new result }
+    ensures taken { R.given reader.new ≤ R.given reader.old + LIMITS.input + 1 }
+{
+    join_and_mask(alloc, rules, reader, writer, LIMITS)
+}
+
+/// Masks an input record by record, or joins its output first if the rules say so.
+fn masked<R: Source, W: Sink>(
+    alloc: Global,
+    rules: &MaskRules,
+    reader: &mut R,
+    writer: &mut W,
+) -> Result<(), Refused>
+    requires devices { CanRead R.Source reader.old × CanWrite W.Sink writer.old }
+    ensures masked { HasMasked R.Source W.Sink (mask_of rules.now) (joining_of rules.now) reader.old
+        reader.new writer.old writer.new result }
+    ensures taken { R.given reader.new ≤ R.given reader.old + LIMITS.input + 1 }
+{
+    match rules.joining() {
+        None => mask(alloc, rules, reader, writer, LIMITS),
+        Some(_) => joined(alloc, rules, reader, writer),
+    }
+}
+
 /// Does a task over a reader and a writer, by these rules if it takes some.
 fn streamed<R: Source, W: Sink, T: NameTable + Drop>(
     alloc: Global,
@@ -182,7 +221,7 @@ fn streamed<R: Source, W: Sink, T: NameTable + Drop>(
             ended(normalise_with(alloc, reader, writer, LIMITS, tables, *mode))
         }
         Task::Show(_) => shown(alloc, request, reader, writer),
-        Task::Mask(_) => ended(mask(alloc, rules, reader, writer, LIMITS)),
+        Task::Mask(_) => ended(masked(alloc, rules, reader, writer)),
         Task::Order(_) => {
             let swaps = rules.swaps();
             ended(order(alloc, swaps, reader, writer, LIMITS, Mode::Whole))

@@ -32,6 +32,8 @@ pub enum Mistake {
     RecordAlone,
     /// The argument of `--record` is not the number of a record.
     RecordNumber,
+    /// `--yaml` is used with another option.
+    YamlAlone,
 }
 
 impl Mistake {
@@ -43,9 +45,12 @@ impl Mistake {
             Mistake::TwoStandard => "error: only one of A and B can be standard input\n",
             Mistake::NoRow => "error: no row has this number: dapnorm rows prints them all\n",
             Mistake::RecordAlone => {
-                "error: --record prints one content: use it without --full and --faulty\n"
+                "error: --record prints one content: use it without --full, --yaml and --faulty\n"
             }
             Mistake::RecordNumber => "error: --record needs the number of a record, from 1 on\n",
+            Mistake::YamlAlone => {
+                "error: --yaml prints a transcript: use it without --full and --faulty\n"
+            }
         }
     }
 }
@@ -160,25 +165,41 @@ impl Why<'_> {
                 (fault_of(words, name), USAGE)
             }
             Why::Rules(why) => why.line_and_status(),
-            Why::Unread(which, why) => why.line_and_status(unread_line(*which)),
+            Why::Unread(which, why) => {
+                let (letter, colon) = match which {
+                    Some(which) => (which.letter(), ": "),
+                    None => ("", ""),
+                };
+                let (letter, colon) = (Part::Text(letter), Part::Text(colon));
+                why.line_and_status(unread_line(*which), letter, colon)
+            }
             Why::Input(refused) => refused_line(*refused),
             Why::Stream(why, _) => why.line_and_status(),
             Why::Pair(refused) => pair_line(*refused),
             Why::Unapplied(which, refused, _) => unapplied_line(*which, *refused),
             Why::Output(name, why) => {
                 let (name, words) = (Part::Text(name.as_str()), Part::Text(": write fault"));
-                Unread::Unopened(*why).line_and_status(fault_of(name, words))
+                Unread::Unopened(*why).line_and_status(
+                    fault_of(name, words),
+                    name,
+                    Part::Text(": "),
+                )
             }
             Why::Unsaved(name, why) => {
                 let (name, words) = (Part::Text(name.as_str()), unsaved_words(why.step));
                 (fault_of(name, Part::Text(words)), FAULT)
             }
             Why::Session(why) => {
-                why.line_and_status(golden_line(Part::Text("read fault"), Part::Text("")))
+                let (golden, none) = (Part::Text("golden: "), Part::Text(""));
+                why.line_and_status(golden_line(Part::Text("read fault"), none), golden, none)
             }
             Why::GoldenFile(name, update, why) => {
                 let (name, words) = (Part::Text(name.as_str()), Part::Text(lost_words(*update)));
-                Unread::Unopened(*why).line_and_status(golden_line(name, words))
+                Unread::Unopened(*why).line_and_status(
+                    golden_line(name, words),
+                    name,
+                    Part::Text(": "),
+                )
             }
             Why::Golden(name, stop, rules) => { stop_line(rules.is_some(), name.as_str(), *stop) }
             Why::NoSuggestion(line) => (Line::Whole(line), DIFFERENT),

@@ -1,12 +1,14 @@
 //! Explains why a command did not finish, in lines on standard error after the line of the reason.
 use crate::rejections::{explain_applying, explain_golden, recording};
 use dap_device::{FileAt, write_and_flush};
-use dap_explain::{Format, Input, explain, explain_rules, explain_unreadable};
+use dap_explain::{Format, Input, explain, explain_rules, explain_transcript, explain_unreadable};
 use dap_host::is_standard;
-use dap_system::{OpenedInput, SystemInput, SystemOutput, stream};
+use dap_system::{OpenedInput, SystemInput, SystemOutput, recording_in, stream};
+use dap_transcript::record_line;
 use dapnorm::{
-    ApplyRefused, Command, CompareRefused, Ended, GoldenStop, LIMITS, Name, NoRules, OpenFault,
-    Refused, Replaceable, Request, Stream, Task, Unread, Unstreamed, Which, Why,
+    Answer, ApplyRefused, Command, CompareRefused, Ended, GoldenDone, GoldenStop, GoldenVerdict,
+    LIMITS, Name, NoRules, OpenFault, Refused, Replaceable, Request, Stream, Task, Unread,
+    Unstreamed, Which, Why, is_transcript,
 };
 use std::fs;
 use std::io::Error;
@@ -130,7 +132,13 @@ fn read_again(rt: &HostRuntime, name: &str) -> Option<Vec<u8>> {
     file.read(rt.alloc(), LIMITS.input).ok()?
 }
 
-/// Returns the bytes of an input, if they are stored or can be read again.
+/// Returns the recording of a file that can be read again: of a transcript, that of its messages.
+fn recording_again(rt: &HostRuntime, name: &str) -> Option<Vec<u8>> {
+    recording_in(rt.alloc(), read_again(rt, name)?).ok()
+}
+
+/// Returns the bytes of an input, if they are stored or can be read again. Those of a transcript
+/// are the recording of its messages.
 fn bytes_of(
     rt: &HostRuntime,
     command: &Command<'_>,
@@ -139,7 +147,7 @@ fn bytes_of(
 ) -> Option<Vec<u8>> {
     match (opened(run, which)?.bytes(), input_name(command, which)) {
         (Some(bytes), _) => Vec::from_slice(rt.alloc(), bytes).ok(),
-        (None, Some(name)) if !is_standard(name.as_str()) => read_again(rt, name.as_str()),
+        (None, Some(name)) if !is_standard(name.as_str()) => recording_again(rt, name.as_str()),
         _ => None,
     }
 }
@@ -192,18 +200,48 @@ fn explain_text(
             explain_golden(alloc, session, rules.as_ref(), *refused, LIMITS).ok()
         }
         Why::Golden(name, GoldenStop::Golden(refused), ..) => {
-            let golden = read_again(rt, name.as_str())?;
+            let golden = recording_again(rt, name.as_str())?;
             explain(alloc, recording(golden.as_slice(), None), *refused, LIMITS).ok()
         }
-        _ if explains => explain_input(rt, request, run),
-        _ => None,
+        Why::Golden(name, GoldenStop::Transcript(fault), ..) => {
+            let golden = read_again(rt, name.as_str())?;
+            explain_transcript(alloc, golden.as_slice(), *fault).ok()
+        }
+        why => match unopened(&request.command, why) {
+            Some((name, OpenFault::Transcript(fault))) => {
+                let input = read_again(rt, name)?;
+                explain_transcript(alloc, input.as_slice(), *fault).ok()
+            }
+            _ if explains => explain_input(rt, request, run),
+            _ => None,
+        },
     }
 }
 
-/// Explains why a command did not finish, if it did not, and reports the reasons of files that
-/// failed. If rejected inputs are explained, that says if one is a trace.
+/// Returns the line that says at which line of a golden file the record starts that differs, if the
+/// file is a transcript and has the record.
+fn place_of_difference(rt: &HostRuntime, run: &SystemRun<'_>) -> Option<String> {
+    let Ok(Some(Answer::Golden(name, GoldenDone::Compared(verdict)))) = &run.outcome else {
+        return None;
+    };
+    let GoldenVerdict::Differs { record, .. } = verdict else {
+        return None;
+    };
+    let golden = read_again(rt, name.as_str())?;
+    if !is_transcript(golden.as_slice()) {
+        return None;
+    }
+    let line = record_line(golden.as_slice(), *record)?;
+    let words = format!(in rt.alloc(); "record {record} starts at line {line}").ok()?;
+    explain_unreadable(rt.alloc(), name.as_str(), words.as_str()).ok()
+}
+
+/// Explains why a command did not finish, and reports the reasons of files that failed. If rejected
+/// inputs are explained, that says if one is a trace. If the command finished, reports at which line
+/// of a golden transcript the session differs.
 pub fn explain_run(rt: &HostRuntime, request: &Request<'_>, run: &SystemRun<'_>, explains: bool) {
     let Err(why) = &run.outcome else {
+        print(rt, place_of_difference(rt, run));
         return;
     };
     let command = &request.command;

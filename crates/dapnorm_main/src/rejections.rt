@@ -9,7 +9,7 @@ use dap_explain::{Format, Input, explain};
 use dap_golden::{GoldenRefused, recording_of};
 use dap_input::{Limits, Refused};
 use dap_mask::MaskRules;
-use dap_rules::{ApplyRefused, mask_bytes};
+use dap_rules::{ApplyRefused, mask_by_rules};
 use std::alloc::{AllocError, Global};
 
 /// Returns a recording to which these rules are applied.
@@ -44,7 +44,7 @@ pub(crate) fn explain_applying(
         (ApplyRefused::Order(Refused::Grew(_) | Refused::TooManyIds(_)), Some(rules))
             if !rules.swaps().is_empty() => { Ok(String::new(alloc)) }
         (ApplyRefused::Order(why), Some(rules)) => {
-            match mask_bytes(alloc, rules, input.bytes, limits) {
+            match mask_by_rules(alloc, rules, input.bytes, limits) {
                 Ok(masked) => explain(alloc, recording(masked.as_slice(), None), why, limits),
                 Err(_) => Ok(String::new(alloc)),
             }

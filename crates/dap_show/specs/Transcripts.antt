@@ -1,0 +1,24 @@
+-- What `show_transcript` writes. Source: own, over recordings, the rules of their sessions, and
+-- transcripts.
+use Rattle.std.specs.Prelude.{◌≡◌, List, ℕ, Result}
+use Rattle.dap_device.specs.declared.device.Sink.{Ghosts as Sink}
+use Rattle.dap_device.specs.declared.device.Source.{Ghosts as Source}
+use Rattle.dap_input.specs.{Engine.Answers, Refusals.IsRefused, declared.limits.Limits.Limits}
+use Rattle.dap_input.specs.declared.refused.Refused.{Refused}
+use Rattle.dap_message.specs.Message.{Sent}
+use Rattle.dap_normalise.specs.Accepting.{IsAccepted, accepting}
+use Rattle.dap_rename.specs.declared.mode.Mode.TheVariants.{Whole}
+use Rattle.dap_transcript.specs.Transcript.{transcript}
+
+-- The input is accepted, and this is the transcript of its messages.
+abbrev pub IsTranscriptOf : Limits → List ℕ → List ℕ → Type 0
+IsTranscriptOf limits input text =
+    (messages : List Sent) × IsAccepted limits Whole input messages × (text ≡ transcript messages)
+
+-- Outcome of `show_transcript`: the transcript of the input was written and flushed, or a prefix of
+-- it was written and the writer failed, or the first error of the input is returned and nothing was
+-- written.
+abbrev pub ShowsTranscript : {U R W : Type 0} → Limits → Source R → Sink W → R → R → W → W
+    → Result U Refused → Type 0
+ShowsTranscript limits source sink =
+    Answers source sink limits.input (IsTranscriptOf limits) (IsRefused (accepting limits Whole))
