@@ -371,7 +371,7 @@ TRACES = {
     ),
 }
 RULES = {
-    "a verb": (b"hide event output\n", "line 1: BadRule", ["line 1 is: hide event output", '"hide" is not a verb: write blank, digits, hex, long, uuid, drop, swap, word or per-stop']),
+    "a verb": (b"hide event output\n", "line 1: BadRule", ["line 1 is: hide event output", '"hide" is not a verb: write blank, digits, hex, long, uuid, drop, fill, join, swap, word or per-stop']),
     "no kind": (b"blank\n", "line 1: BadRule", ["line 1 is: blank", "after the verb comes a kind: request, response or event"]),
     "a kind": (
         b"hex event x y\nblank evnt x y\n", "line 2: BadRule",
@@ -483,8 +483,84 @@ RULES = {
     "a body that a rule by category needs": (
         b"digits event output category=a body.output\nblank event * body\n", "line 2: Clash",
         [
-            "line 2 is: blank event * body", "line 1 selects events by the category that this line changes, or the other way round",
+            "line 2 is: blank event * body", "line 1 selects events by the category that this line changes",
             "no rule changes the category by which a rule selects events: leave one of them out",
+        ],
+    ),
+    "a rule by category after one for the body": (
+        b"blank event * body\ndigits event output category=a body.output\n", "line 2: Clash",
+        [
+            "line 2 is: digits event output category=a body.output", "line 1 changes the category by which this line selects events",
+            "no rule changes the category by which a rule selects events: leave one of them out",
+        ],
+    ),
+    "no value": (b"fill event a x\n", "line 1: BadRule", ["line 1 is: fill event a x", "after the place comes a value: an integer, true, false or a string in quotes"]),
+    "a value that is a list": (
+        b"fill event a x []\n", "line 1: BadRule",
+        ["line 1 is: fill event a x []", '"[]" is not a value: write an integer, true, false or a string in quotes'],
+    ),
+    "a word that is not a value": (
+        b"fill event a x yes\n", "line 1: BadRule",
+        ["line 1 is: fill event a x yes", '"yes" is not a value: write an integer, true, false or a string in quotes'],
+    ),
+    "elements that are filled": (
+        b"fill event a x[] 1\n", "line 1: BadPlace",
+        ["line 1 is: fill event a x[] 1", '"x[]" is not a place of fill: end it with a name, and write [] for elements'],
+    ),
+    "elements that are filled by their name": (
+        b'fill event a v["x"].y 1\n', "line 1: BadPlace",
+        ['line 1 is: fill event a v["x"].y 1', '"v[\\"x\\"].y" is not a place of fill: end it with a name, and write [] for elements'],
+    ),
+    "a type that is filled": (
+        b"fill event a type 1\n", "line 1: BadPlace",
+        ["line 1 is: fill event a type 1", '"type" is a member by which dapnorm recognises messages: leave the rule out'],
+    ),
+    "filled twice": (
+        b"fill event a x 1\nfill event a x 2\n", "line 2: Repeated",
+        ["line 2 is: fill event a x 2", "line 1 sets the same member", "leave one of them out"],
+    ),
+    "filled with two values": (
+        b"fill event * x 1\nfill event a x 2\n", "line 2: Clash",
+        ["line 2 is: fill event a x 2", "line 1 may set the same member", "leave one of them out"],
+    ),
+    "a value that is blanked and filled": (
+        b"fill event a body.x 1\nblank event * body\n", "line 2: Clash",
+        [
+            "line 2 is: blank event * body", "line 1 sets a member of the value that this line blanks",
+            "no rule blanks a value in which another one sets a member: leave one of them out",
+        ],
+    ),
+    "a value that is filled and blanked": (
+        b"blank event * body\nfill event a body.x 1\n", "line 2: Clash",
+        [
+            "line 2 is: fill event a body.x 1", "line 1 blanks a value that contains the member",
+            "no rule blanks a value in which another one sets a member: leave one of them out",
+        ],
+    ),
+    "joined requests": (b"join request x\n", "line 1: BadRule", ["line 1 is: join request x", '"request" cannot be joined: write join event output']),
+    "another event that is joined": (b"join event stopped\n", "line 1: BadRule", ["line 1 is: join event stopped", '"stopped" cannot be joined: write join event output']),
+    "nothing that is joined": (b"join\n", "line 1: BadRule", ["line 1 is: join", "only output is joined: write join event output"]),
+    "a place of joined output": (
+        b"join event output body.output\n", "line 1: BadRule",
+        ["line 1 is: join event output body.output", '"body.output" is not per-stop: write join event output per-stop, or leave it out'],
+    ),
+    "more after joined output": (
+        b"join event output per-stop x\n", "line 1: BadRule",
+        ["line 1 is: join event output per-stop x", '"x" is after the rule: only a comment may be there'],
+    ),
+    "joined twice": (
+        b"join event output per-stop\njoin event output\n", "line 2: Repeated",
+        ["line 2 is: join event output", "line 1 joins output, too", "leave one of them out"],
+    ),
+    "joined by a category that a rule changes": (
+        b"hex event output body.category\njoin event output\n", "line 2: Clash",
+        ["line 2 is: join event output", "line 1 changes the category", "no rule changes the category by which output is joined: leave one of them out"],
+    ),
+    "a change of the category of joined output": (
+        b"join event output\n\nblank event * body.category\n", "line 3: Clash",
+        [
+            "line 3 is: blank event * body.category", "line 1 joins output by this category",
+            "no rule changes the category by which output is joined: leave one of them out",
         ],
     ),
     "the category by which a rule selects": (
