@@ -18,7 +18,7 @@ _dapnorm() {
             compare) words+=' --rules --word --per-stop --explain' ;;
             diff) words+=' --rules --word --per-stop --explain --all' ;;
             suggest) words+=' --rules --word --strict --explain' ;;
-            show) words+=' --full --faulty --record --explain -o --output' ;;
+            show) words+=' --full --yaml --faulty --record --explain -o --output' ;;
             mask) words+=' --word --explain -o --output' ;;
             order) words+=' -o --output' ;;
             compact) words+=' --explain -o --output' ;;

@@ -28,6 +28,7 @@ complete -c dapnorm -n '__fish_seen_subcommand_from diff' -l all -d 'Pairs the r
 complete -c dapnorm -n '__fish_seen_subcommand_from suggest' -l rules -r -F -d 'The file of the rules that there are; only further rules are printed'
 complete -c dapnorm -n '__fish_seen_subcommand_from suggest' -l strict -d 'Prints no rule that would have to be checked'
 complete -c dapnorm -n '__fish_seen_subcommand_from show' -l full -d 'Prints each value of each record, with its path'
+complete -c dapnorm -n '__fish_seen_subcommand_from show' -l yaml -d 'Prints the recording as a transcript, in YAML'
 complete -c dapnorm -n '__fish_seen_subcommand_from show' -l faulty -d 'Marks rejected records and continues'
 complete -c dapnorm -n '__fish_seen_subcommand_from show' -l record -r -d 'Prints only the content of record N, as indented JSON'
 complete -c dapnorm -n '__fish_seen_subcommand_from golden record check normalise compare diff suggest show mask order compact' -F

@@ -18,10 +18,10 @@ scratch=$(mktemp -d)
 trap 'rm -rf "$scratch"' EXIT
 DAPNORM_TRACES=${DAPNORM_TRACES:-$PWD/dapnorm-traces} DAPNORM_COMPARED=$scratch/compared
 export DAPNORM_TRACES DAPNORM_COMPARED
-find "$folder" -name '*.golden' > "$scratch/files"
+find "$folder" \( -name '*.golden' -o -name '*.golden.yaml' \) > "$scratch/files"
 find "$folder" \( -name '*golden_test.py' -o -name 'test_*golden*.py' \) > "$scratch/tests"
 files=$(wc -l < "$scratch/files") tests=$(wc -l < "$scratch/tests")
-[ "$files" -gt 0 ] || fail "no golden file below $folder: it looks for files *.golden"
+[ "$files" -gt 0 ] || fail "no golden file below $folder: it looks for files *.golden.yaml and *.golden"
 [ "$tests" -gt 0 ] || fail "no golden test below $folder, so no session is compared with the $files golden files:
   it looks for golden_test.py, *_golden_test.py and test_*golden*.py"
 python3 -c 'import pytest' || fail "python3 has no pytest, which runs the $tests files of golden tests"

@@ -9,7 +9,7 @@ PROGRAM, ADAPTER = os.path.join(HERE, "program.py"), os.environ.get("ADAPTER", "
 
 
 def test_a_breakpoint(dap_session):
-    with dap_session(ADAPTER, golden="session.golden", rules="session.rules") as adapter:
+    with dap_session(ADAPTER, golden="session.golden.yaml", rules="session.rules") as adapter:
         adapter.request("initialize", adapterID="debugpy")
         launch = adapter.send("launch", program=PROGRAM)
         adapter.wait_for("initialized")

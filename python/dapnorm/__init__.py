@@ -1,7 +1,7 @@
 """Golden tests of debug adapters.
 
     def test_a_breakpoint(dap_session):                      # a fixture of the plugin for pytest
-        with dap_session("my-adapter", golden="a.golden", rules="my.rules") as adapter:
+        with dap_session("my-adapter", golden="a.golden.yaml", rules="my.rules") as adapter:
             adapter.request("initialize", adapterID="mine")
             ..
             adapter.request("disconnect")

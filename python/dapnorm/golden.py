@@ -12,7 +12,7 @@ from typing import Iterator, List, Mapping, NamedTuple, Optional, Type, Union
 from .channel import Command
 from .client import Adapter
 from .errors import GoldenFailed, SessionError, TimedOut
-from .program import command, is_trace, program, run
+from .program import Ran, command, is_trace, is_transcript, program, run
 from .report import quoted, user_frames
 from .words import Words
 
@@ -28,7 +28,7 @@ def must_update() -> bool:
 
 
 class Comparison(NamedTuple):
-    """A golden file, and how a session is compared with it."""
+    """A golden file, and how a session is compared with it. A golden file whose name ends in `.yaml` or `.yml` is written as a transcript."""
 
     golden: str
     rules: Optional[str] = None
@@ -40,7 +40,7 @@ class Comparison(NamedTuple):
         return [*(["--rules", self.rules] if self.rules else []), *(["--per-stop"] if self.per_stop else [])]
 
     def check(self, path: str, update: bool) -> str:
-        """Compares a trace or a recording with the golden file, or updates that. Returns the line that the program prints."""
+        """Compares a trace, a recording or a transcript with the golden file, or updates that. Returns the line that the program prints."""
         if update:
             os.makedirs(os.path.dirname(os.path.abspath(self.golden)), exist_ok=True)
         recording = self.recorded(path)
@@ -52,18 +52,20 @@ class Comparison(NamedTuple):
             self._note(ran.lines[0])
             return ran.lines[0]
         if ran.status == 1:
-            text = self._difference(ran.lines, recording)
+            text = self._difference(ran, recording)
         elif "does not exist" in ran.errors:
             text = f"{name_of(self.golden)} does not exist yet, so nothing was compared: --dapnorm-update, or UPDATE_GOLDEN=1, makes it\n  {self.golden}"
         else:
             state = "has the new text" if "replaced, but not synced" in ran.errors else "is unchanged"
             text = f"dapnorm golden ends with status {ran.status} ({name_of(self.golden)} {state})\n{ran.errors}"
-        further = [self._command("show", "--faulty" if ran.status == 2 else None, recording)]
+        is_damaged = not update and ran.status == 2 and ran.errors.startswith(f"dapnorm: golden: {self.golden}: ")
+        further = [self._command("show", "--faulty" if ran.status == 2 and not is_damaged else None, recording)]
         if ran.status == 1:
             further.insert(0, self._command("diff", "--all", *self.options(), self.golden, recording))
         allow = self._allow(recording) if ran.status == 1 and ran.lines[0].startswith("differ ") else []
         accept = [f"to accept it: pytest --dapnorm-update, python3 -m dapnorm --update, UPDATE_GOLDEN=1, or\n  {self._command('golden', '--update', *options, self.golden, recording)}"]
-        raise GoldenFailed("\n".join([text, *look_further(path, further), *allow, *(accept if ran.status in (1, 4) else [])]), ran.status)
+        has_accept = is_damaged or ran.status in (1, 4)
+        raise GoldenFailed("\n".join([text, *look_further(path, further), *allow, *(accept if has_accept else [])]), ran.status)
 
     def _allow(self, recording: str) -> List[str]:
         """How to allow what differs in each run: the command that prints rules for it."""
@@ -83,29 +85,39 @@ class Comparison(NamedTuple):
         return command(*(near(it) if it is not None and os.path.isabs(it) else it for it in words))
 
     def recorded(self, path: str) -> str:
-        """Writes the recording of a trace, with the words, next to the trace, and returns its path. Without words a recording is used unchanged."""
+        """Writes the recording of a trace, with the words, next to the trace, and returns its path. Without words, a recording or a transcript
+        is used unchanged."""
         with open(path, "rb") as file:
             content = file.read()
         if is_trace(content):
-            ran = run("record", "--explain", given=content)
-            if ran.status != 0:
-                text = f"dapnorm record ends with status {ran.status} ({name_of(self.golden)} is unchanged)\n{ran.errors}"
-                raise GoldenFailed("\n".join([text, f"the trace is kept: {path}"]), ran.status)
-            return self._write(path, ran.output)
-        return self._write(path, content) if self.words else path
+            content = self._converted(path, "record", run("record", "--explain", given=content))
+        elif not self.words:
+            return path
+        elif is_transcript(content):
+            content = self._converted(path, "mask", run("mask", "--explain", os.devnull, path))
+        return self._write(path, content)
+
+    def _converted(self, path: str, name: str, ran: Ran) -> bytes:
+        """Returns the recording that the command of this name printed for a session. Raises `GoldenFailed` if the command failed."""
+        if ran.status != 0:
+            text = f"dapnorm {name} ends with status {ran.status} ({name_of(self.golden)} is unchanged)\n{ran.errors}"
+            raise GoldenFailed("\n".join([text, f"the trace is kept: {path}"]), ran.status)
+        return ran.output
 
     def _write(self, path: str, recording: bytes) -> str:
         with open(free_beside(path), "wb") as file:
             file.write(Words(self.words).in_recording(recording))
         return file.name
 
-    def _difference(self, lines: List[str], recording: str) -> str:
-        found = re.match(r"differ (\d+)$", lines[0]) if lines else None
+    def _difference(self, ran: Ran, recording: str) -> str:
+        found = re.match(r"differ (\d+)$", ran.lines[0]) if ran.lines else None
         if found is None:
-            return "\n".join([f"{name_of(self.golden)}: dapnorm golden ends with status 1", *lines])
+            return "\n".join([f"{name_of(self.golden)}: dapnorm golden ends with status 1", *ran.lines])
         number, name = int(found[1]), name_of(self.golden)
-        title = f"the session differs from {name} at record {number} (A: {name}, B: this run)"
-        told = [it if it.startswith(("A ", "B ")) else shortened(it) for it in lines[1:]]
+        line = re.search(r" starts at (line \d+)$", ran.errors)
+        place = f"record {number}, {line[1]}" if line else f"record {number}"
+        title = f"the session differs from {name} at {place} (A: {name}, B: this run)"
+        told = [it if it.startswith(("A ", "B ")) else shortened(it) for it in ran.lines[1:]]
         if len(told) > MOST:
             told = [*told[:MOST], f".. and {len(told) - MOST} more values of this record"]
         return "\n".join([title, *told, *self._totals(recording), *self._neighbours(number, recording)])
@@ -295,7 +307,7 @@ def golden(
 ) -> str:
     """Compares a session that has ended with its golden file, or writes that with `update`.
 
-    The session is an adapter that was closed, or the path of a trace or of a recording. Returns the line that `dapnorm golden` prints:
+    The session is an adapter that was closed, or the path of a trace, a recording or a transcript. Returns the line that `dapnorm golden` prints:
     `same`, `wrote GOLDEN (N records)` or `unchanged`. Raises `GoldenFailed` if the sessions differ, or if the program rejects one.
     """
     comparison = Comparison(os.fspath(golden), None if rules is None else os.fspath(rules), words or {}, per_stop, open)

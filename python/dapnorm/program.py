@@ -53,5 +53,10 @@ def command(*words: Optional[str]) -> str:
 
 
 def is_trace(content: bytes) -> bool:
-    """Whether these bytes are a trace: a marker, digits and LF. Otherwise they are a recording."""
+    """Whether these bytes are a trace: a marker, digits and LF. Otherwise they are a recording or a transcript."""
     return re.match(rb"[<>]\d{1,10}\n", content) is not None
+
+
+def is_transcript(content: bytes) -> bool:
+    """Whether these bytes start like a transcript: with the head of a record."""
+    return content.startswith((b"- client: ", b"- adapter: "))

@@ -87,6 +87,8 @@ def calls(report, _folder):
         error, seconds = caught(lambda: adapter.wait_for("stopped", timeout=0.2))
         good = isinstance(error, dapnorm.TimedOut) and str(error) == 'no event "stopped" within 0.2 seconds' and seconds < 0.2 + SLACK
         report.check("an event is returned once", good, repr(error))
+        adapter.request("continue", threadId=1)
+        adapter.request("threads")
         error, _ = caught(lambda: adapter.wait_for("output", category="stderr", timeout=0.2))
         good = str(error).startswith('no event "output" with category \'stderr\' within 0.2 seconds; instead there came < event "output" "stdout"')
         report.check("a timeout names the events that came in its place", good, repr(error))

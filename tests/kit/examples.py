@@ -65,6 +65,26 @@ def picture(report):
         report.check(f"the README shows what is printed {name}", re.sub("^ {4}", "", shown, flags=re.MULTILINE) in lines)
     other = read(os.path.join(EXAMPLES, "captures", "rdbg-e-errors.3.rec"))
     report.check("the other run gives the same bytes", run(["normalise"], other)[1] == normal)
+    transcript = read(os.path.join(EXAMPLES, "dlv-stopentry.golden.yaml"))
+    answer = run(["show", "--yaml", os.path.join(EXAMPLES, "dlv-stopentry.golden")])
+    report.check("the transcript of the examples is that of the golden file", answer == (0, transcript, b""), repr(answer))
+    shown = re.search(r"<!-- transcript -->\n((?: {4}.*\n)+)", text)[1]
+    normal = run(["normalise"], read(os.path.join(EXAMPLES, "captures", "debugpy-a-basic.1.rec")))[1]
+    transcript = run(["show", "--yaml"], normal)[1].decode()
+    report.check("the README shows a part of a transcript", re.sub("^ {4}", "", shown, flags=re.MULTILINE) in transcript)
+
+
+def transcripts(report, folder):
+    """Each transcript that docs/FORMATS.md shows is spelled as the program spells it: it is read."""
+    with open(os.path.join(TOP, "docs", "FORMATS.md"), encoding="utf-8") as file:
+        blocks = [re.sub(r"^ {4}", "", it, flags=re.MULTILINE) for it in re.findall(r"(?:^ {4}.*\n)+", file.read(), re.MULTILINE)]
+    shown = [it for it in blocks if it.startswith("- ")]
+    report.check("FORMATS.md shows transcripts", len(shown) == 2, repr(shown))
+    for number, it in enumerate(shown):
+        path = os.path.join(folder, f"{number}.yaml")
+        write(path, it.encode())
+        status, lines, errors = run(["show", path])
+        report.check("a transcript of FORMATS.md is read", (status, errors) == (0, b"") and lines.count(b"request_seq") == it.count("response"), repr(errors))
 
 
 def first_look(report, folder):
@@ -284,7 +304,7 @@ def main():
     picture(report)
     with tempfile.TemporaryDirectory() as top:
         environment = with_program(top)
-        alone = (first_look, proxy, addresses, proxy_alone, tee, logs, broken_logs, clients, golden_sessions.rules)
+        alone = (transcripts, first_look, proxy, addresses, proxy_alone, tee, logs, broken_logs, clients, golden_sessions.rules)
         with_tools = (*golden_sessions.PARTS, recipes.golden_script, recipes.git_recipe, recipes.ci, recipes.ci_with_pytest)
         parts = [(it, ()) for it in alone] + [(it, (environment,)) for it in with_tools]
         for part, arguments in parts:

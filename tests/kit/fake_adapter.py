@@ -96,7 +96,7 @@ class FakeAdapter:
     def __init__(self, source, target, first, faults=()):
         self.source, self.target, self.first, self.seq = source, target, first, 0
         self.faults = dict(fault.partition("=")[::2] for fault in faults)
-        self.launch, self.breakpoints, self.stops, self.code = None, set(), [], 0
+        self.launch, self.breakpoints, self.stops, self.output, self.code = None, set(), [], "", 0
         self.frames, self.is_debugpy = [("main", 3, {})], False
 
     def send(self, **message):
@@ -156,9 +156,7 @@ class FakeAdapter:
             self.respond(self.launch)
             path = self.launch["arguments"]["program"]
             self.event("process", name=path, systemProcessId=os.getpid())
-            self.stops, output, self.code = run_program(path, self.breakpoints)
-            if output:
-                self.event("output", category="stdout", output=output)
+            self.stops, self.output, self.code = run_program(path, self.breakpoints)
             self.go_on()
 
     def on_continue(self, request):
@@ -171,6 +169,8 @@ class FakeAdapter:
             self.frames = self.stops.pop(0)
             self.event("stopped", reason="breakpoint", threadId=1, allThreadsStopped=True)
         else:
+            if self.output:
+                self.event("output", category="stdout", output=self.output)
             self.event("exited", exitCode=self.code)
             self.event("terminated")
 

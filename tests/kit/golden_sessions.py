@@ -104,7 +104,7 @@ class Author:
         os.makedirs(self.traces)
         for name in FILES:
             shutil.copy(os.path.join(EXAMPLES, name), folder)
-        self.golden, self.script = os.path.join(folder, "session.golden"), os.path.join(folder, "golden_test.py")
+        self.golden, self.script = os.path.join(folder, "session.golden.yaml"), os.path.join(folder, "golden_test.py")
         self.environment = {**environment, "TMPDIR": self.traces, "ADAPTER_TIMEOUT": str(TIMEOUT + SLACK)}
 
     def test(self, adapter, by_pytest=False, **more):
@@ -135,9 +135,10 @@ def golden(report, folder, environment):
         report.check("without a golden file the test fails and says what to do", good, output)
     report.check("it keeps the traces, and their recordings", len(os.listdir(author.traces)) == 2 * len(WAYS), repr(os.listdir(author.traces)))
     status, output = author.update(f"{FAKE} 1000")
-    report.check("UPDATE_GOLDEN makes the golden file", status == 0 and output == f"wrote {author.golden} (23 records)\n", output)
+    report.check("UPDATE_GOLDEN makes the golden file", status == 0 and output == f"wrote {author.golden} (24 records)\n", output)
     first = read(author.golden)
-    report.check("the golden file is its own normal form", run(["normalise"], first) == (0, first, b""))
+    normal = run(["normalise", author.golden])
+    report.check("the golden file is the transcript of a normal form", run(["show", "--yaml"], normal[1]) == (0, first, b""), repr(normal))
     for by_pytest in WAYS:
         status, output = author.test(f"{FAKE} 7", by_pytest)
         good = status == 0 and ("1 passed" if by_pytest else "same\n") in output
@@ -167,7 +168,7 @@ def golden(report, folder, environment):
     os.rename(os.path.join(folder, "other.rules"), os.path.join(folder, "session.rules"))
     report.check("no failure changes the golden file", read(author.golden) == first)
     beside = set(os.listdir(folder)) - {"__pycache__"}
-    report.check("and leaves nothing beside it", beside == {*FILES, "session.golden", "traces", "elsewhere"}, repr(beside))
+    report.check("and leaves nothing beside it", beside == {*FILES, "session.golden.yaml", "traces", "elsewhere"}, repr(beside))
 
 
 def first_lines(output):
@@ -191,6 +192,49 @@ def is_red(author, adapter, cause, by_pytest=False):
     return good, f"{seconds:.1f} seconds\n{output}"
 
 
+def forms(report, folder, environment):
+    """Golden files of frames work as well. A file in the other form is rewritten, and a transcript that a person edited is compared."""
+    author = Author(folder, environment)
+    frames = os.path.join(folder, "session.golden")
+    author.update(f"{FAKE} 1000")
+    transcript = read(author.golden)
+    edit(author.script, ('"session.golden.yaml"', '"session.golden"'))
+    author.update(f"{FAKE} 1000")
+    text = read(frames)
+    report.check("a golden file of frames is its own normal form", run(["normalise"], text) == (0, text, b""), repr(text[:300]))
+    report.check("a session is compared with frames", author.test(f"{FAKE} 7") == (0, "same\n"))
+    status, output = author.test(f"{FAKE} 7 changes")
+    good = status == 1 and re.match(r"the session differs from session\.golden at record \d+ \(A: ", output) is not None
+    report.check("frames have no line for a record", good, output)
+    for path, other, wanted in ((frames, transcript, text), (author.golden, text, transcript)):
+        name = os.path.basename(path)
+        write(author.script, re.sub(r'golden="[^"]*"', f'golden="{name}"', read(author.script).decode()))
+        with open(path, "wb") as file:
+            file.write(other)
+        status, output = author.test(f"{FAKE} 7")
+        report.check(f"{name} in the other form is not in normal form", status == 1 and "not in normal form: --update rewrites it" in output, output)
+        status, output = author.update(f"{FAKE} 7")
+        good = (status, output, read(path)) == (0, f"wrote {path} (24 records)\n", wanted)
+        report.check(f"and UPDATE_GOLDEN rewrites {name}", good, output)
+    edited = transcript.replace(b'reason: "breakpoint"\n', b'reason: "step"\n')
+    write(author.golden, edited.decode())
+    line = edited[:edited.index(b"- adapter: event stopped\n")].count(b"\n") + 1
+    status, output = author.test(f"{FAKE} 7")
+    good = status == 1 and f", line {line} (A: " in first_lines(output) and 'A body.reason "step"' in first_lines(output)
+    report.check("a value that a person edited differs, and its record is named", good, output)
+    conflict = transcript.replace(b"- adapter: event stopped\n", b"<<<<<<< ours\n- adapter: event stopped\n")
+    for broken, cause in ((conflict, f"line {line}: BadLine"), (transcript + b"\n", f"line {transcript.count(10) + 1}: "), (transcript.replace(b"\n", b"\r\n"), "line 1: ")):
+        write(author.golden, "")
+        with open(author.golden, "wb") as file:
+            file.write(broken)
+        status, output = author.test(f"{FAKE} 7")
+        good = status == 1 and f"dapnorm: golden: {author.golden}: {cause}" in first_lines(output) and "to accept it" in output and "--faulty" not in output
+        report.check("a transcript that is damaged is named, with the line", good, output)
+        report.check("and is not changed", read(author.golden) == broken)
+    status, output = author.update(f"{FAKE} 7")
+    report.check("UPDATE_GOLDEN makes it again", status == 0 and read(author.golden) == transcript, output)
+
+
 def regressions(report, folder, environment):
     """Each regression is red within the timeout, with its cause in the first ten lines."""
     author = Author(folder, environment)
@@ -200,7 +244,7 @@ def regressions(report, folder, environment):
         for fault, outcome in tried:
             good, output = outcome.result()
             report.check(f"the test is red if the adapter {fault}", good, output)
-            compared = re.search(r"^compared with session.golden, as far as it came|^the session differs from session.golden", output, re.MULTILINE)
+            compared = re.search(r"^compared with session.golden.yaml, as far as it came|^the session differs from session.golden.yaml", output, re.MULTILINE)
             report.check(f"and what had come is compared: {fault}", compared is not None, output)
             is_first = re.match(r"[\d.]+ seconds\n(.*)", output)[1].startswith("the session differs") == (fault in DIFFERENCES)
             report.check(f"the first line says what kind of failure it is: {fault}", is_first, output)
@@ -212,6 +256,7 @@ def regressions(report, folder, environment):
         edit(os.path.join(folder, "program.py"), (old, new))
         report.check(f"the test is red if the program has {new!r}", *is_red(author, f"{FAKE} 7", cause))
         shutil.copy(os.path.join(EXAMPLES, "program.py"), folder)
+    write(os.path.join(folder, "session.rules"), read(os.path.join(EXAMPLES, "session.rules")).decode() + "\n# What the adapter floods.\ndrop event output category=console\n")
     for harmless in ("cuts", "floods=300000", "cuts floods=1000", "lingers"):
         status, output = author.test(f"{FAKE} 7 {harmless}")
         report.check(f"the test is green if the adapter {harmless}", status == 0, output)
@@ -225,7 +270,7 @@ def suggested(report, folder, environment):
         if not has_rules:
             edit(author.script, (', rules="session.rules"', ""))
         status, output = author.test(f"{FAKE} 7 changes")
-        found = re.search(r"^to allow it in each run: .*\n  (dapnorm suggest (--rules session\.rules )?session\.golden \S+\.rec)$", output, re.MULTILINE)
+        found = re.search(r"^to allow it in each run: .*\n  (dapnorm suggest (--rules session\.rules )?session\.golden\.yaml \S+\.rec)$", output, re.MULTILINE)
         good = status == 1 and found is not None and (found[2] is not None) == has_rules
         if report.check(f"a difference names the command that suggests rules, rules: {has_rules}", good, output) and has_rules:
             ran = subprocess.run(["sh", "-c", found[1]], cwd=folder, env=author.environment, capture_output=True, text=True, timeout=60)
@@ -259,7 +304,7 @@ def handlers(report, folder, environment):
     edit(author.script, (line, handler + line))
     status, output = author.update(f"{FAKE} 7 sends=runInTerminal")
     report.check("a session with a handler passes", status == 0, output)
-    lines = run(["show"], read(author.golden))[1].decode()
+    lines = run(["show", author.golden])[1].decode()
     report.check("its response is in the golden file", '> response "runInTerminal" seq=3 request_seq=2 ok' in lines, lines)
     line = '        adapter.request("continue", threadId=thread)\n'
     expected = "        try:\n            adapter.request('evaluate', expression='x')\n            assert False, 'it worked'\n"
@@ -270,7 +315,7 @@ def handlers(report, folder, environment):
     report.check("and fails if the request does not fail", status == 1 and output.startswith("AssertionError: it worked\n"), output)
     if PYTEST:
         status, output = author.test(f"{FAKE} 7 sends=runInTerminal", True)
-        good = status == 1 and "AssertionError: it worked" in output and "compared with session.golden, as far as it came" in output
+        good = status == 1 and "AssertionError: it worked" in output and "compared with session.golden.yaml, as far as it came" in output
         report.check("and pytest shows its own lines and those of the kit", good, output)
 
 
@@ -366,45 +411,49 @@ def tried(call):
         print(type(error).__name__, getattr(error, "status", None), str(error).splitlines()[0])
 
 def by_context(**more):
-    with dapnorm.golden_session(adapter, "new/a.golden", rules="session.rules", words=words, **more) as started:
+    with dapnorm.golden_session(adapter, "new/a.golden.yaml", rules="session.rules", words=words, **more) as started:
         session(started)
     return "done"
 
 def by_adapter(**more):
     with dapnorm.Adapter.start(adapter, trace="own.trace") as started:
         session(started)
-    return dapnorm.golden(started, "new/a.golden", rules="session.rules", words=words, **more)
+    return dapnorm.golden(started, "new/a.golden.yaml", rules="session.rules", words=words, **more)
 
 tried(by_context)
 tried(lambda: by_context(update=True))
 tried(by_context)
 tried(by_adapter)
-tried(lambda: dapnorm.golden("own.trace", "new/a.golden", rules="session.rules", words=words))
-tried(lambda: dapnorm.golden("own.trace", "new/b.golden", words={folder: "HERE", str(os.getpid()): "0"}, per_stop=True, update=True))
-tried(lambda: dapnorm.golden("own.trace", "new/a.golden", rules="session.rules"))
-tried(lambda: dapnorm.golden("new/a.golden", "new/a.golden"))
+tried(lambda: dapnorm.golden("own.trace", "new/a.golden.yaml", rules="session.rules", words=words))
+tried(lambda: dapnorm.golden("own.trace", "new/b.golden.yaml", words={folder: "HERE", str(os.getpid()): "0"}, per_stop=True, update=True))
+tried(lambda: dapnorm.golden("own.trace", "new/a.golden.yaml", rules="session.rules"))
+tried(lambda: dapnorm.golden("new/a.golden.yaml", "new/a.golden.yaml"))
+tried(lambda: dapnorm.golden("new/a.golden.yaml", "new/e.golden.yaml", words={"HERE": "THERE"}, update=True))
+print(open("new/e.golden.yaml").read() == open("new/a.golden.yaml").read().replace("HERE/", "THERE/"))
 with open("open.trace", "wb") as file:
     for message in (dapnorm.frames.frame(dict(seq=1, type="request", command="initialize", arguments=dict(adapterID="x"))),):
         file.write(b">%d\\n%s" % (len(message), message))
-tried(lambda: dapnorm.golden("open.trace", "new/c.golden", update=True))
-tried(lambda: dapnorm.golden("open.trace", "new/c.golden", update=True, open=True))
-tried(lambda: dapnorm.golden("session.rules", "new/d.golden", update=True))
+tried(lambda: dapnorm.golden("open.trace", "new/c.golden.yaml", update=True))
+tried(lambda: dapnorm.golden("open.trace", "new/c.golden.yaml", update=True, open=True))
+tried(lambda: dapnorm.golden("session.rules", "new/d.golden.yaml", update=True))
 os.environ["DAPNORM"] = "/nothing"
-tried(lambda: dapnorm.golden("own.trace", "new/a.golden"))
+tried(lambda: dapnorm.golden("own.trace", "new/a.golden.yaml"))
 tried(by_context)
 """
 LIBRARY_SAYS = """\
-GoldenFailed 4 a.golden does not exist yet, so nothing was compared: --dapnorm-update, or UPDATE_GOLDEN=1, makes it
+GoldenFailed 4 a.golden.yaml does not exist yet, so nothing was compared: --dapnorm-update, or UPDATE_GOLDEN=1, makes it
 done
 done
 same
 same
-wrote new/b.golden (13 records)
-GoldenFailed 1 the session differs from a.golden at record 3 (A: a.golden, B: this run)
+wrote new/b.golden.yaml (13 records)
+GoldenFailed 1 the session differs from a.golden.yaml at record 3, line 41 (A: a.golden.yaml, B: this run)
 same
-GoldenFailed 2 dapnorm golden ends with status 2 (c.golden is unchanged)
-wrote new/c.golden (1 record)
-GoldenFailed 2 dapnorm golden ends with status 2 (d.golden is unchanged)
+wrote new/e.golden.yaml (13 records)
+True
+GoldenFailed 2 dapnorm golden ends with status 2 (c.golden.yaml is unchanged)
+wrote new/c.golden.yaml (1 record)
+GoldenFailed 2 dapnorm golden ends with status 2 (d.golden.yaml is unchanged)
 ProgramMissing 127 DAPNORM=/nothing is not a program, so nothing was compared
 ProgramMissing 127 DAPNORM=/nothing is not a program, so nothing was compared
 """
@@ -424,8 +473,8 @@ def library(report, folder, environment):
         around = {**environment, "TMPDIR": os.path.join(place, "traces"), "ADAPTER_TIMEOUT": str(TIMEOUT + SLACK)}
         ran = subprocess.run(words, cwd=place, env=around, capture_output=True, text=True, timeout=120)
         report.check(f"the calls of the package in {name}", ran.stdout == LIBRARY_SAYS, ran.stdout + ran.stderr)
-        made = read(os.path.join(place, "new", "a.golden")) if os.path.exists(os.path.join(place, "new", "a.golden")) else b""
-        report.check("the golden file has the word", b'"program":"HERE/program.py"' in made and place.encode() not in made, repr(made[:300]))
+        made = read(os.path.join(place, "new", "a.golden.yaml")) if os.path.exists(os.path.join(place, "new", "a.golden.yaml")) else b""
+        report.check("the golden file has the word", b'    program: "HERE/program.py"\n' in made and place.encode() not in made, repr(made[:300]))
         golden = golden or made
         report.check("and is the same in each folder", golden == made)
         report.check("a named trace is not removed", os.path.exists(os.path.join(place, "own.trace")))
@@ -444,7 +493,7 @@ def session(adapter):
     adapter.request("disconnect")
 
 def test_tcp(dap_session):
-    with dap_session(dapnorm.Adapter.connect("127.0.0.1", 0, ADAPTER + " listens={port}"), golden="tcp.golden", timeout=10) as adapter:
+    with dap_session(dapnorm.Adapter.connect("127.0.0.1", 0, ADAPTER + " listens={port}"), golden="tcp.golden.yaml", timeout=10) as adapter:
         session(adapter)
 
 def test_forgotten():
@@ -457,29 +506,29 @@ def test_direct():
 def test_golden():
     with dapnorm.Adapter.start(ADAPTER) as adapter:
         session(adapter)
-    dapnorm.golden(adapter, "tcp.golden", rules="none.rules")
+    dapnorm.golden(adapter, "tcp.golden.yaml", rules="none.rules")
 
 def test_context():
-    with dapnorm.golden_session(ADAPTER + " status=3", "tcp.golden") as adapter:
+    with dapnorm.golden_session(ADAPTER + " status=3", "tcp.golden.yaml") as adapter:
         session(adapter)
 
 def test_end(dap_session):
-    with dap_session(ADAPTER + " crashes", "tcp.golden") as adapter:
+    with dap_session(ADAPTER + " crashes", "tcp.golden.yaml") as adapter:
         session(adapter)
 
 def test_unused(dap_session):
-    dap_session(ADAPTER, "tcp.golden")
+    dap_session(ADAPTER, "tcp.golden.yaml")
 
 def test_own(dap_session):
-    with dap_session(ADAPTER, "tcp.golden") as adapter:
+    with dap_session(ADAPTER, "tcp.golden.yaml") as adapter:
         assert adapter.request("initialize", adapterID="x") == {"a": 1}
 """
 PLUGIN_SAYS = {
     "test_direct": ('request "disconnect" failed: disconnect does not work today', '  plugin_test.py:9: adapter.request("disconnect")', "  the fake adapter complains"),
-    "test_golden": ("dapnorm golden ends with status 4 (tcp.golden is unchanged)", "dapnorm: rules: read fault", "to look further:"),
-    "test_context": ("after the session the adapter ended with status 3", "compared with tcp.golden, as far as it came (A: tcp.golden, B: this run):", "  same"),
-    "test_end": ("after the session the adapter ended with status -11 (Segmentation fault)", "compared with tcp.golden, as far as it came (A: tcp.golden, B: this run):", "  same"),
-    "test_unused": ("a session was started, and not compared with tcp.golden: write `with dap_session(..) as adapter:`",),
+    "test_golden": ("dapnorm golden ends with status 4 (tcp.golden.yaml is unchanged)", "dapnorm: rules: read fault", "to look further:"),
+    "test_context": ("after the session the adapter ended with status 3", "compared with tcp.golden.yaml, as far as it came (A: tcp.golden.yaml, B: this run):", "  same"),
+    "test_end": ("after the session the adapter ended with status -11 (Segmentation fault)", "compared with tcp.golden.yaml, as far as it came (A: tcp.golden.yaml, B: this run):", "  same"),
+    "test_unused": ("a session was started, and not compared with tcp.golden.yaml: write `with dap_session(..) as adapter:`",),
     "test_own": ("", ">           assert adapter.request(\"initialize\", adapterID=\"x\") == {\"a\": 1}", '  4/- > request "disconnect"'),
 }
 
@@ -497,7 +546,7 @@ def plugin(report, folder, environment):
         return ran.returncode, ran.stdout + ran.stderr
 
     status, output = tried("-k", "tcp", "--dapnorm-update")
-    good = status == 0 and f"dapnorm: wrote {folder}/tcp.golden (5 records)\n" in output and "dapnorm: 1 session: 0 same, 0 failed, 1 updated\n" in output
+    good = status == 0 and f"dapnorm: wrote {folder}/tcp.golden.yaml (5 records)\n" in output and "dapnorm: 1 session: 0 same, 0 failed, 1 updated\n" in output
     report.check("--dapnorm-update makes a golden file", good, output)
     status, output = tried()
     failures = dict(re.findall(r"^_{3,} (?:ERROR at teardown of )?(test_\w+) _{3,}\n(.*?)(?=^_{3,} (?:ERROR|test)|^={3,} FAILURES|^dapnorm: \d)", output, re.MULTILINE | re.DOTALL))
@@ -510,9 +559,9 @@ def plugin(report, folder, environment):
     report.check("the summary counts the sessions", "dapnorm: 3 sessions: 1 same, 2 failed, 0 updated\n" in output, output)
     status, output = tried("-k", "golden", "--dapnorm-update")
     report.check("--dapnorm-update does not hide what is wrong", status == 1 and "rules: read fault" in output, output)
-    write(os.path.join(folder, "plugin_test.py"), PLUGIN.replace(', rules="none.rules"', "").replace("tcp.golden", "new.golden"))
+    write(os.path.join(folder, "plugin_test.py"), PLUGIN.replace(', rules="none.rules"', "").replace("tcp.golden.yaml", "new.golden.yaml"))
     status, output = tried("-k", "golden", "--dapnorm-update")
-    report.check("--dapnorm-update is also for golden()", status == 0 and os.path.exists(os.path.join(folder, "new.golden")), output)
+    report.check("--dapnorm-update is also for golden()", status == 0 and os.path.exists(os.path.join(folder, "new.golden.yaml")), output)
     left = subprocess.run(["pgrep", "-f", f"{FAKE} 4711"], capture_output=True, text=True).stdout if shutil.which("pgrep") else ""
     report.check("no adapter is left, not even a forgotten one", left == "", left)
 
@@ -554,7 +603,7 @@ def followed(report, folder, environment, name):
     report.check(f"its second command is green, with {name}", (status, output) == (0, "same\n"), output)
     status, output = run_there(change)
     values = [line for line in shown.splitlines() if re.match(r"[AB] body", line)]
-    good = status == 1 and len(values) > 2 and set(values) <= set(output.splitlines()) and output.startswith("the session differs from session.golden")
+    good = status == 1 and len(values) > 2 and set(values) <= set(output.splitlines()) and output.startswith("the session differs from session.golden.yaml")
     report.check(f"its third command is red, with {name}", good, output)
     status, output = run_there(hang, ADAPTER_TIMEOUT="4")
     report.check(f"its fourth command is red, with {name}", status == 1 and output.startswith(hanging), output)
@@ -600,4 +649,4 @@ def rules(report, _folder):
         report.check(f"{name} has at most {limit} lines", lines <= limit, str(lines))
 
 
-PARTS = (golden, regressions, suggested, no_process_is_left, handlers, waits, over_tcp, library, plugin, tutorial)
+PARTS = (golden, forms, regressions, suggested, no_process_is_left, handlers, waits, over_tcp, library, plugin, tutorial)

@@ -7,7 +7,7 @@ import sys
 import tempfile
 
 from tests.kit.examples import EXAMPLES, with_program
-from tests.kit.golden_sessions import FAKE, TIMEOUT, SLACK, python_with, write
+from tests.kit.golden_sessions import FAKE, TIMEOUT, SLACK, edit, python_with, write
 from tests.report import PROGRAM, TOP, Report
 
 CAPTURES = os.path.join(EXAMPLES, "captures")
@@ -44,7 +44,7 @@ class Place:
         shutil.copy(RUNS[0], self.path("session.trace"))
         shutil.copy(os.path.join(EXAMPLES, "rules", "delve.rules"), self.folder)
         shutil.copy(self.path("delve.rules"), self.path("my.rules"))
-        self.run("dapnorm golden --rules my.rules --update session.golden session.trace; git init -q . && git add session.golden")
+        self.run("dapnorm golden --rules my.rules --update session.golden.yaml session.trace; git init -q . && git add session.golden.yaml")
         self.run("git -c user.name=somebody -c user.email=somebody@example.org commit -qm golden")
         self.run(f"sh {os.path.join(EXAMPLES, 'git_setup.sh')}")
 
@@ -62,7 +62,7 @@ def part(report, place):
     shutil.copy(os.path.join(EXAMPLES, "session.rules"), place.folder)
     answers = [place.run(f"{sys.executable} -m dapnorm {option} some_test.py") for option in ("--update", "")]
     report.check("the start of a session is compared", answers[0][1].startswith("wrote ") and answers[1] == (0, "same\n"), repr(answers))
-    commands = f"dapnorm golden --rules own.rules --update part.golden {RUNS[0]} && dapnorm golden --rules own.rules part.golden {RUNS[1]}"
+    commands = f"dapnorm golden --rules own.rules --update part.golden.yaml {RUNS[0]} && dapnorm golden --rules own.rules part.golden.yaml {RUNS[1]}"
     answer = place.run(commands)
     report.check("a session without some content is compared", answer[1].endswith("\nsame\n"), repr(answer))
 
@@ -90,8 +90,35 @@ def children(report, place):
     for option, wanted in (("--update", "wrote "), ("", "same\n"), ("", "same\n")):
         status, output = place.run(f"{sys.executable} -m dapnorm {option} children_test.py", ADAPTER=f"{python} -m debugpy.adapter")
         report.check(f"child sessions are compared {option}", status == 0 and output.startswith(wanted), output)
-    made = {it for it in os.listdir(place.folder) if it.endswith(".golden")}
-    report.check("each session has its golden file", made == {"parent.golden", "child.golden"}, repr(made))
+    made = {it for it in os.listdir(place.folder) if ".golden" in it}
+    report.check("each session has its golden file", made == {"parent.golden.yaml", "child.golden.yaml"}, repr(made))
+
+
+def review(report, place):
+    """The difference of two golden files, one of a session with a request more: with the fake adapter, and with debugpy, if some Python has it."""
+    [shown] = blocks("Review a change of a session")
+    record, (head, *lines) = " @@ adapter: event stopped", shown.splitlines()
+    before = '        frame = adapter.request("stackTrace"'
+    python = python_with("debugpy.adapter")
+    adapters = [("fake", FAKE + " 7"), *([("debugpy", f"{python} -m debugpy.adapter")] if python else [])]
+    for name, adapter in adapters:
+        os.makedirs(place.path(name))
+        for it in ("golden_test.py", "program.py", "session.rules"):
+            shutil.copy(os.path.join(EXAMPLES, it), place.path(name))
+        there = Place(place.path(name), {**place.environment, "ADAPTER": adapter})
+        make = f"{sys.executable} -m dapnorm --update golden_test.py"
+        status, output = there.run(f"git init -q . && sh {os.path.join(EXAMPLES, 'git_setup.sh')} && {make} && git add .")
+        report.check(f"a golden file is made, with {name}", status == 0, output)
+        edit(there.path("golden_test.py"), (before, f'        adapter.request("threads")\n{before}'))
+        status, output = there.run(f"{make} && git diff session.golden.yaml")
+        hunks = re.findall(r"^@@ .*\n(?:[-+ ].*\n)+", output, re.MULTILINE)
+        if not report.check(f"a request more is one hunk, with {name}", status == 0 and len(hunks) == 1, output):
+            continue
+        first, *changes = hunks[0].splitlines()
+        report.check(f"the hunk names the record before it, with {name}", first.endswith(record) and head.endswith(record), output)
+        # The lines before the change are those of debugpy.
+        start = 0 if name == "debugpy" else 3
+        report.check(f"it has the lines that are shown, with {name}", changes[start:] == lines[start:], output)
 
 
 def upgrade(report, place):
@@ -99,9 +126,9 @@ def upgrade(report, place):
     place.repository()
     changed(place.path("later.trace"))
     status, output = place.run(look)
-    report.check("all differences are shown", status == 1 and '-/29 > request "stepUp"\n' in output, output)
+    report.check("all differences are shown", status == 1 and '-/30 > request "stepUp"\n' in output, output)
     status, output = place.run(accept)
-    report.check("the new session is accepted", status == 0 and "wrote session.golden" in output and '+29 > request "stepUp"' in output, output)
+    report.check("the new session is accepted", status == 0 and "wrote session.golden.yaml" in output and "\n+- client: request stepUp\n" in output, output)
     shutil.copy(place.path("later.rec"), place.path("again.rec"))
     answer = place.run("dapnorm suggest --rules delve.rules later.rec again.rec")
     report.check("suggest compares two records of one scenario", answer == (0, "# with these rules: same\n"), repr(answer))
@@ -118,12 +145,12 @@ def without_python(report, place):
     report.check("the script accepts a run with other ids", answer == (0, "unchanged\n"), repr(answer))
     changed(place.path("changed.trace"))
     status, output = place.run("sh compare.sh", RUN="changed.trace")
-    report.check("and shows a difference", status == 1 and '+29 > request "stepUp"' in output, output)
-    place.run("git checkout -q session.golden")
+    report.check("and shows a difference", status == 1 and "\n+- client: request stepUp\n" in output, output)
+    place.run("git checkout -q session.golden.yaml")
     status, output = place.run("sh compare.sh; status=$?; git diff --quiet && exit $status", RUN=os.path.join(EXAMPLES, "program.py"))
     report.check("a step that fails leaves the golden file unchanged", status == 2, output)
-    status, output = place.run("rm session.trace session.golden\n" + own)
-    report.check("a trace that the client writes is read", (status, output) == (0, "wrote session.golden (1 record)\n"), output)
+    status, output = place.run("rm session.trace session.golden.yaml\n" + own)
+    report.check("a trace that the client writes is read", (status, output) == (0, "wrote session.golden.yaml (1 record)\n"), output)
 
 
 def violations(report, place):
@@ -137,8 +164,8 @@ def violations(report, place):
     told = ("body.reason is missing; the profile requires a string there", "89 event stopped body.reason needed string\n", "3 < fault: Missing row 89\n")
     report.check("the error, its row and all others are shown", all(it in output for it in told), output)
     write(place.path("drop.rules"), "drop event stopped\n")
-    answer = place.run("dapnorm golden --rules drop.rules --update session.golden session.trace")
-    report.check("a rule removes the event", answer == (0, "wrote session.golden (2 records)\n"), repr(answer))
+    answer = place.run("dapnorm golden --rules drop.rules --update session.golden.yaml session.trace")
+    report.check("a rule removes the event", answer == (0, "wrote session.golden.yaml (2 records)\n"), repr(answer))
 
 
 def installed(report, _place):
@@ -149,7 +176,7 @@ def installed(report, _place):
     report.check("the CI job runs an installed script", script.removeprefix("share/dapnorm/") in said and "share/dapnorm" in said, script)
 
 
-PARTS = (part, children, upgrade, without_python, violations, installed)
+PARTS = (part, children, review, upgrade, without_python, violations, installed)
 
 
 def main():

@@ -29,14 +29,22 @@ def of_recording(recording):
 
 
 def golden_script(report, folder, environment):
+    """examples/golden.sh with a golden file of each form."""
+    for form in (".golden.yaml", ".golden"):
+        place = os.path.join(folder, form[1:])
+        os.makedirs(place)
+        golden_script_of(form, report, place, environment)
+
+
+def golden_script_of(form, report, folder, environment):
     """examples/golden.sh: whatever fails, no wrong golden file is written, and one that is there stays unchanged."""
     good = of_recording(read(os.path.join(EXAMPLES, "captures", "dlv-l-stopentry.5.rec")))
     other = of_recording(read(os.path.join(EXAMPLES, "captures", "dlv-l-stopentry.3.rec")))
-    text = read(os.path.join(EXAMPLES, "dlv-stopentry.golden"))
+    text = read(os.path.join(EXAMPLES, f"dlv-stopentry{form}"))
     refused = good + b"<%d\nContent-Length: %d\r\n\r\n%s" % (len(FRACTION) + 22, len(FRACTION), FRACTION)
     open_requests = read(os.path.join(LOGS, "lldb-dap-22.trace"))
     write(os.path.join(folder, "bad.rules"), b"blank everything\n")
-    path, trace = os.path.join(folder, "session.golden"), os.path.join(folder, "session.trace")
+    path, trace = os.path.join(folder, f"session{form}"), os.path.join(folder, "session.trace")
 
     def tried(content, *options, update=True):
         if content is None:
@@ -72,7 +80,7 @@ def golden_script(report, folder, environment):
     status, output = tried(good.replace(b'"command":"stepIn"', b'"command":"stepUp"'), update=False)
     report.check("golden.sh shows a difference", status == 1 and output.startswith("differ 30\n"), output)
     left = sorted(os.listdir(folder))
-    report.check("and nothing else is left", left == ["bad.rules", "session.golden", "session.trace"], repr(left))
+    report.check("and nothing else is left", left == ["bad.rules", f"session{form}", "session.trace"], repr(left))
     words = [shutil.which("sh"), os.path.join(EXAMPLES, "golden.sh"), trace, path]
     ran = subprocess.run(words, env={**environment, "PATH": folder}, capture_output=True, text=True, timeout=60)
     report.check("golden.sh says that dapnorm is missing", ran.returncode == 127 and "dapnorm is not on PATH" in ran.stderr, ran.stderr)
@@ -105,7 +113,8 @@ def git_recipe(report, folder, environment):
         ran = subprocess.run(words, cwd=repository, env=environment, capture_output=True, text=True, timeout=60)
         report.check(f"the git recipe runs, turn {turn}", ran.returncode == 0, ran.stderr)
     attributes = read(os.path.join(repository, ".gitattributes"))
-    report.check("it writes one line of attributes", attributes == b"*.golden -text diff=dapnorm\n", repr(attributes))
+    wanted = b"*.golden.yaml text eol=lf diff=dapnorm-yaml\n*.golden -text diff=dapnorm\n"
+    report.check("it writes two lines of attributes", attributes == wanted, repr(attributes))
     path = os.path.join(repository, "a session.golden")
     text = read(os.path.join(EXAMPLES, "dlv-stopentry.golden"))
     write(path, text)
@@ -129,6 +138,28 @@ def git_recipe(report, folder, environment):
     write(path, b"no recording\n")
     ran = git(repository, environment, "diff")
     report.check("a file that is refused is shown as it is", ran.returncode == 0 and "+no recording" in ran.stdout.splitlines(), ran.stderr)
+    git_of_transcripts(report, repository, environment)
+
+
+def git_of_transcripts(report, repository, environment):
+    """In the same repository, transcripts keep their line ends, and each difference names its record."""
+    path = os.path.join(repository, "a session.golden.yaml")
+    text = read(os.path.join(EXAMPLES, "dlv-stopentry.golden.yaml"))
+    write(path, text)
+    git(repository, environment, "add", "-A")
+    git(repository, environment, "commit", "-qm", "transcript")
+    git(repository, environment, "config", "core.autocrlf", "true")
+    os.remove(path)
+    git(repository, environment, "checkout", "--", "a session.golden.yaml")
+    report.check("git keeps the line ends of a transcript", read(path) == text)
+    write(path, text.replace(b'reason: "entry"', b'reason: "pause"'))
+    hunks = re.findall(r"^@@ .* @@ (.*)$", git(repository, environment, "diff", "-U0").stdout, re.MULTILINE)
+    report.check("a difference of transcripts names its record", hunks == ["adapter: event stopped"], repr(hunks))
+    attributes = os.path.join(repository, ".gitattributes")
+    write(attributes, b"*.png binary")
+    subprocess.run(["sh", os.path.join(EXAMPLES, "git_setup.sh")], cwd=repository, env=environment, check=True, timeout=60)
+    lines = read(attributes).splitlines()
+    report.check("a last line of attributes without LF is kept", len(lines) == 3 and lines[0] == b"*.png binary", repr(lines))
 
 
 # A pytest for machines without one. It runs each file by itself; a file with SKIP in it is skipped.
@@ -170,7 +201,7 @@ def ci(report, folder, environment):
         report.check(f"the CI recipe says {word!r}", ran.returncode == wanted and word in output, repr((ran.returncode, output)))
         return output
 
-    tried(1, f"no golden file below {tests}: it looks for files *.golden\n")
+    tried(1, f"no golden file below {tests}: it looks for files *.golden.yaml and *.golden\n")
     author = Author(tests, good)
     author.update(fake)
     script = read(author.script)
@@ -194,12 +225,12 @@ def ci(report, folder, environment):
     write(author.script, script)
     other = os.path.join(tests, "other_golden_test.py")
     write(other, b"# SKIP\n")
-    write(os.path.join(tests, "another.golden"), text)
+    write(os.path.join(tests, "another.golden.yaml"), text)
     tried(0, "2 files of golden tests pass\n1 golden tests were skipped\n")
-    output = tried(0, "another.golden: compared by no test\n")
+    output = tried(0, "another.golden.yaml: compared by no test\n")
     report.check("it names golden files that no test compares, and no others", output.count("compared by no test") == 1, output)
     os.remove(other)
-    os.remove(os.path.join(tests, "another.golden"))
+    os.remove(os.path.join(tests, "another.golden.yaml"))
     extra = os.path.join(tests, "a session.golden")
     raw = read(os.path.join(EXAMPLES, "captures", "dlv-l-stopentry.5.rec"))
     stops = run(["normalise", "--per-stop"], read(os.path.join(EXAMPLES, "captures", "debugpy-l-stopentry.1.rec")))[1]
@@ -213,6 +244,16 @@ def ci(report, folder, environment):
         tried(status, word)
     write(extra, opened)
     tried(0, "2 golden files are in order", options=["--open"])
+    os.remove(extra)
+    extra += ".yaml"
+    frames, transcript = (read(os.path.join(EXAMPLES, f"dlv-stopentry{it}")) for it in (".golden", ".golden.yaml"))
+    rows = (
+        (transcript, 0, "2 golden files are in order"), (frames, 1, "not in normal form"), (b"", 1, "refused"),
+        (transcript + b"<<<<<<< ours\n", 1, f"line {transcript.count(10) + 1}: BadLine"), (transcript[:-1], 1, "refused"),
+    )
+    for given, status, word in rows:
+        write(extra, given)
+        tried(status, word)
 
 
 def ci_with_pytest(report, folder, environment):
