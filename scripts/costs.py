@@ -139,7 +139,7 @@ def new_members(file, count):
     """A member with a new name in each record, and another value in the other recording."""
     begin_session(file)
     for seq in range(1, count + 1):
-        file.write(record("adapter", {"seq": seq, "type": "event", "event": "output", "body": {f"name{seq}": VALUE, "output": "x"}}))
+        file.write(record("adapter", {"seq": seq, "type": "event", "event": "custom", "body": {f"name{seq}": VALUE}}))
 
 
 def new_commands(file, count):

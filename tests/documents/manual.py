@@ -23,7 +23,7 @@ INSTALLED = {
     **{f"share/dapnorm/examples/{it}": 0o644 for it in ("README.md", "program.py", "session.rules", "golden_test.py")},
     **{f"share/dapnorm/examples/{it}.py": 0o644 for it in ("trace_tee", "trace_proxy", "from_debugpy_log", "from_lldb_log")},
     **{f"share/dapnorm/examples/{it}.sh": 0o755 for it in ("golden", "ci", "git_setup")},
-    **{f"share/dapnorm/examples/rules/{it}.rules": 0o644 for it in ("debugpy", "delve", "lldb", "rdbg")},
+    **{f"share/dapnorm/examples/rules/{it}.rules": 0o644 for it in ("debugpy", "delve", "lldb", "perl", "rdbg")},
     **{f"lib/python3/dist-packages/dapnorm/{os.path.basename(it)}": 0o644 for it in glob.glob(os.path.join(TOP, "python", "dapnorm", "*.py"))},
     "lib/python3/dist-packages/dapnorm/py.typed": 0o644,
     **{f"lib/python3/dist-packages/dapnorm-0.1.0.dist-info/{it}": 0o644 for it in ("METADATA", "entry_points.txt")},

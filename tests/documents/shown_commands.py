@@ -21,9 +21,9 @@ INPUTS = {
     "lldb.rules": os.path.join(EXAMPLES, "rules", "lldb.rules"), "delve.rules": os.path.join(EXAMPLES, "rules", "delve.rules"),
     "examples/rules/debugpy.rules": os.path.join(EXAMPLES, "rules", "debugpy.rules"),
 }
-GOLDEN = "session.golden"
-# Golden files that are there before: of this session, of another one, none.
-NORMAL, OTHER = (os.path.join(EXAMPLES, "dlv-stopentry.golden"), os.path.join(CAPTURES, "rdbg-e-errors.3.rec"))
+# The golden file of a block, in each form, and what is there before: that of this session. There may also be one of another session, or none.
+GOLDEN = {it: os.path.join(EXAMPLES, "dlv-stopentry" + it) for it in (".golden.yaml", ".golden")}
+OTHER = os.path.join(CAPTURES, "rdbg-e-errors.3.rec")
 # The program in the place of the built one, of whose calls the one with the number FAILING fails after half of its output.
 SHIM = """#!/bin/sh
 echo >> "$CALLS"
@@ -61,24 +61,30 @@ def blocks():
     return [(where, it) for where, it in shown if all(line.startswith("dapnorm ") for line in it.splitlines())]
 
 
+def form(block):
+    """The end of the name of the block's golden file."""
+    return next((it for it in GOLDEN if "session" + it in block), ".golden")
+
+
 class Run:
     """A block run by a shell in a folder of its own: the status and the golden file that it leaves."""
 
     def __init__(self, block, golden=None, damaged=None, content=None, failing=0):
+        own = "session" + form(block)
         with tempfile.TemporaryDirectory() as folder:
             os.makedirs(os.path.join(folder, "examples", "rules"))
             for name, source in INPUTS.items():
                 shutil.copy(source, os.path.join(folder, name))
             if golden is not None:
-                shutil.copy(golden, os.path.join(folder, GOLDEN))
+                shutil.copy(golden, os.path.join(folder, own))
             if damaged is not None and content is None:
                 os.remove(os.path.join(folder, damaged))
             elif damaged is not None:
                 write(os.path.join(folder, damaged), content)
             with tempfile.TemporaryDirectory() as programs:
                 self.run(block, folder, programs, failing)
-            self.golden = read(os.path.join(folder, GOLDEN))
-            self.left = {name for name in os.listdir(folder) if name not in ("examples", GOLDEN, *INPUTS)}
+            self.golden = read(os.path.join(folder, own))
+            self.left = set(os.listdir(folder)) - {"examples", own, *INPUTS}
 
     def run(self, block, folder, programs, failing):
         with open(os.path.join(programs, "dapnorm"), "w", encoding="utf-8") as file:
@@ -110,14 +116,21 @@ def inputs(block):
 
 def normal(golden, block):
     """Whether a golden file is accepted and in normal form; in that of `--per-stop` if the block has this option."""
+    if golden is None:
+        return False
     mode = ["--per-stop"] if "--per-stop" in block else []
-    status, written, _ = run(["normalise", *mode], golden)
+    with tempfile.NamedTemporaryFile() as file:
+        write(file.name, golden)
+        status, written, _ = run(["normalise", *mode, file.name])
+    if form(block) == ".golden.yaml":
+        written = run(["show", "--yaml"], written)[1]
     return status == 0 and written == golden != b""
 
 
 def tried(report, where, block):
     """A block over a folder without golden file and with two of them."""
-    for golden in (None, NORMAL, OTHER) if "--update" in block else (NORMAL,):
+    same = GOLDEN[form(block)]
+    for golden in (None, same, OTHER) if "--update" in block else (same,):
         before = None if golden is None else read(golden)
         good = Run(block, golden)
         report.check(f"{where}: {block}", good.status == 0, repr(good.told))
