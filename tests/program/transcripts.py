@@ -517,18 +517,18 @@ def as_bytes(text):
 
 def one_refused(name):
     """Takes a text that is not a transcript through the commands. Returns what is wrong."""
-    text, told = as_bytes(REFUSED[name][0]), REFUSED[name][1]
+    text, said = as_bytes(REFUSED[name][0]), REFUSED[name][1]
     wrong = []
     # The script does not know the rows of the profile after the first six.
     try:
-        wrong += ["the script reads it" for _ in read_transcript(text)[:1] if not told.endswith("row 9")]
+        wrong += ["the script reads it" for _ in read_transcript(text)[:1] if not said.endswith("row 9")]
     except NotTranscript:
         pass
     lines = {"check x.yaml": "", "golden x.yaml other": "golden: x.yaml: ", **(LINES if name in ("a tab", "a fraction", "a type", "no request") else {})}
     with Folder(none=b"", other=CONFIGURATION, **{"x.yaml": text}) as folder:
         for line, which in lines.items():
             answer = folder.run(*line.split())
-            if answer != (2, b"", refusal(which + told)):
+            if answer != (2, b"", refusal(which + said)):
                 wrong.append((line, answer))
         answer = folder.run("golden", "--update", "x.yaml", "other")
         if answer != wrote(CONFIGURED, "x.yaml") or folder.read("x.yaml") != NORMAL_TEXT or folder.names() != ["none", "other", "x.yaml"]:
@@ -560,17 +560,17 @@ def golden_sessions(report):
         for form in forms if title in few else ["recording"]:
             content = forms[form]
             with Folder(session=content) as folder:
-                told = f"{name} of {title}, {form}"
-                report.check(f"{told}: made", folder.run("golden", *words, "--update", name, "session") == wrote(lines, name))
-                report.check(f"{told}: its text", folder.read(name) == text, repr(folder.read(name)))
-                report.check(f"{told}: the same", folder.run("golden", *words, name, "session") == (*SAME, b""))
-                report.check(f"{told}: unchanged", folder.run("golden", *words, "--update", name, "session") == (*UNCHANGED, b""))
-                report.check(f"{told}: no other file", folder.names() == ["session", name] and folder.read(name) == text)
+                said = f"{name} of {title}, {form}"
+                report.check(f"{said}: made", folder.run("golden", *words, "--update", name, "session") == wrote(lines, name))
+                report.check(f"{said}: its text", folder.read(name) == text, repr(folder.read(name)))
+                report.check(f"{said}: the same", folder.run("golden", *words, name, "session") == (*SAME, b""))
+                report.check(f"{said}: unchanged", folder.run("golden", *words, "--update", name, "session") == (*UNCHANGED, b""))
+                report.check(f"{said}: no other file", folder.names() == ["session", name] and folder.read(name) == text)
         if any(is_open):
             with Folder(session=recording(lines)) as folder:
                 answer = folder.run("golden", "--update", name, "session")
-                told = golden_refusal("incomplete: {} client, {} adapter".format(*is_open))
-                report.check(f"{name} of {title}: open requests", answer == (2, b"", told) and folder.read(name) is None, repr(answer))
+                said = golden_refusal("incomplete: {} client, {} adapter".format(*is_open))
+                report.check(f"{name} of {title}: open requests", answer == (2, b"", said) and folder.read(name) is None, repr(answer))
 
 
 def line_told(text, differ):
@@ -652,10 +652,10 @@ GOLDEN = [
 
 def golden_files(report):
     """Files with each content under each name, compared and replaced."""
-    for number, (name, content, told, replaced) in enumerate(GOLDEN, 1):
+    for number, (name, content, said, replaced) in enumerate(GOLDEN, 1):
         with Folder(session=CONFIGURATION, **{name: content}) as folder:
             title = f"row {number}, {name} {content[:24]!r}"
-            wanted = (2, b"", golden_refusal(f"{name}: {told}")) if isinstance(told, str) else (0 if told == b"same\n" else 1, told, b"")
+            wanted = (2, b"", golden_refusal(f"{name}: {said}")) if isinstance(said, str) else (0 if said == b"same\n" else 1, said, b"")
             answer = folder.run("golden", name, "session")
             report.check(title, answer == wanted and folder.read(name) == content, repr(answer))
             answer = folder.run("golden", "--update", name, "session")
@@ -688,11 +688,11 @@ def golden_rules(report):
         answer = folder.run("golden", "--open", "--rules", "rules", "--update", "g.yaml", "g.yaml")
         same_file = refusal("golden: the golden file and the input are the same file: g.yaml")
         report.check("the golden file is the input", answer == (3, b"", same_file), repr(answer))
-    cases = [(recording([*lines, line]), told) for lines, line, told in REFUSED_LINES.values()] + [(b"", "no records"), (OLD[:-1], "record 2: Cut")]
-    for given, told in cases:
+    cases = [(recording([*lines, line]), said) for lines, line, said in REFUSED_LINES.values()] + [(b"", "no records"), (OLD[:-1], "record 2: Cut")]
+    for given, said in cases:
         with Folder(session=given) as folder:
             answers = [folder.run("golden", *words, "g.yaml", "session") for words in ([], ["--update"])]
-            report.check(f"g.yaml of a session with {told}", answers == 2 * [(2, b"", golden_refusal(told))] and folder.names() == ["session"], repr(answers))
+            report.check(f"g.yaml of a session with {said}", answers == 2 * [(2, b"", golden_refusal(said))] and folder.names() == ["session"], repr(answers))
 
 
 # ---- the words of show, and inputs that are not looked at
@@ -709,12 +709,12 @@ def show_words(report):
         with Folder(x=given) as folder:
             report.check("show --yaml -o out", folder.run("show", "--yaml", "x", "-o", "out") == (0, b"", b"") and folder.read("out") == text)
             report.check("show --yaml over its input", folder.run("show", "--yaml", "-o", "x", "x") == (0, b"", b"") and folder.read("x") == text)
-    cases = [(recording([*lines, line]), told) for lines, line, told in REFUSED_LINES.values()]
-    cases += [(recording(lines) + rest, told) for lines, rest, told in REFUSED_BYTES.values()]
-    for given, told in cases:
+    cases = [(recording([*lines, line]), said) for lines, line, said in REFUSED_LINES.values()]
+    cases += [(recording(lines) + rest, said) for lines, rest, said in REFUSED_BYTES.values()]
+    for given, said in cases:
         with Folder(x=given, out=b"old") as folder:
             answers = [folder.run("show", "--yaml", "x", "-o", "out"), folder.run("show", "--yaml", given=given)]
-            report.check(f"show --yaml of a recording with {told}", answers == 2 * [(2, b"", refusal(told))] and folder.read("out") == b"old", repr(answers))
+            report.check(f"show --yaml of a recording with {said}", answers == 2 * [(2, b"", refusal(said))] and folder.read("out") == b"old", repr(answers))
 
 
 def not_looked_at(report):
