@@ -1,9 +1,10 @@
-//! The inputs of the program: files, the recordings of transcripts, and standard input.
+//! The inputs of the program: files, streams, and the recordings of transcripts.
+use crate::streams::{Begun, InputStream};
 use arrayvec::ArrayVec;
 use dap_device::StdSource;
 use dap_golden::is_trace;
 use std::fs::File;
-use std::io::{self, Cursor, Error, Read, Stdin};
+use std::io::{self, Cursor, Error, Read};
 
 /// The number of first bytes of an input that are stored. The first line of a trace is shorter.
 const HEAD: usize = 32;
@@ -12,7 +13,7 @@ const HEAD: usize = 32;
 #[derive(Drop)]
 pub(crate) enum Origin {
     File(File),
-    Standard(Stdin),
+    Stream(Begun<InputStream>),
     /// The recording of a transcript.
     Recording(Cursor<Vec<u8>>),
 }
@@ -75,7 +76,7 @@ impl Read for OpenedInput {
     fn read(&mut self, buffer: &mut [u8]) -> io::Result<usize> {
         let read = match &mut self.origin {
             Origin::File(file) => file.read(buffer),
-            Origin::Standard(stdin) => stdin.read(buffer),
+            Origin::Stream(stream) => stream.read(buffer),
             Origin::Recording(recording) => recording.read(buffer),
         };
         self.failure = read.err();

@@ -4,7 +4,8 @@ ghost use Rattle.std.specs.IoError.{error_kind, raw_os_error};
 
 use crate::inputs::{OpenedInput, Origin, SystemInput};
 use crate::outputs::{self, OpenOutput, SystemOutput, Target};
-use crate::transcripts::{is_transcript_file, read_file, recording_in};
+use crate::streams::{Begun, InputStream};
+use crate::transcripts::{is_transcript_file, read_whole, recording_in};
 use dap_device::{FileAt, StdSink, StdSource, stream_number};
 use dap_host::{Host, LIMITS, OpenFault, Purpose, Stream, is_standard};
 use dap_rename::{IndexNames, Tables};
@@ -12,7 +13,7 @@ use dap_transcript::{TranscriptCause, TranscriptFault};
 use std::alloc::Global;
 use std::fs::{self, File, OpenOptions};
 use std::hash::{BuildHasher, Hasher, RandomState};
-use std::io::{self, Cursor, Error, ErrorKind, IsTerminal, Write};
+use std::io::{self, Cursor, Error, ErrorKind, IsTerminal, Read, Write};
 use std::os::unix::fs::MetadataExt;
 
 /// The path of standard input, as Linux names it.
@@ -60,12 +61,11 @@ fn transcript_fault(fault: TranscriptFault) -> OpenFault
 
 impl<'a> System<'a> {
     /// Returns standard input. Prints that it is read, if it is a terminal.
-    fn standard_input(&self) -> OpenedInput {
+    fn standard_input(&self) -> InputStream {
         if self.announces_terminal && self.rt.stdin().is_terminal() {
             let _ = self.rt.stderr().write_all(READS_TERMINAL.as_bytes());
         }
-        let stored = self.keeps_inputs.then(|| Vec::new(self.rt.alloc()));
-        OpenedInput::new(Origin::Standard(self.rt.stdin()), stored)
+        InputStream::Standard(self.rt.stdin())
     }
 
     /// Opens a file, and returns whether it is a regular file. A folder is no rules file.
@@ -78,29 +78,45 @@ impl<'a> System<'a> {
         Ok((file, is_file))
     }
 
-    /// Reads a file that starts like a transcript, and returns its recording as an input.
-    fn transcript(&self, file: File) -> Result<OpenedInput, OpenFault> {
+    /// Reads an input that starts like a transcript, and returns its recording as an input. It stores
+    /// the bytes of the recording that are read, if `is_kept`.
+    fn transcript<R: Read + Drop>(
+        &self,
+        input: R,
+        is_kept: bool,
+    ) -> Result<OpenedInput, OpenFault> {
         let alloc = self.rt.alloc();
-        let bytes = read_file(alloc, file).map_err(fault_of)?;
+        let bytes = read_whole(alloc, input).map_err(fault_of)?;
         let recording = recording_in(alloc, bytes).map_err(transcript_fault)?;
         let origin = Origin::Recording(Cursor::new(recording));
-        Ok(OpenedInput::new(origin, None))
+        Ok(OpenedInput::new(origin, is_kept.then(|| Vec::new(alloc))))
     }
 
-    /// Opens a file or standard input, of which nothing was read. An input that is a regular file
-    /// and starts like a transcript is its recording.
+    /// Returns a stream as an input. One that starts like a transcript is its recording.
+    fn stream_input(&self, stream: InputStream) -> Result<OpenedInput, OpenFault> {
+        let begun = Begun::new(stream);
+        if begun.is_transcript() {
+            return self.transcript(begun, self.keeps_inputs);
+        }
+        let stored = self.keeps_inputs.then(|| Vec::new(self.rt.alloc()));
+        Ok(OpenedInput::new(Origin::Stream(begun), stored))
+    }
+
+    /// Opens a file or standard input, of which nothing was read. An input that starts like a
+    /// transcript is its recording.
     fn input(&self, purpose: Purpose, name: &str) -> Result<OpenedInput, OpenFault> {
         let is_input = purpose == Purpose::Input;
         if is_input && is_standard(name) {
-            return Ok(self.standard_input());
+            return self.stream_input(self.standard_input());
         }
         let (file, is_file) = self.file(purpose, name).map_err(fault_of)?;
-        if is_input && is_file && is_transcript_file(&file) {
-            return self.transcript(file);
+        if is_input && !is_file {
+            self.stream_input(InputStream::Opened(file))
+        } else if is_input && is_transcript_file(&file) {
+            self.transcript(file, false)
+        } else {
+            Ok(OpenedInput::new(Origin::File(file), None))
         }
-        let is_kept = is_input && self.keeps_inputs && !is_file;
-        let stored = is_kept.then(|| Vec::new(self.rt.alloc()));
-        Ok(OpenedInput::new(Origin::File(file), stored))
     }
 
     /// Opens an output that is written directly. A stream other than standard output and standard

@@ -11,7 +11,7 @@ use std::io::{self, Error, ErrorKind, Read};
 use std::os::unix::fs::FileExt;
 
 /// The number of bytes by which a transcript is recognised: the length of `- adapter: `.
-const HEAD: usize = 11;
+pub(crate) const HEAD: usize = 11;
 
 /// Returns the recording of a transcript, within the limits of the program. Returns bytes that do
 /// not start like a transcript unchanged.
@@ -41,16 +41,17 @@ pub(crate) fn is_transcript_file(file: &File) -> bool {
     is_transcript(&head)
 }
 
-/// Reads a file to its end.
+/// Reads a file or a stream to its end.
 ///
 /// # Errors
 ///
 /// - `InvalidData`: it has more bytes than the limit for an input.
 /// - `OutOfMemory`: an allocation failed.
 /// - Any other: reported by the operating system.
-pub(crate) fn read_file(alloc: Global, file: File) -> io::Result<Vec<u8>> {
+pub(crate) fn read_whole<R: Read + Drop>(alloc: Global, input: R) -> io::Result<Vec<u8>> {
     let mut bytes = Vec::new(alloc);
-    file.take(LIMITS.input.saturating_add(1))
+    input
+        .take(LIMITS.input.saturating_add(1))
         .read_to_end(&mut bytes)?;
     if bytes.len() as u64 > LIMITS.input {
         let words = "is longer than 4294967296 bytes, the limit for an input";
