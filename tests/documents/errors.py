@@ -15,6 +15,7 @@ MESSAGE = ("dap_message", "fault", "MessageFault")
 RULE = ("dap_session", "rule", "Rule")
 REFUSED = ("dap_input", "refused", "Refused")
 RULES = ("dap_mask", "fault", "RulesCause")
+TRANSCRIPT = ("dap_transcript", "fault", "TranscriptCause")
 
 # For each table, the form of the line and the errors that it has, in this order.
 TABLES = {
@@ -36,6 +37,11 @@ TABLES = {
         ("piece N: client F`, `piece N: adapter F", REFUSED, ["Recorder"]),
         ("piece N: {}", REFUSED, ["TraceTooLong"]),
     ],
+    "transcripts": [
+        ("line L: {}", TRANSCRIPT, ["BadLine", "BadValue"]),
+        ("line L: Missing row R`, `line L: WrongType row R", TRANSCRIPT, ["Message"]),
+        ("line L: {}", TRANSCRIPT, ["Differs", "TooLong"]),
+    ],
     "rules": [("{}", RULES, None)],
     "system": [
         ("read fault` (status 4) `", REFUSED, ["ReadFault"]),
@@ -45,7 +51,7 @@ TABLES = {
 }
 # Errors that are printed as another one, or never.
 UNPRINTED = {
-    FRAME: {"Cut", "Memory"}, RECORD: {"Frame", "Memory"}, TREE: {"Memory"}, MESSAGE: {"Memory"}, RULES: {"Memory"},
+    FRAME: {"Cut", "Memory"}, RECORD: {"Frame", "Memory"}, TREE: {"Memory"}, MESSAGE: {"Memory"}, RULES: {"Memory"}, TRANSCRIPT: {"Memory"},
     REFUSED: {"Record", "Json", "Fraction", "Message", "Rule", "Trace"}, RULE: set(), TRACE: set(),
 }
 

@@ -1,5 +1,5 @@
 mod PlainNames
-mod NodeLines
+pub mod NodeLines
 mod WrittenMembers
 mod ScalarNodes
 mod NextNumbers
@@ -14,6 +14,7 @@ mod RequestCode
 mod FoundMembers
 mod FoundWritten
 mod SameStrings
+mod SimpleStrings
 mod SameTokens
 mod SameLines
 mod SameHeads
@@ -22,3 +23,4 @@ mod OmittedMembers
 mod SameRecords
 mod SameTranscripts
 mod Frames
+mod TooLong

@@ -82,7 +82,8 @@ kind_is : (k : Kind) (d : Doc) → is_of_kind k d ≡ true → envelope.kind_of 
 unfolding by_type
 kind_is k d h = ap by_type (type_is k d h) ∙ told k
 
-answers : (k : Kind) → is_text (type_name Response) (Some (text (type_name k))) ≡ same_kind Response k
+answers : (k : Kind)
+    → is_text (type_name Response) (Some (text (type_name k))) ≡ same_kind Response k
 answers Request = refl
 answers Response = refl
 answers Event = refl

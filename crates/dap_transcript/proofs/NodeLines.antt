@@ -1,9 +1,10 @@
 -- The lines of a document, found among its nodes.
 use Rattle.std.proofs.Common.{◌≡◌, ℕ, ◌+◌, ◌<◌, ◌≤◌, List, [], ◌∷◌, ◌++◌, length, get_or}
 use Rattle.std.proofs.Common.{Bool, cond, refl, sym, ◌∙◌, ap}
-use Rattle.std.proofs.Common.{subst, arith, codes, append_assoc, append-nil, length-append}
+use Rattle.std.proofs.Common.{subst, arith, codes, append_assoc, append-nil, length-append, ap₂}
+use Rattle.std.proofs.Common.{◌-◌, replicate, take}
 use Rattle.std.specs.Borrow.{Bor}
-use Rattle.std.proofs.lemmas.List.{length-map}
+use Rattle.std.proofs.lemmas.List.{length-map, take_all}
 use Rattle.dap_tree.specs.Doc.{Doc, null, boolean, whole, text, list, object, id, Items, no_items}
 use Rattle.dap_tree.specs.Doc.{item, Members, no_members, member}
 use Rattle.dap_flat.specs.Finding.{Stand, Holds, HoldsMembers}
@@ -14,7 +15,7 @@ use Rattle.dap_flat.specs.declared.node.Node.TheVariants as node
 use Rattle.dap_flat.proofs.Found.{behind_first, first_part, object_inside, second_part}
 use Rattle.dap_flat.proofs.Found.{stands_first}
 use Rattle.dap_flat_message.proofs.{Heads.holds_whole, Judged.{no_value_ends, value_then}}
-use Rattle.dap_transcript.specs.Lines.{item_lines, list_margin, list_start}
+use Rattle.dap_transcript.specs.Lines.{item_lines, list_margin, list_start, margin}
 use Rattle.dap_transcript.specs.Lines.{member_lines, object_start, part_text, scalar_line}
 use Rattle.dap_transcript.specs.Walk.{AreElements, ItemsLeft, MembersLeft, PushesItem, PushesItems}
 use Rattle.dap_transcript.specs.Walk.{PushesLine, PushesMember, PushesMembers, PushesPart}
@@ -100,6 +101,12 @@ some_pieces (object ms) qs = omega arith
 some_pieces (id s z) qs = omega arith
 
 -- ---- lines that are appended
+
+pub blanks_added : (old : List ℕ) (n len : ℕ) → n ≡ length old + len
+    → take n old ++ replicate (n - length old) 32 ≡ old ++ margin len
+blanks_added old n len is =
+    let more : n - length old ≡ len = omega arith in
+    ap₂ (λ (xs : List ℕ) (k : ℕ). xs ++ margin k) (take_all n old (omega (arith, is))) more
 
 joined : (old mid new a b : List ℕ) → mid ≡ old ++ a → new ≡ mid ++ b → new ≡ old ++ (a ++ b)
 joined old mid new a b one two = two ∙ ap (λ t. t ++ b) one ∙ append_assoc old a b

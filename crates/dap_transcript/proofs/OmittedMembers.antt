@@ -109,7 +109,8 @@ pub record AreAlike (m n : Sent) : Type 0 where
 module _ (before : List Sent) (m n : Sent) (a : HasHead m) (b : HasHead n) (alike : AreAlike m n)
   where
     abbrev Agree : List ℕ → Type 0
-    Agree k = unless (is_omitted before m k) (found m k) ≡ unless (is_omitted before n k) (found n k)
+    Agree k =
+        unless (is_omitted before m k) (found m k) ≡ unless (is_omitted before n k) (found n k)
 
     same_type : found m (codes "type") ≡ found n (codes "type")
     same_type = a.kind_is ∙ ap (λ k. Some (text (type_name k))) alike.kind ∙ sym b.kind_is
@@ -200,7 +201,8 @@ module _ (before : List Sent) (m n : Sent) (a : HasHead m) (b : HasHead n) (alik
         (λ p q. r.2 ∙ ap (λ f. Some (boolean f))
         (sym (ap is_yes r.1) ∙ p ∙ sym q ∙ ap is_yes s.1) ∙ sym s.2))
         (λ no.
-        agree_none (is_omitted before m (codes "success")) (is_omitted before n (codes "success")) _ _
+        agree_none (is_omitted before m (codes "success"))
+        (is_omitted before n (codes "success")) _ _
         (omits_success_m ∙ ap is_yes (a.no_success no))
         (omits_success_n ∙ ap is_yes (b.no_success (sym answers_is ∙ no))) h)
 

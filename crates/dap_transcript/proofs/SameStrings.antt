@@ -76,7 +76,7 @@ delete_back r = refl
 
 -- ---- bytes below U+007F are not escaped again
 
-abbrev AreLow : List ℕ → Type 0
+abbrev pub AreLow : List ℕ → Type 0
 AreLow [] = Unit {0}
 AreLow (b ∷ bs) = (b < 127) × AreLow bs
 
@@ -95,7 +95,7 @@ low_chars (b ∷ bs) h =
     (cond-false (is_escaped b) (escape b) (encode_utf8 b) (low_char b h.0)
     ∙ encode_ascii b (omega (arith, h.0))) (low_chars bs h.1)
 
-low_escaped : (bs : List ℕ) → AreLow bs → escaped bs ≡ bs
+pub low_escaped : (bs : List ℕ) → AreLow bs → escaped bs ≡ bs
 low_escaped bs h = ap (flat_map char_text) (chars-IsAscii bs (low_at bs h)) ∙ low_chars bs h
 
 -- ---- an escape of four digits
@@ -314,7 +314,7 @@ escaped-append xs ys utf8 =
 -- ---- strings
 
 -- What follows the quote at the start of a string.
-pub rest_of : List ℕ → List ℕ
+unfoldable pub rest_of : List ℕ → List ℕ
 rest_of s = escaped (json.escape s ++ 34 ∷ [])
 
 rest_step : (c : ℕ) (cs : List ℕ) → IsScalar c

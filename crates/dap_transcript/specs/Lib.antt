@@ -9,6 +9,7 @@ pub mod Numbers
 pub mod Requests
 pub mod Records
 pub mod Recordings
+pub mod ReadErrors
 pub mod SameText
 pub mod Laws
 pub mod TranscriptCauseText

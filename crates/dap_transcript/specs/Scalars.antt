@@ -31,6 +31,12 @@ escaped s = flat_map char_text (chars s)
 abbrev pub string_text : List ℕ → List ℕ
 string_text s = escaped (text_of (text s))
 
+-- A printable ASCII character that a string has as it is: not a quote or a backslash.
+abbrev pub is_simple : ℕ → Bool
+is_simple b =
+    (nat_le 0x20 b && nat_le b 0x21)
+    || ((nat_le 0x23 b && nat_le b 0x5b) || (nat_le 0x5d b && nat_le b 0x7e))
+
 -- A scalar, an empty list or an empty object: its canonical JSON text, in which only a string has
 -- such characters.
 abbrev pub scalar : Doc → List ℕ

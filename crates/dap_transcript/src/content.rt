@@ -1,6 +1,8 @@
 //! Translates the lines of a record into the content of a message.
 //!
 //! No clause says what is read: the text of what is read is written again and compared.
+ghost use Rattle.std.specs.Prelude.{◌≡◌, true, IfErr};
+ghost use Rattle.dap_transcript.specs.ReadErrors.{is_of_reading};
 
 use crate::fault::TranscriptCause;
 use crate::names::names_head;
@@ -129,7 +131,9 @@ impl Content {
     }
 
     /// Starts an element or a member at this indentation.
-    fn start_part(&mut self, margin: usize, is_item: bool) -> Result<(), TranscriptCause> {
+    fn start_part(&mut self, margin: usize, is_item: bool) -> Result<(), TranscriptCause>
+        ensures { IfErr result (λ cause. is_of_reading cause ≡ true) }
+    {
         if let Some(pending) = self.pending.take() {
             let fits = if is_item {
                 pending.list == margin
@@ -222,7 +226,9 @@ impl Content {
         name: &[u8],
         rest: &[u8],
         head: &Expected<'_>,
-    ) -> Result<(), TranscriptCause> {
+    ) -> Result<(), TranscriptCause>
+        ensures { IfErr result (λ cause. is_of_reading cause ≡ true) }
+    {
         let mut name = characters(name);
         if self.open.len() == 1 {
             name = original_name(name);
@@ -254,7 +260,9 @@ impl Content {
         margin: usize,
         item: &[u8],
         head: &Expected<'_>,
-    ) -> Result<(), TranscriptCause> {
+    ) -> Result<(), TranscriptCause>
+        ensures { IfErr result (λ cause. is_of_reading cause ≡ true) }
+    {
         let Some((token, rest)) = split_token(item) else {
             return Err(TranscriptCause::BadLine);
         };
@@ -273,7 +281,9 @@ impl Content {
         alloc: Global,
         line: &[u8],
         head: &Expected<'_>,
-    ) -> Result<(), TranscriptCause> {
+    ) -> Result<(), TranscriptCause>
+        ensures { IfErr result (λ cause. is_of_reading cause ≡ true) }
+    {
         let margin = margin_of(line);
         let rest = line.get(margin..).unwrap_or(&[]);
         if let Some(item) = rest.strip_prefix(b"- ") {

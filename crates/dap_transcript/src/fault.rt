@@ -11,13 +11,15 @@ use thiserror::Error;
 /// Why a text is not a transcript.
 ///
 /// The records are read first, then the whole text is compared with the transcript of what was
-/// read. So `Differs` is reported only if every record is a message.
+/// read. So `Differs` is reported only if every record is a message, and
+/// [`rewrite_transcript`](crate::rewrite_transcript) then returns what would be written.
 #[derive(Clone, Copy, Debug, PartialEq, Eq)]
 pub enum TranscriptCause {
     /// The line is not the head of a record, a member or an element, or it cannot be at its
     /// indentation after the lines before it.
     ///
-    /// - Cause: a merge conflict, a tab, a comment, or another file.
+    /// - Cause: a merge conflict, a tab, a comment, CR LF, single quotes, a blank at the end of the
+    ///   line, or another file.
     /// - Fix: resolve the conflict, or write the file again with `golden --update`.
     BadLine,
     /// The record that starts at the line has a value that is not JSON in UTF-8, a number that is
@@ -26,18 +28,17 @@ pub enum TranscriptCause {
     /// - Cause: a string without quotes, or a fraction.
     /// - Fix: write the value as JSON, on one line.
     BadValue,
-    /// The record that starts at the line is not a message.
+    /// The record that starts at the line violates row R of the profile.
     ///
     /// - Cause: a member that the profile requires was deleted, such as the `request_seq` of a
     ///   response to no open request.
     /// - Fix: add the member.
     Message(MessageFault),
     /// The line is not as it would be written, or it would not be written.
-    /// [`rewrite_transcript`](crate::rewrite_transcript) returns what would be written.
     ///
-    /// - Cause: an expected number that is written, members that are not in the order of their
-    ///   names, other quotes or blanks, CR LF, or no LF after the last line.
-    /// - Fix: write the line as the writer would, or exclude the file from formatters.
+    /// - Cause: an expected number that is written, names in another order or twice, quotes around
+    ///   a plain name, an empty line, or no LF after the last line.
+    /// - Fix: write the line as `--explain` shows it, and exclude the file from formatters.
     Differs,
     /// The content of the record that starts at the line is longer than the limit.
     ///
@@ -116,7 +117,9 @@ pub struct TranscriptFault {
 
 impl TranscriptFault {
     /// Returns the fault of an allocation that failed after the records were read.
-    pub(crate) fn memory() -> TranscriptFault {
+    pub(crate) fn memory() -> TranscriptFault
+        ensures { result.cause ≡ TranscriptCause.Memory }
+    {
         TranscriptFault {
             line: 1,
             cause: TranscriptCause::Memory,

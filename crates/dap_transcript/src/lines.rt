@@ -10,13 +10,12 @@ use dap_flat::Node;
 use std::alloc::{AllocError, Global};
 
 /// Appends the indentation of a line.
+#[tactic(auto, using(crate::proofs::NodeLines::blanks_added))]
 pub(crate) fn push_margin(len: usize, out: &mut Vec<u8>) -> Result<(), AllocError>
     ensures { OnOk result (out.new.items ≡ out.old.items ++ margin len) }
 {
-    for _ in 0..len {
-        out.push(b' ')?;
-    }
-    Ok(())
+    let end = out.len().checked_add(len).ok_or(AllocError)?;
+    out.resize(end, b' ')
 }
 
 /// Returns the indentation of the members of an object at this indentation.

@@ -1,7 +1,8 @@
 //! Reads transcripts.
-ghost use Rattle.std.specs.Prelude.{◌≡◌, List, IfOk, OnOk};
+ghost use Rattle.std.specs.Prelude.{◌≡◌, ◌≢◌, true, List, IfErr, IfOk, OnOk};
 ghost use Rattle.dap_message.specs.Message.{Sent};
 ghost use Rattle.dap_stored.specs.Sessions.{messages_of};
+ghost use Rattle.dap_transcript.specs.ReadErrors.{DiffersAt, FirstDiffer, is_of_reading};
 ghost use Rattle.dap_transcript.specs.Transcript.{transcript};
 
 use crate::content::{Content, Expected};
@@ -29,7 +30,9 @@ fn store_flat(
     content: &[u8],
     scratch: &mut Scratch,
     session: &mut StoredSession,
-) -> Result<bool, TranscriptCause> {
+) -> Result<bool, TranscriptCause>
+    ensures { IfErr result (λ cause. is_of_reading cause ≡ true) }
+{
     let nodes = Vec::with_capacity(alloc, content.len() / BYTES_A_NODE + 8)?;
     match read_flat_message(side, content, scratch, nodes) {
         Ok(message) => session.push(alloc, &message)?,
@@ -47,7 +50,9 @@ fn store_tree(
     content: &[u8],
     scratch: &mut Scratch,
     session: &mut StoredSession,
-) -> Result<(), TranscriptCause> {
+) -> Result<(), TranscriptCause>
+    ensures { IfErr result (λ cause. is_of_reading cause ≡ true) }
+{
     let tree = match read_tree_with(alloc, content, scratch) {
         Ok(tree) => tree,
         Err(TreeFault::Memory) => return Err(TranscriptCause::Memory),
@@ -68,7 +73,9 @@ fn store(
     content: &[u8],
     scratch: &mut Scratch,
     session: &mut StoredSession,
-) -> Result<(), TranscriptCause> {
+) -> Result<(), TranscriptCause>
+    ensures { IfErr result (λ cause. is_of_reading cause ≡ true) }
+{
     if store_flat(alloc, side, content, scratch, session)? {
         return Ok(());
     }
@@ -146,7 +153,9 @@ fn end_record<'t>(
     content: &mut Content,
     scratch: &mut Scratch,
     session: &mut StoredSession,
-) -> Result<(), TranscriptFault> {
+) -> Result<(), TranscriptFault>
+    ensures { IfErr result (λ fault. is_of_reading fault.cause ≡ true) }
+{
     let Some(record) = current else {
         return Ok(());
     };
@@ -166,7 +175,9 @@ fn store_record<'t>(
     content: &mut Content,
     scratch: &mut Scratch,
     session: &mut StoredSession,
-) -> Result<(), TranscriptCause> {
+) -> Result<(), TranscriptCause>
+    ensures { IfErr result (λ cause. is_of_reading cause ≡ true) }
+{
     let place = session.len();
     let text = content.finish(alloc, &head)?;
     store(alloc, head.title.side, text, scratch, session)?;
@@ -182,7 +193,9 @@ fn start_record<'t>(
     title: &'t [u8],
     past: &mut Past<'t>,
     content: &mut Content,
-) -> Result<Expected<'t>, TranscriptCause> {
+) -> Result<Expected<'t>, TranscriptCause>
+    ensures { IfErr result (λ cause. is_of_reading cause ≡ true) }
+{
     let Some(title) = read_title(side, title) else {
         return Err(TranscriptCause::BadLine);
     };
@@ -196,7 +209,9 @@ fn take_line(
     line: &[u8],
     current: Option<Current<'_>>,
     content: &mut Content,
-) -> Result<(), TranscriptCause> {
+) -> Result<(), TranscriptCause>
+    ensures { IfErr result (λ cause. is_of_reading cause ≡ true) }
+{
     if line.is_empty() {
         return Ok(());
     }
@@ -214,7 +229,9 @@ fn read_lines<'t>(
     content: &mut Content,
     scratch: &mut Scratch,
     session: &mut StoredSession,
-) -> Result<(), TranscriptFault> {
+) -> Result<(), TranscriptFault>
+    ensures { IfErr result (λ fault. is_of_reading fault.cause ≡ true) }
+{
     let mut current = None;
     let mut number = 0_usize;
     for line in text.split(|byte| *byte == b'\n') {
@@ -246,7 +263,9 @@ fn read_records(
     alloc: Global,
     text: &[u8],
     session: &mut StoredSession,
-) -> Result<(), TranscriptFault> {
+) -> Result<(), TranscriptFault>
+    ensures { IfErr result (λ fault. is_of_reading fault.cause ≡ true) }
+{
     let mut past = Past::new(alloc);
     let mut content = Content::new(alloc);
     let mut scratch = Scratch::new(alloc);
@@ -262,7 +281,9 @@ fn write_again(alloc: Global, session: &StoredSession) -> Result<Vec<u8>, AllocE
 }
 
 /// Returns the number of the first line of a text that is not as in what was written.
-fn first_difference(text: &[u8], written: &[u8]) -> usize {
+fn first_difference(text: &[u8], written: &[u8]) -> usize
+    ensures { text.now ≢ written.now → FirstDiffer text.now written.now result }
+{
     let mut line = 1_usize;
     for at in 0..text.len() {
         if written.get(at).copied() != Some(text[at]) {
@@ -277,7 +298,10 @@ fn first_difference(text: &[u8], written: &[u8]) -> usize {
 
 /// Compares a text with the transcript of a session.
 fn compare(alloc: Global, session: &StoredSession, text: &[u8]) -> Result<(), TranscriptFault>
-    ensures { OnOk result (transcript (messages_of session.now) ≡ text.now) }
+    ensures ok { OnOk result (transcript (messages_of session.now) ≡ text.now) }
+    ensures differs { IfErr result (λ fault.
+        fault.cause ≡ TranscriptCause.Differs → DiffersAt text.now fault.line) }
+    ensures never { IfErr result (λ fault. fault.cause ≢ TranscriptCause.TooLong) }
 {
     let Ok(written) = write_again(alloc, session) else {
         return Err(TranscriptFault::memory());
@@ -304,6 +328,12 @@ fn compare(alloc: Global, session: &StoredSession, text: &[u8]) -> Result<(), Tr
 /// - `Memory`: an allocation failed.
 pub fn read_transcript(alloc: Global, text: &[u8]) -> Result<StoredSession, TranscriptFault>
     ensures ok { IfOk result (λ session. transcript (messages_of session) ≡ text.now) }
+
+    // With `Differs`, the line is the first one that is not as in the transcript of the messages
+    // that were read. `TooLong` is never returned.
+    ensures differs { IfErr result (λ fault.
+        fault.cause ≡ TranscriptCause.Differs → DiffersAt text.now fault.line) }
+    ensures never { IfErr result (λ fault. fault.cause ≢ TranscriptCause.TooLong) }
 {
     let mut session = StoredSession::new(alloc);
     read_records(alloc, text, &mut session)?;
@@ -320,6 +350,7 @@ pub fn read_transcript(alloc: Global, text: &[u8]) -> Result<StoredSession, Tran
 pub fn rewrite_transcript(alloc: Global, text: &[u8]) -> Result<Vec<u8>, TranscriptFault>
     ensures ok { IfOk result
         (λ written. (messages : List Sent) × (written.items ≡ transcript messages)) }
+    ensures err { IfErr result (λ fault. is_of_reading fault.cause ≡ true) }
 {
     let mut session = StoredSession::new(alloc);
     read_records(alloc, text, &mut session)?;

@@ -1,7 +1,8 @@
 //! Returns the recordings of transcripts.
-ghost use Rattle.std.specs.Prelude.{◌≡◌, ◌++◌, IfOk, OnOk, map};
+ghost use Rattle.std.specs.Prelude.{◌≡◌, ◌++◌, IfErr, IfOk, OnOk, map};
 ghost use Rattle.dap_frame.specs.Limits.{IsSound};
 ghost use Rattle.dap_stored.specs.Sessions.{stored_sent};
+ghost use Rattle.dap_transcript.specs.ReadErrors.{DiffersAt, FirstTooLong, IsTooLong};
 ghost use Rattle.dap_transcript.specs.Recordings.{IsRecordingOfTranscript, frames};
 
 use crate::fault::{TranscriptCause, TranscriptFault};
@@ -37,7 +38,10 @@ fn append_records(
     out: &mut Vec<u8>,
 ) -> Result<(), (u64, FrameFault)>
     requires { IsSound limits }
-    ensures { OnOk result (out.new.items ≡ out.old.items ++ frames (map stored_sent messages.now)) }
+    ensures ok { OnOk result
+        (out.new.items ≡ out.old.items ++ frames (map stored_sent messages.now)) }
+    ensures too_long { IfErr result (λ fault. fault.1 ≡ FrameFault.ContentTooLong
+        → FirstTooLong (map stored_sent messages.now) limits.content fault.0) }
 {
     let mut number = 0;
     for message in messages {
@@ -63,6 +67,14 @@ pub fn recording_of_transcript(
 ) -> Result<Vec<u8>, TranscriptFault>
     requires { IsSound limits }
     ensures ok { IfOk result (λ recording. IsRecordingOfTranscript text.now recording.items) }
+
+    // With `Differs`, the line is the first one that is not as in the transcript of the messages
+    // that were read. With `TooLong`, the text is a transcript, and the content of one of its
+    // messages is above the limit.
+    ensures differs { IfErr result (λ fault.
+        fault.cause ≡ TranscriptCause.Differs → DiffersAt text.now fault.line) }
+    ensures too_long { IfErr result (λ fault. fault.cause ≡ TranscriptCause.TooLong
+        → IsTooLong text.now limits.content) }
 {
     let session = read_transcript(alloc, text)?;
     let Ok(messages) = session.views(alloc) else {

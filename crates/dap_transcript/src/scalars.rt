@@ -1,7 +1,8 @@
 //! Writes scalars.
-ghost use Rattle.std.specs.Prelude.{◌≡◌, ◌++◌, ◌∷◌, [], ◌/◌, ◌%◌, ◌<◌, OnOk};
-ghost use Rattle.std.specs.Char.{digit_char};
-ghost use Rattle.dap_transcript.specs.Scalars.{char_text, escape, escaped, is_escaped, string_text};
+ghost use Rattle.std.specs.Prelude.{◌≡◌, ◌++◌, ◌∷◌, [], ◌/◌, ◌%◌, ◌<◌, true, OnOk};
+ghost use Rattle.std.specs.{Char.digit_char, List.list_all};
+ghost use Rattle.dap_transcript.specs.Scalars.{char_text, escape, escaped, is_escaped, is_simple};
+ghost use Rattle.dap_transcript.specs.Scalars.{string_text};
 ghost use Rattle.dap_transcript.specs.Walk.{PushesScalar};
 
 use dap_flat::{Node, write_flat};
@@ -72,6 +73,29 @@ fn push_chars(text: &str, out: &mut Vec<u8>) -> Result<(), AllocError>
     Ok(())
 }
 
+/// Returns whether a byte is a printable ASCII character other than a quote and a backslash.
+fn is_simple(byte: u8) -> bool
+    ensures { result ≡ is_simple byte }
+{
+    matches!(byte, 0x20..=0x21 | 0x23..=0x5b | 0x5d..=0x7e)
+}
+
+fn are_simple(bytes: &[u8]) -> bool
+    ensures { result ≡ list_all is_simple bytes.now }
+{
+    bytes.iter().all(|byte| is_simple(*byte))
+}
+
+/// Appends a string of simple characters.
+fn push_simple(text: &str, out: &mut Vec<u8>) -> Result<(), AllocError>
+    requires { list_all is_simple text.now ≡ true }
+    ensures { OnOk result (out.new.items ≡ out.old.items ++ string_text text.now) }
+{
+    out.extend_from_slice(b"\"")?;
+    out.extend_from_slice(text.as_bytes())?;
+    out.extend_from_slice(b"\"")
+}
+
 /// Appends a string. `quoted` is a buffer: the writer of JSON initializes a part of its buffer that
 /// grows with the text before, so it does not write to the output.
 pub(crate) fn push_string(
@@ -82,6 +106,9 @@ pub(crate) fn push_string(
 ) -> Result<(), AllocError>
     ensures { OnOk result (out.new.items ≡ out.old.items ++ string_text text.now) }
 {
+    if are_simple(text.as_bytes()) {
+        return push_simple(text, out);
+    }
     quoted.clear();
     write_flat(alloc, &[Node::Text(text)], quoted)?;
     push_escaped(quoted.as_slice(), out)
