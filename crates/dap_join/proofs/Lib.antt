@@ -4,7 +4,7 @@ pub mod Written
 pub mod JoiningFacts
 pub mod Reading
 pub mod OneJoined
-pub mod FlatEvents
+pub mod EventTexts
 pub mod SortedGroups
 pub mod Again
 pub mod Goodness

@@ -1,9 +1,12 @@
 -- What the steps of joining a recording do, for private clauses. Source: own.
-use Rattle.std.specs.Prelude.{◌≡◌, ℕ, List, [], ◌∷◌, ◌++◌, map, Option, Some, None, String}
+use Rattle.std.specs.Prelude.{◌≡◌, ℕ, false, List, [], ◌∷◌, ◌++◌, map, Option, Some, None, String}
 use Rattle.std.specs.Prelude.{string_bytes}
 use Rattle.std.specs.List.{flat_map}
 use Rattle.std.specs.BTreeMap.{BTreeMap}
 use Rattle.std.specs.declared.alloc.Global.{Global}
+use Rattle.dap_tree.specs.{Doc.Doc, Json.IsRead, declared.side.Side.Side}
+use Rattle.dap_profile.specs.declared.profile.Kind.TheVariants.{Event}
+use Rattle.dap_message.specs.Rows.{is_of_kind}
 use Rattle.dap_recording.specs.Recording.{recording_text}
 use Rattle.dap_input.specs.declared.limits.Limits.{Limits}
 use Rattle.dap_input.specs.declared.refused.Refused.{Refused}
@@ -11,7 +14,7 @@ use Rattle.dap_input.specs.declared.refused.Refused.TheVariants.{Memory}
 use Rattle.dap_input.specs.Refusals.{IsRefused}
 use Rattle.dap_normalise.specs.Accepting.{Payload}
 use Rattle.dap_normalise.specs.RecordTexts.{FitRecords}
-use Rattle.dap_join.specs.Outputs.{IsPart, Item, Output, Part, output, stopped, other}
+use Rattle.dap_join.specs.Outputs.{IsPart, Item, Output, Part, output, stopped, other, part_of}
 use Rattle.dap_join.specs.Joined.{Group as Gathered, Numbered, first_segment, gathered, groups_of}
 use Rattle.dap_join.specs.Joined.{joined, joined_output, later_segments, others}
 use Rattle.dap_join.specs.Joining.{GrowsAt, IsSplit, numbers_of, payloads, splitting}
@@ -31,6 +34,15 @@ abbrev pub part_shown : LentPart → Part
 part_shown (lent.Output o) = output (output_shown o)
 part_shown lent.Stopped = stopped
 part_shown lent.Other = other
+
+-- What a record is for joining, by its document if it was read.
+abbrev pub part_if_read : Side → Option Doc → Part
+part_if_read side None = other
+part_if_read side (Some d) = part_of side d
+
+-- The content is not that of an event.
+abbrev pub IsNoEvent : List ℕ → Type 0
+IsNoEvent content = (d : Doc) → IsRead content d → is_of_kind Event d ≡ false
 
 -- The groups in a map from their categories.
 abbrev pub group_shown : String Global × Group → Gathered

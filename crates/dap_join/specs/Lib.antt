@@ -3,4 +3,3 @@ pub mod Joined
 pub mod Joining
 pub mod JoiningSteps
 pub mod Laws
-pub mod FlatEvents

@@ -1,14 +1,15 @@
 //! Finds the `output` and `stopped` events among the messages of an adapter.
-ghost use Rattle.std.specs.Prelude.{◌≡◌, IfOk, option_map};
-ghost use Rattle.dap_tree.specs.Doc.{Doc, get};
+ghost use Rattle.std.specs.Prelude.{◌≡◌, false, option_map};
+ghost use Rattle.dap_tree.specs.Doc.{get};
 ghost use Rattle.dap_tree.specs.View.{view};
 ghost use Rattle.dap_message.specs.Envelope.{text_value};
 ghost use Rattle.dap_message.specs.Rows.{is_text};
-ghost use Rattle.dap_join.specs.Outputs.{category_in, get_in, has_no_children, is_event, output_in};
-ghost use Rattle.dap_join.specs.Outputs.{output_with, part_of, seq_in};
-ghost use Rattle.dap_join.specs.JoiningSteps.{output_shown, part_shown};
+ghost use Rattle.dap_join.specs.Outputs.{IsPart, category_in, get_in, has_no_children, is_event};
+ghost use Rattle.dap_join.specs.Outputs.{other, output_in, output_with, part_of, seq_in};
+ghost use Rattle.dap_join.specs.JoiningSteps.{IsNoEvent, output_shown, part_if_read, part_shown};
 
 use dap_tree::{Side, Tree};
+use memchr::memmem;
 
 /// The output of an event, borrowed from its content.
 #[derive(Clone, Copy, Drop)]
@@ -26,8 +27,35 @@ pub(crate) enum LentPart<'a> {
     Other,
 }
 
+/// Returns `false` only for records that are neither `output` nor `stopped` events.
+pub(crate) fn may_be_event(side: Side, content: &[u8]) -> bool
+    ensures { result ≡ false → IsPart (side, content.now) other }
+{
+    match side {
+        Side::Client => false,
+        Side::Adapter => may_have_kind(content),
+    }
+}
+
+/// Returns whether the string `event` may occur in a content, as it is or with an escape.
+fn may_have_kind(content: &[u8]) -> bool
+    ensures { result ≡ false → IsNoEvent content.now }
+{
+    memmem::find(content, b"event\"").is_some() || memmem::find(content, b"\\u").is_some()
+}
+
+/// Returns what a record is for joining, by its document if it was read.
+pub(crate) fn part_if_read<'a>(side: Side, tree: &'a Option<Tree>) -> LentPart<'a>
+    ensures { part_shown result ≡ part_if_read side (option_map view tree.now) }
+{
+    match tree {
+        Some(tree) => part_of(side, tree),
+        None => LentPart::Other,
+    }
+}
+
 /// Returns what a message is for joining.
-pub(crate) fn part_of<'a>(side: Side, tree: &'a Tree) -> LentPart<'a>
+fn part_of<'a>(side: Side, tree: &'a Tree) -> LentPart<'a>
     ensures { part_shown result ≡ part_of side (view tree.now) }
 {
     match side {

@@ -7,7 +7,6 @@
 #![tactic(auto)]
 
 mod event;
-mod flat_event;
 mod groups;
 mod joined;
 mod joiner;
