@@ -323,16 +323,49 @@ def categories(report):
     check("another event", [("x", {"category": "a"})], [("x", {"category": "a"}), ("x", {"category": "b"})], (0, 1, "x category=b"))
     check("equal numbers", [sent, printed], [sent, printed])
     stopped = ("stopped", {"reason": "pause"})
-    for name, a, b, line in (
-        ("two pieces", [output("stdout", "ab"), stopped], [output("stdout", "a"), ("thread", {"reason": "started", "threadId": 1}), output("stdout", "b"), stopped], " per-stop"),
-        ("pieces of two categories", [output("stdout", "ab"), output("stderr")], [output("stdout", "a"), output("stderr"), output("stdout", "b")], " per-stop"),
-        ("a piece after a stop", [output(None, "a"), stopped, output(None, "b")], [stopped, output("console", "ab")], ""),
+
+    def piece(text, **members):
+        return "output", {"category": "stdout", "output": text, **members}
+
+    pieces, others = "# in B output comes in other pieces\n", "# also hides other members of these events\n"
+    for name, a, b, wanted in (
+        (
+            "two pieces are joined", [piece("ab"), stopped], [piece("a"), ("thread", {"reason": "started", "threadId": 1}), piece("b"), stopped],
+            f"{pieces}join   event output per-stop\n\n# 0 in A, 1 in B\ndrop   event    thread\n\n",
+        ),
+        (
+            "pieces of two categories are joined", [piece("ab"), output("stderr")], [piece("a"), output("stderr"), piece("b")],
+            f"{pieces}join   event output per-stop\n\n",
+        ),
+        ("a piece after a stop is joined", [output(None, "a"), stopped, output(None, "b")], [stopped, output("console", "ab")], f"{pieces}join   event output\n\n"),
+        (
+            "pieces with other members are joined", [piece("ab", line=1), stopped], [piece("a", line=1), piece("b", line=2), stopped],
+            f"{pieces}{others}join   event output per-stop\n\n",
+        ),
+        (
+            "pieces with other members in A alone are joined", [piece("ab", source={"name": "a"})], [piece("a"), piece("b")],
+            f"{pieces}{others}join   event output per-stop\n\n",
+        ),
+        (
+            "pieces without children are joined", [piece("ab", variablesReference=0)], [piece("a"), piece("b", variablesReference=0)],
+            f"{pieces}join   event output per-stop\n\n",
+        ),
+        (
+            "another member of equal pieces is blanked", [piece("ab", line=1), piece("c", line=3)], [piece("ab", line=2), piece("c", line=3)],
+            "# A record 3: 1\n# B record 3: 2\n# also hides 1 value that is equal\nblank  event    output body.line\n\n",
+        ),
+        (
+            "the text of an event with children is blanked", [piece("a", variablesReference=5)], [piece("b", variablesReference=5)],
+            '# A record 3: "a"\n# B record 3: "b"\nblank  event    output body.output\n\n',
+        ),
+        (
+            "another text is blanked", [piece("ab"), piece("c")], [piece("ab"), piece("d")],
+            '# A record 4: "c"\n# B record 4: "d"\n# also hides 1 value that is equal\nblank  event    output body.output\n\n',
+        ),
     ):
-        dropped = "# 0 in A, 1 in B\ndrop   event    thread\n\n" if "thread" in dict(b) else ""
-        wanted = f"# in B output comes in other pieces\njoin   event output{line}\n\n{dropped}# with these rules: same\n"
         with Folder(a=said(*a), b=said(*b)) as folder:
             answer = folder.run("suggest", "a", "b")
-        report.check(f"{name} are joined", answer == (0, wanted.encode(), b""), repr(answer))
+        report.check(name, answer == (0, f"{wanted}# with these rules: same\n".encode(), b""), repr(answer))
     with Folder(a=said(), b=said(("continued", {"threadId": 1, "category": "a"}))) as folder:
         answer = folder.run("suggest", "a", "b")
     line = b'no rules can: record 3 of B, event "continued", has no counterpart in A\n'

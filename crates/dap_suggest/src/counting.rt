@@ -1,12 +1,12 @@
 //! Counts the events of two sessions, and drops those of which they have different numbers.
 use crate::broad::is_needed_event;
 use crate::sessions::Sessions;
-use crate::words::{class_of, text_at};
+use crate::words::{class_of, content_of, text_at};
 use dap_compare::Which;
 use dap_difference::{Step, push_path};
 use dap_message::{AnyMessage, Kind};
 use dap_stored::{StoredMessage, StoredSession};
-use dap_tree::{Scratch, read_tree_with};
+use dap_tree::Scratch;
 use std::alloc::{AllocError, Global};
 use std::collections::BTreeMap;
 
@@ -125,8 +125,7 @@ fn category_of(
     event: &StoredMessage<'_>,
     scratch: &mut Scratch,
 ) -> Result<Option<String>, AllocError> {
-    // The content was read before, so no other error is possible.
-    let content = read_tree_with(alloc, event.content(), scratch).map_err(|_| AllocError)?;
+    let content = content_of(alloc, event, scratch)?;
     let body = content.child("body");
     match body.and_then(|body| text_at(body, "category")) {
         Some(category) => Ok(Some(String::from_str(alloc, category)?)),

@@ -14,7 +14,7 @@ use crate::fractions::fraction_rules;
 use crate::guarded::guarded_count;
 use crate::joined_rules::{joined, missing_end, read_joined, rules_for};
 use crate::obstacle::Unsolved;
-use crate::pieces::{JOINS, has_other_pieces};
+use crate::pieces::{JOINS, comment_on_join};
 use crate::sessions::{Sessions, sessions_by};
 use crate::suggestion::{Inputs, SuggestRefused, Suggestion};
 use dap_input::{Limits, Refused};
@@ -80,41 +80,42 @@ fn find_confirmed(
     find_by_events(alloc, rules, inputs, before, sessions, &mut events)
 }
 
-/// Searches rules after those `before` them and a rule that joins output. Returns `None` if a file
-/// cannot have this rule, if the rules make no sessions, or if the joined output differs.
+/// Searches rules after those `before` them, the last of which joins output. Returns `None` if the
+/// rules make no sessions, or if the joined output differs.
 fn find_with_join(
     alloc: Global,
     inputs: &Inputs<'_>,
     before: &[u8],
-    join: &[u8],
 ) -> Result<Option<Suggestion>, Unsolved>
     requires { AreSound inputs.now.limits }
     ensures { IfOk result (λ o. IfSome o (IsSuggestion inputs.now)) }
 {
-    let before = joined(alloc, before, join)?;
-    let rules = read_joined(alloc, inputs.given, before.as_slice())?;
+    let rules = read_joined(alloc, inputs.given, before)?;
     let Ok(sessions) = sessions_by(alloc, &rules, inputs) else {
         return Ok(None);
     };
-    if has_other_pieces(alloc, &sessions)? {
+    if comment_on_join(alloc, &sessions)?.is_some() {
         return Ok(None);
     }
-    let found = find_confirmed(alloc, &rules, inputs, before.as_slice(), sessions)?;
+    let found = find_confirmed(alloc, &rules, inputs, before, sessions)?;
     Ok(Some(found))
 }
 
-/// Searches rules after those `before` them and one that joins output. Returns `None` if none are
-/// found.
+/// Searches rules after those `before` them and one that joins output, with its comment. Returns
+/// `None` if none are found.
 fn find_joined(
     alloc: Global,
     inputs: &Inputs<'_>,
     before: &[u8],
+    comment: &[u8],
 ) -> Result<Option<Suggestion>, Unsolved>
     requires { AreSound inputs.now.limits }
     ensures { IfOk result (λ o. IfSome o (IsSuggestion inputs.now)) }
 {
     for join in JOINS {
-        match find_with_join(alloc, inputs, before, join) {
+        let mut before = joined(alloc, before, comment)?;
+        before.extend_from_slice(join)?;
+        match find_with_join(alloc, inputs, before.as_slice()) {
             Ok(None) | Err(Unsolved::NoRules(_)) => {}
             found => return found,
         }
@@ -122,8 +123,8 @@ fn find_joined(
     Ok(None)
 }
 
-/// Searches and confirms rules. If the sessions have equal output in other pieces, and the rules
-/// that were given do not join it, a rule that joins it is tried first.
+/// Searches and confirms rules. If the sessions have output in other pieces, and the rules that
+/// were given do not join it, rules that join it are tried first.
 fn find_joined_first(
     alloc: Global,
     rules: &MaskRules,
@@ -134,11 +135,15 @@ fn find_joined_first(
     requires { AreSound inputs.now.limits }
     ensures { IfOk result (IsSuggestion inputs.now) }
 {
-    if rules.joining().is_some() || !has_other_pieces(alloc, &sessions)? {
+    let comment = match rules.joining() {
+        Some(_) => None,
+        None => comment_on_join(alloc, &sessions)?,
+    };
+    let Some(comment) = comment else {
         return find_confirmed(alloc, rules, inputs, before, sessions);
-    }
+    };
     drop(sessions);
-    if let Some(found) = find_joined(alloc, inputs, before)? {
+    if let Some(found) = find_joined(alloc, inputs, before, comment)? {
         return Ok(found);
     }
     let sessions = sessions_by(alloc, rules, inputs)?;

@@ -1,7 +1,8 @@
 //! The words of rules and of their comments.
 use dap_difference::{Step, push_path};
 use dap_message::Kind;
-use dap_tree::{Tree, write_tree};
+use dap_stored::StoredMessage;
+use dap_tree::{Scratch, Tree, read_tree_with, write_tree};
 use std::alloc::{AllocError, Global};
 
 /// Appends all parts, one after the other.
@@ -34,6 +35,15 @@ pub fn class_of(alloc: Global, kind: Kind, name: &str) -> Result<Vec<u8>, AllocE
     let mut class = format!(in alloc; "{kind:<9}")?.into_bytes();
     push_path(alloc, &[Step::Member(name)], &mut class)?;
     Ok(class)
+}
+
+/// Returns the content of a message. It was read before, so no other error is possible.
+pub fn content_of(
+    alloc: Global,
+    message: &StoredMessage<'_>,
+    scratch: &mut Scratch,
+) -> Result<Tree, AllocError> {
+    read_tree_with(alloc, message.content(), scratch).map_err(|_| AllocError)
 }
 
 /// Returns the text of a member.
