@@ -1,5 +1,6 @@
 -- Strings that are appended one after the other.
-use Rattle.std.proofs.Common.{◌≡◌, ℕ, List, ◌++◌, Result, Ok, Err, ◌∙◌, ap, append_assoc}
+use Rattle.std.proofs.Common.{◌≡◌, ℕ, List, ◌++◌, Result, Ok, Err, sym, ◌∙◌, ap}
+use Rattle.std.proofs.Common.{append_assoc}
 use Rattle.std.specs.Prelude.{OnOk}
 
 -- A word and the string after it.
@@ -21,3 +22,9 @@ pub ended_after : {U E : Type 0} (r : Result U E) (old x w y before after line :
 ended_after (Ok v) old x w y before after line is then whole =
     then_after old x w y before after is then ∙ ap (λ t. old ++ t) whole
 ended_after (Err e) old x w y before after line is then whole = tt
+
+-- The text of one part was appended to the text before it, and the rest remains.
+pub one_part : (before after part rest left all : List ℕ) → after ≡ before ++ part
+    → left ≡ part ++ rest → before ++ left ≡ all → after ++ rest ≡ all
+one_part before after part rest left all is split was =
+    ap (λ t. t ++ rest) is ∙ append_assoc before part rest ∙ ap (λ t. before ++ t) (sym split) ∙ was

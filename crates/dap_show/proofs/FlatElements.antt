@@ -7,27 +7,26 @@ use Rattle.std.specs.Prelude.{ℤ, IfSome, option_and_then, option_map, unwrap_o
 use Rattle.std.proofs.lemmas.List.Concat.{flat_map-append}
 use Rattle.std.proofs.lemmas.List.Elements.{filter_map-append}
 use Rattle.std.proofs.lemmas.Slice.Eq.{bytes_eq-Decides}
-use Rattle.std.specs.List.{cons_option, filter_map, flat_map}
+use Rattle.std.specs.List.{filter_map, flat_map}
 use Rattle.dap_tree.specs.Doc.{Doc, null, boolean, whole, text, list, object, id, Items, no_items}
 use Rattle.dap_tree.specs.Doc.{no_members, item, get}
 use Rattle.dap_profile.specs.declared.profile.Kind.TheVariants.{Request, Response, Event}
 use Rattle.dap_message.specs.Envelope.{boolean_value, name_of, success_of, text_value}
 use Rattle.dap_message.specs.Places.{elements, list_of}
 use Rattle.dap_message.specs.Rows.{is_of_kind, is_text, is_true, name_key, row_applies}
-use Rattle.dap_message.specs.Views.{frame_of, number_value, reference_value, scope_of, variable_of}
+use Rattle.dap_message.specs.Views.{frame_of, scope_of, variable_of}
 use Rattle.dap_flat.specs.Finding.{FindsChild, Holds}
 use Rattle.dap_flat.specs.Pieces.{begin_list, begin_object, end_list, end_object, items_pieces}
 use Rattle.dap_flat.specs.Pieces.{Piece, leaf, members_pieces, name, piece_of, pieces}
 use Rattle.dap_flat.specs.Placing.{size}
-use Rattle.dap_flat_message.specs.Judging.{top_of}
 use Rattle.dap_flat.specs.declared.node.Node.{Node}
 use Rattle.dap_flat.specs.declared.node.Node.TheVariants as node
 use Rattle.dap_flat.proofs.Found.{first_part, second_part, size_there, stands_first}
 use Rattle.dap_flat_message.proofs.Judged.{found_there, list_inside, no_value_ends, value_then}
 use Rattle.dap_show.specs.FlatElements.{AreElements, ElementsLeft, IsMemberValue, StartsElements}
-use Rattle.dap_show.specs.FlatElements.{StartsMember}
-use Rattle.dap_show.specs.FlatElements.{array_in, element_lines, lines_of_kind}
-use Rattle.dap_show.specs.Showing.{frame_line, listed_lines, scope_line, variable_line}
+use Rattle.dap_show.specs.FlatElements.{array_in, array_name, command_name, element_lines}
+use Rattle.dap_show.specs.FlatElements.{lines_of_kind}
+use Rattle.dap_show.specs.Showing.{frame_line, scope_line, variable_line}
 use Rattle.dap_show.specs.declared.flat_lines.Element.{Element}
 use Rattle.dap_show.specs.declared.flat_lines.Element.TheVariants.{Frame, Scope, Variable}
 
@@ -75,23 +74,13 @@ text_is k n (Some (list ds)) is = absurd (cc)
 text_is k n (Some (object ms)) is = absurd (cc)
 text_is k n (Some (id s z)) is = absurd (cc)
 
-by_bool : (b : Bool) → (b ≡ true → ⊥) → b ≡ false
-by_bool true not_so = absurd (not_so refl)
-by_bool false not_so = refl
-
-other : (k n : List ℕ) → bytes_eq n k ≡ false → bytes_eq k n ≡ false
-other k n is =
-    by_bool (bytes_eq k n) (λ same.
-    let back = (bytes_eq-Decides n k).1 (sym ((bytes_eq-Decides k n).0 same)) in
-    (let clash : true ≡ false = sym back ∙ is in cc))
-
 response_key : (a b : Bool) → b ≡ true
     → name_key (cond a Request (cond b Response Event)) ≡ codes "command"
 response_key true b is = refl
 response_key false true is = refl
 response_key false false is = absurd (cc)
 
-applies : (command n : List ℕ) (d : Doc) → unwrap_or (success_of d) false ≡ true
+pub applies : (command n : List ℕ) (d : Doc) → unwrap_or (success_of d) false ≡ true
     → name_of d ≡ Some n → row_applies (Some Response) (Some command) d ≡ bytes_eq command n
 applies command n d success named =
     let both = sym (succeeded (is_of_kind Response d) (get (codes "success") d)) ∙ success in
@@ -102,70 +91,12 @@ applies command n d success named =
     (second_of (is_of_kind Response d) (is_true (get (codes "success") d)) both)
     ∙ text_is command n (get (codes "command") d) (ap (λ k. text_value (get k d)) (sym key) ∙ named)
 
-applies_not : (command : List ℕ) (d : Doc) → unwrap_or (success_of d) false ≡ false
+pub applies_not : (command : List ℕ) (d : Doc) → unwrap_or (success_of d) false ≡ false
     → row_applies (Some Response) (Some command) d ≡ false
 applies_not command d success =
     outside (is_of_kind Response d) (is_text command (get (codes "command") d))
     (is_true (get (codes "success") d))
     (sym (succeeded (is_of_kind Response d) (get (codes "success") d)) ∙ success)
-
--- The lines, if these rows apply.
-abbrev lines_if : Bool → Bool → Bool → Doc → List ℕ
-lines_if f s v d =
-    flat_map frame_line
-    (filter_map frame_of (cond f (unwrap_or (array_in (codes "stackFrames") d) []) []))
-    ++ flat_map scope_line
-    (filter_map scope_of (cond s (unwrap_or (array_in (codes "scopes") d) []) []))
-    ++ flat_map variable_line
-    (filter_map variable_of (cond v (unwrap_or (array_in (codes "variables") d) []) []))
-
-by_rows : (f s v : Bool) (d : Doc)
-    → row_applies (Some Response) (Some (codes "stackTrace")) d ≡ f
-    → row_applies (Some Response) (Some (codes "scopes")) d ≡ s
-    → row_applies (Some Response) (Some (codes "variables")) d ≡ v
-    → listed_lines d ≡ lines_if f s v d
-by_rows f s v d one two three =
-    ap (λ b. lines_if b (row_applies (Some Response) (Some (codes "scopes")) d)
-    (row_applies (Some Response) (Some (codes "variables")) d) d) one
-    ∙ ap (λ b. lines_if f b (row_applies (Some Response) (Some (codes "variables")) d) d) two
-    ∙ ap (λ b. lines_if f s b d) three
-
-pub unsuccessful : (d : Doc) → unwrap_or (success_of d) false ≡ false → listed_lines d ≡ []
-unsuccessful d success =
-    by_rows false false false d (applies_not (codes "stackTrace") d success)
-    (applies_not (codes "scopes") d success) (applies_not (codes "variables") d success)
-
-module _ (d : Doc) (n : List ℕ) (success : unwrap_or (success_of d) false ≡ true)
-    (named : name_of d ≡ Some n) where
-  by_name : (f s v : Bool) → bytes_eq (codes "stackTrace") n ≡ f → bytes_eq (codes "scopes") n ≡ s
-      → bytes_eq (codes "variables") n ≡ v → listed_lines d ≡ lines_if f s v d
-  by_name f s v one two three =
-      by_rows f s v d (applies (codes "stackTrace") n d success named ∙ one)
-      (applies (codes "scopes") n d success named ∙ two)
-      (applies (codes "variables") n d success named ∙ three)
-
-  pub lists_frames : n ≡ codes "stackTrace" → listed_lines d ≡ lines_of_kind Frame d
-  lists_frames is =
-      by_name true false false (ap (bytes_eq (codes "stackTrace")) is)
-      (ap (bytes_eq (codes "scopes")) is) (ap (bytes_eq (codes "variables")) is)
-      ∙ append-nil (lines_of_kind Frame d ++ []) ∙ append-nil (lines_of_kind Frame d)
-
-  pub lists_scopes : n ≡ codes "scopes" → listed_lines d ≡ lines_of_kind Scope d
-  lists_scopes is =
-      by_name false true false (ap (bytes_eq (codes "stackTrace")) is)
-      (ap (bytes_eq (codes "scopes")) is) (ap (bytes_eq (codes "variables")) is)
-      ∙ append-nil (lines_of_kind Scope d)
-
-  pub lists_variables : n ≡ codes "variables" → listed_lines d ≡ lines_of_kind Variable d
-  lists_variables is =
-      by_name false false true (ap (bytes_eq (codes "stackTrace")) is)
-      (ap (bytes_eq (codes "scopes")) is) (ap (bytes_eq (codes "variables")) is)
-
-  pub lists_none : bytes_eq n (codes "stackTrace") ≡ false → bytes_eq n (codes "scopes") ≡ false
-      → bytes_eq n (codes "variables") ≡ false → listed_lines d ≡ []
-  lists_none one two three =
-      by_name false false false (other (codes "stackTrace") n one) (other (codes "scopes") n two)
-      (other (codes "variables") n three)
 
 -- ---- a member of an element
 
@@ -184,55 +115,23 @@ leaf_there ns at (object ms) d n x h there is =
     (members_pieces ms ++ end_object ∷ []) h there in absurd (cc)
 leaf_there ns at (id s z) d n x h there is = let first = stands_first ns at n x _ _ h there in cc
 
-pub starts_member : (ns : List Node) (at i : ℕ) (k : List ℕ) (n x : Node) (found : Option ℕ)
-    → FindsChild ns at k found → found ≡ Some i → get_or ns i x ≡ n → StartsMember ns at k n
-starts_member ns at i k n x found finds is there d e h leaf_is =
-    let f = found_there ns at i k found d finds is h in
-    f.is ∙ ap Some (leaf_there ns i f.part e n x f.holds there leaf_is)
+pub leaf_member : (ns : List Node) (at i : ℕ) (k : List ℕ) (n x : Node) (e : Doc)
+    → FindsChild ns at k (Some i) → get_or ns i x ≡ n → piece_of n ≡ leaf e
+    → (d : Doc) → Holds ns at d → get k d ≡ Some e
+leaf_member ns at i k n x e finds there is d h =
+    let f = found_there ns at i k (Some i) d finds refl h in
+    f.is ∙ ap Some (leaf_there ns i f.part e n x f.holds there is)
 
--- A function that is undefined for a document with parts, and for null.
-module _ {X : Type 0} (value : Option Doc → Option X) (nulls : value (Some null) ≡ None)
-    (lists : value (Some (list no_items)) ≡ None)
-    (objects : value (Some (object no_members)) ≡ None) where
-  module _ (ns : List Node) (at : ℕ) (k : List ℕ) (n : Node) (starts : StartsMember ns at k n) where
-    by_piece : (p : Piece) (x : X) → piece_of n ≡ p → Some x ≡ value (Some (top_of p))
-        → IsMemberValue value ns at k x
-    by_piece (leaf e) x there is d h = ap value (starts d e h there) ∙ sym is
-    by_piece (begin_list i) x there is d h = (let both = is ∙ lists in absurd (cc))
-    by_piece end_list x there is d h = (let both = is ∙ nulls in absurd (cc))
-    by_piece (begin_object i) x there is d h = (let both = is ∙ objects in absurd (cc))
-    by_piece end_object x there is d h = (let both = is ∙ nulls in absurd (cc))
-    by_piece (name l) x there is d h = (let both = is ∙ nulls in absurd (cc))
-
-    member_value : (x : X) → Some x ≡ value (Some (top_of (piece_of n)))
-        → IsMemberValue value ns at k x
-    member_value x is = by_piece (piece_of n) x refl is
-
-pub text_there : (ns : List Node) (at : ℕ) (k : List ℕ) (n : Node) (r : Option (Bor (List ℕ)))
-    → StartsMember ns at k n
-    → option_map (λ s. s.now) r ≡ text_value (Some (top_of (piece_of n)))
-    → IfSome r (λ s. IsMemberValue text_value ns at k s.now)
-text_there ns at k n None starts is = tt
-text_there ns at k n (Some s) starts is =
-    member_value text_value refl refl refl ns at k n starts s.now is
-
-pub number_there : (ns : List Node) (at : ℕ) (k : List ℕ) (n : Node) (r : Option ℤ)
-    → StartsMember ns at k n → r ≡ number_value (Some (top_of (piece_of n)))
-    → IfSome r (IsMemberValue number_value ns at k)
-number_there ns at k n None starts is = tt
-number_there ns at k n (Some z) starts is =
-    member_value number_value refl refl refl ns at k n starts z is
-
-pub reference_there : (ns : List Node) (at : ℕ) (k : List ℕ) (n : Node) (r : Option ℤ)
-    → StartsMember ns at k n → r ≡ reference_value (Some (top_of (piece_of n)))
-    → IfSome r (IsMemberValue reference_value ns at k)
-reference_there ns at k n None starts is = tt
-reference_there ns at k n (Some z) starts is =
-    member_value reference_value refl refl refl ns at k n starts z is
+-- The value of a member that is a leaf, if the leaf has one.
+pub if_member : {X : Type 0} (value : Option Doc → Option X) (ns : List Node) (at : ℕ) (k : List ℕ)
+    (e : Doc) (r : Option X) → r ≡ value (Some e)
+    → ((d : Doc) → Holds ns at d → get k d ≡ Some e) → IfSome r (IsMemberValue value ns at k)
+if_member value ns at k e None is there = tt
+if_member value ns at k e (Some x) is there = λ d h. ap value (there d h) ∙ sym is
 
 -- ---- an array
 
-pub array_there : (ns : List Node) (at : ℕ) (d : Doc) (n x : Node) (i : ℕ) → Holds ns at d
+array_there : (ns : List Node) (at : ℕ) (d : Doc) (n x : Node) (i : ℕ) → Holds ns at d
     → get_or ns at x ≡ n → piece_of n ≡ begin_list i
     → (ds : Items) × (d ≡ list ds) × AreElements ns (at + 1) ds
 array_there ns at null n x i h there begun =
@@ -250,12 +149,12 @@ array_there ns at (object ms) n x i h there begun =
 array_there ns at (id s z) n x i h there begun =
     let first = stands_first ns at n x _ _ h there in absurd (cc)
 
-pub starts_elements : (ns : List Node) (i j m : ℕ) (k : List ℕ) (n x : Node) (r s : Option ℕ)
-    → FindsChild ns 0 (codes "body") r → r ≡ Some i → FindsChild ns i k s → s ≡ Some j
+pub starts_elements : (ns : List Node) (i j m : ℕ) (k : List ℕ) (n x : Node)
+    → FindsChild ns 0 (codes "body") (Some i) → FindsChild ns i k (Some j)
     → get_or ns j x ≡ n → piece_of n ≡ begin_list m → StartsElements ns k (j + 1)
-starts_elements ns i j m k n x r s body body_is array array_is there begun d h =
-    let b = found_there ns 0 i (codes "body") r d body body_is h in
-    let a = found_there ns i j k s b.part array array_is b.holds in
+starts_elements ns i j m k n x body array there begun d h =
+    let b = found_there ns 0 i (codes "body") (Some i) d body refl h in
+    let a = found_there ns i j k (Some j) b.part array refl b.holds in
     let inside = array_there ns j a.part n x m a.holds there begun in (
       inside.0,
       ap (λ o. option_and_then list_of (option_and_then (get k) o)) b.is
@@ -264,12 +163,6 @@ starts_elements ns i j m k n x r s body body_is array array_is there begun d h =
     )
 
 -- ---- the lines of elements
-
--- The line of an element that has a view.
-pub one_line : {X : Type 0} (view_of : Doc → Option X) (line : X → List ℕ) (d : Doc) (x : X)
-    → view_of d ≡ Some x → line x ≡ flat_map line (filter_map view_of (d ∷ []))
-one_line view_of line d x is =
-    sym (ap (λ o. flat_map line (cons_option o [])) is ∙ append-nil (line x))
 
 then_lines : {X : Type 0} (view_of : Doc → Option X) (line : X → List ℕ) (d : Doc) (ds : List Doc)
     → flat_map line (filter_map view_of (d ∷ ds))
@@ -288,6 +181,28 @@ no_lines : (kind : Element) → element_lines kind [] ≡ []
 no_lines Frame = refl
 no_lines Scope = refl
 no_lines Variable = refl
+
+-- The message does not list elements of this kind.
+pub not_listed : (kind : Element) (d : Doc) (command : List ℕ) (b : Bool) (old : List ℕ)
+    → command ≡ command_name kind → b ≡ row_applies (Some Response) (Some command) d → b ≡ false
+    → old ≡ old ++ lines_of_kind kind d
+not_listed kind d command b old is tells off =
+    let row = ap (λ k. row_applies (Some Response) (Some k) d) (sym is) ∙ sym tells ∙ off in
+    sym (append-nil old)
+    ∙ ap (λ t. old ++ t)
+    (sym (ap (λ c. element_lines kind (cond c (unwrap_or (array_in (array_name kind) d) []) [])) row
+    ∙ no_lines kind))
+
+-- The message lists these elements.
+pub all_listed : (kind : Element) (d : Doc) (command array : List ℕ) (b : Bool) (ds : List Doc)
+    → command ≡ command_name kind → array ≡ array_name kind
+    → b ≡ row_applies (Some Response) (Some command) d → b ≡ true → array_in array d ≡ Some ds
+    → element_lines kind ds ≡ lines_of_kind kind d
+all_listed kind d command array b ds is named tells on found =
+    let row = ap (λ k. row_applies (Some Response) (Some k) d) (sym is) ∙ sym tells ∙ on in
+    let there = ap (λ k. array_in k d) (sym named) ∙ found in
+    sym (ap (λ c. element_lines kind (cond c (unwrap_or (array_in (array_name kind) d) []) [])) row
+    ∙ ap (λ o. element_lines kind (unwrap_or o [])) there)
 
 -- ---- the loop
 

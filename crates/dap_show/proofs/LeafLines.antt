@@ -1,10 +1,10 @@
 -- The lines of the leaves of a document, found among its nodes.
 use Rattle.std.proofs.Common.{◌≡◌, ℕ, suc, ◌+◌, ◌<◌, ◌≤◌, List, [], ◌∷◌, ◌++◌, length, get_or}
-use Rattle.std.proofs.Common.{Bool, true, nat_eq, take, map, inl, inr, refl, sym, ◌∙◌, ap, ap₂}
-use Rattle.std.proofs.Common.{subst, arith, codes, append_assoc, append-nil, length-append}
+use Rattle.std.proofs.Common.{Option, Some, None, take, map, inl, inr, refl, sym, ◌∙◌, ap, ap₂}
+use Rattle.std.proofs.Common.{subst, arith, codes, append_assoc, append-nil, length-append, ◌⊎◌}
+use Rattle.std.proofs.Common.{option_map}
 use Rattle.std.specs.Borrow.{Bor}
 use Rattle.std.proofs.Math.Seq.{take-append_seam}
-use Rattle.std.proofs.lemmas.Bool.Decides.{nat_tests}
 use Rattle.std.proofs.lemmas.List.{length-map}
 use Rattle.std.proofs.lemmas.List.Concat.{flat_map-append}
 use Rattle.dap_difference.specs.Lines.{name_text, path_text, step_text}
@@ -14,22 +14,17 @@ use Rattle.dap_difference.specs.declared.difference.Step.TheVariants.{Member, It
 use Rattle.dap_tree.specs.Doc.{Doc, null, boolean, whole, text, list, object, id, Items, no_items}
 use Rattle.dap_tree.specs.Doc.{item, Members, no_members, member}
 use Rattle.dap_tree.specs.{Json.text_of, Path.{Step, name as name_step, place}}
-use Rattle.dap_flat.specs.Finding.{Stand, Holds, HoldsMembers}
+use Rattle.dap_flat.specs.Finding.{Stand, Holds}
 use Rattle.dap_flat.specs.Pieces.{Appends, Piece, Represents}
 use Rattle.dap_flat.specs.Pieces.{begin_list, begin_object, end_list, end_object, name}
 use Rattle.dap_flat.specs.Pieces.{items_pieces, leaf, members_pieces, piece_of, pieces}
 use Rattle.dap_flat.specs.declared.node.Node.{Node}
-use Rattle.dap_flat.specs.declared.node.Node.TheVariants as node
-use Rattle.dap_flat.proofs.Found.{behind_first, first_part, object_inside, second_part}
-use Rattle.dap_flat.proofs.Found.{stands_first}
-use Rattle.dap_flat_message.proofs.Judged.{no_value_ends, value_then}
+use Rattle.dap_flat.proofs.Found.{behind_first, first_part, second_part, stands_first}
 use Rattle.dap_flat_message.specs.Judging.{top_of}
-use Rattle.dap_show.specs.FlatElements.{AreElements}
-use Rattle.dap_show.specs.Leaves.{Lengthens, item_lines, leaf_line, leaf_lines, line_of}
-use Rattle.dap_show.specs.Leaves.{member_lines, printed_path, steps_text}
-use Rattle.dap_show.specs.LeafWalk.{ItemsLeft, MembersLeft, PushesDocument, PushesItems}
-use Rattle.dap_show.specs.LeafWalk.{PushesMembers, PushesPart}
-use Rattle.dap_show.proofs.FlatElements.{array_there}
+use Rattle.dap_show.specs.Leaves.{Lengthens, leaf_line, leaf_lines, line_of}
+use Rattle.dap_show.specs.Leaves.{printed_path, steps_text}
+use Rattle.dap_show.specs.LeafWalk.{Parts, PartsLeft, PushesDocument, PushesParts, elements}
+use Rattle.dap_show.specs.LeafWalk.{inside_of, members, part_from, parts_lines, parts_pieces}
 
 -- ---- lines that are appended up to a limit
 
@@ -112,57 +107,18 @@ stands_within ns at ps s =
       length-map s.inside piece_of,
     )
 
-list_node : (n : Node) (i : ℕ) → piece_of n ≡ begin_list i → n ≡ node.List i
-list_node node.Null i is = absurd (cc)
-list_node (node.Bool b) i is = absurd (cc)
-list_node (node.Unsigned j) i is = absurd (cc)
-list_node (node.Negative z) i is = absurd (cc)
-list_node (node.Text s) i is = absurd (cc)
-list_node (node.List j) i is = let same : j ≡ i = cc in ap node.List same
-list_node node.EndList i is = absurd (cc)
-list_node (node.Object j) i is = absurd (cc)
-list_node node.EndObject i is = absurd (cc)
-list_node (node.Name s) i is = absurd (cc)
-list_node (node.Id s z) i is = absurd (cc)
+some_pieces : (d : Doc) → 0 < length (pieces d)
+some_pieces null = omega arith
+some_pieces (boolean b) = omega arith
+some_pieces (whole z) = omega arith
+some_pieces (text s) = omega arith
+some_pieces (list ds) = omega arith
+some_pieces (object ms) = omega arith
+some_pieces (id s z) = omega arith
 
-object_node : (n : Node) (i : ℕ) → piece_of n ≡ begin_object i → n ≡ node.Object i
-object_node node.Null i is = absurd (cc)
-object_node (node.Bool b) i is = absurd (cc)
-object_node (node.Unsigned j) i is = absurd (cc)
-object_node (node.Negative z) i is = absurd (cc)
-object_node (node.Text s) i is = absurd (cc)
-object_node (node.List j) i is = absurd (cc)
-object_node node.EndList i is = absurd (cc)
-object_node (node.Object j) i is = let same : j ≡ i = cc in ap node.Object same
-object_node node.EndObject i is = absurd (cc)
-object_node (node.Name s) i is = absurd (cc)
-object_node (node.Id s z) i is = absurd (cc)
-
-some_pieces : (d : Doc) (qs : List Piece) → 0 < length (pieces d ++ qs)
-some_pieces null qs = omega arith
-some_pieces (boolean b) qs = omega arith
-some_pieces (whole z) qs = omega arith
-some_pieces (text s) qs = omega arith
-some_pieces (list ds) qs = omega arith
-some_pieces (object ms) qs = omega arith
-some_pieces (id s z) qs = omega arith
-
-empty_is : (n : ℕ) (b : Bool) → b ≡ nat_eq n 0 → b ≡ true → n ≡ 0
-empty_is n b is holds = grind (arith, nat_tests)
-
--- Every document has nodes.
-pub no_nodes : (ns : List Node) (d : Doc) (b : Bool) → Represents ns d → b ≡ nat_eq (length ns) 0
-    → b ≡ true → ⊥
-no_nodes ns d b shows is holds =
-    let none = empty_is (length ns) b is holds in
-    omega (
-      arith,
-      none,
-      some_pieces d [],
-      ap length (append-nil (pieces d)),
-      ap length shows,
-      length-map ns piece_of,
-    )
+-- A document starts at a node.
+pub holds_within : (ns : List Node) (at : ℕ) (d : Doc) → Holds ns at d → at < length ns
+holds_within ns at d h = omega (arith, stands_within ns at (pieces d) h, some_pieces d)
 
 -- The nodes of a document that were appended to none represent it.
 pub all_appended : (old new : List Node) (d : Doc) → old ≡ [] → Appends old new (pieces d)
@@ -170,148 +126,237 @@ pub all_appended : (old new : List Node) (d : Doc) → old ≡ [] → Appends ol
 all_appended old new d none a =
     ap (map piece_of) (a.added ∙ ap (λ ns. ns ++ a.more) none) ∙ a.shows
 
--- ---- a leaf
+-- ---- the first piece of a document
 
-abbrev IsOneLine : List Step → Node → Doc → Type 0
-IsOneLine p n d = (leaf_lines p d ≡ leaf_line p (top_of (piece_of n))) × (length (pieces d) ≡ 1)
+-- The document has one line, and its first piece has these pieces after it.
+abbrev IsOneLine : List Step → Doc → Piece → List Piece → ℕ → Type 0
+IsOneLine p d q qs n = (leaf_lines p d ≡ leaf_line p (top_of q)) × (length qs ≡ n)
 
--- A node that starts neither a list nor an object is a leaf.
-one_line : (ns : List Node) (at : ℕ) (n x : Node) (p : List Step) (d : Doc) → Holds ns at d
-    → get_or ns at x ≡ n → ((i : ℕ) → n ≡ node.List i → ⊥) → ((i : ℕ) → n ≡ node.Object i → ⊥)
-    → IsOneLine p n d
-one_line ns at n x p null h there no_list no_object =
-    let first = stands_first ns at n x (leaf null) [] h there in
-    (ap (λ q. leaf_line p (top_of q)) (sym first), refl)
-one_line ns at n x p (boolean b) h there no_list no_object =
-    let first = stands_first ns at n x (leaf (boolean b)) [] h there in
-    (ap (λ q. leaf_line p (top_of q)) (sym first), refl)
-one_line ns at n x p (whole z) h there no_list no_object =
-    let first = stands_first ns at n x (leaf (whole z)) [] h there in
-    (ap (λ q. leaf_line p (top_of q)) (sym first), refl)
-one_line ns at n x p (text s) h there no_list no_object =
-    let first = stands_first ns at n x (leaf (text s)) [] h there in
-    (ap (λ q. leaf_line p (top_of q)) (sym first), refl)
-one_line ns at n x p (list ds) h there no_list no_object =
-    let i = length (items_pieces ds) in
-    absurd (no_list i (list_node n i
-    (stands_first ns at n x (begin_list i) (items_pieces ds ++ end_list ∷ []) h there)))
-one_line ns at n x p (object ms) h there no_list no_object =
-    let i = length (members_pieces ms) in
-    absurd (no_object i (object_node n i
-    (stands_first ns at n x (begin_object i) (members_pieces ms ++ end_object ∷ []) h there)))
-one_line ns at n x p (id s z) h there no_list no_object =
-    let first = stands_first ns at n x (leaf (id s z)) [] h there in
-    (ap (λ q. leaf_line p (top_of q)) (sym first), refl)
+abbrev HasParts : List Step → Doc → List Piece → Type 0
+HasParts p d qs = (ps : Parts) × (leaf_lines p d ≡ parts_lines p 0 ps) × (qs ≡ parts_pieces ps)
 
-pub leaf_pushed : (limit : ℕ) (ns : List Node) (at : ℕ) (n x : Node) (path old new : List ℕ)
-    → get_or ns at x ≡ n → ((i : ℕ) → n ≡ node.List i → ⊥) → ((i : ℕ) → n ≡ node.Object i → ⊥)
-    → Lengthens limit old new (line_of path (top_of (piece_of n)))
-    → PushesDocument limit ns at path old new (at + 1)
-leaf_pushed limit ns at n x path old new there no_list no_object pushed d p h same =
-    let one = one_line ns at n x p d h there no_list no_object in (
-      subst (Lengthens limit old new)
-          (line_is p path (top_of (piece_of n)) same ∙ sym one.0) pushed,
-      omega (arith, one.1),
+abbrev IsShaped : List Step → Doc → Piece → List Piece → Option ℕ → Type 0
+IsShaped p d q qs None = IsOneLine p d q qs 0
+IsShaped p d q qs (Some n) = (n ≡ 0 → IsOneLine p d q qs 1) × (0 < n → HasParts p d qs)
+
+-- The document starts with the piece.
+record StartsWith (p : List Step) (d : Doc) (q : Piece) : Type 0 where
+  rest : List Piece
+  is : pieces d ≡ q ∷ rest
+  is_value : (at n : ℕ) → part_from at n q ≡ Some (place n, at)
+  shaped : IsShaped p d q rest (inside_of q)
+
+scalar : (p : List Step) (d : Doc) → pieces d ≡ leaf d ∷ [] → leaf_lines p d ≡ leaf_line p d
+    → StartsWith p d (leaf d)
+scalar p d is line =
+    record { rest = []; is = is; is_value = λ at n. refl; shaped = (line, refl) }
+
+starts_with : (p : List Step) (d : Doc) → (q : Piece) × StartsWith p d q
+starts_with p null = (leaf null, scalar p null refl refl)
+starts_with p (boolean b) = (leaf (boolean b), scalar p (boolean b) refl refl)
+starts_with p (whole z) = (leaf (whole z), scalar p (whole z) refl refl)
+starts_with p (text s) = (leaf (text s), scalar p (text s) refl refl)
+starts_with p (id s z) = (leaf (id s z), scalar p (id s z) refl refl)
+starts_with p (list no_items) = (
+  begin_list 0,
+  record {
+    rest = end_list ∷ [];
+    is = refl;
+    is_value = λ at n. refl;
+    shaped = (λ none. (refl, refl), λ some. absurd (omega (arith, some)));
+  },
+)
+starts_with p (list (item e rest)) =
+    let some : 0 < length (pieces e ++ items_pieces rest) =
+    omega (arith, some_pieces e, length-append (pieces e) (items_pieces rest)) in (
+      begin_list (length (items_pieces (item e rest))),
+      record {
+        rest = items_pieces (item e rest) ++ end_list ∷ [];
+        is = refl;
+        is_value = λ at n. refl;
+        shaped = (
+          λ none. absurd (omega (arith, none, some)),
+          λ more. (elements (item e rest), refl, refl),
+        );
+      },
     )
+starts_with p (object no_members) = (
+  begin_object 0,
+  record {
+    rest = end_object ∷ [];
+    is = refl;
+    is_value = λ at n. refl;
+    shaped = (λ none. (refl, refl), λ some. absurd (omega (arith, some)));
+  },
+)
+starts_with p (object (member k e rest)) = (
+  begin_object (length (members_pieces (member k e rest))),
+  record {
+    rest = members_pieces (member k e rest) ++ end_object ∷ [];
+    is = refl;
+    is_value = λ at n. refl;
+    shaped = (
+      λ none. absurd (omega (arith, none)),
+      λ more. (members (member k e rest), refl, refl),
+    );
+  },
+)
 
--- ---- a list and an object
+module _ (ns : List Node) (at : ℕ) (x : Node) (p : List Step) where
+  abbrev Q : Piece
+  Q = piece_of (get_or ns at x)
 
-module _ (limit : ℕ) (p : List Step) (path old mid new : List ℕ) (same : steps_text p ≡ path)
-    (inside : ℕ) (some : 0 < inside → mid ≡ old) where
-  list_lines : (ds : Items) → inside ≡ length (items_pieces ds)
-      → (inside ≡ 0 → Lengthens limit old mid (line_of path (list no_items)))
-      → Lengthens limit mid new (item_lines p 0 ds)
-      → Lengthens limit old new (leaf_lines p (list ds))
-  list_lines no_items count none pushed =
-      let line = line_of path (list no_items) in
-      subst (Lengthens limit old new) (append-nil line ∙ line_is p path (list no_items) same)
-      (then_lengthens limit old mid new line [] (none count) pushed)
-  list_lines (item e rest) count none pushed =
-      let within : 0 < inside = omega (arith, count, some_pieces e (items_pieces rest)) in
-      subst (λ before. Lengthens limit before new (item_lines p 0 (item e rest))) (some within)
-      pushed
+  started : (d : Doc) → Holds ns at d → StartsWith p d Q
+  started d h =
+      let s = starts_with p d in
+      subst (StartsWith p d)
+      (sym (stands_first ns at (get_or ns at x) x s.0 s.1.rest (subst (Stand ns at) s.1.is h) refl))
+      s.1
 
-  object_lines : (ms : Members) → inside ≡ length (members_pieces ms)
-      → (inside ≡ 0 → Lengthens limit old mid (line_of path (object no_members)))
-      → Lengthens limit mid new (member_lines p ms)
-      → Lengthens limit old new (leaf_lines p (object ms))
-  object_lines no_members count none pushed =
-      let line = line_of path (object no_members) in
-      subst (Lengthens limit old new) (append-nil line ∙ line_is p path (object no_members) same)
-      (then_lengthens limit old mid new line [] (none count) pushed)
-  object_lines (member k e rest) count none pushed =
-      let within : 0 < inside = omega (arith, count) in
-      subst (λ before. Lengthens limit before new (member_lines p (member k e rest))) (some within)
-      pushed
+  shape_is : (d : Doc) (s : StartsWith p d Q) (o : Option ℕ) → o ≡ inside_of Q
+      → IsShaped p d Q s.rest o
+  shape_is d s o is = subst (IsShaped p d Q s.rest) (sym is) s.shaped
 
-pub list_pushed : (limit : ℕ) (ns : List Node) (at inside : ℕ) (x : Node)
-    (path old mid new : List ℕ) (end : ℕ) → get_or ns at x ≡ node.List inside
-    → (inside ≡ 0
-    → Lengthens limit old mid (line_of path (top_of (piece_of (get_or ns at x)))))
-    → (0 < inside → mid ≡ old) → PushesItems limit ns (at + 1) path mid new end
-    → PushesDocument limit ns at path old new end
-list_pushed limit ns at inside x path old mid new end there none some pushed d p h same =
-    let parts = array_there ns at d (node.List inside) x inside h there refl in
-    let ds = parts.0 in
-    let first : begin_list inside ≡ begin_list (length (items_pieces ds)) =
-    stands_first ns at (node.List inside) x (begin_list (length (items_pieces ds)))
-    (items_pieces ds ++ end_list ∷ []) (subst (Holds ns at) parts.1 h) there in
-    let count : inside ≡ length (items_pieces ds) = cc in
-    let line : inside ≡ 0 → Lengthens limit old mid (line_of path (list no_items)) =
-    λ zero. subst (λ n. Lengthens limit old mid (line_of path (top_of (piece_of n)))) there
-    (none zero) in
-    let inner = pushed ds p parts.2 same in (
-      subst (λ e. Lengthens limit old new (leaf_lines p e)) (sym parts.1)
-          (list_lines limit p path old mid new same inside some ds count line inner.0),
-      omega (
-        arith,
-        inner.1,
-        ap (λ e. length (pieces e)) parts.1,
-        length-append (items_pieces ds) (end_list ∷ []),
-      ),
-    )
+  one_line : (limit : ℕ) (path old new : List ℕ) → Lengthens limit old new (line_of path (top_of Q))
+      → (d : Doc) (n : ℕ) (s : StartsWith p d Q) → IsOneLine p d Q s.rest n → steps_text p ≡ path
+      → Lengthens limit old new (leaf_lines p d) × (at + 1 + n ≡ at + length (pieces d))
+  one_line limit path old new pushed d n s one same = (
+    subst (Lengthens limit old new) (line_is p path (top_of Q) same ∙ sym one.0) pushed,
+    omega (arith, one.1, ap length s.is),
+  )
 
-pub object_pushed : (limit : ℕ) (ns : List Node) (at inside : ℕ) (x : Node)
-    (path old mid new : List ℕ) (end : ℕ) → get_or ns at x ≡ node.Object inside
-    → (inside ≡ 0
-    → Lengthens limit old mid (line_of path (top_of (piece_of (get_or ns at x)))))
-    → (0 < inside → mid ≡ old) → PushesMembers limit ns (at + 1) path mid new end
-    → PushesDocument limit ns at path old new end
-object_pushed limit ns at inside x path old mid new end there none some pushed d p h same =
-    let parts = object_inside ns at d (node.Object inside) x inside h there refl in
-    let ms = parts.0 in
-    let first : begin_object inside ≡ begin_object (length (members_pieces ms)) =
-    stands_first ns at (node.Object inside) x (begin_object (length (members_pieces ms)))
-    (members_pieces ms ++ end_object ∷ []) (subst (Holds ns at) parts.1 h) there in
-    let count : inside ≡ length (members_pieces ms) = cc in
-    let line : inside ≡ 0 → Lengthens limit old mid (line_of path (object no_members)) =
-    λ zero. subst (λ n. Lengthens limit old mid (line_of path (top_of (piece_of n)))) there
-    (none zero) in
-    let inner = pushed ms p parts.2 same in (
-      subst (λ e. Lengthens limit old new (leaf_lines p e)) (sym parts.1)
-          (object_lines limit p path old mid new same inside some ms count line inner.0),
-      omega (
-        arith,
-        inner.1,
-        ap (λ e. length (pieces e)) parts.1,
-        length-append (members_pieces ms) (end_object ∷ []),
-      ),
-    )
+module _ (limit : ℕ) (ns : List Node) (at : ℕ) (x : Node) (path old new : List ℕ) where
+  pub leaf_pushed : None ≡ inside_of (piece_of (get_or ns at x))
+      → Lengthens limit old new (line_of path (top_of (piece_of (get_or ns at x))))
+      → PushesDocument limit ns at path old new (at + 1)
+  leaf_pushed is pushed d p h same =
+      let s = started ns at x p d h in
+      let one = one_line ns at x p limit path old new pushed d 0 s
+      (shape_is ns at x p d s None is) same in
+      (one.0, omega (arith, one.1))
 
--- A document to which one more step leads.
-pub part_pushed : (limit : ℕ) (ns : List Node) (at : ℕ) (s : Step) (path pushed old new : List ℕ)
-    (end : ℕ) → pushed ≡ path ++ step_text s → PushesDocument limit ns at pushed old new end
-    → PushesPart limit ns at s path old new end
-part_pushed limit ns at s path pushed old new end is document d p h same =
-    document d (p ++ s ∷ []) h (step_pushed p s path pushed same is)
+  pub empty_pushed : Some 0 ≡ inside_of (piece_of (get_or ns at x))
+      → Lengthens limit old new (line_of path (top_of (piece_of (get_or ns at x))))
+      → PushesDocument limit ns at path old new (at + 2)
+  empty_pushed is pushed d p h same =
+      let s = started ns at x p d h in
+      let one = one_line ns at x p limit path old new pushed d 1 s
+      ((shape_is ns at x p d s (Some 0) is).0 refl) same in
+      (one.0, omega (arith, one.1))
 
--- ---- the items of a list
+  pub parts_pushed : (n end : ℕ) → Some n ≡ inside_of (piece_of (get_or ns at x)) → 0 < n
+      → PushesParts limit ns (at + 1) path old new end → PushesDocument limit ns at path old new end
+  parts_pushed n end is some pushed d p h same =
+      let s = started ns at x p d h in
+      let parts = (shape_is ns at x p d s (Some n) is).1 some in
+      let holds =
+      behind_first ns at (piece_of (get_or ns at x)) s.rest (subst (Stand ns at) s.is h) in
+      let inner = pushed parts.0 p (subst (Stand ns (at + 1)) parts.2 holds) same in (
+        subst (Lengthens limit old new) (sym parts.1) inner.0,
+        omega (arith, inner.1, ap length s.is, ap length parts.2),
+      )
 
-module _ (limit : ℕ) (ns : List Node) (from : ℕ) (path old : List ℕ) (ds : Items) (p : List Step)
+-- ---- the parts of an array or object
+
+-- The document of the next part starts at `start`, after its step s, and the rest comes after it.
+record NextPart (ns : List Node) (p : List Step) (at n : ℕ) (ps : Parts) (s : Step) (start : ℕ) :
+    Type 0 where
+  part : Doc
+  rest : Parts
+  holds : Stand ns start (pieces part ++ parts_pieces rest)
+  lines : parts_lines p n ps ≡ leaf_lines (p ++ s ∷ []) part ++ parts_lines p (suc n) rest
+  count : at + length (parts_pieces ps)
+      ≡ start + (length (pieces part) + length (parts_pieces rest))
+
+abbrev IsNext : List Node → List Step → ℕ → ℕ → Parts → Option (Step × ℕ) → Type 0
+IsNext ns p at n ps None = (parts_lines p n ps ≡ []) × (length (parts_pieces ps) ≡ 1)
+IsNext ns p at n ps (Some next) = NextPart ns p at n ps next.0 next.1
+
+module _ (ns : List Node) (p : List Step) (at n : ℕ) (x : Node) where
+  abbrev Next : Parts → Piece → Type 0
+  Next ps q = IsNext ns p at n ps (part_from at n q)
+
+  by_first : (ps : Parts) (q : Piece) (qs : List Piece) → Stand ns at (q ∷ qs) → Next ps q
+      → Next ps (piece_of (get_or ns at x))
+  by_first ps q qs h is =
+      subst (Next ps) (sym (stands_first ns at (get_or ns at x) x q qs h refl)) is
+
+  next_part : (ps : Parts) → Stand ns at (parts_pieces ps) → Next ps (piece_of (get_or ns at x))
+  next_part (elements no_items) h = by_first (elements no_items) end_list [] h (refl, refl)
+  next_part (members no_members) h = by_first (members no_members) end_object [] h (refl, refl)
+  next_part (elements (item e rest)) h =
+      let others = items_pieces rest ++ end_list ∷ [] in
+      let joined = append_assoc (pieces e) (items_pieces rest) (end_list ∷ []) in
+      let value = subst (Stand ns at) joined h in
+      let s = started ns at x p e (first_part ns at (pieces e) others value) in
+      let next : NextPart ns p at n (elements (item e rest)) (place n) at = record {
+        part = e;
+        rest = elements rest;
+        holds = value;
+        lines = refl;
+        count = omega (arith, ap length joined, length-append (pieces e) others);
+      } in
+      subst (IsNext ns p at n (elements (item e rest))) (sym (s.is_value at n)) next
+  next_part (members (member k e rest)) h =
+      let others = members_pieces rest ++ end_object ∷ [] in
+      let joined = append_assoc (pieces e) (members_pieces rest) (end_object ∷ []) in
+      let parts = (pieces e ++ members_pieces rest) ++ end_object ∷ [] in
+      by_first (members (member k e rest)) (name k) parts h
+      (record {
+        part = e;
+        rest = members rest;
+        holds = subst (Stand ns (at + 1)) joined (behind_first ns at (name k) parts h);
+        lines = refl;
+        count = omega (arith, ap length joined, length-append (pieces e) others);
+      })
+
+  next_is : (ps : Parts) (o : Option (Step × ℕ)) → Stand ns at (parts_pieces ps)
+      → o ≡ part_from at n (piece_of (get_or ns at x)) → IsNext ns p at n ps o
+  next_is ps o h is = subst (IsNext ns p at n ps) (sym is) (next_part ps h)
+
+abbrev start_of : Option (Step × ℕ) → ℕ
+start_of None = 0
+start_of (Some next) = next.1
+
+-- The document of the next part starts at the place, or after the name there.
+pub part_starts : (at n : ℕ) (q : Piece) (s : Step) (start : ℕ)
+    → Some (s, start) ≡ part_from at n q → (at ≡ start) ⊎ (at < start)
+part_starts at n (leaf d) s start is = inl (sym (ap start_of is))
+part_starts at n (begin_list m) s start is = inl (sym (ap start_of is))
+part_starts at n end_list s start is = absurd (cc)
+part_starts at n (begin_object m) s start is = inl (sym (ap start_of is))
+part_starts at n end_object s start is = absurd (cc)
+part_starts at n (name k) s start is =
+    let same : start ≡ at + 1 = ap start_of is in inr (omega (arith, same))
+
+-- The place after the part comes after the place at which it starts.
+pub part_moves : (at start end len : ℕ) → at < len → (at ≡ start) ⊎ (at < start)
+    → (start ≤ end) × (start < len → start < end) → at < end
+part_moves at start end len within (inl same) ends =
+    omega (arith, same, ends.1 (omega (arith, same, within)))
+part_moves at start end len within (inr past) ends = omega (arith, past, ends.0)
+
+-- The step and the place that the code finds.
+abbrev pub stepped : Option (CodeStep × ℕ) → Option (Step × ℕ)
+stepped o = option_map (λ part. (step_of part.0, part.1)) o
+
+pub no_part : (o : Option (CodeStep × ℕ)) (q : Option (Step × ℕ)) → stepped o ≡ q → o ≡ None
+    → None ≡ q
+no_part o q same is = sym (ap stepped is) ∙ same
+
+pub a_part : (o : Option (CodeStep × ℕ)) (q : Option (Step × ℕ)) (s : CodeStep) (start : ℕ)
+    → stepped o ≡ q → o ≡ Some (s, start) → Some (step_of s, start) ≡ q
+a_part o q s start same is = sym (ap stepped is) ∙ same
+
+some_parts : (ps : Parts) → 0 < length (parts_pieces ps)
+some_parts (elements ds) = omega (arith, length-append (items_pieces ds) (end_list ∷ []))
+some_parts (members ms) = omega (arith, length-append (members_pieces ms) (end_object ∷ []))
+
+module _ (limit : ℕ) (ns : List Node) (from : ℕ) (path old : List ℕ) (ps : Parts) (p : List Step)
   where
-    pub all_items : AreElements ns from ds → ItemsLeft limit ns from from 0 old old ds p
-    all_items s = record {
-      left = ds;
+    pub all_parts : Stand ns from (parts_pieces ps) → PartsLeft limit ns from from 0 old old ps p
+    all_parts s = record {
+      left = ps;
       holds = s;
       done = [];
       split = refl;
@@ -319,195 +364,42 @@ module _ (limit : ℕ) (ns : List Node) (from : ℕ) (path old : List ℕ) (ds :
       count = refl;
     }
 
-    -- There is a node at the place: an item, or the end of the list.
-    pub items_within : (at n : ℕ) (now : List ℕ) → ItemsLeft limit ns from at n old now ds p
-        → at < length ns
-    items_within at n now l =
-        omega (
-          arith,
-          stands_within ns at (items_pieces l.left ++ end_list ∷ []) l.holds,
-          length-append (items_pieces l.left) (end_list ∷ []),
-        )
+    module _ (at n : ℕ) (now : List ℕ) (l : PartsLeft limit ns from at n old now ps p) where
+      -- There is a node at the place: the start of a part, or the end.
+      pub parts_within : at < length ns
+      parts_within =
+          omega (arith, stands_within ns at (parts_pieces l.left) l.holds, some_parts l.left)
 
-    ended : (at n : ℕ) (x : Node) (now done : List ℕ) (left : Items) → AreElements ns at left
-        → piece_of (get_or ns at x) ≡ end_list → item_lines p 0 ds ≡ done ++ item_lines p n left
-        → from + length (items_pieces ds) ≡ at + length (items_pieces left)
-        → Lengthens limit old now done
-        → Lengthens limit old now (item_lines p 0 ds)
-        × (at + 1 ≡ from + length (items_pieces ds) + 1)
-    ended at n x now done no_items s end split count appended = (
-      subst (Lengthens limit old now) (sym (split ∙ append-nil done)) appended,
-      omega (arith, count),
-    )
-    ended at n x now done (item e rest) s end split count appended =
-        absurd (no_value_ends ns at e (items_pieces rest ++ end_list ∷ []) x
-        (value_then ns at e rest s) end)
+      pub parts_ended : (x : Node) → None ≡ part_from at n (piece_of (get_or ns at x))
+          → Lengthens limit old now (parts_lines p 0 ps)
+          × (at + 1 ≡ from + length (parts_pieces ps))
+      parts_ended x is =
+          let last = next_is ns p at n x l.left None l.holds is in (
+            subst (Lengthens limit old now)
+                (sym (l.split ∙ ap (λ t. l.done ++ t) last.0 ∙ append-nil l.done)) l.appended,
+            omega (arith, l.count, last.1),
+          )
 
-    pub items_ended : (at n : ℕ) (x : Node) (now : List ℕ)
-        → ItemsLeft limit ns from at n old now ds p
-        → piece_of (get_or ns at x) ≡ end_list
-        → Lengthens limit old now (item_lines p 0 ds)
-        × (at + 1 ≡ from + length (items_pieces ds) + 1)
-    items_ended at n x now l end =
-        ended at n x now l.done l.left l.holds end l.split l.count l.appended
-
-    passed : (same : steps_text p ≡ path) (at n m end : ℕ) (x : Node) (now new done : List ℕ)
-        (left : Items) → AreElements ns at left → (piece_of (get_or ns at x) ≡ end_list → ⊥)
-        → m ≡ suc n → item_lines p 0 ds ≡ done ++ item_lines p n left
-        → from + length (items_pieces ds) ≡ at + length (items_pieces left)
-        → Lengthens limit old now done → PushesPart limit ns at (place n) path now new end
-        → ItemsLeft limit ns from end m old new ds p
-    passed same at n m end x now new done no_items s not_end next split count appended pushed =
-        absurd (not_end (stands_first ns at (get_or ns at x) x end_list [] s refl))
-    passed same at n m end x now new done (item e rest) s not_end next split count appended pushed =
-        let value = value_then ns at e rest s in
-        let others = items_pieces rest ++ end_list ∷ [] in
-        let part = pushed e p (first_part ns at (pieces e) others value) same in
-        let lines = leaf_lines (p ++ place n ∷ []) e in
-        record {
-          left = rest;
-          holds = subst (λ i. AreElements ns i rest) (sym part.1)
-              (second_part ns at (pieces e) others value);
-          done = done ++ lines;
-          split = split ∙ ap (λ k. done ++ (lines ++ item_lines p k rest)) (sym next)
-              ∙ sym (append_assoc done lines (item_lines p m rest));
-          appended = then_lengthens limit old now new done lines appended part.0;
-          count = omega (arith, count, part.1, length-append (pieces e) (items_pieces rest));
-        }
-
-    pub item_passed : steps_text p ≡ path → (at n m end : ℕ) (x : Node) (now new : List ℕ)
-        → ItemsLeft limit ns from at n old now ds p → (piece_of (get_or ns at x) ≡ end_list → ⊥)
-        → m ≡ suc n → PushesPart limit ns at (place n) path now new end
-        → ItemsLeft limit ns from end m old new ds p
-    item_passed same at n m end x now new l not_end next pushed =
-        passed same at n m end x now new l.done l.left l.holds not_end next l.split l.count
-        l.appended pushed
-
--- ---- the members of an object
-
-name_node : (n : Node) (k : List ℕ) → piece_of n ≡ name k
-    → ((s : Bor (List ℕ)) → n ≡ node.Name s → ⊥) → ⊥
-name_node node.Null k is no_name = absurd (cc)
-name_node (node.Bool b) k is no_name = absurd (cc)
-name_node (node.Unsigned j) k is no_name = absurd (cc)
-name_node (node.Negative z) k is no_name = absurd (cc)
-name_node (node.Text s) k is no_name = absurd (cc)
-name_node (node.List j) k is no_name = absurd (cc)
-name_node node.EndList k is no_name = absurd (cc)
-name_node (node.Object j) k is no_name = absurd (cc)
-name_node node.EndObject k is no_name = absurd (cc)
-name_node (node.Name s) k is no_name = no_name s refl
-name_node (node.Id s z) k is no_name = absurd (cc)
-
-member_then : (ns : List Node) (at : ℕ) (k : List ℕ) (e : Doc) (rest : Members)
-    → HoldsMembers ns at (member k e rest)
-    → Stand ns (at + 1) (pieces e ++ (members_pieces rest ++ end_object ∷ []))
-member_then ns at k e rest s =
-    subst (Stand ns (at + 1)) (append_assoc (pieces e) (members_pieces rest) (end_object ∷ []))
-    (behind_first ns at (name k) ((pieces e ++ members_pieces rest) ++ end_object ∷ []) s)
-
-module _ (limit : ℕ) (ns : List Node) (from : ℕ) (path old : List ℕ) (ms : Members) (p : List Step)
-  where
-    pub all_members : HoldsMembers ns from ms → MembersLeft limit ns from from old old ms p
-    all_members s = record {
-      left = ms;
-      holds = s;
-      done = [];
-      split = refl;
-      appended = nothing_more limit old;
-      count = refl;
-    }
-
-    pub members_within : (at : ℕ) (now : List ℕ) → MembersLeft limit ns from at old now ms p
-        → at < length ns
-    members_within at now l =
-        omega (
-          arith,
-          stands_within ns at (members_pieces l.left ++ end_object ∷ []) l.holds,
-          length-append (members_pieces l.left) (end_object ∷ []),
-        )
-
-    -- A value comes after a name.
-    value_within : (at : ℕ) (n x : Node) (s : Bor (List ℕ)) (left : Members)
-        → HoldsMembers ns at left → get_or ns at x ≡ n → n ≡ node.Name s → at + 1 < length ns
-    value_within at n x s no_members h there is =
-        let first = stands_first ns at n x end_object [] h there in
-        absurd (let named : name s.now ≡ end_object = sym (ap piece_of is) ∙ first in cc)
-    value_within at n x s (member k e rest) h there is =
-        let others = members_pieces rest ++ end_object ∷ [] in
-        omega (
-          arith,
-          stands_within ns (at + 1) (pieces e ++ others) (member_then ns at k e rest h),
-          some_pieces e others,
-        )
-
-    pub members_cut : (at : ℕ) (n x : Node) (s : Bor (List ℕ)) (now : List ℕ)
-        → MembersLeft limit ns from at old now ms p → get_or ns at x ≡ n → n ≡ node.Name s
-        → at + 1 < length ns
-    members_cut at n x s now l there is = value_within at n x s l.left l.holds there is
-
-    members_done : (at : ℕ) (n x : Node) (now done : List ℕ) (left : Members)
-        → HoldsMembers ns at left → get_or ns at x ≡ n → ((s : Bor (List ℕ)) → n ≡ node.Name s → ⊥)
-        → member_lines p ms ≡ done ++ member_lines p left
-        → from + length (members_pieces ms) ≡ at + length (members_pieces left)
-        → Lengthens limit old now done
-        → Lengthens limit old now (member_lines p ms)
-        × (at + 1 ≡ from + length (members_pieces ms) + 1)
-    members_done at n x now done no_members h there no_name split count appended = (
-      subst (Lengthens limit old now) (sym (split ∙ append-nil done)) appended,
-      omega (arith, count),
-    )
-    members_done at n x now done (member k e rest) h there no_name split count appended =
-        absurd (name_node n k
-        (stands_first ns at n x (name k) ((pieces e ++ members_pieces rest) ++ end_object ∷ []) h
-        there)
-        no_name)
-
-    pub members_ended : (at : ℕ) (n x : Node) (now : List ℕ)
-        → MembersLeft limit ns from at old now ms p → get_or ns at x ≡ n
-        → ((s : Bor (List ℕ)) → n ≡ node.Name s → ⊥)
-        → Lengthens limit old now (member_lines p ms)
-        × (at + 1 ≡ from + length (members_pieces ms) + 1)
-    members_ended at n x now l there no_name =
-        members_done at n x now l.done l.left l.holds there no_name l.split l.count l.appended
-
-    one_passed : (same : steps_text p ≡ path) (at end : ℕ) (n x : Node) (s : Bor (List ℕ))
-        (now new done : List ℕ) (left : Members) → HoldsMembers ns at left → get_or ns at x ≡ n
-        → n ≡ node.Name s → member_lines p ms ≡ done ++ member_lines p left
-        → from + length (members_pieces ms) ≡ at + length (members_pieces left)
-        → Lengthens limit old now done
-        → PushesPart limit ns (at + 1) (name_step s.now) path now new end
-        → MembersLeft limit ns from end old new ms p
-    one_passed same at end n x s now new done no_members h there is split count appended pushed =
-        let first = stands_first ns at n x end_object [] h there in
-        absurd (let named : name s.now ≡ end_object = sym (ap piece_of is) ∙ first in cc)
-    one_passed same at end n x s now new done (member k e rest) h there is split count appended
-        pushed =
-        let others = members_pieces rest ++ end_object ∷ [] in
-        let value = member_then ns at k e rest h in
-        let part = pushed e p (first_part ns (at + 1) (pieces e) others value) same in
-        let named : name s.now ≡ name k = sym (ap piece_of is)
-        ∙ stands_first ns at n x (name k) ((pieces e ++ members_pieces rest) ++ end_object ∷ []) h
-        there in
-        let known : s.now ≡ k = cc in
-        let lines = leaf_lines (p ++ name_step s.now ∷ []) e in
-        record {
-          left = rest;
-          holds = subst (λ i. HoldsMembers ns i rest) (sym part.1)
-              (second_part ns (at + 1) (pieces e) others value);
-          done = done ++ lines;
-          split = split
-              ∙ ap (λ l. done ++ (leaf_lines (p ++ name_step l ∷ []) e ++ member_lines p rest))
-              (sym known)
-              ∙ sym (append_assoc done lines (member_lines p rest));
-          appended = then_lengthens limit old now new done lines appended part.0;
-          count = omega (arith, count, part.1, length-append (pieces e) (members_pieces rest));
-        }
-
-    pub member_passed : steps_text p ≡ path → (at end : ℕ) (n x : Node) (s : Bor (List ℕ))
-        (now new : List ℕ) → MembersLeft limit ns from at old now ms p → get_or ns at x ≡ n
-        → n ≡ node.Name s → PushesPart limit ns (at + 1) (name_step s.now) path now new end
-        → MembersLeft limit ns from end old new ms p
-    member_passed same at end n x s now new l there is pushed =
-        one_passed same at end n x s now new l.done l.left l.holds there is l.split l.count
-        l.appended pushed
+      pub part_passed : (x : Node) (s : Step) (start m end : ℕ) (pushed new : List ℕ)
+          → Some (s, start) ≡ part_from at n (piece_of (get_or ns at x)) → steps_text p ≡ path
+          → m ≡ suc n → pushed ≡ path ++ step_text s
+          → PushesDocument limit ns start pushed now new end
+          → PartsLeft limit ns from end m old new ps p
+      part_passed x s start m end pushed new is same next grown document =
+          let part = next_is ns p at n x l.left (Some (s, start)) l.holds is in
+          let others = parts_pieces part.rest in
+          let lines = leaf_lines (p ++ s ∷ []) part.part in
+          let inner = document part.part (p ++ s ∷ [])
+          (first_part ns start (pieces part.part) others part.holds)
+          (step_pushed p s path pushed same grown) in
+          record {
+            left = part.rest;
+            holds = subst (λ i. Stand ns i others) (sym inner.1)
+                (second_part ns start (pieces part.part) others part.holds);
+            done = l.done ++ lines;
+            split = l.split ∙ ap (λ t. l.done ++ t) part.lines
+                ∙ sym (append_assoc l.done lines (parts_lines p (suc n) part.rest))
+                ∙ ap (λ i. (l.done ++ lines) ++ parts_lines p i part.rest) (sym next);
+            appended = then_lengthens limit old now new l.done lines l.appended inner.0;
+            count = omega (arith, l.count, part.count, inner.1);
+          }

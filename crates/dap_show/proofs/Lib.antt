@@ -7,7 +7,7 @@ pub mod RecordAnswers
 pub mod ShownInputs
 pub mod Stopping
 pub mod TranscriptInputs
-pub mod TreeLines
+pub mod IndentedText
 pub mod ViewedInputs
 pub mod ViewingFacts
 pub mod ViewingLoop

@@ -15,8 +15,7 @@ use Rattle.dap_input.specs.declared.refused.Refused.TheVariants.{WriteFault}
 use Rattle.dap_normalise.specs.{Accepting.accepting, Normalising.RefusesBytes}
 use Rattle.dap_recording.specs.declared.record_fault.RecordCause.TheVariants.{Cut}
 use Rattle.dap_rename.specs.declared.mode.Mode.TheVariants.{Whole}
-use Rattle.dap_show.specs.{TranscriptSteps.result_of_input, Transcripts.IsTranscriptOf}
-use Rattle.dap_show.specs.Transcripts.{ShowsTranscript}
+use Rattle.dap_show.specs.Transcripts.{IsTranscriptOf, ShowsTranscript, result_of_input}
 
 abbrev failure : Refused → Result (Vec ℕ Global) Refused
 failure because = Err because

@@ -1,10 +1,11 @@
 -- The elements that a message lists, as nodes of a flat document. Source: own, over the views of
 -- `dap_message`.
-use Rattle.std.specs.Prelude.{◌≡◌, ℕ, List, [], ◌∷◌, ◌++◌, filter_map, Option, Some, unwrap_or}
+use Rattle.std.specs.Prelude.{◌≡◌, ℕ, List, ◌∷◌, [], ◌++◌, filter_map, Option, Some}
 use Rattle.std.specs.{Prelude.{option_and_then, codes}, List.flat_map}
 use Rattle.dap_tree.specs.Doc.{Doc, Items, get}
-use Rattle.dap_message.specs.{Places.{elements, list_of}, Views.{frame_of, scope_of, variable_of}}
-use Rattle.dap_flat.specs.{Finding.{Holds, Stand}, Pieces.{end_list, items_pieces, leaf, piece_of}}
+use Rattle.dap_message.specs.Places.{elements, list_of}
+use Rattle.dap_message.specs.Views.{frame_of, listed, scope_of, variable_of}
+use Rattle.dap_flat.specs.{Finding.{Holds, Stand}, Pieces.{end_list, items_pieces}}
 use Rattle.dap_flat.specs.declared.node.Node.{Node}
 use Rattle.dap_show.specs.Showing.{frame_line, scope_line, variable_line}
 use Rattle.dap_show.specs.declared.flat_lines.Element.{Element}
@@ -12,8 +13,13 @@ use Rattle.dap_show.specs.declared.flat_lines.Element.TheVariants.{Frame, Scope,
 
 -- ---- the elements of one kind
 
--- The name of the array of the elements (DAP specification, StackTraceResponse, ScopesResponse and
--- VariablesResponse).
+-- The command whose response lists the elements, and the name of their array (DAP specification,
+-- StackTraceResponse, ScopesResponse and VariablesResponse).
+abbrev pub command_name : Element → List ℕ
+command_name Frame = codes "stackTrace"
+command_name Scope = codes "scopes"
+command_name Variable = codes "variables"
+
 abbrev pub array_name : Element → List ℕ
 array_name Frame = codes "stackFrames"
 array_name Scope = codes "scopes"
@@ -29,9 +35,9 @@ element_lines Variable ds = flat_map variable_line (filter_map variable_of ds)
 abbrev pub array_in : List ℕ → Doc → Option (List Doc)
 array_in name d = option_and_then list_of (option_and_then (get name) (get (codes "body") d))
 
--- The lines of the elements of this kind in the body.
+-- The lines of the elements of this kind that a message lists.
 abbrev pub lines_of_kind : Element → Doc → List ℕ
-lines_of_kind kind d = element_lines kind (unwrap_or (array_in (array_name kind) d) [])
+lines_of_kind kind d = element_lines kind (listed (command_name kind) (array_name kind) d)
 
 -- ---- elements among nodes
 
@@ -43,10 +49,6 @@ IsMemberValue value ns at k x = (d : Doc) → Holds ns at d → value (get k d) 
 -- The view of the document that starts there.
 abbrev pub IsViewedAs : {X : Type 0} → (Doc → Option X) → List Node → ℕ → X → Type 0
 IsViewedAs view_of ns at x = (d : Doc) → Holds ns at d → view_of d ≡ Some x
-
--- The value of the named member starts with the node. If the node is a leaf, it is the value.
-abbrev pub StartsMember : List Node → ℕ → List ℕ → Node → Type 0
-StartsMember ns at k n = (d e : Doc) → Holds ns at d → piece_of n ≡ leaf e → get k d ≡ Some e
 
 -- These elements, and the end of their array, start there.
 abbrev pub AreElements : List Node → ℕ → Items → Type 0

@@ -1,10 +1,39 @@
 -- The leaves of a document among the nodes of a flat document. Source: own.
-use Rattle.std.specs.Prelude.{◌≡◌, ℕ, ◌+◌, List, [], ◌∷◌, ◌++◌, length}
-use Rattle.dap_tree.specs.{Doc.{Doc, Items, Members}, Path.Step}
-use Rattle.dap_flat.specs.{Finding.{Holds, HoldsMembers}, declared.node.Node.Node}
+use Rattle.std.specs.Prelude.{◌≡◌, ℕ, ◌+◌, List, [], ◌∷◌, ◌++◌, length, Option, Some, None}
+use Rattle.dap_tree.specs.{Doc.{Doc, Items, Members}, Path.{Step, name as name_step, place}}
+use Rattle.dap_flat.specs.{Finding.{Holds, Stand}, declared.node.Node.Node}
+use Rattle.dap_flat.specs.Pieces.{Piece, begin_list, begin_object, end_list, end_object, name}
 use Rattle.dap_flat.specs.Pieces.{items_pieces, members_pieces, pieces}
-use Rattle.dap_show.specs.FlatElements.{AreElements}
 use Rattle.dap_show.specs.Leaves.{Lengthens, item_lines, leaf_lines, member_lines, steps_text}
+
+-- The number of pieces inside an array or object that starts with the piece. A scalar has none.
+abbrev pub inside_of : Piece → Option ℕ
+inside_of (begin_list n) = Some n
+inside_of (begin_object n) = Some n
+inside_of _ = None
+
+-- The step to the part that starts with the piece at `at`, and the place of the part's document. No
+-- part starts with the end of an array or object. An element has this index.
+abbrev pub part_from : ℕ → ℕ → Piece → Option (Step × ℕ)
+part_from at index end_list = None
+part_from at index end_object = None
+part_from at index (name k) = Some (name_step k, at + 1)
+part_from at index _ = Some (place index, at)
+
+-- The elements of an array, or the members of an object.
+pub data Parts : Type 0 where
+  elements : Items → Parts
+  members : Members → Parts
+
+-- Their pieces, and the end of the array or object.
+abbrev pub parts_pieces : Parts → List Piece
+parts_pieces (elements ds) = items_pieces ds ++ end_list ∷ []
+parts_pieces (members ms) = members_pieces ms ++ end_object ∷ []
+
+-- The lines of their leaves. The first element has index n.
+abbrev pub parts_lines : List Step → ℕ → Parts → List ℕ
+parts_lines p n (elements ds) = item_lines p n ds
+parts_lines p n (members ms) = member_lines p ms
 
 module _ (limit : ℕ) (ns : List Node) where
   -- The lines of the document that starts at `at` were appended. The path has this text, and `end`
@@ -14,49 +43,22 @@ module _ (limit : ℕ) (ns : List Node) where
       → steps_text p ≡ path
       → Lengthens limit old new (leaf_lines p d) × (end ≡ at + length (pieces d))
 
-  -- The same for a document to which one more step leads.
-  abbrev pub PushesPart : ℕ → Step → List ℕ → List ℕ → List ℕ → ℕ → Type 0
-  PushesPart at step path old new end = (d : Doc) (p : List Step) → Holds ns at d
-      → steps_text p ≡ path
-      → Lengthens limit old new (leaf_lines (p ++ step ∷ []) d) × (end ≡ at + length (pieces d))
+  -- The same for parts and the end of their array or object.
+  abbrev pub PushesParts : ℕ → List ℕ → List ℕ → List ℕ → ℕ → Type 0
+  PushesParts from path old new end = (ps : Parts) (p : List Step)
+      → Stand ns from (parts_pieces ps) → steps_text p ≡ path
+      → Lengthens limit old new (parts_lines p 0 ps) × (end ≡ from + length (parts_pieces ps))
 
-  -- The same for items and the end of their list, and for members and the end of their object.
-  abbrev pub PushesItems : ℕ → List ℕ → List ℕ → List ℕ → ℕ → Type 0
-  PushesItems from path old new end = (ds : Items) (p : List Step) → AreElements ns from ds
-      → steps_text p ≡ path
-      → Lengthens limit old new (item_lines p 0 ds)
-      × (end ≡ from + length (items_pieces ds) + 1)
-
-  abbrev pub PushesMembers : ℕ → List ℕ → List ℕ → List ℕ → ℕ → Type 0
-  PushesMembers from path old new end = (ms : Members) (p : List Step) → HoldsMembers ns from ms
-      → steps_text p ≡ path
-      → Lengthens limit old new (member_lines p ms)
-      × (end ≡ from + length (members_pieces ms) + 1)
-
-  -- For a loop: the lines of the items before `at` were appended, of which there are n.
-  pub record ItemsLeft (from at n : ℕ) (old now : List ℕ) (ds : Items) (p : List Step) : Type 0
+  -- For a loop: the lines of the n parts before `at` were appended.
+  pub record PartsLeft (from at n : ℕ) (old now : List ℕ) (ps : Parts) (p : List Step) : Type 0
     where
-      pub left : Items
-      pub holds : AreElements ns at left
+      pub left : Parts
+      pub holds : Stand ns at (parts_pieces left)
       pub done : List ℕ
-      pub split : item_lines p 0 ds ≡ done ++ item_lines p n left
+      pub split : parts_lines p 0 ps ≡ done ++ parts_lines p n left
       pub appended : Lengthens limit old now done
-      pub count : from + length (items_pieces ds) ≡ at + length (items_pieces left)
+      pub count : from + length (parts_pieces ps) ≡ at + length (parts_pieces left)
 
-  abbrev pub AreItemsLeft : ℕ → ℕ → ℕ → List ℕ → List ℕ → List ℕ → Type 0
-  AreItemsLeft from at n path old now = (ds : Items) (p : List Step) → AreElements ns from ds
-      → steps_text p ≡ path → ItemsLeft from at n old now ds p
-
-  -- The same for members.
-  pub record MembersLeft (from at : ℕ) (old now : List ℕ) (ms : Members) (p : List Step) : Type 0
-    where
-      pub left : Members
-      pub holds : HoldsMembers ns at left
-      pub done : List ℕ
-      pub split : member_lines p ms ≡ done ++ member_lines p left
-      pub appended : Lengthens limit old now done
-      pub count : from + length (members_pieces ms) ≡ at + length (members_pieces left)
-
-  abbrev pub AreMembersLeft : ℕ → ℕ → List ℕ → List ℕ → List ℕ → Type 0
-  AreMembersLeft from at path old now = (ms : Members) (p : List Step) → HoldsMembers ns from ms
-      → steps_text p ≡ path → MembersLeft from at old now ms p
+  abbrev pub ArePartsLeft : ℕ → ℕ → ℕ → List ℕ → List ℕ → List ℕ → Type 0
+  ArePartsLeft from at n path old now = (ps : Parts) (p : List Step)
+      → Stand ns from (parts_pieces ps) → steps_text p ≡ path → PartsLeft from at n old now ps p

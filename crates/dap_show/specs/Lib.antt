@@ -3,10 +3,8 @@ pub mod Indented
 pub mod LeafWalk
 pub mod Leaves
 pub mod OneRecord
-pub mod OneRecordSteps
 pub mod Showing
 pub mod Stopping
-pub mod TranscriptSteps
 pub mod Transcripts
 pub mod Viewing
 pub mod ViewingSteps

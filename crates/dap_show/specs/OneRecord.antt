@@ -13,6 +13,8 @@ use Rattle.dap_input.specs.declared.refused.Refused.{Refused}
 use Rattle.dap_input.specs.declared.refused.Refused.TheVariants.{WriteFault}
 use Rattle.dap_normalise.specs.Accepting.{Payload}
 use Rattle.dap_show.specs.{Indented.indented, Stopping.StopsAt}
+use Rattle.dap_show.specs.declared.one_record.Found.{Found}
+use Rattle.dap_show.specs.declared.one_record.Found.TheVariants as found
 use Rattle.dap_show.specs.declared.one_record.RecordShown.{RecordShown}
 use Rattle.dap_show.specs.declared.one_record.RecordShown.TheVariants.{Shown, Missing}
 
@@ -89,3 +91,10 @@ module _ {R : Type 0} (limits : Limits) (source : Source R) where
         Writes old new (PrefixWritten sink before after)
     ShowsRecord old new before after (Err refused) =
         StopsBefore old new number refused × (after ≡ before)
+
+  -- For private clauses: the record is found, or it does not exist, or reading stops at it or before
+  -- it.
+  abbrev pub Finds : R → R → ℕ → Result Found Refused → Type 0
+  Finds old new number (Ok (found.Whole whole)) = HasRecord old new number whole.content
+  Finds old new number (Ok (found.Missing count)) = HasNoRecord old new number count
+  Finds old new number (Err refused) = StopsBefore old new number refused

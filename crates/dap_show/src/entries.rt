@@ -1,5 +1,5 @@
 //! Formats one record, and returns the error that it is marked with.
-ghost use Rattle.std.specs.Prelude.{◌≡◌, ◌++◌, List, IfOk, IfSome, None, OnOk};
+ghost use Rattle.std.specs.Prelude.{◌≡◌, ◌++◌, List, IfOk, OnOk};
 ghost use Rattle.std.specs.Prelude.{length};
 ghost use Rattle.dap_input.specs.Refusals.{RejectsPayload};
 ghost use Rattle.dap_message.specs.Message.{Sent};
@@ -14,6 +14,7 @@ use crate::fault_words::{push_fault, push_untyped};
 use crate::leaves::Buffers;
 use crate::message_lines::push_message;
 use crate::reading::{read_as_flat, read_as_tree};
+use dap_flat_message::FlatFault;
 use dap_input::Refused;
 use dap_message::AnyMessage;
 use dap_recording::Record;
@@ -142,32 +143,6 @@ fn append_refused(
     Ok(Some(refused))
 }
 
-/// Appends the lines of a record whose content is read as a flat document. Returns `None`, and
-/// changes nothing, if the content must be read as a tree.
-fn append_flat(
-    alloc: Global,
-    view: View,
-    number: u64,
-    whole: &Record,
-    session: &mut Session,
-    scratch: &mut Scratch,
-    buffers: &mut Buffers,
-    lines: &mut Vec<u8>,
-) -> Option<Result<Option<Refused>, Refused>>
-    ensures appended { IfSome result (AppendsEntry view number (payload_of whole.now) session.old
-        session.new lines.old.items lines.new.items) }
-    ensures unchanged { result ≡ None
-        → (session.new ≡ session.old) × (lines.new.items ≡ lines.old.items) }
-{
-    let message = match read_as_flat(alloc, view, number, whole, scratch, buffers) {
-        Ok(Some(message)) => message,
-        Ok(None) => return None,
-        Err(refused) => return Some(append_refused(view, number, whole, refused, lines)),
-    };
-    let detail = buffers.lines.as_slice();
-    Some(append_message(alloc, view, number, whole, &message, detail, session, lines))
-}
-
 /// Appends the lines of a record to those of the records before it. Returns the error that the
 /// record is marked with.
 ///
@@ -190,14 +165,22 @@ pub(crate) fn append_entry(
     ensures { AppendsEntry view number (payload_of whole.now) session.old session.new
         lines.old.items lines.new.items result }
 {
-    let flat = append_flat(alloc, view, number, whole, session, scratch, buffers, lines);
-    if let Some(outcome) = flat {
-        return outcome;
+    match read_as_flat(alloc, view, whole, scratch, buffers) {
+        Ok(message) => {
+            let detail = buffers.lines.as_slice();
+            return append_message(alloc, view, number, whole, &message, detail, session, lines);
+        }
+        Err(FlatFault::Unclear) => {}
+        Err(FlatFault::Memory) => return Err(Refused::Memory),
+        Err(FlatFault::Message(fault)) => {
+            return append_refused(view, number, whole, Refused::Message(number, fault), lines);
+        }
     }
-    let message = match read_as_tree(alloc, view, number, whole, scratch, buffers) {
-        Ok(message) => message,
-        Err(refused) => return append_refused(view, number, whole, refused, lines),
-    };
-    let detail = buffers.lines.as_slice();
-    append_message(alloc, view, number, whole, &message, detail, session, lines)
+    match read_as_tree(alloc, view, number, whole, scratch, buffers) {
+        Ok(message) => {
+            let detail = buffers.lines.as_slice();
+            append_message(alloc, view, number, whole, &message, detail, session, lines)
+        }
+        Err(refused) => append_refused(view, number, whole, refused, lines),
+    }
 }

@@ -2,13 +2,13 @@
 ghost use Rattle.std.specs.Prelude.{◌≡◌, ◌++◌, ◌↔◌, IfOk, IsTrue, OnOk, codes, decimal};
 ghost use Rattle.dap_show.specs.{Showing.start_words, Viewing.{IsFraming, fault_words, stop_line}};
 
-use crate::message_lines::{push_number, push_start};
+use crate::message_lines::{Appended, push_number, push_start};
 use dap_input::Refused;
 use dap_message::Side;
 use std::alloc::AllocError;
 
 /// Appends the error of a record and ends its line.
-pub fn push_fault(out: &mut Vec<u8>, refused: Refused) -> Result<(), AllocError>
+pub fn push_fault(out: &mut Vec<u8>, refused: Refused) -> Appended
     ensures { OnOk result
         (out.new.items ≡ out.old.items ++ fault_words refused) }
 {
@@ -18,12 +18,7 @@ pub fn push_fault(out: &mut Vec<u8>, refused: Refused) -> Result<(), AllocError>
 }
 
 /// Appends the line of a record that does not contain a message.
-pub fn push_untyped(
-    out: &mut Vec<u8>,
-    number: u64,
-    side: Side,
-    refused: Refused,
-) -> Result<(), AllocError>
+pub fn push_untyped(out: &mut Vec<u8>, number: u64, side: Side, refused: Refused) -> Appended
     ensures { OnOk result (out.new.items ≡ out.old.items
         ++ (start_words number side ++ fault_words refused)) }
 {
@@ -32,7 +27,7 @@ pub fn push_untyped(
 }
 
 /// Appends the line of an error without a side.
-fn push_numbered(out: &mut Vec<u8>, number: u64, refused: Refused) -> Result<(), AllocError>
+fn push_numbered(out: &mut Vec<u8>, number: u64, refused: Refused) -> Appended
     ensures { OnOk result (out.new.items ≡ out.old.items
         ++ (decimal number ++ codes " " ++ fault_words refused)) }
 {

@@ -1,15 +1,17 @@
 //! Formats the elements that a flat message lists as lines.
-ghost use Rattle.std.specs.Prelude.{◌≡◌, ◌++◌, [], ◌∷◌, IfOk, IfSome, MatchOption, OnOk, Some};
-ghost use Rattle.std.specs.Prelude.{option_map};
-ghost use Rattle.dap_flat.specs.{Finding.Holds, Pieces.piece_of};
-ghost use Rattle.dap_flat_message.specs.{FlatMessages.flat_doc, Judging.top_of};
+ghost use Rattle.std.specs.Prelude.{◌≡◌, ◌++◌, ◌∷◌, ◌<◌, [], length, IfOk, IfSome, OnOk, Some};
+ghost use Rattle.dap_flat.specs.Finding.{FindsChild, Holds};
+ghost use Rattle.dap_flat_message.specs.FlatMessages.{flat_doc};
 ghost use Rattle.dap_message.specs.Envelope.{text_value};
+ghost use Rattle.dap_message.specs.Rows.{row_applies};
 ghost use Rattle.dap_message.specs.ViewItems.{frame_shown, scope_shown, variable_shown};
 ghost use Rattle.dap_message.specs.Views.{frame_of, number_value, reference_value, scope_of};
 ghost use Rattle.dap_message.specs.Views.{variable_of};
+ghost use Rattle.dap_profile.specs.declared.profile.Kind.TheVariants.{Response};
 ghost use Rattle.dap_show.specs.FlatElements.{AppendsElements, IsMemberValue, IsViewedAs};
-ghost use Rattle.dap_show.specs.FlatElements.{StartsElements, StartsMember, array_name};
-ghost use Rattle.dap_show.specs.{FlatElements.{element_lines, lines_of_kind}, Showing.listed_lines};
+ghost use Rattle.dap_show.specs.FlatElements.{StartsElements, array_name, command_name};
+ghost use Rattle.dap_show.specs.FlatElements.{element_lines, lines_of_kind};
+ghost use Rattle.dap_show.specs.Showing.{listed_lines};
 ghost use Rattle.dap_tree.specs.Doc.{Doc};
 
 use crate::message_lines::{push_frame, push_scope, push_variable};
@@ -36,45 +38,52 @@ pub(crate) fn flat_lines(alloc: Global, message: &FlatMessage<'_>) -> Result<Vec
     ensures { IfOk result (λ lines. lines.items ≡ listed_lines (flat_doc message.now)) }
 {
     let mut lines = Vec::new(alloc);
-    let Some(kind) = listed_kind(message) else {
-        return Ok(lines);
-    };
-    let nodes = message.nodes();
-    let from = first_element(nodes, array_name(kind)).ok_or(Unread::Unclear)?;
-    push_elements(alloc, &mut lines, kind, nodes, from)?;
+    push_listed(alloc, &mut lines, Element::Frame, message)?;
+    push_listed(alloc, &mut lines, Element::Scope, message)?;
+    push_listed(alloc, &mut lines, Element::Variable, message)?;
     Ok(lines)
 }
 
-/// Returns the kind of the elements that a message lists, or `None` if it lists none.
-fn listed_kind<M: AnyMessage>(message: &M) -> Option<Element>
-    ensures { MatchOption result (listed_lines (M.sent message.now).doc ≡ [])
-        (λ kind. listed_lines (M.sent message.now).doc
-        ≡ lines_of_kind kind (M.sent message.now).doc) }
+/// Appends the lines of the elements of this kind that a message lists.
+fn push_listed(
+    alloc: Global,
+    out: &mut Vec<u8>,
+    kind: Element,
+    message: &FlatMessage<'_>,
+) -> Result<(), Unread>
+    ensures { OnOk result
+        (out.new.items ≡ out.old.items ++ lines_of_kind kind (flat_doc message.now)) }
 {
-    if !message.success().unwrap_or(false) {
-        return None;
+    let (command, array) = names(kind);
+    if !answers(message, command) {
+        return Ok(());
     }
-    let command = message.name();
-    if command == "stackTrace" {
-        Some(Element::Frame)
-    } else if command == "scopes" {
-        Some(Element::Scope)
-    } else if command == "variables" {
-        Some(Element::Variable)
-    } else {
-        None
+    let nodes = message.nodes();
+    let from = first_element(nodes, array).ok_or(Unread::Unclear)?;
+    push_elements(alloc, out, kind, nodes, from)
+}
+
+/// Returns the command whose response lists these elements, and the name of their array.
+fn names(kind: Element) -> (&'static str, &'static str)
+    ensures command { result.0.now ≡ command_name kind }
+    ensures array { result.1.now ≡ array_name kind }
+{
+    match kind {
+        Element::Frame => ("stackTrace", "stackFrames"),
+        Element::Scope => ("scopes", "scopes"),
+        Element::Variable => ("variables", "variables"),
     }
 }
 
-/// Returns the name of the array of these elements in the body of a response.
-fn array_name(kind: Element) -> &'static str
-    ensures { result.now ≡ array_name kind }
+/// Returns whether a message is a successful response to the command.
+fn answers<M: AnyMessage>(message: &M, command: &str) -> bool
+    ensures { result
+        ≡ row_applies (Some Response) (Some command.now) (M.sent message.now).doc }
 {
-    match kind {
-        Element::Frame => "stackFrames",
-        Element::Scope => "scopes",
-        Element::Variable => "variables",
+    if !message.success().unwrap_or(false) {
+        return false;
     }
+    command == message.name()
 }
 
 /// Returns the place after the start of the named array in the body. Returns `None` if there is no
@@ -82,15 +91,8 @@ fn array_name(kind: Element) -> &'static str
 fn first_element(nodes: &[Node<'_>], name: &str) -> Option<usize>
     ensures { IfSome result (StartsElements nodes.now name.now) }
 {
-    let Ok(Some(body)) = child(nodes, 0, "body") else {
-        return None;
-    };
-    let Ok(Some(array)) = child(nodes, body, name) else {
-        return None;
-    };
-    if array >= nodes.len() {
-        return None;
-    }
+    let body = member_place(nodes, 0, "body")?;
+    let array = member_place(nodes, body, name)?;
     match nodes[array] {
         Node::List(_) => Some(array + 1),
         _ => None,
@@ -132,17 +134,10 @@ fn push_element(
         → out.new.items ≡ out.old.items ++ element_lines kind (d ∷ [])) }
 {
     match kind {
-        Element::Frame => {
-            let frame = frame_at(nodes, at).ok_or(Unread::Unclear)?;
-            push_frame(alloc, out, frame)?;
-        }
-        Element::Scope => {
-            let scope = scope_at(nodes, at).ok_or(Unread::Unclear)?;
-            push_scope(alloc, out, scope)?;
-        }
+        Element::Frame => push_frame(alloc, out, frame_at(nodes, at).ok_or(Unread::Unclear)?)?,
+        Element::Scope => push_scope(alloc, out, scope_at(nodes, at).ok_or(Unread::Unclear)?)?,
         Element::Variable => {
-            let variable = variable_at(nodes, at).ok_or(Unread::Unclear)?;
-            push_variable(alloc, out, variable)?;
+            push_variable(alloc, out, variable_at(nodes, at).ok_or(Unread::Unclear)?)?;
         }
     }
     Ok(())
@@ -182,61 +177,45 @@ fn variable_at<'a>(nodes: &[Node<'a>], at: usize) -> Option<VariableView<'a>>
 fn text_at<'a>(nodes: &[Node<'a>], at: usize, name: &str) -> Option<&'a str>
     ensures { IfSome result (λ text. IsMemberValue text_value nodes.now at name.now text.now) }
 {
-    text_of(member_node(nodes, at, name)?)
-}
-
-fn number_at(nodes: &[Node<'_>], at: usize, name: &str) -> Option<i128>
-    ensures { IfSome result (IsMemberValue number_value nodes.now at name.now) }
-{
-    number_of(member_node(nodes, at, name)?)
-}
-
-fn reference_at(nodes: &[Node<'_>], at: usize, name: &str) -> Option<i64>
-    ensures { IfSome result (IsMemberValue reference_value nodes.now at name.now) }
-{
-    reference_of(member_node(nodes, at, name)?)
-}
-
-/// Returns the node with which the value of the named member starts. Returns `None` if there is no
-/// such member, or if no document starts at `at`.
-fn member_node<'n, 'a>(nodes: &'n [Node<'a>], at: usize, name: &str) -> Option<&'n Node<'a>>
-    ensures { IfSome result (λ node. StartsMember nodes.now at name.now node.now) }
-{
-    let Ok(Some(place)) = child(nodes, at, name) else {
-        return None;
-    };
-    if place >= nodes.len() {
-        return None;
-    }
-    Some(&nodes[place])
-}
-
-fn text_of<'a>(node: &Node<'a>) -> Option<&'a str>
-    ensures { option_map (λ text. text.now) result
-        ≡ text_value (Some (top_of (piece_of node.now))) }
-{
-    match *node {
+    let place = member_place(nodes, at, name)?;
+    match nodes[place] {
         Node::Text(text) => Some(text),
         _ => None,
     }
 }
 
-fn number_of(node: &Node<'_>) -> Option<i128>
-    ensures { result ≡ number_value (Some (top_of (piece_of node.now))) }
+fn number_at(nodes: &[Node<'_>], at: usize, name: &str) -> Option<i128>
+    ensures { IfSome result (IsMemberValue number_value nodes.now at name.now) }
 {
-    match *node {
+    let place = member_place(nodes, at, name)?;
+    match nodes[place] {
         Node::Unsigned(number) => Some(i128::from(number)),
-        Node::Negative(number) | Node::Id(_, number) => Some(i128::from(number)),
+        Node::Negative(number) => Some(i128::from(number)),
+        Node::Id(_, number) => Some(i128::from(number)),
         _ => None,
     }
 }
 
-fn reference_of(node: &Node<'_>) -> Option<i64>
-    ensures { result ≡ reference_value (Some (top_of (piece_of node.now))) }
+fn reference_at(nodes: &[Node<'_>], at: usize, name: &str) -> Option<i64>
+    ensures { IfSome result (IsMemberValue reference_value nodes.now at name.now) }
 {
-    match *node {
+    let place = member_place(nodes, at, name)?;
+    match nodes[place] {
         Node::Unsigned(number) => i64::try_from(number).ok(),
-        Node::Negative(number) | Node::Id(_, number) => Some(number),
+        Node::Negative(number) => Some(number),
+        Node::Id(_, number) => Some(number),
+        _ => None,
+    }
+}
+
+/// Returns the first place of the value of the named member. Returns `None` if the member is absent,
+/// or if no document starts at `at`.
+fn member_place(nodes: &[Node<'_>], at: usize, name: &str) -> Option<usize>
+    ensures { IfSome result (λ place. (place < length nodes.now)
+        × FindsChild nodes.now at name.now (Some place)) }
+{
+    match child(nodes, at, name) {
+        Ok(Some(place)) if place < nodes.len() => Some(place),
         _ => None,
     }
 }

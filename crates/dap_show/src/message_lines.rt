@@ -11,12 +11,11 @@ use dap_message::{AnyMessage, FrameView, Message, ScopeView, Side, VariableView}
 use itoa::{Buffer, Integer};
 use std::alloc::{AllocError, Global};
 
+/// The result of appending to an output.
+pub(crate) type Appended = Result<(), AllocError>;
+
 /// Appends a word and a number.
-pub(crate) fn push_number<I: Integer>(
-    out: &mut Vec<u8>,
-    word: &str,
-    number: I,
-) -> Result<(), AllocError>
+pub(crate) fn push_number<I: Integer>(out: &mut Vec<u8>, word: &str, number: I) -> Appended
     ensures { OnOk result (out.new.items
         ≡ out.old.items ++ word.now ++ I.text number) }
 {
@@ -26,12 +25,7 @@ pub(crate) fn push_number<I: Integer>(
 }
 
 /// Appends a word and a string as JSON, in quotes.
-pub(crate) fn push_quoted(
-    alloc: Global,
-    out: &mut Vec<u8>,
-    word: &str,
-    text: &str,
-) -> Result<(), AllocError>
+fn push_quoted(alloc: Global, out: &mut Vec<u8>, word: &str, text: &str) -> Appended
     ensures { OnOk result (out.new.items
         ≡ out.old.items ++ word.now ++ in_quotes text.now) }
 {
@@ -43,7 +37,7 @@ pub(crate) fn push_quoted(
 }
 
 /// Appends the id, line and column of a stack frame.
-fn push_place(out: &mut Vec<u8>, frame: FrameView<'_>) -> Result<(), AllocError>
+fn push_place(out: &mut Vec<u8>, frame: FrameView<'_>) -> Appended
     ensures { OnOk result (out.new.items
         ≡ out.old.items ++ place_words (frame_shown frame.entry)) }
 {
@@ -53,11 +47,7 @@ fn push_place(out: &mut Vec<u8>, frame: FrameView<'_>) -> Result<(), AllocError>
 }
 
 /// Appends the line of a stack frame.
-pub(crate) fn push_frame(
-    alloc: Global,
-    out: &mut Vec<u8>,
-    frame: FrameView<'_>,
-) -> Result<(), AllocError>
+pub(crate) fn push_frame(alloc: Global, out: &mut Vec<u8>, frame: FrameView<'_>) -> Appended
     ensures { OnOk result (out.new.items
         ≡ out.old.items ++ frame_line (frame_shown frame.entry)) }
 {
@@ -67,11 +57,7 @@ pub(crate) fn push_frame(
 }
 
 /// Appends the line of a scope.
-pub(crate) fn push_scope(
-    alloc: Global,
-    out: &mut Vec<u8>,
-    scope: ScopeView<'_>,
-) -> Result<(), AllocError>
+pub(crate) fn push_scope(alloc: Global, out: &mut Vec<u8>, scope: ScopeView<'_>) -> Appended
     ensures { OnOk result (out.new.items
         ≡ out.old.items ++ scope_line (scope_shown scope.entry)) }
 {
@@ -81,11 +67,7 @@ pub(crate) fn push_scope(
 }
 
 /// Appends the line of a variable.
-pub(crate) fn push_variable(
-    alloc: Global,
-    out: &mut Vec<u8>,
-    variable: VariableView<'_>,
-) -> Result<(), AllocError>
+pub fn push_variable(alloc: Global, out: &mut Vec<u8>, variable: VariableView<'_>) -> Appended
     ensures { OnOk result (out.new.items
         ≡ out.old.items ++ variable_line (variable_shown variable.entry)) }
 {
@@ -96,7 +78,7 @@ pub(crate) fn push_variable(
 }
 
 /// Appends the `request_seq` of a response. Appends nothing for any other message.
-fn push_answered(out: &mut Vec<u8>, answered: Option<i64>) -> Result<(), AllocError>
+fn push_answered(out: &mut Vec<u8>, answered: Option<i64>) -> Appended
     ensures { OnOk result (out.new.items ≡ out.old.items ++ answered_words answered) }
 {
     match answered {
@@ -106,7 +88,7 @@ fn push_answered(out: &mut Vec<u8>, answered: Option<i64>) -> Result<(), AllocEr
 }
 
 /// Appends whether a response reports success. Appends nothing for any other message.
-fn push_success(out: &mut Vec<u8>, success: Option<bool>) -> Result<(), AllocError>
+fn push_success(out: &mut Vec<u8>, success: Option<bool>) -> Appended
     ensures { OnOk result (out.new.items ≡ out.old.items ++ success_words success) }
 {
     match success {
@@ -117,7 +99,7 @@ fn push_success(out: &mut Vec<u8>, success: Option<bool>) -> Result<(), AllocErr
 }
 
 /// Appends the number of a record and the marker of its side.
-pub(crate) fn push_start(out: &mut Vec<u8>, number: u64, side: Side) -> Result<(), AllocError>
+pub(crate) fn push_start(out: &mut Vec<u8>, number: u64, side: Side) -> Appended
     ensures { OnOk result (out.new.items ≡ out.old.items ++ start_words number side) }
 {
     push_number(out, "", number)?;
@@ -128,11 +110,7 @@ pub(crate) fn push_start(out: &mut Vec<u8>, number: u64, side: Side) -> Result<(
 }
 
 /// Appends the kind, the name and the sequence number of a message.
-fn push_title<M: AnyMessage>(
-    alloc: Global,
-    out: &mut Vec<u8>,
-    message: &M,
-) -> Result<(), AllocError>
+fn push_title<M: AnyMessage>(alloc: Global, out: &mut Vec<u8>, message: &M) -> Appended
     ensures { OnOk result (out.new.items
         ≡ out.old.items ++ title_words (M.sent message.now).doc) }
 {
@@ -142,7 +120,7 @@ fn push_title<M: AnyMessage>(
 }
 
 /// Appends the outcome of a response.
-fn push_outcome<M: AnyMessage>(out: &mut Vec<u8>, message: &M) -> Result<(), AllocError>
+fn push_outcome<M: AnyMessage>(out: &mut Vec<u8>, message: &M) -> Appended
     ensures { OnOk result (out.new.items
         ≡ out.old.items ++ outcome_words (M.sent message.now).doc) }
 {
@@ -156,7 +134,7 @@ pub(crate) fn push_message<M: AnyMessage>(
     out: &mut Vec<u8>,
     number: u64,
     message: &M,
-) -> Result<(), AllocError>
+) -> Appended
     ensures { OnOk result (out.new.items
         ≡ out.old.items ++ message_line number (M.sent message.now)) }
 {

@@ -3,9 +3,9 @@ ghost use Rattle.std.specs.Prelude.{◌+◌, ◌≤◌, IfOk};
 ghost use Rattle.dap_device.specs.Devices.{CanRead, CanWrite};
 ghost use Rattle.dap_input.specs.{ItemReading.RepresentsRecord, Limits.AreSound};
 ghost use Rattle.dap_input.specs.RecordSteps.{IsAtStart};
-ghost use Rattle.dap_show.specs.{OneRecord.{PrintsContent, ShowsRecord}, OneRecordSteps.Finds};
+ghost use Rattle.dap_show.specs.OneRecord.{Finds, PrintsContent, ShowsRecord};
 
-use crate::indented::push_indented;
+use crate::indented::indented_text;
 use dap_device::{Sink, Source, write_and_flush};
 use dap_input::{Limits, Records, Refused};
 use dap_recording::{Record, RecordReader};
@@ -58,9 +58,7 @@ fn text_of(alloc: Global, content: &[u8]) -> Result<Vec<u8>, AllocError>
 {
     match read_tree(alloc, content) {
         Ok(tree) => {
-            let mut text = Vec::new(alloc);
-            let mut margin = Vec::new(alloc);
-            push_indented(alloc, &tree, &mut margin, &mut text)?;
+            let mut text = indented_text(alloc, &tree)?;
             text.extend_from_slice(b"\n")?;
             Ok(text)
         }

@@ -4,8 +4,7 @@ ghost use Rattle.dap_device.specs.Devices.{CanRead, CanWrite};
 ghost use Rattle.dap_input.specs.Limits.{AreSound};
 ghost use Rattle.dap_normalise.specs.Normalising.{RefusesBytes};
 ghost use Rattle.dap_rename.specs.declared.mode.Mode.TheVariants.{Whole};
-ghost use Rattle.dap_show.specs.{TranscriptSteps.result_of_input, Transcripts.IsTranscriptOf};
-ghost use Rattle.dap_show.specs.Transcripts.{ShowsTranscript};
+ghost use Rattle.dap_show.specs.Transcripts.{IsTranscriptOf, ShowsTranscript, result_of_input};
 ghost use Rattle.dap_stored.specs.Sessions.{messages_of};
 ghost use Rattle.dap_transcript.specs.Transcript.{transcript};
 

@@ -3,7 +3,7 @@ use Rattle.std.specs.List.{flat_map}
 use Rattle.dap_message.specs.Message.{doc_of}
 use Rattle.dap_message.specs.ViewItems.{variables_left}
 use Rattle.dap_show.specs.Showing.{listed_lines, variable_line}
-use Rattle.dap_show.proofs.TreeLines.{one_part}
+use Rattle.dap_show.proofs.AppendedLines.{one_part}
 use Rattle.dap_show.proofs.message_lines.tree_lines.Goals as goal
 
 pub loop-variable-preserved : goal.loop-variable-preserved

@@ -5,7 +5,7 @@ use Rattle.dap_tree.proofs.Outcomes.{read_once, whole_or_fraction}
 use Rattle.dap_tree.specs.Json.{HasFraction}
 use Rattle.dap_tree.specs.View.{view}
 use Rattle.dap_show.proofs.LeafLines.{all_appended}
-use Rattle.dap_show.proofs.leaves.read_tree_leaves.Goals as goal
+use Rattle.dap_show.proofs.leaves.Buffers.read_leaves.Goals as goal
 
 pub unreachable-requires-in-Err-Fraction : goal.unreachable-requires-in-Err-Fraction
 unreachable-requires-in-Err-Fraction c =
