@@ -4,20 +4,19 @@ ghost use Rattle.dap_frame.specs.Limits.{IsSound};
 ghost use Rattle.dap_input.specs.declared.limits.Limits.{Limits};
 ghost use Rattle.dap_explain.specs.{Lines.AreLines, Unexplained.{IsEmpty, IsFailure}};
 
+use crate::byte_faults::{explain_piece, explain_record, explain_recorder};
+use crate::content_faults::{explain_json, explain_message};
 use crate::fractions::explain_fraction;
 use crate::head::{Head, add_head, read_message};
-use crate::json_faults::explain_json;
-use crate::lines::Lines;
-use crate::message_faults::explain_message;
-use crate::record_faults::explain_record;
-use crate::records::{Format, Records};
-use crate::session_rules::explain_rule;
-use crate::trace_faults::{explain_piece, explain_recorder};
-use crate::unanswered::explain_incomplete;
+use crate::lines::{Lines, fill};
+use crate::records::{Format, Record, Records};
+use crate::session_rules::{explain_incomplete, explain_rule};
+use crate::words::Word::{Number, Text};
 use dap_frame::Framer;
 use dap_input::{Limits, Refused};
 use dap_mask::MaskRules;
 use dap_recording::RecorderFault;
+use dap_tree::Tree;
 use std::alloc::{AllocError, Global};
 
 /// An input that was rejected.
@@ -29,34 +28,41 @@ pub struct Input<'a> {
     pub rules: Option<&'a MaskRules>,
 }
 
-/// Adds the lines about the rejection of the content of a record.
+/// Adds the lines about the rejection of a record that contains this message.
+fn add_message(
+    lines: &mut Lines,
+    records: Records<'_>,
+    record: Record<'_>,
+    message: &Tree,
+    refused: Refused,
+) {
+    if let Refused::Message(_, fault) = refused {
+        return explain_message(lines, record, message, fault);
+    }
+    let (head, limits) = (Head::of(record.side, message), records.limits);
+    add_head(lines, record.number, &head);
+    match refused {
+        Refused::Fraction(_) => explain_fraction(lines, record.content, message, head),
+        Refused::Rule(number, rule) => explain_rule(lines, records.before(number), &head, rule),
+        Refused::TooManyIds(_) =>
+            fill!(lines; "the limit is {0} different ids of a kind: record shorter sessions",
+                Number(limits.ids as u64)),
+        Refused::Grew(_) =>
+            fill!(lines; "dapnorm writes at most {0} bytes for a record and {1} bytes in all: record shorter sessions",
+                Number(limits.frame.content as u64), Number(limits.input)),
+        _ => {}
+    }
+}
+
+/// Adds the lines about the rejection of the content of the record with this number.
 fn add_content(lines: &mut Lines, records: Records<'_>, number: u64, refused: Refused) {
     let Some(record) = records.from_number(number).and_then(|mut rest| rest.next()) else {
         return;
     };
     if let Refused::Json(_) = refused {
-        return explain_json(lines, record);
-    }
-    let Some(message) = read_message(lines, record.content, records.input.rules) else {
-        return;
-    };
-    if let Refused::Message(_, fault) = refused {
-        return explain_message(lines, record, &message, fault);
-    }
-    let head = Head::of(record.side, &message);
-    add_head(lines, number, &head);
-    match refused {
-        Refused::Fraction(_) => explain_fraction(lines, record.content, &message, head),
-        Refused::Rule(_, rule) => explain_rule(lines, records.before(number), &head, rule),
-        Refused::TooManyIds(_) => lines.write(format_args!(
-            "the limit is {} different ids of a kind: record shorter sessions",
-            records.limits.ids,
-        )),
-        Refused::Grew(_) => lines.write(format_args!(
-            "dapnorm writes at most {} bytes for a record and {} bytes in all: record shorter sessions",
-            records.limits.frame.content, records.limits.input,
-        )),
-        _ => {}
+        explain_json(lines, record);
+    } else if let Some(message) = read_message(lines, record.content, records.input.rules) {
+        add_message(lines, records, record, &message, refused);
     }
 }
 
@@ -68,10 +74,9 @@ fn add_refusal(lines: &mut Lines, input: Input<'_>, refused: Refused, limits: Li
     let framer = Framer::new(lines.alloc, limits.frame);
     let records = Records::new(&framer, limits, input);
     match refused {
-        Refused::InputTooLong(_) | Refused::TraceTooLong(_) => lines.write(format_args!(
-            "the limit of an input is {} bytes: record shorter sessions",
-            limits.input,
-        )),
+        Refused::InputTooLong(_) | Refused::TraceTooLong(_) =>
+            fill!(lines; "the limit of an input is {0} bytes: record shorter sessions",
+                Number(limits.input)),
         Refused::Record(number, cause) => {
             if let Some(records) = records.from_number(number) {
                 explain_record(lines, records, cause);
@@ -137,6 +142,6 @@ pub fn explain_unreadable<'a>(
     ensures { IfOk result (λ text. ∥ AreLines (string_bytes text) ∥₁) }
 {
     let mut lines = Lines::new(alloc);
-    lines.write(format_args!("{name}: {reason}"));
+    fill!(lines; "{0}: {1}", Text(name), Text(reason));
     lines.into_text()
 }

@@ -1,9 +1,10 @@
 //! Finds the numbers of a message that are not integers of 64 bits, and proposes mask rules that
 //! blank them.
 use crate::head::Head;
-use crate::lines::Lines;
+use crate::lines::{Lines, fill};
 use crate::rules_file::fault_in;
-use crate::words::{Cut, Name, Path, Step};
+use crate::words::Word::{Cut, Number, Text};
+use crate::words::{Name, Path, Step};
 use dap_tree::Tree;
 use json::{Reader, Scratch, Token};
 use std::alloc::{AllocError, Global};
@@ -114,16 +115,19 @@ fn number_text<'t>(
 }
 
 /// Adds the line that states which number is at a path, and what is wrong with it.
-fn add_number(lines: &mut Lines, content: &str, steps: &[Step<'_>]) {
+fn add_number<'p>(lines: &mut Lines, path: &'p str, number: &'p str) {
+    fill!(lines; "{0} is {1}, which {2}; dapnorm takes only integers of 64 bits",
+        Text(path), Cut(number), Text(fault_of(number)));
+}
+
+/// Adds the line about the number at a path in a JSON text.
+fn add_number_at(lines: &mut Lines, content: &str, steps: &[Step<'_>]) {
     let mut scratch = Scratch::new(lines.alloc);
     let text = number_text(lines.alloc, content, &mut scratch, steps);
     if let Some(Some(text)) = lines.value_of(text) {
         let is_of_rule = false;
-        let path = Path { steps, is_of_rule };
-        let (number, fault) = (Cut(text), fault_of(text));
-        lines.write(format_args!(
-            "{path} is {number}, which {fault}; dapnorm takes only integers of 64 bits",
-        ));
+        let path = lines.display(Path { steps, is_of_rule });
+        add_number(lines, path.as_str(), text);
     }
 }
 
@@ -139,16 +143,26 @@ fn add_rule(lines: &mut Lines, head: Head<'_>, what: &str, steps: &[Step<'_>]) -
     let (kind, name, is_of_rule) = (kind.word(), Name(name), true);
     let place = Path { steps, is_of_rule };
     let rule = lines.display(format_args!("blank {kind} {name} {place}"));
+    let rule = rule.as_str();
     let is_rule = rule.len() <= LONGEST_RULE && fault_in(lines, rule.as_bytes()).is_none();
     if is_rule {
-        lines.write(format_args!("to blank {what}, write into a rules file: {rule}"));
+        fill!(lines; "to blank {0}, write into a rules file: {1}", Text(what), Text(rule));
     }
     is_rule
 }
 
-/// Adds the lines about the rules that blank the numbers found.
-fn add_rules(lines: &mut Lines, head: Head<'_>, found: &Fractions<'_>) {
+/// Adds the lines about the numbers of a message that were found. `content` is its text.
+fn add_found(lines: &mut Lines, content: &[u8], found: &Fractions<'_>, head: Head<'_>) {
     let path = found.first.as_slice();
+    if let Ok(text) = str::from_utf8(content) {
+        add_number_at(lines, text, path);
+    }
+    match found.count {
+        1 => {}
+        2 => lines.add("one more number of this record is not an integer of 64 bits"),
+        count => fill!(lines; "{0} more numbers of this record are not integers of 64 bits",
+            Number(count.saturating_sub(1))),
+    }
     let has_first = add_rule(lines, head, "this number", path);
     let has_shared = found.shared < path.len()
         && add_rule(lines, head, "all of them", &path[..found.shared]);
@@ -169,19 +183,7 @@ pub(crate) fn explain_fraction(lines: &mut Lines, content: &[u8], message: &Tree
     };
     let mut path = Vec::new(lines.alloc);
     let searched = found.search(message, &mut path);
-    if lines.value_of(searched).is_none() || found.count == 0 {
-        return;
+    if lines.value_of(searched).is_some() && found.count > 0 {
+        add_found(lines, content, &found, head);
     }
-    if let Ok(text) = str::from_utf8(content) {
-        add_number(lines, text, found.first.as_slice());
-    }
-    match found.count {
-        1 => {}
-        2 => lines.add("one more number of this record is not an integer of 64 bits"),
-        count => lines.write(format_args!(
-            "{} more numbers of this record are not integers of 64 bits",
-            count.saturating_sub(1),
-        )),
-    }
-    add_rules(lines, head, &found);
 }

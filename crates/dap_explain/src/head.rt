@@ -1,11 +1,10 @@
 //! Reads the head of a message: its sender, its kind and its name.
-use crate::lines::Lines;
-use crate::words::Quoted;
+use crate::lines::{Lines, fill};
+use crate::words::Word::{Named, Record, Seq, Text};
 use dap_mask::{MaskRules, mask, read_by_rules, read_loosely};
 use dap_profile::Kind;
 use dap_tree::{Scratch, Side, Tree, TreeFault};
 use std::alloc::Global;
-use std::fmt;
 
 /// The members of a message that say what it is. A member that is absent or has another type is
 /// `None`.
@@ -65,40 +64,21 @@ fn number_at(message: &Tree, name: &str) -> Option<i64> {
     }
 }
 
-/// Displays the marker of the sender, the kind and the name of a message, and the request that it
-/// answers.
-impl fmt::Display for Head<'_> {
-    fn fmt<W: fmt::Write>(&self, f: &mut fmt::Formatter<W>) -> fmt::Result {
-        f.write_str(match self.side {
-            Some(Side::Client) => "> ",
-            Some(Side::Adapter) => "< ",
-            None => "",
-        })?;
-        f.write_str(self.kind.map_or("message of unknown type", Kind::word))?;
-        Named(self.name()).fmt(f)?;
-        match self.answered() {
-            Some(seq) => write!(f, ", to request {seq}"),
-            None => Ok(()),
-        }
-    }
-}
-
-/// Displays a space and a name as JSON, if there is one.
-#[derive(Clone, Copy)]
-pub(crate) struct Named<'a>(pub(crate) Option<&'a str>);
-
-impl fmt::Display for Named<'_> {
-    fn fmt<W: fmt::Write>(&self, f: &mut fmt::Formatter<W>) -> fmt::Result {
-        match self.0 {
-            Some(name) => write!(f, " {}", Quoted(name)),
-            None => Ok(()),
-        }
-    }
-}
-
-/// Adds the line that states which message a record contains.
+/// Adds the line that states which message a record contains: the marker of the sender, the kind
+/// and the name, and the request that it answers.
 pub(crate) fn add_head(lines: &mut Lines, number: u64, head: &Head<'_>) {
-    lines.write(format_args!("record {number} is {head}"));
+    let marker = match head.side {
+        Some(Side::Client) => "> ",
+        Some(Side::Adapter) => "< ",
+        None => "",
+    };
+    let kind = head.kind.map_or("message of unknown type", Kind::word);
+    let (text, seq) = match head.answered() {
+        Some(seq) => ("{0} is {1}{2}{3}, to request {4}", seq),
+        None => ("{0} is {1}{2}{3}", 0),
+    };
+    let (marker, kind) = (Text(marker), Text(kind));
+    fill!(lines; text, Record(number), marker, kind, Named(head.name()), Seq(seq));
 }
 
 /// Adds the line that states whom to fix if a message of this side is invalid.

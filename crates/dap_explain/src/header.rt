@@ -35,28 +35,32 @@ pub(crate) fn bad_line(header: &[u8]) -> Option<&[u8]> {
 
 /// Returns whether a line without its LF consists of a name, a colon, a value and CR.
 fn is_field_line(line: &[u8]) -> bool {
-    match line
-        .strip_suffix(b"\r")
-        .and_then(|field| split_at_byte(field, b':'))
-    {
-        Some((name @ [_, ..], value)) => {
-            name.iter().all(|byte| is_name_byte(*byte))
-                && value.iter().all(|byte| is_value_byte(*byte))
-        }
-        _ => false,
-    }
+    let Some((name, value)) = split_at_byte(line, b':') else {
+        return false;
+    };
+    let value = value.strip_suffix(b"\r");
+    !name.is_empty()
+        && name.iter().all(|byte| is_name_byte(*byte))
+        && value.is_some_and(|value| value.iter().all(|byte| is_value_byte(*byte)))
 }
 
 /// Returns the bytes before and after the first one that is this byte.
 fn split_at_byte(bytes: &[u8], byte: u8) -> Option<(&[u8], &[u8])> {
-    let (before, rest) = bytes.split_at_checked(bytes.iter().position(|other| *other == byte)?)?;
-    Some((before, rest.get(1..)?))
+    let mut parts = bytes.splitn(2, |other| *other == byte);
+    parts.next().zip(parts.next())
 }
 
-/// Returns the value of the first field named `Content-Length`, without the surrounding blanks.
+/// Returns the value of a field named `Content-Length` that starts the bytes, without the
+/// surrounding blanks.
+fn length_at(bytes: &[u8]) -> Option<&[u8]> {
+    let (name, value) = split_at_byte(bytes, b':')?;
+    let is_length = name.eq_ignore_ascii_case(LENGTH_NAME);
+    is_length.then_some(value.trim_ascii())
+}
+
+/// Returns the value of the first field of a header part that is named `Content-Length`.
 pub(crate) fn length_value(header: &[u8]) -> Option<&[u8]> {
-    let field = header.split(is_lf).find(|line| is_like_frames(line))?;
-    Some(split_at_byte(field, b':')?.1.trim_ascii())
+    header.split(is_lf).find_map(length_at)
 }
 
 /// Returns the length of the content that a header part declares, if it is 1 to 10 digits.
@@ -66,7 +70,7 @@ pub(crate) fn content_len(header: &[u8]) -> Option<u64> {
 
 /// Returns whether the bytes start like a frame: with the field that every frame has.
 pub(crate) fn is_like_frames(bytes: &[u8]) -> bool {
-    split_at_byte(bytes, b':').is_some_and(|(name, _)| name.eq_ignore_ascii_case(LENGTH_NAME))
+    length_at(bytes).is_some()
 }
 
 /// Returns whether a header part contains the name `Content-Length` but does not start with this
@@ -96,10 +100,9 @@ pub(crate) fn split_count(bytes: &[u8]) -> Option<(u64, &[u8])> {
 
 /// Returns the number that 1 to 10 decimal digits represent.
 fn number_of(digits: &[u8]) -> Option<u64> {
-    if digits.len() > 10 || !digits.iter().all(u8::is_ascii_digit) {
-        return None;
-    }
-    str::from_utf8(digits).ok()?.parse::<u64>().ok()
+    let is_number = digits.len() <= 10 && digits.iter().all(u8::is_ascii_digit);
+    let text = str::from_utf8(digits).ok().filter(|_| is_number)?;
+    text.parse::<u64>().ok()
 }
 
 /// Returns whether a byte ends a line.
@@ -109,7 +112,7 @@ pub(crate) fn is_lf(byte: &u8) -> bool {
 
 /// Returns the bytes before the first LF, or all bytes if there is no LF.
 pub(crate) fn first_line(bytes: &[u8]) -> &[u8] {
-    bytes.split(is_lf).next().unwrap_or(bytes)
+    line_at(bytes, 1).unwrap_or(bytes)
 }
 
 /// Returns the line of a text with this number, counted from 1, without its LF. After a last LF

@@ -20,23 +20,17 @@
 //! explanation for each kind of rejection, except for the limits that only huge inputs reach.
 #![tactic(auto)]
 
+mod byte_faults;
+mod content_faults;
 mod explaining;
 mod fractions;
-mod frame_faults;
 mod head;
 mod header;
-mod json_faults;
 mod lines;
-mod message_faults;
-mod record_faults;
 mod records;
 mod rules_file;
-mod rules_line;
 mod session_rules;
-mod trace_faults;
-mod transcript_differences;
 mod transcript_faults;
-mod unanswered;
 mod words;
 
 pub use explaining::{Input, explain, explain_unreadable};

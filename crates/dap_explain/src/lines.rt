@@ -1,15 +1,12 @@
 //! Builds the lines of an explanation, indented and without control characters.
-ghost use Rattle.std.specs.Prelude.{◌≡◌, ◌≢◌, ◌<◌, ◌≤◌, true, All, IfOk, OnOk, string_bytes};
+ghost use Rattle.std.specs.Prelude.{◌≡◌, ◌≢◌, ◌≤◌, true, All, IfOk, string_bytes};
 ghost use Rattle.dap_explain.specs.Lines.{AreLines, IsPrinted};
 
-use crate::words::{Bytes, first_characters};
+use crate::words::{Filled, Word};
 use dap_tree::{Tree, write_tree};
 use std::alloc::{AllocError, Global};
 use std::fmt::Display;
 use std::str;
-
-/// The maximum number of characters that are written of a line.
-const LONGEST: usize = 1_000;
 
 /// The lines of an explanation.
 ///
@@ -22,6 +19,15 @@ pub(crate) struct Lines {
     has_failed: bool,
     ghost are_lines: { ∥ AreLines (string_bytes text) ∥₁ },
 }
+
+/// Appends the line that is a text with a word in place of each of `{0}`, `{1}` and so on.
+macro_rules! fill {
+    ($lines:expr; $text:expr, $($word:expr),+) => {
+        $lines.fill($text, &[$($word),+])
+    };
+}
+
+pub(crate) use fill;
 
 impl Lines {
     ghost use Rattle.dap_explain.specs.{NoLines.AreNone, Unexplained.IsEmpty};
@@ -68,34 +74,39 @@ impl Lines {
     /// Appends a line. It is truncated after 1,000 characters. A character that a terminal does not
     /// print is written as a JSON escape.
     pub(crate) fn add(&mut self, words: &str) {
-        let added = self.append(words);
+        let words = self.display(Word::Whole(words));
+        let added = self.append(words.as_str());
         self.value_of(added);
     }
 
-    /// Appends a line that is displayed so.
-    pub(crate) fn write<D: Display + Drop>(&mut self, words: D) {
-        let words = self.display(words);
-        self.add(words.as_str());
+    /// Appends a line as `fill!` does.
+    pub(crate) fn fill(&mut self, text: &str, words: &[Word<'_>]) {
+        let line = self.display(Filled { text, words });
+        self.add(line.as_str());
     }
 
     /// Returns bytes as a string. If they are not UTF-8, appends a line that says so of this name.
-    pub(crate) fn utf8<'b>(&mut self, name: &str, bytes: &'b [u8]) -> Option<&'b str> {
+    pub(crate) fn utf8<'b>(&mut self, name: Word<'b>, bytes: &'b [u8]) -> Option<&'b str> {
         match str::from_utf8(bytes) {
             Ok(text) => Some(text),
             Err(error) => {
                 let valid = error.valid_up_to();
-                let rest = Bytes(bytes.get(valid..).unwrap_or(&[]));
-                self.write(format_args!("{name} is not UTF-8 after {valid} bytes: {rest}"));
+                let rest = Word::Bytes(bytes.get(valid..).unwrap_or(&[]));
+                let valid = Word::Number(valid as u64);
+                fill!(self; "{0} is not UTF-8 after {1} bytes: {2}", name, valid, rest);
                 None
             }
         }
     }
 
-    /// Appends a line, or returns that an allocation failed.
+    /// Appends a line, if it has no control character. Returns whether an allocation failed.
     fn append(&mut self, words: &str) -> Result<(), AllocError> {
-        let words = printed(self.alloc, words)?;
-        let line = format!(in self.alloc; "  {words}\n")?;
-        self.text.push_str(line.as_str())
+        if has_no_control(words) {
+            let line = format!(in self.alloc; "  {words}\n")?;
+            self.text.push_str(line.as_str())
+        } else {
+            Ok(())
+        }
     }
 
     /// Returns the text of the lines.
@@ -111,59 +122,11 @@ impl Lines {
     }
 }
 
-/// Returns the first characters of a string. Characters that a terminal does not print are escaped.
-fn printed(alloc: Global, text: &str) -> Result<String, AllocError>
-    ensures { IfOk result (λ words. All IsPrinted (string_bytes words)) }
+/// Returns whether no byte of a string is an ASCII control character.
+fn has_no_control(text: &str) -> bool
+    ensures { result ≡ true → All IsPrinted text.now }
 {
-    let shown = first_characters(text, LONGEST);
-    let mut words = String::new(alloc);
-    let escaped = escaped(alloc, shown)?;
-    for character in escaped.chars() {
-        push_printed(&mut words, character)?;
-    }
-    if shown.len() < text.len() {
-        words.push_str("...")?;
-    }
-    Ok(words)
-}
-
-/// Appends a character, if a terminal prints it.
-fn push_printed(words: &mut String, character: char) -> Result<(), AllocError>
-    requires { All IsPrinted (string_bytes words.old) }
-    ensures { OnOk result (All IsPrinted (string_bytes words.new)) }
-{
-    if is_printed(character) {
-        words.push(character)
-    } else {
-        Ok(())
-    }
-}
-
-/// Returns a string in which each character that a terminal does not print is a JSON escape.
-fn escaped(alloc: Global, text: &str) -> Result<String, AllocError> {
-    let mut words = String::new(alloc);
-    for character in text.chars() {
-        if is_printed(character) {
-            words.push(character)?;
-        } else {
-            let escape = format!(in alloc; "\\u{:04x}", u32::from(character))?;
-            words.push_str(escape.as_str())?;
-        }
-    }
-    Ok(words)
-}
-
-/// Returns whether a terminal prints a character. This excludes control characters of Unicode, line
-/// separators, and characters that change the direction of text.
-pub(crate) fn is_printed(character: char) -> bool
-    ensures { result ≡ true → (32 ≤ character) × (character ≢ 127) }
-{
-    !matches!(
-        character,
-        '\0'..='\u{1f}'
-            | '\u{7f}'..='\u{9f}'
-            | '\u{200e}'..='\u{200f}'
-            | '\u{2028}'..='\u{202e}'
-            | '\u{2066}'..='\u{2069}'
-    )
+    text.as_bytes()
+        .iter()
+        .all(|&byte| 32 <= byte && byte != 127)
 }

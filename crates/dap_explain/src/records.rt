@@ -3,8 +3,8 @@ ghost use Rattle.std.specs.Prelude.{length};
 
 use crate::explaining::Input;
 use crate::header::{is_like_frames, split_count, split_header};
-use crate::lines::Lines;
-use crate::words::Bytes;
+use crate::lines::{Lines, fill};
+use crate::words::Word::Bytes;
 use dap_frame::Framer;
 use dap_input::Limits;
 use dap_tree::Side;
@@ -139,7 +139,7 @@ pub(crate) fn add_likeness(lines: &mut Lines, bytes: &[u8], expected: Format) ->
     } else {
         return false;
     };
-    lines.write(format_args!("the input begins {}", Bytes(bytes)));
+    fill!(lines; "the input begins {0}", Bytes(bytes));
     lines.add(likeness);
     true
 }

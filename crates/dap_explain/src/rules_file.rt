@@ -3,48 +3,221 @@ ghost use Rattle.std.specs.Prelude.{◌≡◌, IfOk, string_bytes};
 ghost use Rattle.dap_explain.specs.{Lines.AreLines, Unexplained.IsEmpty};
 
 use crate::header::{is_lf, line_at};
-use crate::lines::Lines;
-use crate::rules_line::{has_category, place_of, split_verb};
-use crate::words::{Bytes, Cut};
-use dap_mask::{MaskRules, RulesCause, RulesFault, is_end};
+use crate::lines::{Lines, fill};
+use crate::words::Word::{self, Bytes, Cut, Line, Number};
+use RulePart::{
+    Category, Event, JoinedKind, JoinedName, Kind, Limit, Name, Place, SecondKind, Span, Text,
+    Value,
+};
+use dap_mask::{
+    ByteClass, MaskRules, RulesCause, RulesFault, any_name, is_end, name_at, place_at, split_run,
+    value_at,
+};
+use dap_profile::Kind as MessageKind;
 use std::alloc::{AllocError, Global};
+use std::str;
 
-/// What to do about a rule for the category by which another rule drops events.
-const CATEGORY_ADVICE: &str =
-    "no rule changes the category by which a rule drops events: leave one of them out";
+/// Adds the line about a word that is wrong.
+fn add_wrong(lines: &mut Lines, word: &[u8], what: &str) {
+    fill!(lines; "{0} {1}", Bytes(word), Word::Text(what));
+}
 
-/// What to do about a rule for the category by which another rule selects the events to change.
-const LIMIT_ADVICE: &str =
-    "no rule changes the category by which a rule selects events: leave one of them out";
+/// Returns the bytes after the leading blanks.
+fn after_blanks(bytes: &[u8]) -> &[u8] {
+    split_run(bytes, ByteClass::Blank).1
+}
 
-/// What to do about a rule for the category by which output is joined.
-const JOIN_ADVICE: &str =
-    "no rule changes the category by which output is joined: leave one of them out";
+/// Splits a line after its first word, which is its verb.
+fn split_verb(line: &[u8]) -> (&[u8], &[u8]) {
+    split_run(after_blanks(line), ByteClass::Word)
+}
 
-/// What to do about a rule that sets a member of a value that another rule blanks.
-const FILL_ADVICE: &str =
-    "no rule blanks a value in which another one sets a member: leave one of them out";
+/// Returns whether a line has this verb.
+fn has_verb(line: &[u8], verb: &[u8]) -> bool {
+    split_verb(line).0 == verb
+}
+
+/// A part of a rule after its verb.
+#[derive(Clone, Copy, PartialEq, Eq)]
+enum RulePart {
+    Kind,
+    /// The kind of the events that a rule drops.
+    Event,
+    /// The kind of the second message of a swap.
+    SecondKind,
+    /// The name of a message, or `*`.
+    Name,
+    /// A text that has a word, or its word.
+    Text,
+    Place,
+    /// The category of the events that a rule drops, which may be missing.
+    Category,
+    /// The category of the events that a rule changes, which may be missing.
+    Limit,
+    /// The kind of the events that a rule joins.
+    JoinedKind,
+    /// The name of the events that a rule joins.
+    JoinedName,
+    /// The word `per-stop` after these, which may be missing.
+    Span,
+    /// The value of a member that a rule sets.
+    Value,
+}
+
+/// Returns the parts of a rule with a verb. A place is the last one, except for a value.
+fn parts_of(verb: &[u8]) -> Option<&'static [RulePart]> {
+    match verb {
+        b"blank" | b"digits" | b"hex" | b"long" | b"uuid" => Some(&[Kind, Name, Limit, Place]),
+        b"drop" => Some(&[Event, Name, Category]),
+        b"fill" => Some(&[Kind, Name, Place, Value]),
+        b"join" => Some(&[JoinedKind, JoinedName, Span]),
+        b"swap" => Some(&[Kind, Name, SecondKind, Name]),
+        b"word" => Some(&[Text, Text]),
+        b"per-stop" => Some(&[]),
+        _ => None,
+    }
+}
+
+/// Returns the kind of message that a word names.
+fn kind_of(word: &[u8]) -> Option<MessageKind> {
+    MessageKind::named(str::from_utf8(word).ok()?)
+}
+
+impl RulePart {
+    /// Returns that the part is missing.
+    fn missing(self) -> &'static str {
+        match self {
+            Kind | Event => "after the verb comes a kind: request, response or event",
+            SecondKind => "a swap names two messages: write swap KIND NAME KIND NAME",
+            Name => "after the kind comes a command or an event, or * for any",
+            Text => "a text and its word are needed: write word TEXT WORD",
+            Place | Category | Limit => "after the name comes a place, such as body.reason",
+            JoinedKind | JoinedName | Span => "only output is joined: write join event output",
+            Value => "after the place comes a value: an integer, true, false or a string in quotes",
+        }
+    }
+
+    /// Returns that a word is not the part, and what is allowed there.
+    fn wrong(self, word: &[u8]) -> &'static str {
+        match self {
+            Event if kind_of(word).is_some() => "cannot be dropped: write drop event NAME",
+            Kind | Event | SecondKind => "is not a kind: write request, response or event",
+            Name =>
+                "is not a name: quote one with other characters than letters, digits, _, - and $",
+            Text =>
+                "is not a text: quote one with other characters than letters, digits, _, - and $",
+            Place =>
+                "is not a place: write names with dots between them, [] for elements, and quotes as for names",
+            Category | Limit => "is not a category: write category= and a word or a JSON string",
+            JoinedKind | JoinedName => "cannot be joined: write join event output",
+            Span => "is not per-stop: write join event output per-stop, or leave it out",
+            Value => "is not a value: write an integer, true, false or a string in quotes",
+        }
+    }
+
+    /// Returns the bytes after the part at the start of these, or `None` if it is not there.
+    fn after<'l>(self, lines: &mut Lines, bytes: &'l [u8]) -> Option<&'l [u8]> {
+        let alloc = lines.alloc;
+        let (word, rest) = split_run(bytes, ByteClass::Word);
+        match self {
+            Kind | SecondKind => kind_of(word).map(|_| rest),
+            Event | JoinedKind => (kind_of(word)? == MessageKind::Event).then_some(rest),
+            JoinedName => matches!(word, b"output" | b"\"output\"").then_some(rest),
+            Span => matches!(word, b"per-stop").then_some(rest),
+            Value => Some(lines.value_of(value_at(alloc, bytes))??.1),
+            Name => Some(lines.value_of(any_name(alloc, bytes))??.1),
+            Text => Some(lines.value_of(name_at(alloc, bytes))??.1),
+            Place => Some(lines.value_of(place_at(alloc, bytes))??.1),
+            Category | Limit => {
+                let text = bytes.strip_prefix(b"category=")?;
+                Some(lines.value_of(name_at(alloc, text))??.1)
+            }
+        }
+    }
+
+    /// Returns whether the part may be missing, and is not at the start of the text.
+    fn is_left_out(self, text: &[u8]) -> bool {
+        match self {
+            Category | Span => is_end(text),
+            Limit => !after_blanks(text).starts_with(b"category="),
+            _ => false,
+        }
+    }
+
+    /// Returns the bytes of the part after blanks, and the bytes after it. If the part is not
+    /// there, adds the line about it.
+    fn read<'l>(self, lines: &mut Lines, text: &'l [u8]) -> Option<(&'l [u8], &'l [u8])> {
+        if is_end(text) {
+            lines.add(self.missing());
+            return None;
+        }
+        let bytes = after_blanks(text);
+        match self.after(lines, bytes) {
+            Some(rest) if matches!(rest, [] | [b'#' | b' ' | b'\t' | b'\r', ..]) => {
+                Some((bytes.strip_suffix(rest)?, rest))
+            }
+            _ => {
+                let word = split_run(bytes, ByteClass::Word).0;
+                add_wrong(lines, word, self.wrong(word));
+                None
+            }
+        }
+    }
+}
+
+/// Returns the last part of a rule before its value, which is the place of a rule that has one. For
+/// a line that is not a rule, adds the line about what is wrong with it, if that is recognised.
+fn place_of<'l>(lines: &mut Lines, line: &'l [u8]) -> Option<&'l [u8]> {
+    let (mut last, mut rest) = split_verb(line);
+    let Some(parts) = parts_of(last) else {
+        let verbs =
+            "is not a verb: write blank, digits, hex, long, uuid, drop, fill, join, swap, word or per-stop";
+        add_wrong(lines, last, verbs);
+        return None;
+    };
+    let kind = kind_of(split_verb(rest).0);
+    for part in parts {
+        if part.is_left_out(rest) {
+            continue;
+        }
+        if *part == Limit && kind != Some(MessageKind::Event) {
+            lines.add("only a rule for events has a category: leave category= out");
+            return None;
+        }
+        let (bytes, after) = part.read(lines, rest)?;
+        if *part != Value {
+            last = bytes;
+        }
+        rest = after;
+    }
+    if is_end(rest) {
+        return Some(last);
+    }
+    let comment = "is after the rule: only a comment may be there";
+    add_wrong(lines, after_blanks(rest), comment);
+    None
+}
 
 /// What to do about two rules that exclude each other.
 const ONE_ADVICE: &str = "leave one of them out";
 
+const CATEGORY_ADVICE: &str =
+    "no rule changes the category by which a rule drops events: leave one of them out";
+
+const LIMIT_ADVICE: &str =
+    "no rule changes the category by which a rule selects events: leave one of them out";
+
+const JOIN_ADVICE: &str =
+    "no rule changes the category by which output is joined: leave one of them out";
+
+const FILL_ADVICE: &str =
+    "no rule blanks a value in which another one sets a member: leave one of them out";
+
+const UUID_ADVICE: &str = "no place has both: leave one of them out";
+
 /// What to do about a word that can overlap a text.
 const WORD_ADVICE: &str =
     "choose a word that shares no start or end with a text, such as \"<home>\"";
-
-/// What to do about a `uuid` and a `digits` rule for one place.
-const UUID_ADVICE: &str = "no place has both: leave one of them out";
-
-/// Returns the line of a file with this number, without its LF. A line that the file does not have
-/// is empty.
-fn line_of(rules: &[u8], number: usize) -> &[u8] {
-    line_at(rules, number).unwrap_or(&[])
-}
-
-/// Returns whether a line starts with a verb.
-fn has_verb(line: &[u8], verb: &str) -> bool {
-    split_verb(line).0 == verb.as_bytes()
-}
 
 /// What is wrong with a path to a member of the message itself that no rule may change.
 const RECOGNISED: &str = "a member by which dapnorm recognises messages";
@@ -66,35 +239,26 @@ fn place_words(place: &[u8]) -> &'static str {
 
 /// Adds the line about a place that no rule may change, or that is not that of a member to set.
 fn add_bad_place(lines: &mut Lines, line: &[u8], place: &[u8]) {
-    let (what, place) = (place_words(place), Bytes(place));
-    if has_verb(line, "fill") && what != RECOGNISED {
-        lines.write(format_args!(
-            "{place} is not a place of fill: end it with a name, and write [] for elements"
-        ));
+    let what = place_words(place);
+    let text = if has_verb(line, b"fill") && what != RECOGNISED {
+        "{0} is not a place of fill: end it with a name, and write [] for elements"
     } else {
-        lines.write(format_args!("{place} is {what}: leave the rule out"));
-    }
+        "{0} is {1}: leave the rule out"
+    };
+    fill!(lines; text, Bytes(place), Word::Text(what));
 }
 
-/// Adds the line about a line that is not a rule, or whose path no rule may change.
-fn add_bad_line(lines: &mut Lines, line: &[u8], cause: RulesCause) {
-    let Some(place) = place_of(lines, line) else {
-        return;
-    };
-    if cause == RulesCause::BadRule {
-        lines.add(
-            "a rule is VERB KIND NAME PLACE, VERB event NAME category=TEXT PLACE, drop event NAME, drop event NAME category=TEXT, join event output, fill KIND NAME PLACE VALUE, swap KIND NAME KIND NAME, word TEXT WORD, or per-stop",
-        );
-    } else {
-        add_bad_place(lines, line, place);
-    }
+/// Reads a file of rules. Stores if an allocation failed.
+fn read_rules(lines: &mut Lines, rules: &[u8]) -> Result<MaskRules, RulesFault> {
+    let rules = MaskRules::read(lines.alloc, rules);
+    let is_failed = matches!(&rules, Err(fault) if fault.cause == RulesCause::Memory);
+    lines.fail_if(is_failed);
+    rules
 }
 
 /// Returns why a text is not a file of rules. Stores if an allocation failed.
 pub(crate) fn fault_in(lines: &mut Lines, rules: &[u8]) -> Option<RulesFault> {
-    let fault = MaskRules::read(lines.alloc, rules).err()?;
-    lines.fail_if(fault.cause == RulesCause::Memory);
-    Some(fault)
+    read_rules(lines, rules).err()
 }
 
 /// Returns whether the second of two lines, which these parts form, is the first that is rejected,
@@ -114,37 +278,43 @@ fn is_by_category(lines: &mut Lines, earlier: &[u8], line: &[u8]) -> bool {
     is_second_refused(lines, &parts, RulesCause::Clash)
 }
 
-/// Returns how an earlier line clashes with a line, and what to do.
-fn clash_words(lines: &mut Lines, earlier: &[u8], line: &[u8]) -> (&'static str, &'static str) {
-    if has_verb(line, "fill") && has_verb(earlier, "fill") {
+/// Returns whether a line is a rule for the events of one category.
+fn has_category(lines: &mut Lines, line: &[u8]) -> bool {
+    let rules = read_rules(lines, line);
+    rules.is_ok_and(|rules| matches!(rules.changes(), [rule] if rule.category.is_some()))
+}
+
+/// Returns how an earlier line clashes with a line, and what to do. A rule that changes the category
+/// by which another rule selects events is without a category itself.
+fn clash(lines: &mut Lines, earlier: &[u8], line: &[u8]) -> (&'static str, &'static str) {
+    if has_verb(line, b"fill") && has_verb(earlier, b"fill") {
         ("may set the same member", ONE_ADVICE)
-    } else if has_verb(line, "fill") {
+    } else if has_verb(line, b"fill") {
         ("blanks a value that contains the member", FILL_ADVICE)
-    } else if has_verb(earlier, "fill") {
+    } else if has_verb(earlier, b"fill") {
         (
             "sets a member of the value that this line blanks",
             FILL_ADVICE,
         )
-    } else if has_verb(line, "join") {
+    } else if has_verb(line, b"join") {
         ("changes the category", JOIN_ADVICE)
-    } else if has_verb(earlier, "join") {
+    } else if has_verb(earlier, b"join") {
         ("joins output by this category", JOIN_ADVICE)
-    } else if has_verb(line, "drop") {
+    } else if has_verb(line, b"drop") {
         ("changes the category", CATEGORY_ADVICE)
-    } else if has_verb(earlier, "drop") {
+    } else if has_verb(earlier, b"drop") {
         ("drops events by this category", CATEGORY_ADVICE)
     } else if is_by_category(lines, earlier, line) {
-        (limit_words(lines, line), LIMIT_ADVICE)
-    } else if has_verb(line, "uuid") {
+        (selection(lines, line), LIMIT_ADVICE)
+    } else if has_verb(line, b"uuid") {
         ("has a digits rule for the same place", UUID_ADVICE)
     } else {
         ("has a uuid rule for the same place", UUID_ADVICE)
     }
 }
 
-/// Returns how an earlier line clashes with a line, if one of them changes the category by which
-/// the other one selects events. A rule that changes the category has none.
-fn limit_words(lines: &mut Lines, line: &[u8]) -> &'static str {
+/// Returns which of two lines selects events by the category that the other one changes.
+fn selection(lines: &mut Lines, line: &[u8]) -> &'static str {
     if has_category(lines, line) {
         "changes the category by which this line selects events"
     } else {
@@ -152,27 +322,36 @@ fn limit_words(lines: &mut Lines, line: &[u8]) -> &'static str {
     }
 }
 
-/// Adds the lines about an earlier line that excludes a line for this reason, and what to do.
-fn add_earlier(lines: &mut Lines, number: usize, earlier: &[u8], line: &[u8], cause: RulesCause) {
-    let (what, advice) = match cause {
-        RulesCause::Repeated if has_verb(line, "word") => ("has a word for this text", ONE_ADVICE),
-        RulesCause::Repeated if has_verb(line, "join") => ("joins output, too", ONE_ADVICE),
-        RulesCause::Repeated if has_verb(line, "fill") => ("sets the same member", ONE_ADVICE),
-        RulesCause::Repeated => ("has the same rule", ONE_ADVICE),
+/// Returns how an earlier line has the same rule as a line.
+fn repetition(line: &[u8]) -> &'static str {
+    match split_verb(line).0 {
+        b"word" => "has a word for this text",
+        b"join" => "joins output, too",
+        b"fill" => "sets the same member",
+        _ => "has the same rule",
+    }
+}
+
+/// Returns how an earlier line excludes a line for this reason, and what to do.
+fn exclusion(
+    lines: &mut Lines,
+    earlier: &[u8],
+    line: &[u8],
+    cause: RulesCause,
+) -> (&'static str, &'static str) {
+    match cause {
+        RulesCause::Repeated => (repetition(line), ONE_ADVICE),
         RulesCause::BadWord => (
             "has a text or a word that can overlap those of this line",
             WORD_ADVICE,
         ),
-        _ => clash_words(lines, earlier, line),
-    };
-    lines.write(format_args!("line {number} {what}"));
-    lines.add(advice);
+        _ => clash(lines, earlier, line),
+    }
 }
 
 /// Adds the lines about a rule that an earlier line excludes: the first one after which it is
 /// rejected for this reason. Only a rule for a word can be rejected without an earlier line.
-fn add_excluded(lines: &mut Lines, rules: &[u8], fault: RulesFault) {
-    let line = line_of(rules, fault.line);
+fn add_excluded(lines: &mut Lines, rules: &[u8], line: &[u8], fault: RulesFault) {
     if fault_in(lines, line).is_some_and(|alone| alone.cause == fault.cause) {
         lines.add("the text is empty, or its word can overlap it");
         return lines.add(WORD_ADVICE);
@@ -180,21 +359,33 @@ fn add_excluded(lines: &mut Lines, rules: &[u8], fault: RulesFault) {
     for (number, earlier) in (1..fault.line).zip(rules.split(is_lf)) {
         let parts = [earlier, b"\n".as_slice(), line];
         if !is_end(earlier) && is_second_refused(lines, &parts, fault.cause) {
-            return add_earlier(lines, number, earlier, line, fault.cause);
+            let (what, advice) = exclusion(lines, earlier, line, fault.cause);
+            fill!(lines; "line {0} {1}", Number(number as u64), Word::Text(what));
+            return lines.add(advice);
         }
     }
 }
 
 /// Adds the lines about why a line is rejected.
-fn add_cause(lines: &mut Lines, rules: &[u8], fault: RulesFault) {
-    let line = line_of(rules, fault.line);
+fn add_cause(lines: &mut Lines, rules: &[u8], line: &[u8], fault: RulesFault) {
     match fault.cause {
-        RulesCause::BadRule | RulesCause::BadPlace => add_bad_line(lines, line, fault.cause),
+        RulesCause::BadRule => {
+            if place_of(lines, line).is_some() {
+                lines.add(
+                    "a rule is VERB KIND NAME PLACE, VERB event NAME category=TEXT PLACE, drop event NAME, drop event NAME category=TEXT, join event output, fill KIND NAME PLACE VALUE, swap KIND NAME KIND NAME, word TEXT WORD, or per-stop",
+                );
+            }
+        }
+        RulesCause::BadPlace => {
+            if let Some(place) = place_of(lines, line) {
+                add_bad_place(lines, line, place);
+            }
+        }
         RulesCause::TooMany => {
             lines.add("a file has at most 1000 rules: join some by * in the place of a name")
         }
         RulesCause::NotUtf8 => lines.add("save the file as UTF-8"),
-        _ => add_excluded(lines, rules, fault),
+        _ => add_excluded(lines, rules, line, fault),
     }
 }
 
@@ -206,11 +397,11 @@ fn add_fault(lines: &mut Lines, rules: &[u8], fault: RulesFault)
         RulesCause::Memory => {}
         RulesCause::TooLong => lines.add("a file of rules has at most 65536 bytes"),
         _ => {
-            let name = lines.display(format_args!("line {}", fault.line));
-            if let Some(text) = lines.utf8(name.as_str(), line_of(rules, fault.line)) {
-                lines.write(format_args!("{name} is: {}", Cut(text.trim())));
+            let line = line_at(rules, fault.line).unwrap_or(&[]);
+            if let Some(text) = lines.utf8(Line(fault.line), line) {
+                fill!(lines; "{0} is: {1}", Line(fault.line), Cut(text.trim()));
             }
-            add_cause(lines, rules, fault);
+            add_cause(lines, rules, line, fault);
         }
     }
 }

@@ -2,51 +2,25 @@
 ghost use Rattle.std.specs.Prelude.{◌≡◌, IfOk, string_bytes};
 ghost use Rattle.dap_explain.specs.{Lines.AreLines, Unexplained.IsEmpty};
 
+use crate::content_faults::explain_transcript_message;
 use crate::header::{is_lf, line_at};
-use crate::lines::Lines;
-use crate::message_faults::explain_transcript_message;
-use crate::transcript_differences::add_difference;
-use crate::words::Cut;
+use crate::lines::{Lines, fill};
+use crate::words::Word::{Cut, Line, Text};
+use crate::words::{is_printed, split_characters};
 use dap_mask::{ByteClass, name_at, split_run};
-use dap_transcript::{TranscriptCause, TranscriptFault, is_transcript};
+use dap_transcript::{TranscriptCause, TranscriptFault, is_transcript, rewrite_transcript};
 use dap_tree::{TreeFault, read_tree};
 use std::alloc::{AllocError, Global};
-
-/// The forms of a head.
-const HEADS: &str =
-    "a record begins with - client: KIND NAME or - adapter: KIND NAME; KIND is request, response or event";
-
-/// How a name with other characters is written in a head.
-const QUOTED_HEADS: &str =
-    "if NAME has other characters than letters, digits and _, KIND NAME is one string in quotes";
-
-/// The forms of an indented line.
-const PARTS: &str =
-    "an indented line is a member, NAME: VALUE, or an element, - VALUE; nothing comes after the VALUE";
-
-/// The indentation of members and elements.
-const INDENTATION: &str =
-    "below NAME: are members, indented by two blanks more, or elements, indented like NAME";
+use std::str;
 
 /// The forms of a value.
 const VALUES: &str =
     "a value is JSON on one line: a string in quotes, an integer of 64 bits, true, false, null, [] or {}";
 
-/// What is wrong with a record whose values are JSON, but not the record.
-const NO_VALUE: &str =
-    "a name is not a JSON string, or more than 127 arrays and objects are inside one another";
-
-/// Returns whether a line is written by a merge that has a conflict.
-fn is_conflict_mark(line: &[u8]) -> bool {
-    line.starts_with(b"<<<<<<<")
-        || line.starts_with(b"|||||||")
-        || line.starts_with(b"=======")
-        || line.starts_with(b">>>>>>>")
-}
-
 /// Returns what is wrong with a line that is not one of a transcript, if it is recognised.
 fn recognised(line: &[u8]) -> Option<&'static str> {
-    if is_conflict_mark(line) {
+    let mark = line.get(..7).unwrap_or(&[]);
+    if matches!(mark, b"<<<<<<<" | b"|||||||" | b"=======" | b">>>>>>>") {
         Some("it marks a merge conflict: resolve the conflict")
     } else if line.starts_with(b"\xef\xbb\xbf") {
         Some("it begins with a UTF-8 byte order mark: save the file without one")
@@ -75,25 +49,28 @@ fn add_bad_line(lines: &mut Lines, text: &[u8], number: usize, line: &[u8]) {
     if let Some(words) = recognised(line) {
         lines.add(words);
     } else if line.starts_with(b" ") && has_head(text, number) {
-        lines.add(PARTS);
+        lines.add(
+            "an indented line is a member, NAME: VALUE, or an element, - VALUE; nothing comes after the VALUE",
+        );
         lines.add(VALUES);
-        lines.add(INDENTATION);
+        lines.add(
+            "below NAME: are members, indented by two blanks more, or elements, indented like NAME",
+        );
     } else {
-        lines.add(HEADS);
-        lines.add(QUOTED_HEADS);
+        lines.add(
+            "a record begins with - client: KIND NAME or - adapter: KIND NAME; KIND is request, response or event",
+        );
+        lines.add(
+            "if NAME has other characters than letters, digits and _, KIND NAME is one string in quotes",
+        );
     }
 }
 
 /// Returns whether bytes are not a value that a message can have.
 fn is_bad_value(lines: &mut Lines, value: &[u8]) -> bool {
-    match read_tree(lines.alloc, value) {
-        Ok(_) => false,
-        Err(TreeFault::Memory) => {
-            lines.fail_if(true);
-            false
-        }
-        Err(_) => true,
-    }
+    let fault = read_tree(lines.alloc, value).err();
+    lines.fail_if(fault == Some(TreeFault::Memory));
+    matches!(fault, Some(TreeFault::Json | TreeFault::Fraction))
 }
 
 /// Returns the value on a line that is not a head, if there is one.
@@ -108,39 +85,105 @@ fn value_on<'l>(lines: &mut Lines, line: &'l [u8]) -> Option<&'l [u8]> {
     }
 }
 
-/// Returns the number and the bytes of the first line of a record, after its head at this line,
-/// that has a value which no message can have.
-fn find_bad_value<'l>(lines: &mut Lines, text: &'l [u8], head: usize) -> Option<(usize, &'l [u8])> {
-    let mut number = head;
-    for line in text.split(is_lf).skip(head) {
-        number = number.saturating_add(1);
-        if is_transcript(line) {
-            return None;
-        }
-        let value = value_on(lines, line);
-        if value.is_some_and(|value| is_bad_value(lines, value)) {
-            return Some((number, line));
-        }
-    }
-    None
-}
-
-/// Adds the lines about a record that has a value which no message can have.
+/// Adds the lines about a record, whose head is at this line, that has a value which no message can
+/// have.
 fn add_bad_value(lines: &mut Lines, text: &[u8], head: usize) {
-    if let Some((number, line)) = find_bad_value(lines, text, head) {
-        add_line(lines, number, line);
-        lines.add(VALUES);
-    } else {
-        lines.add(NO_VALUE);
+    let record = text.split(is_lf).enumerate().skip(head);
+    for (before, line) in record.take_while(|(_, line)| !is_transcript(line)) {
+        if value_on(lines, line).is_some_and(|value| is_bad_value(lines, value)) {
+            add_line(lines, before.saturating_add(1), line);
+            return lines.add(VALUES);
+        }
     }
+    lines.add(
+        "a name is not a JSON string, or more than 127 arrays and objects are inside one another",
+    );
 }
 
 /// Adds the line that shows a line of a text.
 fn add_line(lines: &mut Lines, number: usize, line: &[u8]) {
-    let name = lines.display(format_args!("line {number}"));
-    if let Some(line) = lines.utf8(name.as_str(), line) {
-        lines.write(format_args!("{name} is: {}", Cut(line)));
+    if let Some(line) = lines.utf8(Line(number), line) {
+        fill!(lines; "{0} is: {1}", Line(number), Cut(line));
     }
+}
+
+/// The maximum number of equal characters that are shown at the start of two lines.
+const LONGEST_PREFIX: usize = 800;
+
+/// The number of equal characters that are shown before a difference after more of them.
+const SHOWN_PREFIX: usize = 40;
+
+/// Adds the line that shows a line of a text after these characters, or that there is none.
+fn add_shown(lines: &mut Lines, name: &str, line: Option<&str>, skipped: usize) {
+    let (text, shown) = match line {
+        None => ("{0} nothing", ""),
+        Some("") => ("{0} an empty line", ""),
+        Some(line) if skipped == 0 => ("{0} {1}", line),
+        Some(line) => ("{0} ...{1}", split_characters(line, skipped).1),
+    };
+    fill!(lines; text, Text(name), Text(shown));
+}
+
+/// Adds the lines that show two lines of different texts, from before their first difference on.
+fn add_both(lines: &mut Lines, found: Option<&str>, correct: Option<&str>) {
+    let (first, second) = (found.unwrap_or(""), correct.unwrap_or(""));
+    let both = first.chars().zip(second.chars());
+    let equal = both.take_while(|(first, second)| first == second).count();
+    let skipped = if equal > LONGEST_PREFIX {
+        equal.saturating_sub(SHOWN_PREFIX)
+    } else {
+        0
+    };
+    add_shown(lines, "found:  ", found, skipped);
+    add_shown(lines, "correct:", correct, skipped);
+}
+
+/// Returns the line with this number, if it is UTF-8. After a last LF comes no line.
+fn text_at(text: &[u8], number: usize) -> Option<&str> {
+    let lines = text.strip_suffix(b"\n").unwrap_or(text);
+    str::from_utf8(line_at(lines, number)?).ok()
+}
+
+/// Returns whether a line has a character that a terminal does not print. Explanations show it as
+/// the escape that is correct.
+fn has_unprinted(line: Option<&str>) -> bool {
+    line.is_some_and(|line| line.chars().any(|character| !is_printed(character)))
+}
+
+/// Returns what to do about a line that is the first one that is not as it is written.
+fn advice(text: &[u8], written: &[u8], number: usize) -> &'static str {
+    let after = number.saturating_add(1);
+    let (found, correct) = (text_at(text, number), text_at(written, number));
+    let is_early = found == text_at(written, after);
+    let is_late = text_at(text, after) == correct;
+    if found == correct {
+        "the last line does not end with LF: add it"
+    } else if is_early && is_late {
+        "members are in the byte order of their names: exchange this line and the next one"
+    } else if is_late || correct.is_none() {
+        "leave the line out"
+    } else if is_early {
+        "add the correct line before it"
+    } else if has_unprinted(found) && !has_unprinted(correct) {
+        "write such a character as an escape: \\u and four hexadecimal digits in lower case"
+    } else {
+        "write the line so; if a formatter changed it, exclude the file from formatters"
+    }
+}
+
+/// Adds the lines about the first line of a text that is not as it is written.
+fn add_difference(lines: &mut Lines, text: &[u8], number: usize) {
+    match rewrite_transcript(lines.alloc, text) {
+        Ok(written) => add_first_difference(lines, text, written.as_slice(), number),
+        Err(fault) => lines.fail_if(fault.cause == TranscriptCause::Memory),
+    }
+}
+
+/// Adds the lines about the first line of a text that differs from how the text is written.
+fn add_first_difference(lines: &mut Lines, text: &[u8], written: &[u8], number: usize) {
+    fill!(lines; "{0} is not as dapnorm writes it", Line(number));
+    add_both(lines, text_at(text, number), text_at(written, number));
+    lines.add(advice(text, written, number));
 }
 
 /// Adds the lines about a line that is not one of a transcript, or a record that is not a message.

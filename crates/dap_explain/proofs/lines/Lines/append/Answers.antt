@@ -5,8 +5,8 @@ use Rattle.dap_explain.proofs.lines.Lines.append.Goals as goal
 pub invariant_of-self : goal.invariant_of-self
 invariant_of-self c = record {
   are_lines = lines_kept _ _ _ _ c.push_str.ensures.bytes c.args.self.now.are_lines (
-    string_bytes c.in_ok-words.words,
-    c.in_ok-words.ensures,
+    c.args.words.now,
+    c.has_no_control.ensures c.if-has_no_control.true,
     c.as_str.ensures.value ∙ c.in_ok-line.ensures.ok,
   );
 }

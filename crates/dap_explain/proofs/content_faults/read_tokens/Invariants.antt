@@ -1,5 +1,5 @@
 use Rattle.std.proofs.Common.{length}
-use Rattle.dap_explain.proofs.json_faults.read_tokens.Given as goal
+use Rattle.dap_explain.proofs.content_faults.read_tokens.Given as goal
 
 abbrev pub decreases-loop-token : goal.decreases-loop-token
 decreases-loop-token l = length l.reader
