@@ -13,7 +13,7 @@ _dapnorm() {
         case $command in
             golden) words+=' --rules --word --per-stop --open --update' ;;
             record) words+=' --explain -o --output' ;;
-            check) words+=' --complete --per-stop --explain' ;;
+            check) words+=' --complete --rules --word --per-stop --explain' ;;
             normalise) words+=' --per-stop --explain -o --output' ;;
             compare) words+=' --rules --word --per-stop --explain' ;;
             diff) words+=' --rules --word --per-stop --explain --all' ;;

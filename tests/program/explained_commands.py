@@ -19,6 +19,13 @@ EXPLAINED = [
     (["check", "answered"], ['< response "initialize", to request 1']),
     (["check", "--complete", "open"], ['"threads"']),
     (["check", "--per-stop", "answered"], ["record 2"]),
+    (["check", "--rules", "events", "fraction"], [PLACE]),
+    (["check", "--rules", "early", "good"], ['> request "configurationDone"', "initialized event"]),
+    (["check", "--rules", "swaps", "answered"], ["record 2"]),
+    (["check", "--complete", "--rules", "swaps", "open"], ['"threads"']),
+    (["check", "--rules", "bad", "good"], ['"hide"']),
+    (["check", "--rules", "none", "good"], ["none: No such file or directory"]),
+    (["check", "--rules", "swaps", "none"], ["none: No such file or directory"]),
     (["normalise", "fraction"], [PLACE, "blank request launch arguments.x"]),
     (["normalise", "--per-stop", "answered"], ["record 2"]),
     (["show", "fraction"], [PLACE]),
@@ -112,7 +119,7 @@ def refusals(report, folder):
 
 def successes(report, folder):
     """A command that succeeds prints nothing more."""
-    for words in (["check", "good"], ["normalise", "good"], ["show", "good"], ["mask", "rules", "good"], ["compare", "good", "good"], ["diff", "good", "good"]):
+    for words in (["check", "good"], ["check", "--rules", "swaps", "good"], ["normalise", "good"], ["show", "good"], ["mask", "rules", "good"], ["compare", "good", "good"], ["diff", "good", "good"]):
         report.check(f"{words}: nothing to explain", ran(folder, [*words, "--explain"]) == ran(folder, words))
     report.check("an output file is not written", ran(folder, ["normalise", "--explain", "fraction", "-o", "out"])[0] == 2 and folder.read("out") is None)
     report.check("standard input is named", "  standard input: " in closed(folder), closed(folder))

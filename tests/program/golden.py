@@ -152,7 +152,7 @@ def differences(report):
             is_told = (status, errors) == (2, golden_refusal(f"g: {told}")) or (status == 1 and output.startswith(b"differ "))
             report.check(f"a golden file with {name}", is_told, repr((status, output, errors)))
             is_golden = re.match(b"[<>]content-", folder.read("g"), re.IGNORECASE) is not None
-            refused = (2, b"", golden_refusal("g: not replaced, since it is not a recording: remove it first"))
+            refused = (2, b"", golden_refusal("g: not replaced, since it is not a golden file: remove it first"))
             answer = folder.run("golden", "--update", "g", "session")
             report.check(f"--update replaces a golden file with {name} if it is a recording", answer == (wrote(CONFIGURED) if is_golden else refused), repr(answer))
 

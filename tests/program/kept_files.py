@@ -55,7 +55,7 @@ def other_files(report):
         "a trace": TRACE, "rules": RULES, "a program": b"#!/usr/bin/env python3\nprint('>')\n", "a document": b"<html>Content-Length: 3</html>\n",
         "a marker alone": b">", "half a name": b"<Content",
     }
-    line = golden_refusal("g: not replaced, since it is not a recording: remove it first")
+    line = golden_refusal("g: not replaced, since it is not a golden file: remove it first")
     for name, content in others.items():
         with Folder(session=SESSION, g=content) as folder:
             answer = folder.run("golden", "--update", "g", "session")

@@ -1,4 +1,4 @@
-"""Runs `order`, and `compare`, `diff` and `golden` by rules, on small sessions: outputs, refusals, files and explanations."""
+"""Runs `order`, and `check`, `compare`, `diff` and `golden` by rules, on small sessions: outputs, refusals, files and explanations."""
 import json
 import os
 import sys
@@ -209,7 +209,7 @@ def bad_words(report):
         for rules, given, why in BAD_WORDS:
             options = [it for value in given for it in ("--word", value)]
             named = ["--rules", rules] if rules else []
-            runs = [["mask", rules or "none", "a"], ["compare", *named, "a", "a"], ["diff", "--all", *named, "a", "a"]]
+            runs = [["mask", rules or "none", "a"], ["check", *named, "a"], ["compare", *named, "a", "a"], ["diff", "--all", *named, "a", "a"]]
             for words in (*runs, ["golden", *named, "--update", "g", "a"], ["suggest", *named, "a", "a"]):
                 answer = folder.run(*words, *options)
                 report.check(f"{words} {options}", answer == bad_word(given[-1], why) and folder.read("g") is None, repr(answer))
@@ -240,9 +240,47 @@ def refusals(report):
         report.check("golden after the rules", answer == (2, b"", refusal(f"golden: {EARLY}")) and folder.read("g") is None, repr(answer))
 
 
+def checking(report):
+    """`check` by rules: the session that the rules make is checked, as `compare` checks it."""
+    # An adapter that sends its events without `seq`, as Perl's does.
+    unnumbered = [INITIALIZE, FILLED, '<{"event":"initialized","type":"event"}', DONE]
+    files = {"a": recording(unnumbered), "early": CONFIGURED, "stops": recording(TWO_STOPS), "bytes": recording(BEGUN) + b"x"}
+    fill, drop = b"fill event * seq 0\n", b"drop event initialized\n"
+    rules = {"fill": fill, "drop": drop, "both": drop + SWAP, "stop": fill + SWAP + b"per-stop\n", "none": b"# no rule\n", "bad": b"swap\n"}
+    accepted = 0, b"accepted records=4 open=1,0\n", b""
+    with Folder(**files, **rules) as folder:
+        for words in ([], ["--rules", "none"], ["--word", "mock=<m>"]):
+            missing = f"{'after the rules: ' if words else ''}record 3: Missing row 1"
+            answer = folder.run("check", *words, "a")
+            report.check(f"events without seq, {words}", answer == (2, b"", refusal(missing)), repr(answer))
+        for words in (["a"], ["--word", "mock=<m>", "a"], ["--per-stop", "a"], ["-"], []):
+            for name in ("fill", "stop"):
+                answer = folder.run("check", "--rules", name, *words, given=files["a"])
+                report.check(f"the rules {name} give events a seq, {words}", answer == accepted, repr(answer))
+                answer = folder.run("check", "--complete", "--rules", name, *words, given=files["a"])
+                open_request = refusal("after the rules: incomplete: 1 client, 0 adapter")
+                report.check(f"a request without a response by {name}, {words}", answer == (2, b"", open_request), repr(answer))
+        answer = folder.run("check", "--rules", "stop", "stops")
+        report.check("two stops", answer == folder.run("check", "--per-stop", "stops") and answer[0] == 0, repr(answer))
+        for name in ("drop", "both"):
+            for words in (["early"], ["--complete", "early"]):
+                answer = folder.run("check", "--rules", name, *words)
+                report.check(f"{words} is rejected after the rules {name}", answer == (2, b"", refusal(EARLY)), repr(answer))
+            answer = folder.run("check", "--rules", name, "a", given=files["a"])
+            report.check(f"an event that {name} drops is not counted", answer == (2, b"", refusal(EARLY)), repr(answer))
+            answer = folder.run("check", "--rules", name, "-", given=recording(unnumbered[:3]))
+            report.check(f"events that {name} drops", answer == (0, b"accepted records=2 open=0,0\n", b""), repr(answer))
+            answer = folder.run("check", "--rules", name, "bytes")
+            report.check(f"bytes that {name} cannot mask", answer == (2, b"", refusal("record 3: BadMarker")), repr(answer))
+        for words, told in ((["bad", "a"], "rules: line 1: BadRule"), (["missing", "a"], "rules: read fault"), (["-", "-"], "rules: read fault"), (["fill", "missing"], "read fault")):
+            answer = folder.run("check", "--rules", *words, given=files["a"])
+            report.check(f"check --rules {words}", answer == (2 if "bad" in words else 4, b"", refusal(told)), repr(answer))
+
+
 def main():
     report = Report()
     order(report)
+    checking(report)
     comparisons(report)
     per_stop(report)
     words(report)

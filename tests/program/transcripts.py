@@ -605,7 +605,7 @@ def golden_differences(report):
 OTHER_NUMBERS = [*BEGUN, INITIALIZED, renumbered(DONE, seq=(2, 9)), renumbered(DONE_RESPONSE, request_seq=(2, 9))]
 ENDS = b'differ 3\nA ends\nB < event "initialized"\n'
 NONE = b'differ 1\nA ends\nB > request "initialize"\n'
-NOT_REPLACED = "%s: not replaced, since it is not a recording: remove it first"
+NOT_REPLACED = "%s: not replaced, since it is not a golden file: remove it first"
 
 # A name, what the file is, and the output for a configuration, or a line that refuses the file; and whether --update replaces it.
 GOLDEN = [
@@ -717,16 +717,32 @@ def show_words(report):
             report.check(f"show --yaml of a recording with {said}", answers == 2 * [(2, b"", refusal(said))] and folder.read("out") == b"old", repr(answers))
 
 
-def not_looked_at(report):
-    """A transcript on standard input, in a pipe, as a rules file, as a trace or as frames."""
+def from_streams(report):
+    """Transcripts on standard input and in a pipe, and texts that only start like one."""
     with Folder(frames=CONFIGURATION, **{"x.yaml": NORMAL_TEXT}) as folder:
-        os.mkfifo(folder.at("pipe"))
-        bad_marker = (2, b"", refusal("record 1: BadMarker"))
+        for words in (["check"], ["normalise"], ["show", "--yaml"], ["mask", "/dev/null"], ["golden", "--open", "x.yaml"], ["compare", "frames"]):
+            wanted = folder.run(*words, "x.yaml")
+            for name in ("-", "/dev/stdin"):
+                answer = folder.run(*words, name, given=NORMAL_TEXT)
+                report.check(f"{words} of a transcript from {name}", answer == wanted and wanted[0] == 0, repr(answer))
+        for text in (b"-", b"- ", b"- client", b"- client:", b"- adapter:x", b"- clients: ", b"-- client: ", b"x"):
+            folder.write("start", text)
+            given, wanted = folder.run("check", given=text), folder.run("check", "start")
+            report.check(f"{text!r} from standard input", given == wanted and wanted[0] == 2, repr(given))
+        for text in (NORMAL_TEXT[:-1], NORMAL_TEXT.replace(b"\n", b"\r\n"), b"- client: nothing\n"):
+            folder.write("wrong", text)
+            given, wanted = folder.run("check", given=text), folder.run("check", "wrong")
+            is_same = given[:2] == wanted[:2] and wanted[2].startswith(given[2]) and b": line " in given[2]
+            report.check(f"a wrong transcript of {len(text)} bytes from standard input", is_same, repr((given, wanted)))
+
+
+def not_looked_at(report):
+    """A transcript as a rules file, as a trace or as frames."""
+    with Folder(frames=CONFIGURATION, **{"x.yaml": NORMAL_TEXT}) as folder:
         for words, wanted in (
-            (["check"], bad_marker), (["check", "-"], bad_marker), (["show", "--yaml"], bad_marker), (["check", "/dev/stdin"], bad_marker),
             (["record", "x.yaml"], (2, b"", refusal("piece 1: BadCount"))), (["mask", "x.yaml", "frames"], (2, b"", refusal("rules: line 1: BadRule"))),
         ):
-            answer = folder.run(*words, given=NORMAL_TEXT)
+            answer = folder.run(*words)
             report.check(f"{words} of a transcript", answer == wanted, repr(answer))
         status, _, errors = folder.run("compact", "x.yaml")
         report.check("compact of a transcript", status == 2 and errors.startswith(b"dapnorm: record 1: "), repr(errors))
@@ -783,8 +799,8 @@ def main():
     if yaml is None:
         print("no other reader is tried: python3-yaml is not installed", flush=True)
     tests = (
-        worked, real, pairs, refused, golden_sessions, golden_differences, golden_files, golden_rules, show_words, not_looked_at, longest, many, each_place,
-        random_places,
+        worked, real, pairs, refused, golden_sessions, golden_differences, golden_files, golden_rules, show_words, from_streams, not_looked_at, longest, many,
+        each_place, random_places,
     )
     if len(sys.argv) > 1:
         random_messages(report, [(f"part {seed}", 100) for seed in range(int(sys.argv[1]) // 100)])

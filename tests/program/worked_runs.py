@@ -535,13 +535,15 @@ STOP_WITHOUT_REASON = recording([*NORMAL_BEGUN, STOPPED.replace("step", "")])
 
 
 def of_applied_rules():
-    """The option `--rules` of the commands that compare."""
+    """The option `--rules` of `check` and of the commands that compare."""
     pairs = b"same\nclient-seq 1 1\nadapter-seq 1 1\nadapter-seq 2 2\n"
     other = recording([*BEGUN, STOPPED.replace("step", "pause"), THREADS])
     files = {"rules": BLANK_REASON, "none": b"# no rule\n", "bad": b"blank event\n", "a": STEP, "b": HIT, "c": other, "d": TWICE}
     differ = b'differ 4\nA ends\nB > request "threads"\n'
     all_differ = b'differ: 0 paired, 0 only in A, 1 only in B\n-/4 > request "threads"\n'
-    refused = (2, b"", refusal("B: after the rules: record 3: AnsweredTwice"))
+    twice = "after the rules: record 3: AnsweredTwice"
+    refused = (2, b"", refusal(f"B: {twice}"))
+    incomplete = (2, b"", refusal("after the rules: incomplete: 1 client, 0 adapter"))
     for command, rules, names, answer in (
         (["compare"], "rules", "ab", (0, pairs, b"")), (["diff"], "rules", "ab", (0, b"same\n", b"")),
         (["diff", "--all"], "rules", "ab", (0, b"same\n", b"")), (["compare", "--per-stop"], "rules", "ab", (0, pairs, b"")),
@@ -549,6 +551,8 @@ def of_applied_rules():
         (["diff"], "none", "ab", (1, OTHER_REASON, b"")), (["diff"], "rules", "ac", (1, differ, b"")),
         (["diff", "--all"], "rules", "ac", (1, all_differ, b"")), (["compare"], "rules", "ad", refused),
         (["compare"], "bad", "ab", (2, b"", refusal("rules: line 1: BadRule"))),
+        (["check"], "rules", "a", (0, b"accepted records=3 open=0,0\n", b"")), (["check"], "rules", "d", (2, b"", refusal(twice))),
+        (["check", "--complete"], "rules", "c", incomplete), (["check", "--per-stop"], "rules", "c", (0, b"accepted records=4 open=1,0\n", b"")),
     ):
         yield stream("stops", [*command, "--rules", rules, *names], b"", answer, files)
 

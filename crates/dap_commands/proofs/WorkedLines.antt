@@ -21,7 +21,9 @@ abbrev Selects : Text → Command → Type 0
 Selects line command = command_named program (split line) ≡ Some command
 
 -- `-` is a file, and options may follow files.
-commands : Selects (codes "dapnorm check -") (Check false Whole (Some (codes "-")))
+commands : Selects (codes "dapnorm check -") (Check false Whole (Some (codes "-")) None)
+    × Selects (codes "dapnorm check --rules rules --complete in")
+    (Check true Whole (Some (codes "in")) (Some (codes "rules")))
     × Selects (codes "dapnorm mask rules in -o out")
     (Stream (Mask (codes "rules")) (Some (codes "in")) (Some (codes "out")))
     × Selects (codes "dapnorm show --faulty --record=3 in --explain") (Stream (Show (record {
@@ -43,7 +45,7 @@ commands : Selects (codes "dapnorm check -") (Check false Whole (Some (codes "-"
     × Selects (codes "dapnorm order -o out rules")
     (Stream (Order (codes "rules")) None (Some (codes "out")))
 unfolding clap_on_literals
-commands = (refl, refl, refl, refl, refl, refl, refl)
+commands = (refl, refl, refl, refl, refl, refl, refl, refl)
 
 -- Each use of the option has a value, in order.
 words : (words_named program (split (codes "dapnorm mask --word b=<b> rules --word=a== in"))

@@ -44,7 +44,7 @@ job_of (command.Stream task.Compact input output) = Some compact
 job_of (command.Stream task.Record input output) = Some recording
 job_of (command.Stream (task.Normalise mode) input output) = Some (normalise mode)
 job_of (command.Stream (task.Show options) input output) = Some show
-job_of (command.Check complete mode input) = Some (check complete mode)
+job_of (command.Check complete mode input rules) = Some (check complete mode)
 job_of (command.Pair printed a b rules mode) = Some (compare a b mode)
 job_of other = None
 

@@ -39,8 +39,8 @@ program = program_with (subcommand (codes "golden") (option (codes "rules")
     ∷ repeated (codes "word") ∷ per_stop ∷ flag (codes "open") ∷ flag (codes "update")
     ∷ file (codes "GOLDEN") ∷ optional (codes "INPUT") ∷ [])
     ∷ subcommand (codes "record") (explain ∷ streams)
-    ∷ subcommand (codes "check") (flag (codes "complete") ∷ per_stop ∷ explain
-    ∷ optional (codes "FILE") ∷ [])
+    ∷ subcommand (codes "check") (flag (codes "complete") ∷ option (codes "rules")
+    ∷ repeated (codes "word") ∷ per_stop ∷ explain ∷ optional (codes "FILE") ∷ [])
     ∷ subcommand (codes "normalise") (per_stop ∷ explain ∷ streams)
     ∷ subcommand (codes "compare") (two_files (per_stop ∷ explain ∷ []))
     ∷ subcommand (codes "diff") (two_files (per_stop ∷ explain ∷ flag (codes "all") ∷ []))
@@ -92,7 +92,8 @@ command_of name given = option_map_or (λ t. Some (command.Stream t (first_of (c
     }))
     else if bytes_eq name (codes "check") then Some
     (command.Check (has_flag (codes "complete") given)
-    (mode_for (has_flag (codes "per-stop") given)) (first_of (codes "FILE") given))
+    (mode_for (has_flag (codes "per-stop") given)) (first_of (codes "FILE") given)
+    (first_of (codes "rules") given))
     else if bytes_eq name (codes "compare") then Some (pair_of printed.Verdict given)
     else if bytes_eq name (codes "diff") then Some (pair_of (if has_flag (codes "all") given
     then printed.AllDifferences else printed.FirstDifference) given)

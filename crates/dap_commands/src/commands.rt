@@ -56,11 +56,13 @@ pub enum Command<'a> {
         input: Option<Name<'a>>,
         output: Option<Name<'a>>,
     },
-    /// Validate a recording. With `complete`, each request must have a response.
+    /// Validate a recording, after it is masked and put in order by the rules in the file `rules`
+    /// and the words. With `complete`, each request must have a response.
     Check {
         complete: bool,
         mode: Mode,
         input: Option<Name<'a>>,
+        rules: Option<Name<'a>>,
     },
     /// Compare the recordings in the files `a` and `b`, after they are masked and put in order by
     /// the rules in the file `rules` and the words.

@@ -56,7 +56,7 @@ pub(crate) const PROGRAM: Program = define_program! {
         "session.trace -o session.rec";
     "check"(
         Argument("complete", Flag, "Also requires a response to each request"),
-        PER_STOP, EXPLAIN, INPUT
+        BY_RULES, WORD, PER_STOP, EXPLAIN, INPUT
     ): "Checks a recording, and prints the number of its records or the first error",
         "--complete session.rec";
     "normalise"(PER_STOP, EXPLAIN, INPUT, OUTPUT):

@@ -75,6 +75,7 @@ fn command_by<'a>(name: &str, rows: &ArgMatches<'a>) -> Option<Command<'a>>
             complete: has_flag(rows, "complete"),
             mode: mode_for(has_flag(rows, "per-stop")),
             input: name_of(rows, "FILE"),
+            rules: name_of(rows, "rules"),
         },
         "compare" => pair(rows, Printed::Verdict),
         "diff" if has_flag(rows, "all") => pair(rows, Printed::AllDifferences),

@@ -73,9 +73,9 @@ module _ {R : Type 0} (source : Source R) (one : Printed) (mode : Mode) (rules :
 
   -- The rules cannot be applied to an input. A is read before B.
   abbrev pub IsUnapplied : Result (Option Answer) Why → Type 0
-  IsUnapplied (Err (Why.Unapplied A refused used)) =
+  IsUnapplied (Err (Why.Unapplied (Some A) refused used)) =
       (used ≡ rules) × Makes old_a new_a (Err refused) × IsUnused old_b new_b
-  IsUnapplied (Err (Why.Unapplied B refused used)) = (used ≡ rules)
+  IsUnapplied (Err (Why.Unapplied (Some B) refused used)) = (used ≡ rules)
       × ((session : StoredSession) × Makes old_a new_a (Ok session))
       × Makes old_b new_b (Err refused)
   IsUnapplied outcome = ⊥

@@ -27,7 +27,7 @@ stop_texts has_rules name (GoldenStop.Transcript why) =
     name ∷ codes ": " ∷ transcript_fault_text why ∷ []
 stop_texts has_rules name (GoldenStop.Golden why) = name ∷ codes ": " ∷ refused_text why ∷ []
 stop_texts has_rules name GoldenStop.NotRecording =
-    name ∷ codes ": not replaced, since it is not a recording: remove it first" ∷ []
+    name ∷ codes ": not replaced, since it is not a golden file: remove it first" ∷ []
 stop_texts has_rules name (GoldenStop.Unwritten fault) = name ∷ unsaved_words fault.step ∷ []
 stop_texts has_rules name GoldenStop.Memory = codes "out of memory" ∷ []
 

@@ -1,4 +1,5 @@
 pub mod Answers
+pub mod Checks
 pub mod Comparisons
 pub mod Desks
 pub mod GoldenLines

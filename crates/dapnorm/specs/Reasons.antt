@@ -1,11 +1,11 @@
 -- Why a command did not finish: the line that reports it, and the status. Source: own.
-use Rattle.std.specs.Prelude.{ℕ, Bool, true, false, List, [], ◌∷◌, Option, Some, None, codes}
+use Rattle.std.specs.Prelude.{ℕ, ◌++◌, Bool, true, false, List, [], ◌∷◌, Option, Some, None, codes}
 use Rattle.std.specs.Prelude.{decimal, is_some, string_bytes}
 use Rattle.dap_commands.specs.declared.commands.UsageFault.{UsageFault}
 use Rattle.dap_compare.specs.Which.{compare_refused_text, which_text}
 use Rattle.dap_compare.specs.declared.verdict.{CompareRefused.CompareRefused, Which.Which}
 use Rattle.dap_input.specs.RefusedText.{refused_text}
-use Rattle.dap_input.specs.declared.refused.Refused.TheVariants.{Memory, ReadFault}
+use Rattle.dap_input.specs.declared.refused.Refused.{Refused, TheVariants.{Memory, ReadFault}}
 use Rattle.dap_mask.specs.RulesCauseName.{rules_cause_name}
 use Rattle.dap_rules.specs.declared.fault.ApplyRefused.{ApplyRefused}
 use Rattle.dapnorm.specs.{GoldenLines.{golden_line, stop_line, stop_status}, Lines.fault_line}
@@ -38,11 +38,11 @@ overlap_words Overlap.GoldenAndRules =
 
 -- ---- files that are not read
 
--- an input, or one of two, could not be read
-abbrev pub unread_line : Option Which → List ℕ
-unread_line None = fault_line (refused_text ReadFault ∷ [])
-unread_line (Some which) =
-    fault_line (compare_refused_text (CompareRefused.Input which ReadFault) ∷ [])
+-- the error of an input, or of one of two
+abbrev pub input_line : Option Which → Refused → List ℕ
+input_line None refused = fault_line (refused_text refused ∷ [])
+input_line (Some which) refused =
+    fault_line (compare_refused_text (CompareRefused.Input which refused) ∷ [])
 
 -- what the line about one of two inputs starts with
 abbrev pub which_texts : Option Which → List (List ℕ)
@@ -77,15 +77,13 @@ no_rules_status (NoRules.File why) = unread_status why
 no_rules_status (NoRules.Line why text) = 2
 no_rules_status NoRules.Memory = 5
 
--- the line that reports why the rules cannot be applied to an input; records of a recording in
--- order are counted after the rules
-abbrev pub unapplied_line : Which → ApplyRefused → List ℕ
-unapplied_line which (ApplyRefused.Mask refused) =
-    fault_line (compare_refused_text (CompareRefused.Input which refused) ∷ [])
+-- the line that reports why the rules cannot be applied to an input, or to one of two; records of a
+-- recording in order are counted after the rules
+abbrev pub unapplied_line : Option Which → ApplyRefused → List ℕ
+unapplied_line which (ApplyRefused.Mask refused) = input_line which refused
 unapplied_line which (ApplyRefused.Order refused) =
-    fault_line (which_text which ∷ codes ": after the rules: " ∷ refused_text refused ∷ [])
-unapplied_line which ApplyRefused.ReadFault =
-    fault_line (compare_refused_text (CompareRefused.Input which ReadFault) ∷ [])
+    fault_line (which_texts which ++ codes "after the rules: " ∷ refused_text refused ∷ [])
+unapplied_line which ApplyRefused.ReadFault = input_line which ReadFault
 unapplied_line which ApplyRefused.Memory = fault_line (refused_text Memory ∷ [])
 
 abbrev pub unapplied_status : ApplyRefused → ℕ
@@ -112,7 +110,7 @@ abbrev pub why_line : Why → List ℕ
 why_line (Why.Mistake one) = mistake_line one
 why_line (Why.SameFile files name) = fault_line (overlap_words files ∷ name ∷ [])
 why_line (Why.Rules one) = no_rules_line one
-why_line (Why.Unread which one) = unread_text one (unread_line which) (which_texts which)
+why_line (Why.Unread which one) = unread_text one (input_line which ReadFault) (which_texts which)
 why_line (Why.Input refused) = fault_line (refused_text refused ∷ [])
 why_line (Why.Stream one mask) = unstreamed_line one
 why_line (Why.Pair refused) = fault_line (compare_refused_text refused ∷ [])

@@ -1,20 +1,18 @@
 -- What the program does for a command. Source: own.
-use Rattle.std.specs.Prelude.{◌≡◌, ◌≢◌, ◌⊎◌, ℕ, Bool, List, [], Option, Some, None, Result, Ok, Err}
+use Rattle.std.specs.Prelude.{◌≡◌, ◌≢◌, ◌⊎◌, ℕ, List, [], Option, Some, None, Result, Ok, Err}
 use Rattle.std.specs.Prelude.{string_bytes}
 use Rattle.dap_commands.specs.declared.commands.{Command.Command, UsageFault.UsageFault}
-use Rattle.dap_host.specs.declared.host.{Purpose.Purpose, Stream.TheVariants.Errors}
-use Rattle.dap_host.specs.declared.limits.TheConstants.{LIMITS}
-use Rattle.dap_input.specs.declared.refused.Refused.{Refused, TheVariants.Memory}
-use Rattle.dap_normalise.specs.{Checking.Checks, declared.checked.Checked.Checked}
+use Rattle.dap_host.specs.declared.host.Stream.TheVariants.{Errors}
+use Rattle.dap_input.specs.declared.refused.Refused.TheVariants.{Memory}
 use Rattle.dap_profile.specs.RowLines.{lines_of}
-use Rattle.dap_rename.specs.declared.mode.Mode.{Mode}
 use Rattle.dapnorm.specs.Answers.{answer_status, answer_stream, answer_text}
-use Rattle.dapnorm.specs.{Comparisons.PairIsRun, Desks.{IsLeft, Place, empty}, Goldens.GoldenIsRun}
+use Rattle.dapnorm.specs.{Checks.CheckIsRun, Comparisons.PairIsRun, Goldens.GoldenIsRun}
+use Rattle.dapnorm.specs.Desks.{IsLeft, Place, empty}
 use Rattle.dapnorm.specs.{Reasons.{why_line, why_status}, Reporting.{HasSent, IsPrinted}}
 use Rattle.dapnorm.specs.{Streams.{StreamIsRun, input_name}, Suggestions.SuggestionIsRun}
 use Rattle.dapnorm.specs.{WordOption.{AreAccepted, HasNoLines}, declared.answer.Answer.Answer}
-use Rattle.dapnorm.specs.declared.{desk.Desk.Desk, reading.Unread.TheVariants.Unopened}
-use Rattle.dapnorm.specs.declared.{rules.NoRules.TheVariants.Words, running.Ended.Ended}
+use Rattle.dapnorm.specs.declared.{desk.Desk.Desk, rules.NoRules.TheVariants.Words}
+use Rattle.dapnorm.specs.declared.running.Ended.{Ended}
 use Rattle.dapnorm.specs.declared.why.{Mistake.TheVariants.NoRow, Why.Why}
 
 -- The lines of the requested rows are found; or there are none; or an allocation failed, and there
@@ -27,26 +25,13 @@ FindsRows number (Err (Why.Input Memory)) = lines_of number ≢ []
 FindsRows number outcome = ⊥
 
 module _ {I O T : Type 0} (place : Place I O T) (desk : Desk I O T) where
-  -- `check` accepts the input of the name, or rejects it.
-  module _ (mode : Mode) (complete : Bool) (name : List ℕ) where
-    abbrev pub ChecksInput : Result Checked Refused → Type 0
-    ChecksInput outcome = IsLeft (place.files.opens Purpose.Input name) desk.a
-        (λ old new. Checks place.source LIMITS mode complete old new outcome)
-
-    abbrev pub CheckIsRun : Result (Option Answer) Why → Type 0
-    CheckIsRun (Err (Why.Unread None (Unopened fault))) =
-        (desk ≡ empty) × place.files.closed Purpose.Input name fault
-    CheckIsRun (Err (Why.Input refused)) = ChecksInput (Err refused)
-    CheckIsRun (Ok (Some (Answer.Accepted checked))) = ChecksInput (Ok checked)
-    CheckIsRun outcome = ⊥
-
   -- The command is done with these values of the option `--word`. The desk has the devices as they
   -- are then. Without an answer, the output is written already.
   abbrev pub IsDone : List (List ℕ) → Command → Result (Option Answer) Why → Type 0
   IsDone values (Command.Stream task input output) outcome =
       StreamIsRun place task values (input_name input) desk output outcome
-  IsDone values (Command.Check complete mode input) outcome =
-      CheckIsRun mode complete (input_name input) outcome
+  IsDone values (Command.Check complete mode input rules) outcome =
+      CheckIsRun place desk complete mode (input_name input) rules values outcome
   IsDone values (Command.Pair printed a b rules mode) outcome =
       PairIsRun place printed mode a b desk rules values outcome
   IsDone values (Command.Suggest strict a b rules) outcome =

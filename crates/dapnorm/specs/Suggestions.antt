@@ -43,7 +43,7 @@ Suggests strict given read_a read_b (Ok (Some (Answer.Rules found))) =
     × AddNarrowRules strict given.items found.items
 Suggests strict given read_a read_b (Err (Why.Rules (NoRules.Line fault text))) =
     (text ≡ given) × (rules_said given.items ≡ Err fault)
-Suggests strict given read_a read_b (Err (Why.Unapplied which refused used)) =
+Suggests strict given read_a read_b (Err (Why.Unapplied (Some which) refused used)) =
     IsRejected which refused used given.items read_a read_b
 Suggests strict given read_a read_b (Err (Why.NoSuggestion line)) = AreAccepted given.items
 Suggests strict given read_a read_b (Err (Why.Input Memory)) = length given.items ≤ 65536

@@ -62,7 +62,7 @@ pub(crate) fn stop_line<'a>(has_rules: bool, name: &'a str, stop: GoldenStop) ->
             return (line, REFUSED);
         }
         GoldenStop::NotRecording => {
-            let words = ": not replaced, since it is not a recording: remove it first";
+            let words = ": not replaced, since it is not a golden file: remove it first";
             (name, Part::Text(words), REFUSED)
         }
         GoldenStop::Unwritten(fault) => (name, Part::Text(unsaved_words(fault.step)), FAULT),

@@ -2,6 +2,7 @@
 #![tactic(auto)]
 
 mod answer;
+mod checking;
 mod desk;
 mod golden;
 mod golden_lines;

@@ -166,11 +166,11 @@ fn found_by_rules<'a, H: Host>(
     let used = mode_by(&rules, mode);
     let session_a = match read_session_by_rules(alloc, &rules, reader_a, LIMITS, used) {
         Ok(session) => session,
-        Err(refused) => return Err(Why::Unapplied(Which::A, refused, rules)),
+        Err(refused) => return Err(Why::Unapplied(Some(Which::A), refused, rules)),
     };
     let session_b = match read_session_by_rules(alloc, &rules, reader_b, LIMITS, used) {
         Ok(session) => session,
-        Err(refused) => return Err(Why::Unapplied(Which::B, refused, rules)),
+        Err(refused) => return Err(Why::Unapplied(Some(Which::B), refused, rules)),
     };
     let (tables_a, tables_b) = (host.tables(alloc), host.tables(alloc));
     found_on(

@@ -1,16 +1,16 @@
 //! Runs a command over the files, streams and tables of a host.
-ghost use Rattle.std.specs.Prelude.{◌≡◌, ◌+◌, ◌<◌, ◌^◌, None};
+ghost use Rattle.std.specs.Prelude.{◌≡◌, ◌+◌, ◌<◌, ◌^◌};
 ghost use Rattle.dap_commands.specs.Reading.{text_in};
 ghost use Rattle.dap_host.specs.declared.limits.TheConstants.{LIMITS};
 ghost use Rattle.dapnorm.specs.Desks.{TakesAtMost, empty, here};
-ghost use Rattle.dapnorm.specs.Running.{CheckIsRun, FindsRows, IsAnswered, IsDone, IsFinished};
+ghost use Rattle.dapnorm.specs.Running.{FindsRows, IsAnswered, IsDone, IsFinished};
 ghost use Rattle.dapnorm.specs.{Running.IsRun, Streams.input_name};
 
 use crate::answer::Answer;
+use crate::checking::run_check;
 use crate::desk::Desk;
 use crate::golden::run_golden;
 use crate::pair::run_pair;
-use crate::reading::Unread;
 use crate::reporting::DONE;
 use crate::rules::NoRules;
 use crate::stream::{input_name, run_stream_task, text_of};
@@ -18,11 +18,9 @@ use crate::suggest::run_suggest;
 use crate::why::{Mistake, Why};
 use crate::words::with_values;
 use dap_commands::{Command, Name, Request};
-use dap_host::{Host, LIMITS, Purpose, Stream};
+use dap_host::{Host, Stream};
 use dap_input::Refused;
-use dap_normalise::check_with;
 use dap_profile::row_lines;
-use dap_rename::Mode;
 use std::alloc::Global;
 
 /// A run of a command.
@@ -36,33 +34,6 @@ pub struct Ended<'a, I, O, T> {
     pub desk: Desk<I, O, T>,
     /// Standard error, as it left that.
     pub errors: O,
-}
-
-/// Validates the recording that a name leads to.
-fn run_check<'a, H: Host>(
-    alloc: Global,
-    host: &H,
-    complete: bool,
-    mode: Mode,
-    name: &str,
-    desk: &mut Desk<H::Input, H::Output, H::Target>,
-) -> Result<Option<Answer<'a>>, Why<'a>>
-    requires { desk.old ≡ empty }
-    ensures run { CheckIsRun (here (H.files host.now) H.Input.Source H.Output.Sink
-        H.Target.Replaceable) desk.new mode complete name.now result }
-    ensures taken { TakesAtMost H.Input.given (LIMITS.input + 1) desk.new.a }
-    ensures one { desk.new.b ≡ None }
-{
-    let input = match host.open(Purpose::Input, name) {
-        Ok(input) => input,
-        Err(fault) => return Err(Why::Unread(None, Unread::Unopened(fault))),
-    };
-    let reader = desk.a.insert(input);
-    let tables = host.tables(alloc);
-    match check_with(alloc, reader, LIMITS, complete, tables, mode) {
-        Ok(checked) => Ok(Some(Answer::Accepted(checked))),
-        Err(refused) => Err(Why::Input(refused)),
-    }
 }
 
 /// Finds rows of the profile, or the one with the number that this text writes.
@@ -102,7 +73,11 @@ fn done<'a, H: Host>(
             complete,
             mode,
             input,
-        } => run_check(alloc, host, *complete, *mode, input_name(input), desk),
+            rules,
+        } => {
+            let (name, rules) = (input_name(input), text_of(rules));
+            run_check(alloc, host, *complete, *mode, name, rules, words, desk)
+        }
         Command::Pair {
             printed,
             a,

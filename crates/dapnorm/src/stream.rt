@@ -7,7 +7,7 @@ ghost use Rattle.dap_normalise.specs.NameTables.{AreReady};
 ghost use Rattle.dap_device.specs.Devices.{CanRead, CanWrite, reads, writes};
 ghost use Rattle.dapnorm.specs.Desks.{TakesAtMost, empty, here};
 ghost use Rattle.dapnorm.specs.{Lines.line_text, Reasons.{unstreamed_line, unstreamed_status}};
-ghost use Rattle.dapnorm.specs.Streams.{GoesTo, HasJoined, HasMasked, IsNoOutput, IsOutput};
+ghost use Rattle.dapnorm.specs.Streams.{GoesTo, HasMasked, IsNoOutput, IsOutput};
 ghost use Rattle.dapnorm.specs.Streams.{IsSavedIn, IsShown};
 ghost use Rattle.dapnorm.specs.Streams.{IsStreamed, IsWritten, LosesRules, StreamIsRun};
 ghost use Rattle.dapnorm.specs.Streams.{TaskRequests, input_name, output_name, task_rules};
@@ -165,21 +165,6 @@ fn ended(outcome: Result<(), Refused>) -> Result<(), Unstreamed>
     }
 }
 
-/// Joins the output of an input, and masks the result.
-fn joined<R: Source, W: Sink>(
-    alloc: Global,
-    rules: &MaskRules,
-    reader: &mut R,
-    writer: &mut W,
-) -> Result<(), Refused>
-    requires devices { CanRead R.Source reader.old × CanWrite W.Sink writer.old }
-    ensures joined { HasJoined R.Source W.Sink (mask_of rules.now) reader.old reader.new writer.old
-        writer.new result }
-    ensures taken { R.given reader.new ≤ R.given reader.old + LIMITS.input + 1 }
-{
-    join_and_mask(alloc, rules, reader, writer, LIMITS)
-}
-
 /// Masks an input record by record, or joins its output first if the rules say so.
 fn masked<R: Source, W: Sink>(
     alloc: Global,
@@ -194,7 +179,7 @@ fn masked<R: Source, W: Sink>(
 {
     match rules.joining() {
         None => mask(alloc, rules, reader, writer, LIMITS),
-        Some(_) => joined(alloc, rules, reader, writer),
+        Some(_) => join_and_mask(alloc, rules, reader, writer, LIMITS),
     }
 }
 

@@ -47,7 +47,7 @@ fn suggestion<'a>(
         Err(SuggestRefused::Input(which, refused)) => {
             let refused = reported_refusal(given.as_slice(), refused);
             match MaskRules::read(alloc, given.as_slice()) {
-                Ok(rules) => Err(Why::Unapplied(which, refused, rules)),
+                Ok(rules) => Err(Why::Unapplied(Some(which), refused, rules)),
                 Err(_) => Err(Why::Input(Refused::Memory)),
             }
         }

@@ -1,10 +1,10 @@
 //! Why a command did not finish. Each reason has one line and one status.
-ghost use Rattle.std.specs.Prelude.{◌≡◌};
+ghost use Rattle.std.specs.Prelude.{◌≡◌, ◌∷◌, []};
 ghost use Rattle.dap_device.specs.Devices.{CanWrite};
-ghost use Rattle.dapnorm.specs.Lines.{line_text};
-ghost use Rattle.dapnorm.specs.Reasons.{lost_words, mistake_line, overlap_words, unapplied_line};
-ghost use Rattle.dapnorm.specs.Reasons.{unapplied_status, unread_line};
-ghost use Rattle.dapnorm.specs.{Reasons.{why_line, why_status}, Reporting.HasSent};
+ghost use Rattle.dapnorm.specs.Lines.{line_text, part_text};
+ghost use Rattle.dapnorm.specs.Reasons.{input_line, lost_words, mistake_line, overlap_words};
+ghost use Rattle.dapnorm.specs.Reasons.{unapplied_line, unapplied_status, which_texts, why_line};
+ghost use Rattle.dapnorm.specs.{Reasons.why_status, Reporting.HasSent};
 
 use crate::golden_lines::{golden_line, stop_line, unsaved_words};
 use crate::line::{Line, Part, fault, fault_of, report_line};
@@ -96,8 +96,8 @@ pub enum Why<'a> {
     Stream(Unstreamed, MaskRules),
     /// One of two inputs is rejected, or an allocation failed.
     Pair(CompareRefused),
-    /// The rules cannot be applied to one of two inputs.
-    Unapplied(Which, ApplyRefused, MaskRules),
+    /// The rules cannot be applied to the input, or to one of two, or the result is rejected.
+    Unapplied(Option<Which>, ApplyRefused, MaskRules),
     /// The device or the file of the output did not open.
     Output(Name<'a>, OpenFault),
     /// The file of the output was not replaced.
@@ -112,31 +112,40 @@ pub enum Why<'a> {
     NoSuggestion(String),
 }
 
-/// Returns the line for an input, or one of two, that could not be read.
-fn unread_line<'a>(which: Option<Which>) -> Line<'a>
-    ensures { line_text result ≡ unread_line which }
+/// Returns what a line about an input, or one of two, starts with.
+fn which_parts<'a>(which: Option<Which>) -> (Part<'a>, Part<'a>)
+    ensures { part_text result.0 ∷ part_text result.1 ∷ [] ≡ which_texts which }
+{
+    match which {
+        Some(which) => (Part::Text(which.letter()), Part::Text(": ")),
+        None => (Part::Text(""), Part::Text("")),
+    }
+}
+
+/// Returns the line that reports the error of an input, or of one of two.
+fn input_line<'a>(which: Option<Which>, refused: Refused) -> Line<'a>
+    ensures { line_text result ≡ input_line which refused }
 {
     fault(match which {
-        None => Part::Refused(Refused::ReadFault),
-        Some(which) => Part::Pair(CompareRefused::Input(which, Refused::ReadFault)),
+        None => Part::Refused(refused),
+        Some(which) => Part::Pair(CompareRefused::Input(which, refused)),
     })
 }
 
-/// Returns the line that reports why rules cannot be applied to one of two inputs, and the status
-/// of the program.
-fn unapplied_line<'a>(which: Which, refused: ApplyRefused) -> (Line<'a>, u8)
+/// Returns the line that reports why rules cannot be applied to an input, or to one of two, and the
+/// status of the program.
+fn unapplied_line<'a>(which: Option<Which>, refused: ApplyRefused) -> (Line<'a>, u8)
     ensures line { line_text result.0 ≡ unapplied_line which refused }
     ensures status { result.1 ≡ unapplied_status refused }
 {
     match refused {
-        ApplyRefused::Mask(refused) => pair_line(CompareRefused::Input(which, refused)),
+        ApplyRefused::Mask(refused) => (input_line(which, refused), refused_status(refused)),
         ApplyRefused::Order(refused) => {
-            let (letter, why) = (Part::Text(which.letter()), Part::Refused(refused));
-            let (words, none) = (Part::Text(": after the rules: "), Part::Text(""));
-            let line = Line::Fault(letter, words, why, none);
+            let ((letter, colon), words) = (which_parts(which), Part::Text("after the rules: "));
+            let line = Line::Fault(letter, colon, words, Part::Refused(refused));
             (line, refused_status(refused))
         }
-        ApplyRefused::ReadFault => pair_line(CompareRefused::Input(which, Refused::ReadFault)),
+        ApplyRefused::ReadFault => (input_line(which, Refused::ReadFault), FAULT),
         ApplyRefused::Memory => refused_line(Refused::Memory),
     }
 }
@@ -166,12 +175,8 @@ impl Why<'_> {
             }
             Why::Rules(why) => why.line_and_status(),
             Why::Unread(which, why) => {
-                let (letter, colon) = match which {
-                    Some(which) => (which.letter(), ": "),
-                    None => ("", ""),
-                };
-                let (letter, colon) = (Part::Text(letter), Part::Text(colon));
-                why.line_and_status(unread_line(*which), letter, colon)
+                let (letter, colon) = which_parts(*which);
+                why.line_and_status(input_line(*which, Refused::ReadFault), letter, colon)
             }
             Why::Input(refused) => refused_line(*refused),
             Why::Stream(why, _) => why.line_and_status(),

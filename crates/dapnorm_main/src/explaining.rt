@@ -58,7 +58,9 @@ fn reported_name<'a>(command: &Command<'a>, which: Which) -> &'a str {
 /// Returns the name of the rules file of a command, if it has one.
 fn rules_name<'c, 'a>(command: &'c Command<'a>) -> Option<&'c Name<'a>> {
     match command {
-        Command::Pair { rules, .. } | Command::Suggest { rules, .. } => rules.as_ref(),
+        Command::Check { rules, .. }
+        | Command::Pair { rules, .. }
+        | Command::Suggest { rules, .. } => rules.as_ref(),
         Command::Golden(golden) => golden.rules.as_ref(),
         _ => match task_of(command) {
             Some(Task::Mask(rules) | Task::Order(rules)) => Some(rules),
@@ -158,7 +160,9 @@ fn bytes_of(
 fn explain_input(rt: &HostRuntime, request: &Request<'_>, run: &SystemRun<'_>) -> Option<String> {
     let command = &request.command;
     let (which, refused, rules) = match run.outcome.as_ref().err()? {
-        Why::Unapplied(which, refused, rules) => (*which, *refused, Some(rules)),
+        Why::Unapplied(which, refused, rules) => {
+            (which.unwrap_or(Which::A), *refused, Some(rules))
+        }
         Why::Input(refused) => (Which::A, ApplyRefused::Mask(*refused), None),
         Why::Stream(Unstreamed::Input(refused), rules) => {
             let rules = match (task_of(command), refused) {
@@ -251,7 +255,7 @@ pub fn explain_run(rt: &HostRuntime, request: &Request<'_>, run: &SystemRun<'_>,
     let may_be_trace = is_rejected && !matches!(format_of(command), Format::Trace);
     for which in [Which::A, Which::B] {
         // What is wrong with the other input is not known then.
-        let is_other = matches!(why, Why::Unapplied(rejected, ..) if *rejected != which);
+        let is_other = matches!(why, Why::Unapplied(Some(rejected), ..) if *rejected != which);
         if !is_other && let Some(input) = opened(run, which) {
             let is_trace = may_be_trace && input.is_trace() && !explains;
             let words = is_trace.then_some(IS_TRACE);
