@@ -272,9 +272,9 @@ def checking(report):
             report.check(f"events that {name} drops", answer == (0, b"accepted records=2 open=0,0\n", b""), repr(answer))
             answer = folder.run("check", "--rules", name, "bytes")
             report.check(f"bytes that {name} cannot mask", answer == (2, b"", refusal("record 3: BadMarker")), repr(answer))
-        for words, told in ((["bad", "a"], "rules: line 1: BadRule"), (["missing", "a"], "rules: read fault"), (["-", "-"], "rules: read fault"), (["fill", "missing"], "read fault")):
+        for words, error in ((["bad", "a"], "rules: line 1: BadRule"), (["missing", "a"], "rules: read fault"), (["-", "-"], "rules: read fault"), (["fill", "missing"], "read fault")):
             answer = folder.run("check", "--rules", *words, given=files["a"])
-            report.check(f"check --rules {words}", answer == (2 if "bad" in words else 4, b"", refusal(told)), repr(answer))
+            report.check(f"check --rules {words}", answer == (2 if "bad" in words else 4, b"", refusal(error)), repr(answer))
 
 
 def main():
