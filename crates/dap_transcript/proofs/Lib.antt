@@ -3,14 +3,14 @@ pub mod NodeLines
 mod WrittenMembers
 mod ScalarNodes
 mod NextNumbers
+mod Places
 mod OpenRequests
-mod LinkedRequests
+mod RequestQueues
 mod StoredDocs
 mod WorkedTranscripts
 mod Oldest
 mod WorkedSessions
 mod RecordLists
-mod RequestCode
 mod FoundMembers
 mod FoundWritten
 mod SameStrings

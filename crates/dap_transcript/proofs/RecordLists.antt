@@ -8,26 +8,23 @@ use Rattle.std.proofs.Math.Logic.{∥∥₁_elim}
 use Rattle.std.proofs.Props.{props}
 use Rattle.std.proofs.lemmas.List.{drop_all}
 use Rattle.dap_tree.specs.Doc.{Doc, as_object, no_members}
-use Rattle.dap_tree.specs.{Json.{IsRead, text_of}, Side.same_side, declared.side.Side.Side}
-use Rattle.dap_tree.specs.declared.side.Side.TheVariants.{Client, Adapter}
-use Rattle.dap_tree.proofs.Booleans.{and_both}
+use Rattle.dap_tree.specs.{Json.{IsRead, text_of}}
 use Rattle.dap_profile.specs.declared.profile.Kind.{Kind}
 use Rattle.dap_flat.specs.Marks.{IsMarkedText}
 use Rattle.dap_flat.specs.Pieces.{Appends, Represents, piece_of, pieces}
 use Rattle.dap_flat.specs.declared.node.Node.{Node}
 use Rattle.dap_message.specs.{Message.Sent, Rows.name_key}
-use Rattle.dap_session.specs.Messages.{is_response, is_yes, kind_of, name_of}
-use Rattle.dap_session.specs.Messages.{other, request_seq_of, seq_of, side_of, success_of}
+use Rattle.dap_session.specs.Messages.{is_response, is_yes, kind_of}
+use Rattle.dap_session.specs.Messages.{request_seq_of, seq_of, side_of, success_of}
 use Rattle.dap_stored.specs.{Contents.doc_in, Sessions.stored_sent}
 use Rattle.dap_stored.specs.declared.message.StoredMessage.{StoredMessage}
 use Rattle.dap_transcript.specs.declared.members.Omitted.{Omitted}
-use Rattle.dap_transcript.specs.{Lines.member_lines, Members.omits, Records.of_other}
-use Rattle.dap_transcript.specs.Expected.{expected_request, expected_seq, oldest_open}
-use Rattle.dap_transcript.specs.Requests.{IsFound}
+use Rattle.dap_transcript.specs.{Lines.member_lines, Members.omits}
+use Rattle.dap_transcript.specs.Expected.{expected_request, expected_seq}
 use Rattle.dap_transcript.specs.Transcript.{has_expected_seq, head_line}
 use Rattle.dap_transcript.specs.Transcript.{is_omitted, members_in, record_text, records_after}
 use Rattle.dap_transcript.specs.Transcript.{same_number, transcript, written}
-use Rattle.dap_transcript.proofs.OpenRequests.{drop-0, open_there, taken_there}
+use Rattle.dap_transcript.proofs.Places.{drop-0, open_there, taken_there}
 use Rattle.dap_transcript.proofs.StoredDocs.{stored_doc}
 
 -- ---- the members of a stored message
@@ -90,17 +87,6 @@ record_pushed o before m old mid new same head members =
     (member_lines 2 2 (written (is_omitted before m) (members_in m)))
 
 -- ---- all records
-
-pub request_is : (side : Side) (all : List Sent) (place : ℕ) (m : Sent)
-    (client adapter : Option ℤ) → side ≡ side_of m → IsFound Client all place client
-    → IsFound Adapter all place adapter → slice_get all place ≡ Some m → is_response m ≡ true
-    → of_other side client adapter ≡ expected_request (take place all) m
-request_is Client all place m client adapter from of_client of_adapter is responds =
-    of_adapter m is (and_both _ _ responds (ap (same_side Client) (sym from)))
-    ∙ ap (λ s. oldest_open (other s) (name_of m) (take place all)) from
-request_is Adapter all place m client adapter from of_client of_adapter is responds =
-    of_client m is (and_both _ _ responds (ap (same_side Adapter) (sym from)))
-    ∙ ap (λ s. oldest_open (other s) (name_of m) (take place all)) from
 
 pub first_records : (all : List Sent) → transcript all ≡ [] ++ records_after [] (drop 0 all)
 first_records all = ap (records_after []) (sym (drop-0 all))

@@ -9,7 +9,7 @@ use Rattle.std.proofs.lemmas.List.Elements.{All-push}
 use Rattle.dap_tree.specs.Json.{text_of}
 use Rattle.dap_message.specs.Message.{Sent}
 use Rattle.dap_transcript.specs.ReadErrors.{FirstTooLong}
-use Rattle.dap_transcript.proofs.OpenRequests.{open_there, take_and_drop, taken_there, within_there}
+use Rattle.dap_transcript.proofs.Places.{open_there, take_and_drop, taken_there, within_there}
 
 pub at_most : (limit len : ℕ) → (limit < len → ⊥) → len ≤ limit
 at_most limit len short = elim (cases_lt limit len) [

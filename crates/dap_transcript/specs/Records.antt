@@ -1,16 +1,9 @@
 -- Records that are written one after another. Source: own. For private clauses.
 use Rattle.std.specs.Prelude.{◌≡◌, ℕ, ℤ, true, List, ◌++◌, Option}
-use Rattle.dap_tree.specs.declared.side.Side.{Side}
-use Rattle.dap_tree.specs.declared.side.Side.TheVariants.{Client, Adapter}
 use Rattle.dap_message.specs.Message.{Sent}
 use Rattle.dap_session.specs.Messages.{is_response, side_of}
 use Rattle.dap_transcript.specs.Expected.{expected_request, expected_seq}
 use Rattle.dap_transcript.specs.Transcript.{record_text}
-
--- The number for a response of this side.
-abbrev pub of_other : Side → Option ℤ → Option ℤ → Option ℤ
-of_other Client client adapter = adapter
-of_other Adapter client adapter = client
 
 -- The record of the message was appended, if the numbers are those that are expected.
 abbrev pub PushesRecord : Sent → ℤ → Option ℤ → List ℕ → List ℕ → Type 0

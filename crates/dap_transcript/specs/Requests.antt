@@ -1,147 +1,128 @@
 -- The open requests of one side, by the places of messages. Source: own. For private clauses.
-use Rattle.std.specs.Prelude.{MatchOption, is_some, ◌+◌}
-use Rattle.std.specs.Prelude.{◌≡◌, ℕ, suc, ◌<◌, ◌≤◌, ℤ, ⊤, Bool, true, false, cond, ◌&&◌, nat_lt}
-use Rattle.std.specs.Prelude.{List, [], ◌∷◌, ◌++◌, length, take, drop, Option, Some, None}
-use Rattle.std.specs.Prelude.{slice_get, slice_index, slice_index_or, unwrap_or, option_map}
-use Rattle.std.specs.{BTreeMap.{BTreeMap, get, get_by}, Borrow.Bor, List.list_any}
+use Rattle.std.specs.Prelude.{◌≡◌, ℕ, suc, ℤ, ⊤, Bool, true, false, cond, ◌&&◌, nat_lt, bytes_eq}
+use Rattle.std.specs.Prelude.{List, [], ◌∷◌, ◌++◌, length, Option, Some, None}
+use Rattle.std.specs.{BTreeMap.{BTreeMap, get, get_by}, Borrow.Bor, Option.option_map_or}
 use Rattle.std.specs.{Cmp.Lexicographic.slice_cmp, Ordering.{int_cmp, nat_cmp}}
-use Rattle.dap_tree.specs.declared.side.Side.{Side}
+use Rattle.std.specs.VecDeque.{deque_items}
+use Rattle.dap_tree.specs.{Side.same_side, declared.side.Side.Side}
+use Rattle.dap_tree.specs.declared.side.Side.TheVariants.{Client, Adapter}
+use Rattle.dap_profile.specs.declared.profile.Kind.TheVariants.{Request, Response}
 use Rattle.dap_message.specs.Message.{Sent}
-use Rattle.dap_session.specs.Messages.{is_from, is_response, is_response_to, is_number, name_of}
-use Rattle.dap_session.specs.Messages.{other, seq_of}
-use Rattle.dap_transcript.specs.Expected.{asks, is_open, oldest_open}
+use Rattle.dap_session.specs.Messages.{is_number, is_response_to, kind_of, name_of, other}
+use Rattle.dap_session.specs.Messages.{request_seq_of, same_kind, seq_of, side_of}
+use Rattle.dap_transcript.specs.Expected.{asks, expected_seq, oldest_open}
+use Rattle.dap_transcript.specs.Numbers.{CountsSides}
+use Rattle.dap_transcript.specs.declared.expectations.Expectations.{Expectations}
+use Rattle.dap_transcript.specs.declared.open_requests.{Asked.Asked, OpenRequests.OpenRequests}
+use Rattle.dap_transcript.specs.declared.tokens.{Numbered.Numbered, Title.Title}
 
--- The place of the first request of the side with the command among messages, the first of which
--- has the place n; or the place after them.
-abbrev pub first_place : Side → List ℕ → ℕ → List Sent → ℕ
-first_place side command n [] = n
-first_place side command n (m ∷ ms) =
-    cond (asks side command m) n (first_place side command (suc n) ms)
+-- ---- requests and answers
 
--- The requests of the side with the command are not open after these later messages.
-abbrev pub AllClosed : Side → List ℕ → List Sent → List Sent → Type 0
-AllClosed side command [] later = ⊤
-AllClosed side command (m ∷ ms) later =
-    (asks side command m ≡ true → is_open side m (ms ++ later) ≡ false)
-    × AllClosed side command ms later
+abbrev pub request_at : ℤ → ℕ → Asked
+request_at number place = record { number = number; place = place }
 
--- p is the place of the first request with the command that may be open after the messages
--- `before`, to which `after` come next.
-pub record IsCursor (side : Side) (command : List ℕ) (before after : List Sent) (p : ℕ) : Type 0
-  where
-    pub passed : List Sent
-    pub left : List Sent
-    pub all : before ≡ passed ++ left
-    pub closed : AllClosed side command passed left
-    pub here : p ≡ first_place side command (length passed) (left ++ after)
+-- The requests of the side with the command among messages, the first of which has the place n.
+abbrev pub requests_from : Side → List ℕ → ℕ → List Sent → List Asked
+requests_from side command n [] = []
+requests_from side command n (m ∷ ms) =
+    cond (asks side command m) (request_at (seq_of m) n ∷ requests_from side command (suc n) ms)
+    (requests_from side command (suc n) ms)
 
--- The place k is before the place after the last response.
+-- The place of the last response to a number of the side among messages, the first of which has the
+-- place n; or the place o of one before them.
+abbrev pub last_answer : Side → ℤ → ℕ → Option ℕ → List Sent → Option ℕ
+last_answer side number n o [] = o
+last_answer side number n o (m ∷ ms) =
+    last_answer side number (suc n) (cond (is_response_to side number m) (Some n) o) ms
+
+-- The place k is before that of the last response.
 abbrev pub is_before : ℕ → Option ℕ → Bool
 is_before k None = false
 is_before k (Some a) = nat_lt k a
 
--- For each number, the place after the last response to it.
-abbrev pub AreAnswers : Side → List Sent → (ℤ → Option ℕ) → Type 0
-AreAnswers side before answered = (n : ℤ) (front back : List Sent) → before ≡ front ++ back
-    → list_any (is_response_to side n) back ≡ is_before (length front) (answered n)
+-- The last response to the request came after it.
+abbrev pub is_closed : (ℤ → Option ℕ) → Asked → Bool
+is_closed answered a = is_before a.place (answered a.number)
+
+abbrev pub AllClosed : (ℤ → Option ℕ) → List Asked → Type 0
+AllClosed answered [] = ⊤
+AllClosed answered (a ∷ rest) = (is_closed answered a ≡ true) × AllClosed answered rest
+
+-- The number of the first request that is open.
+abbrev pub first_open : (ℤ → Option ℕ) → List Asked → Option ℤ
+first_open answered [] = None
+first_open answered (a ∷ rest) =
+    cond (is_closed answered a) (first_open answered rest) (Some a.number)
+
+-- ---- what is stored of them
+
+-- The queue of a command.
+abbrev pub queue_of : {D : Type 0} → (D → List Asked) → BTreeMap (Bor (List ℕ)) D → List ℕ
+    → List Asked
+queue_of items queues command =
+    option_map_or items (get_by (λ k. slice_cmp nat_cmp command k.now) queues) []
 
 abbrev pub are_answered : BTreeMap ℤ ℕ → ℤ → Option ℕ
 are_answered m n = get int_cmp m n
 
--- For each request, the place of the next one with the same command.
-abbrev pub AreNext : Side → List Sent → List ℕ → Type 0
-AreNext side all next = (command : List ℕ) (k : ℕ) (m : Sent) → slice_get all k ≡ Some m
-    → asks side command m ≡ true
-    → slice_index next k ≡ first_place side command (suc k) (drop (suc k) all)
+-- The queue has all of these requests, except some first ones, which are closed.
+pub record IsQueue (answered : ℤ → Option ℕ) (all queue : List Asked) : Type 0 where
+  pub passed : List Asked
+  pub is : all ≡ passed ++ queue
+  pub closed : AllClosed answered passed
 
--- The place that a map has for the command, or the number of messages.
-abbrev pub place_of : ℕ → BTreeMap (Bor (List ℕ)) ℕ → List ℕ → ℕ
-place_of len m command = unwrap_or (get_by (λ k. slice_cmp nat_cmp command k.now) m) len
+-- The requests of the side and their answers, after the messages before.
+pub record Tracks (side : Side) (before : List Sent) (t : OpenRequests) : Type 0 where
+  pub answers : (number : ℤ)
+      → are_answered t.answered number ≡ last_answer side number 0 None before
+  pub queues : (command : List ℕ) → IsQueue (are_answered t.answered)
+      (requests_from side command 0 before) (queue_of deque_items t.queues command)
 
--- The map has the place of the first request of the side with each command, and each request is
--- linked to the next one.
-pub record AreLinked (side : Side) (all : List Sent) (next : List ℕ)
-    (first : BTreeMap (Bor (List ℕ)) ℕ) : Type 0 where
-  pub links : AreNext side all next
-  pub firsts : (command : List ℕ)
-      → place_of (length all) first command ≡ first_place side command 0 all
-  pub count : length next ≡ length all
+-- ---- one message more
 
--- For a loop: the same for the messages from `place` on.
-pub record LinkedFrom (side : Side) (all : List Sent) (next : List ℕ)
-    (first : BTreeMap (Bor (List ℕ)) ℕ) (place : ℕ) : Type 0 where
-  pub links : (command : List ℕ) (k : ℕ) (m : Sent) → slice_get all k ≡ Some m → place ≤ k
-      → asks side command m ≡ true
-      → slice_index next k ≡ first_place side command (suc k) (drop (suc k) all)
-  pub firsts : (command : List ℕ)
-      → place_of (length all) first command ≡ first_place side command place (drop place all)
-  pub count : length next ≡ length all
-  pub within : place ≤ length all
+-- These are the head and the numbers of the message.
+pub record IsNumbered (m : Sent) (x : Numbered) : Type 0 where
+  pub side : x.title.side ≡ side_of m
+  pub kind : x.title.kind ≡ kind_of m
+  pub name : x.title.name.now ≡ name_of m
+  pub seq : x.seq ≡ seq_of m
+  pub request : x.request ≡ request_seq_of m
 
--- The number of the request at a place, if it is before the current place.
-abbrev pub number_at : List Sent → ℕ → ℕ → Option ℤ
-number_at all place at = cond (nat_lt at place) (option_map seq_of (slice_get all at)) None
+-- The message is a request of the side.
+abbrev pub requests : Side → Title → Bool
+requests side title = same_kind Request title.kind && same_side side title.side
 
--- The place of the next request after that at a place, if it is not open.
-pub record IsPassed (all : List Sent) (next : List ℕ) (answered : ℤ → Option ℕ) (at : ℕ) (m : Sent)
-    (result : Option ℕ) : Type 0 where
-  pub answer : is_before (at + 1) (answered (seq_of m)) ≡ is_some result
-  pub place : MatchOption result ⊤ (λ l. l ≡ slice_index next at)
+-- The message is a response to the side.
+abbrev pub responds : Side → Title → Bool
+responds side title = same_kind Response title.kind && same_side (other side) title.side
 
-abbrev pub Passes : List Sent → List ℕ → (ℤ → Option ℕ) → ℕ → Option ℕ → Type 0
-Passes all next answered at result = (m : Sent) → slice_get all at ≡ Some m
-    → length next ≡ length all → IsPassed all next answered at m result
-
--- The cursor of a command was moved to its oldest open request.
-pub record MovedOn (side : Side) (command : List ℕ) (all : List Sent) (place at : ℕ) : Type 0 where
-  pub cursor : IsCursor side command (take place all) (drop place all) at
-  pub oldest : number_at all place at ≡ oldest_open side command (take place all)
-
-abbrev pub MovesOn : List Sent → List ℕ → (ℤ → Option ℕ) → ℕ → ℕ → ℕ → Type 0
-MovesOn all next answered from place at = (side : Side) (command : List ℕ)
-    → AreNext side all next → length next ≡ length all → place ≤ length all
-    → AreAnswers side (take place all) answered
-    → IsCursor side command (take place all) (drop place all) from
-    → MovedOn side command all place at
-
--- ---- all messages
-
--- What is known of the requests of a side after the first messages.
-pub record IsKnown (side : Side) (all : List Sent) (place : ℕ)
-    (first : BTreeMap (Bor (List ℕ)) ℕ) (answered : BTreeMap ℤ ℕ) : Type 0 where
-  pub cursors : (q : List ℕ)
-      → IsCursor side q (take place all) (drop place all) (place_of (length all) first q)
-  pub answers : AreAnswers side (take place all) (are_answered answered)
-
--- The oldest open request was found, and the cursor of its command was moved.
-abbrev pub FindsOldest : List Sent → List ℕ → BTreeMap ℤ ℕ → BTreeMap (Bor (List ℕ)) ℕ
-    → BTreeMap (Bor (List ℕ)) ℕ → ℕ → List ℕ → Option ℤ → Type 0
-FindsOldest all next answered first more place command number = (side : Side)
-    → AreNext side all next → length next ≡ length all → place ≤ length all
-    → IsKnown side all place first answered
-    → IsKnown side all place more answered
-    × (number ≡ oldest_open side command (take place all))
-
--- A response to this number was stored.
+-- The place of a response to this number was stored.
 abbrev pub Notes : BTreeMap ℤ ℕ → BTreeMap ℤ ℕ → Option ℤ → ℕ → Type 0
 Notes old new number place = (n : ℤ)
-    → are_answered new n ≡ cond (is_number number n) (Some (suc place)) (are_answered old n)
+    → are_answered new n ≡ cond (is_number number n) (Some place) (are_answered old n)
 
--- The number that was found for the message at a place, if it is a response to this side.
-abbrev pub IsFound : Side → List Sent → ℕ → Option ℤ → Type 0
-IsFound side all k found = (m : Sent) → slice_get all k ≡ Some m
-    → (is_response m && is_from (other side) m) ≡ true
-    → found ≡ oldest_open side (name_of m) (take k all)
+-- A request was added to the queue of its command.
+abbrev pub AddsRequest : Side → Numbered → ℕ → (List ℕ → List Asked) → (List ℕ → List Asked)
+    → Type 0
+AddsRequest side x place old new = (command : List ℕ) → new command ≡ old command
+    ++ cond (requests side x.title && bytes_eq x.title.name.now command)
+    (request_at x.seq place ∷ []) []
 
--- The message at a place was passed.
-abbrev pub Expects : Side → List Sent → List ℕ → BTreeMap ℤ ℕ → BTreeMap ℤ ℕ
-    → BTreeMap (Bor (List ℕ)) ℕ → BTreeMap (Bor (List ℕ)) ℕ → ℕ → Option ℤ → Type 0
-Expects side all next answered now first more place number = AreNext side all next
-    → length next ≡ length all → IsKnown side all place first answered
-    → IsKnown side all (suc place) more now × IsFound side all place number
+-- The place of a response was stored.
+abbrev pub AddsResponse : Side → Numbered → ℕ → BTreeMap ℤ ℕ → BTreeMap ℤ ℕ → Type 0
+AddsResponse side x place old new = (n : ℤ) → are_answered new n
+    ≡ cond (responds side x.title && is_number x.request n) (Some place) (are_answered old n)
 
--- These numbers were found for the first messages.
-pub record AreFound (side : Side) (all : List Sent) (place : ℕ) (found : List (Option ℤ)) : Type 0
-  where
-    pub count : length found ≡ place
-    pub each : (k : ℕ) → k < place → IsFound side all k (slice_index_or found k None)
+-- ---- both sides
+
+pub record Represents (e : Expectations) (ms : List Sent) : Type 0 where
+  pub numbers : CountsSides e.numbers ms
+  pub client : Tracks Client ms e.client
+  pub adapter : Tracks Adapter ms e.adapter
+  pub place : e.place ≡ length ms
+
+-- These numbers are expected of a message with this title.
+pub record AreExpected (ms : List Sent) (title : Title) (x : Numbered) : Type 0 where
+  pub seq : x.seq ≡ expected_seq ms title.side
+  pub request : same_kind Response title.kind ≡ true
+      → x.request ≡ oldest_open (other title.side) title.name.now ms

@@ -6,7 +6,7 @@ ghost use Rattle.dap_transcript.specs.ReadErrors.{is_of_reading};
 
 use crate::fault::TranscriptCause;
 use crate::names::names_head;
-use crate::tokens::{Title, characters, is_token, margin_of, split_token};
+use crate::tokens::{Numbered, characters, is_token, margin_of, split_token};
 use dap_flat::{Node, write_flat};
 use dap_profile::Kind;
 use std::alloc::{AllocError, Global};
@@ -29,14 +29,6 @@ struct Open {
 struct Pending {
     list: usize,
     object: Option<usize>,
-}
-
-/// A head, and the numbers that are expected of its message.
-#[derive(Clone, Copy, Drop)]
-pub(crate) struct Expected<'t> {
-    pub(crate) title: Title<'t>,
-    pub(crate) seq: i64,
-    pub(crate) request: Option<i64>,
 }
 
 /// The content of a record so far. It reuses its buffers for the next record.
@@ -160,7 +152,7 @@ impl Content {
         &mut self,
         alloc: Global,
         slot: usize,
-        head: &Expected<'_>,
+        head: &Numbered<'_>,
     ) -> Result<(), AllocError> {
         let kind = head.title.kind;
         let is_response = matches!(kind, Kind::Response);
@@ -202,7 +194,7 @@ impl Content {
         &mut self,
         alloc: Global,
         name: &[u8],
-        head: &Expected<'_>,
+        head: &Numbered<'_>,
     ) -> Result<(), AllocError> {
         for slot in self.slot..SLOTS {
             let order = slot_name(head.title.kind, slot).cmp(name);
@@ -225,7 +217,7 @@ impl Content {
         margin: usize,
         name: &[u8],
         rest: &[u8],
-        head: &Expected<'_>,
+        head: &Numbered<'_>,
     ) -> Result<(), TranscriptCause>
         ensures { IfErr result (λ cause. is_of_reading cause ≡ true) }
     {
@@ -259,7 +251,7 @@ impl Content {
         alloc: Global,
         margin: usize,
         item: &[u8],
-        head: &Expected<'_>,
+        head: &Numbered<'_>,
     ) -> Result<(), TranscriptCause>
         ensures { IfErr result (λ cause. is_of_reading cause ≡ true) }
     {
@@ -280,7 +272,7 @@ impl Content {
         &mut self,
         alloc: Global,
         line: &[u8],
-        head: &Expected<'_>,
+        head: &Numbered<'_>,
     ) -> Result<(), TranscriptCause>
         ensures { IfErr result (λ cause. is_of_reading cause ≡ true) }
     {
@@ -309,7 +301,7 @@ impl Content {
     pub(crate) fn finish(
         &mut self,
         alloc: Global,
-        head: &Expected<'_>,
+        head: &Numbered<'_>,
     ) -> Result<&[u8], AllocError> {
         if self.pending.take().is_some() {
             self.json.extend_from_slice(b"null")?;

@@ -7,6 +7,7 @@
 #![tactic(auto)]
 
 mod content;
+mod expectations;
 mod expected;
 mod fault;
 pub mod laws;
@@ -17,7 +18,6 @@ mod open_requests;
 mod reading;
 mod record;
 mod recording;
-mod requests;
 mod scalars;
 mod tokens;
 mod transcript;

@@ -5,15 +5,13 @@ ghost use Rattle.dap_stored.specs.Sessions.{messages_of};
 ghost use Rattle.dap_transcript.specs.ReadErrors.{DiffersAt, FirstDiffer, is_of_reading};
 ghost use Rattle.dap_transcript.specs.Transcript.{transcript};
 
-use crate::content::{Content, Expected};
-use crate::expected::SideNumbers;
+use crate::content::Content;
+use crate::expectations::Expectations;
 use crate::fault::{TranscriptCause, TranscriptFault};
-use crate::open_requests::OpenRequests;
-use crate::tokens::{Title, read_title, split_head};
+use crate::tokens::{Numbered, read_title, split_head};
 use crate::transcript::write_transcript;
 use dap_flat_message::{FlatFault, read_flat_message};
 use dap_message::{AnyMessage, MessageFault, typed};
-use dap_profile::Kind;
 use dap_stored::StoredSession;
 use dap_tree::{Scratch, Side, TreeFault, read_tree_with};
 use std::alloc::{AllocError, Global};
@@ -88,68 +86,18 @@ fn last_numbers(session: &StoredSession, place: usize) -> Option<(i64, Option<i6
     Some((message.seq(), message.request_seq()))
 }
 
-/// The numbers and requests so far, from which the expected values follow.
-#[derive(Drop)]
-struct Past<'t> {
-    numbers: SideNumbers,
-    client: OpenRequests<'t>,
-    adapter: OpenRequests<'t>,
-}
-
-impl<'t> Past<'t> {
-    fn new(alloc: Global) -> Past<'t> {
-        Past {
-            numbers: SideNumbers::new(),
-            client: OpenRequests::new(alloc),
-            adapter: OpenRequests::new(alloc),
-        }
-    }
-
-    /// Returns what is expected of a message with this head.
-    fn expect(&mut self, title: Title<'t>) -> Result<Expected<'t>, AllocError> {
-        let request = match (title.kind, title.side) {
-            (Kind::Response, Side::Client) => self.adapter.oldest(title.name)?,
-            (Kind::Response, Side::Adapter) => self.client.oldest(title.name)?,
-            _ => None,
-        };
-        Ok(Expected {
-            title,
-            seq: self.numbers.expected(title.side),
-            request,
-        })
-    }
-
-    /// Adds the message at a place.
-    fn add(
-        &mut self,
-        title: Title<'t>,
-        seq: i64,
-        request: Option<i64>,
-        place: usize,
-    ) -> Result<(), AllocError> {
-        self.numbers = self.numbers.after(title.side, seq);
-        match (title.kind, title.side) {
-            (Kind::Request, Side::Client) => self.client.ask(title.name, seq, place),
-            (Kind::Request, Side::Adapter) => self.adapter.ask(title.name, seq, place),
-            (Kind::Response, Side::Client) => self.adapter.answer(request.unwrap_or(0), place),
-            (Kind::Response, Side::Adapter) => self.client.answer(request.unwrap_or(0), place),
-            (Kind::Event, _) => Ok(()),
-        }
-    }
-}
-
 /// The record that is read, with the line of its head.
 #[derive(Clone, Copy, Drop)]
 struct Current<'t> {
     line: usize,
-    head: Expected<'t>,
+    head: Numbered<'t>,
 }
 
 /// Ends the current record, if there is one, and appends its message to the session.
 fn end_record<'t>(
     alloc: Global,
     current: Option<Current<'t>>,
-    past: &mut Past<'t>,
+    past: &mut Expectations<'t>,
     content: &mut Content,
     scratch: &mut Scratch,
     session: &mut StoredSession,
@@ -170,8 +118,8 @@ fn end_record<'t>(
 
 fn store_record<'t>(
     alloc: Global,
-    head: Expected<'t>,
-    past: &mut Past<'t>,
+    head: Numbered<'t>,
+    past: &mut Expectations<'t>,
     content: &mut Content,
     scratch: &mut Scratch,
     session: &mut StoredSession,
@@ -182,7 +130,14 @@ fn store_record<'t>(
     let text = content.finish(alloc, &head)?;
     store(alloc, head.title.side, text, scratch, session)?;
     if let Some((seq, request)) = last_numbers(session, place) {
-        past.add(head.title, seq, request, place)?;
+        // Only a record whose `type` is not that of its head can be a response without a number. It
+        // counts as a response to 0.
+        let own = Numbered {
+            title: head.title,
+            seq,
+            request: request.or(Some(0)),
+        };
+        past.add(alloc, own)?;
     }
     Ok(())
 }
@@ -191,16 +146,16 @@ fn store_record<'t>(
 fn start_record<'t>(
     side: Side,
     title: &'t [u8],
-    past: &mut Past<'t>,
+    past: &mut Expectations<'t>,
     content: &mut Content,
-) -> Result<Expected<'t>, TranscriptCause>
+) -> Result<Numbered<'t>, TranscriptCause>
     ensures { IfErr result (λ cause. is_of_reading cause ≡ true) }
 {
     let Some(title) = read_title(side, title) else {
         return Err(TranscriptCause::BadLine);
     };
     content.start()?;
-    Ok(past.expect(title)?)
+    Ok(past.expect(title))
 }
 
 /// Takes a line that is not a head.
@@ -225,7 +180,7 @@ fn take_line(
 fn read_lines<'t>(
     alloc: Global,
     text: &'t [u8],
-    past: &mut Past<'t>,
+    past: &mut Expectations<'t>,
     content: &mut Content,
     scratch: &mut Scratch,
     session: &mut StoredSession,
@@ -266,7 +221,7 @@ fn read_records(
 ) -> Result<(), TranscriptFault>
     ensures { IfErr result (λ fault. is_of_reading fault.cause ≡ true) }
 {
-    let mut past = Past::new(alloc);
+    let mut past = Expectations::new(alloc);
     let mut content = Content::new(alloc);
     let mut scratch = Scratch::new(alloc);
     read_lines(alloc, text, &mut past, &mut content, &mut scratch, session)

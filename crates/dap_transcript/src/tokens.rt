@@ -89,6 +89,14 @@ pub(crate) struct Title<'t> {
     pub(crate) name: &'t [u8],
 }
 
+/// A title, and two numbers: those that the message has, or those that are expected of it.
+#[derive(Clone, Copy, Drop)]
+pub(crate) struct Numbered<'t> {
+    pub(crate) title: Title<'t>,
+    pub(crate) seq: i64,
+    pub(crate) request: Option<i64>,
+}
+
 /// Returns whether bytes start like a transcript: with the head of a record. No recording and no
 /// trace does.
 pub fn is_transcript(bytes: &[u8]) -> bool
