@@ -5,7 +5,7 @@ use std::alloc::{AllocError, Global};
 
 /// How many rules a place has at most: for each candidate one for all elements, and one for each
 /// name.
-const MAX_RULES: usize = 170;
+pub const MAX_RULES: usize = 170;
 
 /// The price of a rule. These numbers are compared in their order:
 ///

@@ -31,22 +31,11 @@ pub fn push_values(
     b: &Tree,
     out: &mut Vec<u8>,
 ) -> Result<(), AllocError> {
-    let a = json_of(alloc, a)?;
-    let b = json_of(alloc, b)?;
-    push_value(
-        alloc,
-        (Which::A, pair.a.number),
-        a.as_str(),
-        b.as_str(),
-        out,
-    )?;
-    push_value(
-        alloc,
-        (Which::B, pair.b.number),
-        b.as_str(),
-        a.as_str(),
-        out,
-    )
+    let value = json_of(alloc, a)?;
+    let other = json_of(alloc, b)?;
+    let (a, b) = (value.as_str(), other.as_str());
+    push_value(alloc, (Which::A, pair.a.number), a, b, out)?;
+    push_value(alloc, (Which::B, pair.b.number), b, a, out)
 }
 
 /// Appends the comment on the equal values that a rule hides, if it hides some.

@@ -13,7 +13,7 @@ pub struct Named<'t> {
     /// What the rules for the names of these elements do.
     actions: Actions,
     /// How many bytes of the target are before the brackets of the list.
-    pub start: usize,
+    start: usize,
 }
 
 /// The elements on the way to a place, from the outermost list, each with its name in both messages
@@ -49,4 +49,11 @@ pub fn element_of<'t>(
         actions,
         start,
     })
+}
+
+/// Returns the innermost list whose element has a name.
+pub fn innermost(elements: &Elements<'_>) -> Option<NamedList> {
+    let depth = elements.iter().rposition(|element| element.is_some())?;
+    let start = (*elements.get(depth)?)?.start;
+    Some(NamedList { depth, start })
 }

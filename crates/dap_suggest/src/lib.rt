@@ -6,13 +6,11 @@
 
 mod broad;
 mod candidates;
-mod choices;
 mod choosing;
 mod comments;
 mod confirming;
 mod counting;
 mod elements;
-mod finding;
 mod fractions;
 mod guarded;
 mod joined_rules;
@@ -20,8 +18,7 @@ mod matched;
 mod obstacle;
 mod pairs;
 mod pieces;
-mod places;
-mod recording;
+mod searching;
 mod sessions;
 mod spot;
 mod spots;
@@ -31,6 +28,7 @@ mod swapping;
 mod tallies;
 mod value_rules;
 mod values;
+mod walking;
 mod words;
 
 pub use obstacle::{Obstacle, Reason};

@@ -2,8 +2,10 @@
 use crate::counting::{EventsByName, is_dropped};
 use crate::obstacle::{Reason, Remaining};
 use crate::sessions::Sessions;
+use crate::words::class_of;
 use dap_compare::Which;
 use dap_diff::{Entry, StoredEntry, match_records};
+use dap_message::AnyMessage;
 use dap_stored::StoredSession;
 use dap_tree::Scratch;
 use std::alloc::{AllocError, Global};
@@ -21,6 +23,11 @@ impl<'m> Pair<'m> {
     pub fn head(&self) -> &'m str {
         // The marker of the side and a space come before them.
         self.a.head.get(2..).unwrap_or("")
+    }
+
+    /// Returns the kind and the name of the messages, as rules have them.
+    pub fn class(&self, alloc: Global) -> Result<Vec<u8>, AllocError> {
+        class_of(alloc, self.a.message.kind(), self.a.message.name())
     }
 }
 

@@ -1,5 +1,6 @@
 //! A place at which pairs differ, what the candidates do there, and the rules that are chosen.
 use crate::candidates::{Actions, BLANK, only};
+use crate::guarded::hidden_at;
 use crate::tallies::{Different, Tally};
 use std::alloc::{AllocError, Global};
 use std::collections::BTreeMap;
@@ -47,8 +48,6 @@ pub fn actions_in(rules: &[Rule], scope: usize) -> Actions {
 /// A place at which pairs differ.
 #[derive(Drop)]
 pub struct Spot {
-    /// The messages and the place of a rule for all elements.
-    pub target: Vec<u8>,
     /// Whether the values are the names of elements.
     pub is_name: bool,
     /// What `blank` hides here, if a test looks at it.
@@ -60,7 +59,7 @@ pub struct Spot {
     names: BTreeMap<String, usize>,
     /// How many pairs that differ here were recorded.
     pub seen: u64,
-    /// The tally of all other elements, and those of the names. A new place has none.
+    /// The tally of all other elements, and those of the names.
     pub tallies: Vec<Tally>,
     /// The rules that a file cannot have.
     excluded: Vec<Rule>,
@@ -68,12 +67,12 @@ pub struct Spot {
 }
 
 impl Spot {
-    /// Returns a place that no candidates were tried at.
-    pub fn new(alloc: Global, target: Vec<u8>, hidden: Option<&'static str>) -> Spot {
-        Spot {
+    /// Returns a place that no candidates were tried at. `target` is the messages and the place of
+    /// a rule for all elements.
+    pub fn new(alloc: Global, target: &[u8]) -> Result<Spot, AllocError> {
+        let mut spot = Spot {
             is_name: target.ends_with(b"[].name"),
-            target,
-            hidden,
+            hidden: hidden_at(alloc, target)?,
             pairs: Vec::new(alloc),
             list: None,
             names: BTreeMap::new(alloc),
@@ -81,7 +80,9 @@ impl Spot {
             tallies: Vec::new(alloc),
             excluded: Vec::new(alloc),
             rules: Vec::new(alloc),
-        }
+        };
+        spot.reset(alloc)?;
+        Ok(spot)
     }
 
     /// Forgets all names, and all that was counted.

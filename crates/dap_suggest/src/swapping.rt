@@ -1,7 +1,8 @@
 //! The pairs that come in another order in B, and the rules that let them change places.
+use crate::joined_rules::are_refused;
 use crate::matched::Pair;
 use crate::pairs::Pairs;
-use crate::words::{class_of, push_parts};
+use crate::words::{parts_of, push_parts};
 use dap_message::{AnyMessage, Message};
 use dap_order::{Half, SwapRule, is_free};
 use std::alloc::{AllocError, Global};
@@ -21,17 +22,11 @@ fn may_pass(x: &Message, y: &Message) -> bool {
     is_free(&[SwapRule { one, another }], x, y)
 }
 
-/// Returns the kind and the name of the messages of a pair, as rules have them.
-fn class_of_pair(alloc: Global, pair: &Pair<'_>) -> Result<Vec<u8>, AllocError> {
-    let message = &pair.a.message;
-    class_of(alloc, message.kind(), message.name())
-}
-
 /// Returns the two halves of the rule for two pairs.
 fn halves_of(alloc: Global, x: &Pair<'_>, y: &Pair<'_>) -> Result<Vec<u8>, AllocError> {
-    let mut halves = class_of_pair(alloc, x)?;
+    let mut halves = x.class(alloc)?;
     halves.push(b' ')?;
-    halves.extend_from_slice(class_of_pair(alloc, y)?.as_slice())?;
+    halves.extend_from_slice(y.class(alloc)?.as_slice())?;
     Ok(halves)
 }
 
@@ -55,10 +50,7 @@ impl<'m> Latest<'m> {
     /// Adds a pair, in place of the latest one of its class if it comes after that in B.
     fn add(&mut self, alloc: Global, pair: Pair<'m>, message: Message) -> Result<(), AllocError> {
         let after = pair.place;
-        let place = self
-            .places
-            .entry(class_of_pair(alloc, &pair)?)?
-            .or_insert(after);
+        let place = self.places.entry(pair.class(alloc)?)?.or_insert(after);
         let before = *place;
         if before <= after {
             *place = after;
@@ -126,21 +118,20 @@ impl<'m> Order<'m> {
         Ok(())
     }
 
-    /// Appends the rules, each after its comment.
-    pub fn push_swaps(&self, out: &mut Vec<u8>) -> Result<(), AllocError> {
+    /// Appends the rules that a file can have after those before them, each after its comment.
+    pub fn push_swaps(
+        &self,
+        alloc: Global,
+        before: &[u8],
+        out: &mut Vec<u8>,
+    ) -> Result<(), AllocError> {
         for (halves, comment) in self.comments.iter() {
-            let rule = [comment.as_bytes(), b"swap   ", halves.as_slice(), b"\n\n"];
-            push_parts(&rule, out)?;
+            let rule = parts_of(alloc, &[b"swap   ", halves.as_slice(), b"\n\n"])?;
+            if !are_refused(alloc, before, rule.as_slice())? {
+                push_parts(&[comment.as_bytes(), rule.as_slice()], out)?;
+            }
         }
         Ok(())
-    }
-
-    /// Leaves out the rule of a line. Returns whether there was one.
-    pub fn exclude(&mut self, line: &[u8]) -> bool {
-        match line.strip_prefix(b"swap   ") {
-            Some(halves) => self.comments.remove(halves).is_some(),
-            None => false,
-        }
     }
 
     /// Adds a pair that passes pairs before it.
