@@ -1,0 +1,17 @@
+pub mod Booleans
+pub mod FormSteps
+pub mod Lists
+pub mod Names
+pub mod Openings
+pub mod Lengths
+pub mod Readings
+pub mod Agrees
+pub mod Classes
+pub mod Literals
+pub mod Stays
+pub mod Numerals
+pub mod Written
+pub mod NamedStrings
+pub mod EqualStrings
+pub mod Utf8
+pub mod NamedUtf8

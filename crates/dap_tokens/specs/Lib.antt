@@ -1,0 +1,5 @@
+pub mod Tokens
+pub mod Numerals
+pub mod Values
+pub mod Naming
+pub mod Laws
