@@ -1,0 +1,17 @@
+pub mod Lists
+pub mod Additions
+pub mod Renamed
+pub mod Numbers
+pub mod SoundRules
+pub mod Values
+pub mod Agreement
+pub mod NamedDocuments
+pub mod EqualDocuments
+pub mod Messages
+pub mod Keys
+pub mod Knowing
+pub mod Writing
+pub mod TextUtf8
+pub mod MoreParts
+pub mod TreeNames
+pub mod Choosing

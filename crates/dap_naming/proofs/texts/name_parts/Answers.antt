@@ -1,0 +1,26 @@
+use Rattle.std.proofs.Common.{false}
+use Rattle.dap_tokens.specs.Tokens.{parts_from}
+use Rattle.dap_naming.proofs.Writing.{literal_step, token_step}
+use Rattle.dap_naming.proofs.texts.name_parts.Goals as goal
+
+pub parts-preserved-then-length-eq0 : goal.parts-preserved-then-length-eq0
+parts-preserved-then-length-eq0 c =
+    let label = c.args.label.now in
+    literal_step label c.args.form c.args.numbers.now c.parts.numbers
+    (parts_from label c.args.form 0 false c.args.text.now) c.parts.after_digit
+    c.is_ascii_hexdigit-after_digit.result c.parts.rest.now _ _ c.part_length-length.result
+    c.args.named.now.items c.parts.named.items c.push.new.named.items c.parts.invariant
+    c.in-Some.ensures.cases.0
+    c.part_length-length.ensures c.if-length-eq0.true
+    c.is_ascii_hexdigit-after_digit.ensures.value c.in_ok-push.ensures
+
+pub parts-preserved : goal.parts-preserved
+parts-preserved c =
+    let label = c.args.label.now in
+    token_step label c.args.form c.args.numbers.now c.parts.numbers c.name_token.new.numbers
+    (parts_from label c.args.form 0 false c.args.text.now) c.parts.after_digit c.parts.rest.now
+    c.split_part.result.0.now c.split_part.result.1.now _ _ c.part_length-length.result
+    c.args.named.now.items c.parts.named.items c.name_token.new.named.items c.parts.invariant
+    c.in-Some.ensures.cases.0
+    c.part_length-length.ensures c.if-length-eq0.false c.split_part.ensures.part
+    c.split_part.ensures.rest c.in_ok-name_token.ensures

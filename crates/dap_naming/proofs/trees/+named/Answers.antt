@@ -1,0 +1,85 @@
+use Rattle.std.proofs.Common.{◌≡◌, ◌+◌, ◌*◌, ◌<◌, true, [], ◌∷◌, ◌++◌, ◌∙◌, sym, ap, subst, arith}
+use Rattle.std.proofs.Common.{append_assoc, string_bytes, string_cmp}
+use Rattle.std.specs.Map.{keys_of}
+use Rattle.std.specs.List.Sorted.{IsStrictlySortedBy}
+use Rattle.dap_tree.specs.View.{view}
+use Rattle.dap_naming.specs.Documents.{inside, below}
+use Rattle.dap_naming.specs.DeclaredRules.{rules_of, have_labels, HasLabel}
+use Rattle.dap_naming.proofs.Choosing.{weight, falls_inside, falls_below, labels-inside}
+use Rattle.dap_naming.proofs.Choosing.{labels-below, labelled_here, no_rules}
+use Rattle.dap_naming.proofs.MoreParts.{Entry}
+use Rattle.dap_naming.proofs.TreeNames.{doc_unruled, items_more, members_more}
+use Rattle.dap_naming.proofs.trees.+named.Goals as goal
+
+pub named-returns-then-is_empty : goal.named-returns-then-is_empty
+named-returns-then-is_empty t c =
+    doc_unruled c.args.numbers.now (rules_of c.args.rules.now) (view c.args.tree)
+    (no_rules c.args.rules.now (sym c.is_empty.ensures ∙ c.if-is_empty.true))
+
+pub named-named_whole-requires : goal.named-named_whole-requires
+named-named_whole-requires t c =
+    subst HasLabel (sym c.here.ensures) (labelled_here (rules_of c.args.rules.now) c.requires)
+
+pub named-named_text-requires : goal.named-named_text-requires
+named-named_text-requires t c =
+    subst HasLabel (sym c.here-in-Text.ensures)
+    (labelled_here (rules_of c.args.rules.now) c.requires)
+
+pub named_items-named-requires : goal.named_items-named-requires
+named_items-named-requires t c =
+    let rs = c.args.rules.now in
+    let left = c.deref.result.now in
+    let d = view c.in-Some.item in
+    let same : rules_of left ≡ inside d (rules_of rs) = ap rules_of c.deref.ensures.value
+    ∙ c.in_ok-left.ensures in
+    let less : 2 * weight (rules_of left) + 1 < 2 * weight (rules_of rs) =
+    falls_inside rs left d same c.requires.some in
+    let labels : have_labels (rules_of left) ≡ true = ap have_labels same
+    ∙ labels-inside d (rules_of rs) c.requires.labels in
+    (omega arith, labels)
+
+pub named_items-loop-item-preserved : goal.named_items-loop-item-preserved
+named_items-loop-item-preserved t c =
+    let l = c.loop-item in
+    record {
+      all = l.invariant.all ∙ ap (λ vs. l.yielded ++ vs) c.in-Some.ensures.steps.0
+          ∙ sym (append_assoc l.yielded (c.in-Some.item ∷ []) _);
+      done = items_more c.args.numbers.now l.numbers c.named.new.numbers (rules_of c.args.rules.now)
+          (rules_of c.deref.result.now) l.yielded l.list.items c.push.new.list.items
+          c.in-Some.item c.in_ok-named.field-0 l.invariant.done
+          (ap rules_of c.deref.ensures.value ∙ c.in_ok-left.ensures) c.in_ok-named.ensures
+          c.in_ok-push.ensures;
+    }
+
+pub named_members-named-requires : goal.named_members-named-requires
+named_members-named-requires t c =
+    let rs = c.args.rules.now in
+    let left = c.deref-in-loop-name.result.now in
+    let k = string_bytes c.in-Some.name in
+    let same : rules_of left ≡ below k (rules_of rs) =
+    ap rules_of c.deref-in-loop-name.ensures.value ∙ c.in_ok-left.ensures
+    ∙ ap (λ n. below n (rules_of rs)) c.deref.ensures in
+    let less : 2 * weight (rules_of left) + 1 < 2 * weight (rules_of rs) =
+    falls_below rs left k same c.requires.some in
+    let labels : have_labels (rules_of left) ≡ true = ap have_labels same
+    ∙ labels-below k (rules_of rs) c.requires.labels in
+    (omega arith, labels)
+
+pub named_members-loop-name-preserved : goal.named_members-loop-name-preserved
+named_members-loop-name-preserved t c =
+    let l = c.loop-name in
+    let e : Entry = (c.in-Some.name, c.in-Some.member) in
+    let all : c.args.members.entries ≡ l.yielded ++ e ∷ c.next.new.self =
+    l.invariant.all ∙ ap (λ vs. l.yielded ++ vs) c.in-Some.ensures.steps in
+    record {
+      all = all ∙ sym (append_assoc l.yielded (e ∷ []) _);
+      ordered = l.invariant.ordered;
+      done = members_more c.args.numbers.now l.numbers c.named.new.numbers
+          (rules_of c.args.rules.now) (rules_of c.deref-in-loop-name.result.now) l.yielded
+          c.next.new.self l.object.entries c.put.new.object.entries e c.in_ok-member.member
+          (subst (λ es. IsStrictlySortedBy string_cmp (keys_of es)) all l.invariant.ordered)
+          l.invariant.done
+          (ap rules_of c.deref-in-loop-name.ensures.value ∙ c.in_ok-left.ensures
+          ∙ ap (λ n. below n (rules_of c.args.rules.now)) c.deref.ensures)
+          c.in_ok-member.ensures c.in_ok-put.ensures;
+    }

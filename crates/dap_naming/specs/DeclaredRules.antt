@@ -1,0 +1,41 @@
+-- The model of the rules that declare ids.
+use Rattle.std.specs.Prelude.{◌≡◌, ℕ, Bool, true, cond, ◌&&◌, List, [], ◌∷◌, map}
+use Rattle.std.specs.Prelude.{Option, Some, None}
+use denote.Ref.{Bor}
+use Rattle.dap_tokens.specs.declared.form.Form.{Form}
+use Rattle.dap_mask.specs.{Rules.place_of, RuleSteps.RuleStep}
+use Rattle.dap_tokens.specs.Tokens.{is_label}
+use Rattle.dap_naming.specs.Documents.{Declared, after_first}
+use Rattle.dap_naming.specs.declared.rules.Declared.{Declared as ReadDeclared}
+
+abbrev pub declared_of : ReadDeclared → Declared
+declared_of r = record { place = place_of r.place.now; form = r.form; label = r.label.now }
+
+abbrev pub rules_of : List ReadDeclared → List Declared
+rules_of rs = map declared_of rs
+
+-- Each rule has a valid label.
+abbrev pub have_labels : List Declared → Bool
+have_labels [] = true
+have_labels (r ∷ rs) = is_label r.label && have_labels rs
+
+-- ---- for private clauses
+
+-- What a value is declared as.
+abbrev pub declared_as : Option (Form × Bor (List ℕ)) → Option (Form × List ℕ)
+declared_as None = None
+declared_as (Some r) = Some (r.0, r.1.now)
+
+-- If there is a declaration, its label is valid.
+abbrev pub HasLabel : Option (Form × List ℕ) → Type 0
+HasLabel None = Unit {0}
+HasLabel (Some r) = is_label r.1 ≡ true
+
+-- The rule with this place, if there is one.
+abbrev pub with_place : Declared → Option (List RuleStep) → List Declared
+with_place r None = []
+with_place r (Some steps) = record { place = steps; form = r.form; label = r.label } ∷ []
+
+-- The steps after the first one, if the test holds.
+abbrev pub after_if : Bool → List RuleStep → Option (List RuleStep)
+after_if b steps = cond b (Some (after_first steps)) None

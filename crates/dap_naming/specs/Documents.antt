@@ -1,0 +1,157 @@
+-- The declared ids of a document, and the document with names in their place.
+use Rattle.std.specs.Prelude.{ℕ, suc, ℤ, pos, negsuc, Bool, true, false, cond, not, ◌&&◌}
+use Rattle.std.specs.Prelude.{List, [], ◌∷◌, ◌++◌, map, Option, Some, None, codes, bytes_eq}
+use Rattle.std.specs.Prelude.{decimal}
+use Rattle.dap_tree.specs.Doc.{Doc, null, boolean, whole, text, list, object, id, Items, no_items}
+use Rattle.dap_tree.specs.Doc.{item, Members, no_members, member}
+use Rattle.dap_mask.specs.RuleSteps.{RuleStep, named as to_member, elements, is_called}
+use Rattle.dap_tokens.specs.{Naming.{ids, named, IsNumbering}, Tokens.is_label, Values.is_nothing}
+use Rattle.dap_tokens.specs.declared.form.Form.{Form}
+use Rattle.dap_tokens.specs.declared.form.Form.TheVariants.{Whole, Digits, Hex, Long, Uuid}
+use Rattle.dap_naming.specs.Numbers.{Id, Numbering}
+
+-- A rule that declares ids (own): their place below a value, the form of their tokens, and their
+-- label.
+pub record Declared : Type 0 where
+  pub place : List RuleStep
+  pub form : Form
+  pub label : List ℕ
+
+-- The steps after the first.
+abbrev pub after_first : List RuleStep → List RuleStep
+after_first [] = []
+after_first (step ∷ steps) = steps
+
+-- The rule without the first step of its place.
+abbrev pub after_step : Declared → Declared
+after_step r = record { place = after_first r.place; form = r.form; label = r.label }
+
+-- The place is that of the value itself.
+abbrev pub is_here : List RuleStep → Bool
+is_here [] = true
+is_here (step ∷ steps) = false
+
+-- What a value itself is declared as, by the first rule for it.
+abbrev pub here : List Declared → Option (Form × List ℕ)
+here [] = None
+here (r ∷ rs) = cond (is_here r.place) (Some (r.form, r.label)) (here rs)
+
+-- The first step is to the member of this name.
+abbrev pub is_to_member : List ℕ → List RuleStep → Bool
+is_to_member k [] = false
+is_to_member k (to_member l ∷ steps) = bytes_eq k l
+is_to_member k (elements n ∷ steps) = false
+
+-- The rules for the member of this name.
+abbrev pub below : List ℕ → List Declared → List Declared
+below k [] = []
+below k (r ∷ rs) = cond (is_to_member k r.place) (after_step r ∷ below k rs) (below k rs)
+
+-- The first step is to this element of an array.
+abbrev pub is_to_element : Doc → List RuleStep → Bool
+is_to_element d [] = false
+is_to_element d (to_member k ∷ steps) = false
+is_to_element d (elements n ∷ steps) = is_called n (Some d)
+
+-- The rules for this element of an array.
+abbrev pub inside : Doc → List Declared → List Declared
+inside d [] = []
+inside d (r ∷ rs) = cond (is_to_element d r.place) (after_step r ∷ inside d rs) (inside d rs)
+
+-- The text of an integer (JSON).
+abbrev pub integer_text : ℤ → List ℕ
+integer_text (pos n) = decimal n
+integer_text (negsuc n) = codes "-" ++ decimal (suc n)
+
+abbrev pub labelled : List ℕ → List (List ℕ) → List Id
+labelled label vs = map (λ v. (label, v)) vs
+
+-- The ids of a string, and of an integer. An integer is an id only as a whole, and 0 is none.
+abbrev pub ids_of_text : Option (Form × List ℕ) → List ℕ → List Id
+ids_of_text None s = []
+ids_of_text (Some r) s = labelled r.1 (ids r.1 r.0 s)
+
+abbrev pub is_whole : Form → Bool
+is_whole Whole = true
+is_whole Digits = false
+is_whole Hex = false
+is_whole Long = false
+is_whole Uuid = false
+
+abbrev pub is_id_at : Option (Form × List ℕ) → ℤ → Bool
+is_id_at None z = false
+is_id_at (Some r) z = is_whole r.0 && not (is_nothing (integer_text z))
+
+abbrev pub ids_of_whole : Option (Form × List ℕ) → ℤ → List Id
+ids_of_whole None z = []
+ids_of_whole (Some r) z = cond (is_id_at (Some r) z) ((r.1, integer_text z) ∷ []) []
+
+-- The declared ids of a document, in the order of its text (own).
+abbrev mutual
+  pub ids_of : List Declared → Doc → List Id
+  ids_of rs null = []
+  ids_of rs (boolean b) = []
+  ids_of rs (whole z) = ids_of_whole (here rs) z
+  ids_of rs (text s) = ids_of_text (here rs) s
+  ids_of rs (list ds) = items_ids rs ds
+  ids_of rs (object ms) = members_ids rs ms
+  ids_of rs (id sort z) = []
+
+  pub items_ids : List Declared → Items → List Id
+  items_ids rs no_items = []
+  items_ids rs (item d ds) = ids_of (inside d rs) d ++ items_ids rs ds
+
+  pub members_ids : List Declared → Members → List Id
+  members_ids rs no_members = []
+  members_ids rs (member k d ms) = ids_of (below k rs) d ++ members_ids rs ms
+
+-- The numbers of each label are a numbering of its values.
+abbrev pub AreNumberings : Numbering → Type 0
+AreNumberings number = (label : List ℕ) → IsNumbering (number label)
+
+abbrev pub named_text : Option (Form × List ℕ) → Numbering → List ℕ → List ℕ
+named_text None number s = s
+named_text (Some r) number s = named r.1 r.0 (number r.1) s
+
+abbrev pub named_whole : Option (Form × List ℕ) → Numbering → ℤ → ℤ
+named_whole None number z = z
+named_whole (Some r) number z = cond (is_id_at (Some r) z) (pos (number r.1 (integer_text z))) z
+
+-- The document with each declared id replaced by its name (own): an integer by its number, and
+-- a token of a string by `<LABEL NUMBER>`.
+abbrev mutual
+  pub named_doc : List Declared → Numbering → Doc → Doc
+  named_doc rs number null = null
+  named_doc rs number (boolean b) = boolean b
+  named_doc rs number (whole z) = whole (named_whole (here rs) number z)
+  named_doc rs number (text s) = text (named_text (here rs) number s)
+  named_doc rs number (list ds) = list (named_items rs number ds)
+  named_doc rs number (object ms) = object (named_members rs number ms)
+  named_doc rs number (id sort z) = id sort z
+
+  pub named_items : List Declared → Numbering → Items → Items
+  named_items rs number no_items = no_items
+  named_items rs number (item d ds) =
+      item (named_doc (inside d rs) number d) (named_items rs number ds)
+
+  pub named_members : List Declared → Numbering → Members → Members
+  named_members rs number no_members = no_members
+  named_members rs number (member k d ms) =
+      member k (named_doc (below k rs) number d) (named_members rs number ms)
+
+-- The document with each id replaced by the name of 1.
+abbrev pub skeleton_doc : List Declared → Doc → Doc
+skeleton_doc rs d = named_doc rs (λ label v. 1) d
+
+-- ---- the rules that can be used together
+
+-- The place is that of the `name` of elements of an array, by which rules select elements.
+abbrev pub ends_at_name : List RuleStep → Bool
+ends_at_name [] = false
+ends_at_name (elements n ∷ to_member k ∷ []) = bytes_eq (codes "name") k
+ends_at_name (step ∷ steps) = ends_at_name steps
+
+-- No rule changes the `name` of an element, and each label is one.
+abbrev pub are_sound : List Declared → Bool
+are_sound [] = true
+are_sound (r ∷ rs) = not (ends_at_name r.place) && (is_label r.label && are_sound rs)

@@ -1,0 +1,78 @@
+-- The numbers of values as `ValueNumbers` holds them.
+use Rattle.std.specs.Prelude.{◌≡◌, ℕ, ◌<◌, ◌≤◌, Bool, true, false, cond, List, ◌∷◌, ◌++◌, length}
+use Rattle.std.specs.Prelude.{Option, Some, None, unwrap_or, bytes_eq}
+use Rattle.std.specs.List.{list_any}
+use Rattle.std.specs.BTreeMap.{get_by, get_by_text}
+use Rattle.std.specs.Cmp.Lexicographic.{slice_cmp}
+use Rattle.std.specs.Ordering.{nat_cmp}
+use Rattle.dap_tokens.specs.{Tokens.{Part, is_label}, Naming.{ids_of_parts, named_parts}}
+use Rattle.dap_tokens.specs.declared.form.Form.{Form}
+use Rattle.dap_naming.specs.Documents.{labelled}
+use Rattle.dap_naming.specs.Numbers.{Id, Numbering, distinct, number}
+use Rattle.dap_naming.specs.declared.value_numbers.ValueNumbers.{ValueNumbers}
+
+-- The key of a value: its label, a blank, and the value. A label contains no blank.
+abbrev pub key : List ℕ → List ℕ → List ℕ
+key label v = label ++ 32 ∷ v
+
+-- The number at a key.
+abbrev pub number_at : ValueNumbers → List ℕ → Option ℕ
+number_at numbers k = get_by (λ x. slice_cmp nat_cmp k x.items) numbers.numbers
+
+-- The count of the values of a label.
+abbrev pub count_of : ValueNumbers → List ℕ → ℕ
+count_of numbers label = unwrap_or (get_by_text numbers.counts label) 0
+
+-- The maximum number of values of a label.
+abbrev pub limit_of : ValueNumbers → ℕ
+limit_of numbers = numbers.limit
+
+abbrev pub is_known : List Id → List ℕ → List ℕ → Bool
+is_known is label v = list_any (bytes_eq v) (distinct label is)
+
+-- The number of a value of a label that some id has.
+abbrev pub known_number : List Id → List ℕ → List ℕ → Option ℕ
+known_number is label v = cond (is_known is label v) (Some (number is label v)) None
+
+-- These are the numbers of the values of the ids, for each label.
+pub record Knows (numbers : ValueNumbers) (is : List Id) : Type 0 where
+  pub value : (label v : List ℕ) → is_label label ≡ true
+      → number_at numbers (key label v) ≡ known_number is label v
+  pub count : (label : List ℕ) → is_label label ≡ true
+      → count_of numbers label ≡ length (distinct label is)
+
+-- `new` knows the ids of `old` and then the ids `js`, and the property holds of the numbers of the
+-- ids, whatever ids follow.
+abbrev pub Names : ValueNumbers → ValueNumbers → List Id → (Numbering → Type 0) → Type 0
+Names old new js P = (is : List Id) → Knows old is
+    → Knows new (is ++ js) × ((ks : List Id) → P (number (is ++ (js ++ ks))))
+
+-- The value of the id is new, and its label has as many values as the limit.
+abbrev pub IsFull : ValueNumbers → Id → Type 0
+IsFull numbers i = (is : List Id) → Knows numbers is
+    → (is_known is i.0 i.1 ≡ false) × (limit_of numbers ≤ length (distinct i.0 is))
+
+-- If the value of the id is new, its label has fewer values than the limit.
+abbrev pub HasRoom : ValueNumbers → Id → Type 0
+HasRoom numbers i = (is : List Id) → Knows numbers is → is_known is i.0 i.1 ≡ false
+    → length (distinct i.0 is) < limit_of numbers
+
+-- Each number of `old` is a number of `new`.
+abbrev pub Keeps : ValueNumbers → ValueNumbers → Type 0
+Keeps old new = (k : List ℕ) (n : ℕ) → number_at old k ≡ Some n → number_at new k ≡ Some n
+
+-- The function has the numbers of this label.
+abbrev pub HasNumbers : ValueNumbers → List ℕ → (List ℕ → ℕ) → Type 0
+HasNumbers numbers label f =
+    (v : List ℕ) (n : ℕ) → number_at numbers (key label v) ≡ Some n → f v ≡ n
+
+-- Appends the parts of a text, with the names of the ids. The last part holds even if the numbers
+-- are not those of a list of ids.
+abbrev pub Writes : ValueNumbers → ValueNumbers → List ℕ → Form → List Part → List ℕ → List ℕ
+    → Type 0
+Writes old new label form ps before after =
+    Names old new (labelled label (ids_of_parts label form ps))
+    (λ number. after ≡ before ++ named_parts label form (number label) ps)
+    × Keeps old new
+    × ((f : List ℕ → ℕ) → HasNumbers new label f
+    → after ≡ before ++ named_parts label form f ps)

@@ -1,0 +1,6 @@
+pub mod Numbers
+pub mod Documents
+pub mod Messages
+pub mod Laws
+pub mod Known
+pub mod DeclaredRules

@@ -1,0 +1,22 @@
+//! Names in the place of declared ids: values of messages that a rule declares as ids.
+//!
+//! A declared id is a token of a string, or an integer. Each label has names of its own, which
+//! are given to its values in the order of their first appearance. So the names keep which values
+//! are equal, and nothing else. [`name_tree`] replaces the ids of a message by their names, in
+//! place. `specs/` defines the ids and the names, and [`laws`] states what holds for them.
+#![tactic(auto)]
+
+mod choice;
+mod fault;
+pub mod laws;
+mod rules;
+mod texts;
+mod trees;
+mod value_numbers;
+#[cfg(test)]
+mod worked_names;
+
+pub use fault::NamingFault;
+pub use rules::Declared;
+pub use trees::name_tree;
+pub use value_numbers::ValueNumbers;

@@ -1,0 +1,191 @@
+//! Names in the place of the ids of a message.
+ghost use Rattle.std.specs.Prelude.{◌≡◌, ◌<◌, ◌∷◌, ◌++◌, [], true, Some, IfOk, OnOk, length};
+ghost use Rattle.std.specs.Prelude.{string_bytes, string_cmp};
+ghost use Rattle.std.specs.BTreeMap.{insert_entry};
+ghost use Rattle.dap_tokens.specs.Tokens.{is_label};
+ghost use Rattle.dap_tree.specs.View.{view, items_view, members_view};
+ghost use Rattle.dap_naming.specs.Documents.{ids_of, items_ids, members_ids, named_doc};
+ghost use Rattle.dap_naming.specs.Documents.{named_items, named_members};
+ghost use Rattle.dap_naming.specs.Documents.{ids_of_text, named_text, ids_of_whole, named_whole};
+ghost use Rattle.dap_naming.specs.Known.{Names};
+ghost use Rattle.dap_naming.specs.DeclaredRules.{rules_of, have_labels, declared_as, HasLabel};
+
+use crate::choice::{below, here, inside};
+use crate::fault::NamingFault;
+use crate::rules::Declared;
+use crate::texts::name_text;
+use crate::value_numbers::ValueNumbers;
+use dap_tokens::{Form, is_nothing};
+use dap_tree::Tree;
+use itoa::Buffer;
+use std::alloc::{AllocError, Global};
+use std::collections::BTreeMap;
+use std::mem;
+
+/// Replaces each declared id of a message by its name: an integer by its number, and a token of a
+/// string by `<LABEL NUMBER>`.
+///
+/// # Errors
+///
+/// - `Full`: a value is new, and its label has as many values as the limit.
+/// - `Memory`: an allocation failed.
+///
+/// After an error neither the numbers nor the message must be used again.
+pub fn name_tree(
+    alloc: Global,
+    numbers: &mut ValueNumbers,
+    tree: &mut Tree,
+    rules: &[Declared<'_>],
+) -> Result<(), NamingFault>
+    requires { have_labels (rules_of rules.now) ≡ true }
+    ensures { OnOk result (Names numbers.old numbers.new
+        (ids_of (rules_of rules.now) (view tree.old))
+        (λ number. view tree.new ≡ named_doc (rules_of rules.now) number (view tree.old))) }
+{
+    let old = mem::replace(tree, Tree::Null);
+    *tree = named(alloc, numbers, old, rules)?;
+    Ok(())
+}
+
+#[cycle(named)]
+fn named(
+    alloc: Global,
+    numbers: &mut ValueNumbers,
+    tree: Tree,
+    rules: &[Declared<'_>],
+) -> Result<Tree, NamingFault>
+    requires { have_labels (rules_of rules.now) ≡ true }
+    ensures { IfOk result (λ t. Names numbers.old numbers.new
+        (ids_of (rules_of rules.now) (view tree))
+        (λ number. view t ≡ named_doc (rules_of rules.now) number (view tree))) }
+{
+    if rules.is_empty() {
+        return Ok(tree);
+    }
+    match tree {
+        Tree::Whole(value) => Ok(Tree::Whole(named_whole(alloc, numbers, value, here(rules))?)),
+        Tree::Text(text) => Ok(Tree::Text(named_text(alloc, numbers, text, here(rules))?)),
+        Tree::List(items) => Ok(Tree::List(named_items(alloc, numbers, items, rules)?)),
+        Tree::Object(members) => Ok(Tree::Object(named_members(alloc, numbers, members, rules)?)),
+        Tree::Null => Ok(Tree::Null),
+        Tree::Bool(value) => Ok(Tree::Bool(value)),
+        Tree::Id(sort, number) => Ok(Tree::Id(sort, number)),
+    }
+}
+
+#[cycle(named)]
+fn named_items(
+    alloc: Global,
+    numbers: &mut ValueNumbers,
+    items: Vec<Tree>,
+    rules: &[Declared<'_>],
+) -> Result<Vec<Tree>, NamingFault>
+    requires labels { have_labels (rules_of rules.now) ≡ true }
+    requires some { 0 < length rules.now }
+    ensures { IfOk result (λ v. Names numbers.old numbers.new
+        (items_ids (rules_of rules.now) (items_view items.items))
+        (λ number. items_view v.items
+        ≡ named_items (rules_of rules.now) number (items_view items.items))) }
+{
+    let mut list = Vec::new(alloc);
+    for item in items {
+        let left = inside(alloc, rules, &item)?;
+        push(&mut list, named(alloc, numbers, item, &left)?)?;
+    }
+    Ok(list)
+}
+
+fn push(list: &mut Vec<Tree>, tree: Tree) -> Result<(), AllocError>
+    ensures { OnOk result (list.new.items ≡ list.old.items ++ tree ∷ []) }
+{
+    list.push(tree)?;
+    Ok(())
+}
+
+#[cycle(named)]
+fn named_members(
+    alloc: Global,
+    numbers: &mut ValueNumbers,
+    members: BTreeMap<String, Tree>,
+    rules: &[Declared<'_>],
+) -> Result<BTreeMap<String, Tree>, NamingFault>
+    requires labels { have_labels (rules_of rules.now) ≡ true }
+    requires some { 0 < length rules.now }
+    ensures { IfOk result (λ m. Names numbers.old numbers.new
+        (members_ids (rules_of rules.now) (members_view members.entries))
+        (λ number. members_view m.entries
+        ≡ named_members (rules_of rules.now) number (members_view members.entries))) }
+{
+    let mut object = BTreeMap::new(alloc);
+    for (name, member) in members {
+        let left = below(alloc, rules, &name)?;
+        let member = named(alloc, numbers, member, &left)?;
+        put(&mut object, name, member)?;
+    }
+    Ok(object)
+}
+
+fn put(object: &mut BTreeMap<String, Tree>, name: String, member: Tree) -> Result<(), AllocError>
+    ensures { OnOk result (object.new.entries
+        ≡ insert_entry string_cmp object.old.entries name member) }
+{
+    drop(object.insert(name, member)?);
+    Ok(())
+}
+
+fn named_text(
+    alloc: Global,
+    numbers: &mut ValueNumbers,
+    text: String,
+    rule: Option<(Form, &str)>,
+) -> Result<String, NamingFault>
+    requires { HasLabel (declared_as rule) }
+    ensures { IfOk result (λ s. Names numbers.old numbers.new
+        (ids_of_text (declared_as rule.entry) (string_bytes text))
+        (λ number. string_bytes s
+        ≡ named_text (declared_as rule.entry) number (string_bytes text))) }
+{
+    match rule {
+        Some((form, label)) => name_text(alloc, numbers, label, form, &text),
+        None => Ok(text),
+    }
+}
+
+fn named_whole(
+    alloc: Global,
+    numbers: &mut ValueNumbers,
+    value: i128,
+    rule: Option<(Form, &str)>,
+) -> Result<i128, NamingFault>
+    requires { HasLabel (declared_as rule) }
+    ensures { IfOk result (λ z. Names numbers.old numbers.new
+        (ids_of_whole (declared_as rule.entry) value)
+        (λ number. z ≡ named_whole (declared_as rule.entry) number value)) }
+{
+    match rule {
+        Some((Form::Whole, label)) => number_whole(alloc, numbers, value, label),
+        _ => Ok(value),
+    }
+}
+
+// Returns the number of an integer that a rule declares as an id. An integer that is not an id is
+// returned unchanged.
+fn number_whole(
+    alloc: Global,
+    numbers: &mut ValueNumbers,
+    value: i128,
+    label: &str,
+) -> Result<i128, NamingFault>
+    requires { is_label label.now ≡ true }
+    ensures { IfOk result (λ z. Names numbers.old numbers.new
+        (ids_of_whole (Some (Form.Whole, label.now)) value)
+        (λ number. z ≡ named_whole (Some (Form.Whole, label.now)) number value)) }
+{
+    let mut buffer = Buffer::new();
+    let text = buffer.format(value).as_bytes();
+    if is_nothing(text) {
+        return Ok(value);
+    }
+    let number = numbers.number(alloc, label, text)?;
+    Ok(number as i128)
+}
