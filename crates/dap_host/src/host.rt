@@ -23,8 +23,8 @@ pub enum OpenFault {
 /// What a file is opened for.
 #[derive(Clone, Copy, Debug, PartialEq, Eq)]
 pub enum Purpose {
-    /// It is an input: a recording, frames or a trace. The name `-` leads to standard input. A
-    /// regular file that is a transcript is read as its recording.
+    /// It is an input: a recording, frames or a trace. The name `-` leads to standard input. An
+    /// input that is a transcript is read as its recording.
     Input,
     /// It is a rules file. No name leads to standard input.
     Rules,

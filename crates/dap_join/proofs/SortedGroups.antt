@@ -18,7 +18,7 @@ abbrev pub AreSorted : List Group → Type 0
 AreSorted [] = Unit {0}
 AreSorted (g ∷ gs) = IsBelow g.category gs × AreSorted gs
 
--- The category of each of the first groups is less than that of each of the others.
+-- Each of the first groups has a lower category than each later group.
 abbrev pub AreBelow : List Group → List Group → Type 0
 AreBelow [] hs = Unit {0}
 AreBelow (g ∷ gs) hs = IsBelow g.category hs × AreBelow gs hs
