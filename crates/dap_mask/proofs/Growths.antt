@@ -8,7 +8,7 @@ use Rattle.std.specs.{Prelude.{is_some}, Str.is_utf8}
 use Rattle.dap_mask.specs.Categories.{is_output_moved_by}
 use Rattle.dap_mask.specs.Mask.{Mask, no_rules, rule_count, with_rule, Statement, change, leave_out}
 use Rattle.dap_mask.specs.Mask.{leave_out_category, swap, restart, join, put, fill, Line, nothing}
-use Rattle.dap_mask.specs.Mask.{rule, bad}
+use Rattle.dap_mask.specs.Mask.{declare, rule, bad}
 use Rattle.dap_mask.specs.RuleText.{line_said, statement_at, reported}
 use Rattle.dap_mask.specs.Rules.{Rule, comes_before, inserted}
 use Rattle.dap_mask.specs.RulesFile.{cause_against, outcome_unless, outcome_of, line_outcome}
@@ -81,6 +81,7 @@ one_more m (join j) h =
     omega (arith, first)
 one_more m (put p) h = let more = length_push m.words p in omega arith
 one_more m (fill f) h = let more = length_push m.fills f in omega arith
+one_more m (declare x) h = let more = length_push m.declared x in omega arith
 
 same_mask : (m k : Mask) → ◌≡◌ {A = Result Mask RulesCause} (Ok m) (Ok k) → m ≡ k
 same_mask m k h = cc
@@ -189,6 +190,10 @@ err_passed {T} {X} r f g e same p =
     subst (λ (q : Result T RulesFault). IfErr q (λ h. h.cause ≡ Memory → X))
     (sym (e ∙ ap Err same)) p
 
+pub err_is : {T : Type 0} → (P : RulesFault → Type 0) → (r : Result T RulesFault)
+    (f g : RulesFault) → r ≡ Err g → g ≡ f → P f → IfErr r P
+err_is P r f g e same p = subst (λ q. IfErr q P) (sym (e ∙ ap Err same)) p
+
 abbrev said_if : List ℕ → Bool → Result Mask RulesFault
 said_if s long =
     cond long (Err (record { line = last_line (take 65536 s); cause = TooLong }))
@@ -201,3 +206,10 @@ unfolding rules_said
 said_other s m e short other said =
     other (subst (λ (k : Mask). rules_from k 1 (lines_of s) ≡ Ok k) (sym e)
     (sym (ap (said_if s) (le-ltb 65536 (length s) short)) ∙ said))
+
+pub said_err : (s : List ℕ) (m : Mask) (f : RulesFault) → m ≡ no_rules → length s ≤ 65536
+    → rules_from m 1 (lines_of s) ≡ Err f → rules_said s ≡ Err f
+unfolding rules_said
+said_err s m f e short h =
+    ap (said_if s) (le-ltb 65536 (length s) short)
+    ∙ subst (λ (k : Mask). rules_from k 1 (lines_of s) ≡ Err f) e h

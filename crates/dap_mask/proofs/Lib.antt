@@ -35,6 +35,7 @@ pub mod Parsing
 pub mod Parsed
 pub mod WorkedRules
 pub mod WorkedJoining
+pub mod WorkedDeclarations
 pub mod WorkedFills
 pub mod WorkedOrder
 pub mod WordLines

@@ -11,18 +11,19 @@ use Rattle.dap_tree.proofs.Booleans.{and_left, and_right}
 use Rattle.dap_profile.specs.declared.profile.Kind.{Kind, TheVariants.{Request, Response, Event}}
 use Rattle.dap_mask.specs.Grammar.{IsGap, GoesOn, HasWords, IsName, bare, quoted}
 use Rattle.dap_mask.specs.Grammar.{IsNameOrAny, AreSteps, IsPlace, verb_word, kind_word}
-use Rattle.dap_mask.specs.Grammar.{AreCategoryWords, AreWordsOf, SaysRule, Says}
+use Rattle.dap_mask.specs.Grammar.{AreCategoryWords, AreWordsOfRule, AreWordsOf, SaysRule, Says}
 use Rattle.dap_mask.specs.Categories.{CategoryRule, output_name}
+use Rattle.dap_mask.specs.Declarations.{Declaration}
 use Rattle.dap_mask.specs.Mask.{Statement, change, leave_out, leave_out_category, swap, restart}
 use Rattle.dap_mask.specs.Fills.{Fill}
-use Rattle.dap_mask.specs.Mask.{join, put, fill, Line, nothing, rule, bad}
+use Rattle.dap_mask.specs.Mask.{join, put, fill, declare, Line, nothing, rule, bad}
 use Rattle.dap_mask.specs.RuleSteps.{RuleStep, named, elements}
 use Rattle.dap_mask.specs.RuleText.{bracket_behind, called_step, quoted_at, plain_at, name_at}
 use Rattle.dap_mask.specs.RuleText.{this_name, any_name, each_step, member_step, next_step}
 use Rattle.dap_mask.specs.RuleText.{step_then, steps_from, place_at, verb_named, kind_named, Head}
 use Rattle.dap_mask.specs.RuleText.{name_behind, kind_then, head_at, text_behind, category_at}
 use Rattle.dap_mask.specs.RuleText.{limit_from, limit_at, placed, place_behind, change_behind}
-use Rattle.dap_mask.specs.RuleText.{change_at, with_category}
+use Rattle.dap_mask.specs.RuleText.{labelled, label_at, change_at, with_category}
 use Rattle.dap_mask.specs.RuleText.{category_behind, dropped_at, leave_out_at, half_at, swap_with}
 use Rattle.dap_mask.specs.RuleText.{swap_at, restart_at, is_output, join_ended, join_stops}
 use Rattle.dap_mask.specs.RuleText.{joined_at, join_at, part_at, word_with, put_at, statement_at}
@@ -38,7 +39,7 @@ use Rattle.dap_mask.proofs.Blanks.{run_split, run_all, run_begins, gap_found, en
 use Rattle.dap_mask.proofs.Lines.{Steps}
 use Rattle.dap_mask.proofs.Options.{mapped, bound, if_true, if_false}
 use Rattle.dap_mask.proofs.Parsing.{any_by, place_on, then_step, with_kind, kind_on, change_on}
-use Rattle.dap_mask.proofs.Parsing.{of_category}
+use Rattle.dap_mask.proofs.Parsing.{of_category, stated_by}
 use Rattle.dap_mask.proofs.Parsing.{leave_out_on, category_on, half_on, swap_on, join_on, put_on}
 use Rattle.dap_mask.proofs.Parsing.{fill_on, rule_read}
 use Rattle.dap_mask.proofs.Quoted.{quoted_found}
@@ -386,10 +387,10 @@ category_found s name rest h =
       f.2,
     )
 
--- the words of the category of a rule and of its place, after a head
-abbrev HasLimit : Kind → Option (List ℕ) → List ℕ → List ℕ → Type 0
-HasLimit k c p s =
-    (cs : List (List ℕ)) × GoesOn (cs ++ p ∷ []) s × AreCategoryWords k c cs
+-- the words of the category of a rule and of its place, and other words, after a head
+abbrev HasLimit : Kind → Option (List ℕ) → List ℕ → List (List ℕ) → List ℕ → Type 0
+HasLimit k c p ws s =
+    (cs : List (List ℕ)) × GoesOn (cs ++ p ∷ ws) s × AreCategoryWords k c cs
 
 -- a word after blanks, before other words
 word_goes : (w g t rest s : List ℕ) (ws : List (List ℕ)) → s ≡ g ++ t → IsGap g → t ≡ w ++ rest
@@ -398,29 +399,76 @@ word_goes w g t rest s ws is gapped next on =
     (g, rest, is ∙ ap (λ (x : List ℕ). g ++ x) next, gapped, on)
 
 limit_found : (k : Kind) (o : Option NameRest) (g t s : List ℕ) (c : AnyRest) (p rest : List ℕ)
-    → category_at t ≡ o → s ≡ g ++ t → IsGap g → limit_from k t o ≡ Some c → c.1 ≡ p ++ rest
-    → GoesOn [] rest → HasLimit k c.0 p s
-limit_found k None g t s c p rest e is gapped h next ended =
+    (ws : List (List ℕ)) → category_at t ≡ o → s ≡ g ++ t → IsGap g → limit_from k t o ≡ Some c
+    → c.1 ≡ p ++ rest → GoesOn ws rest → HasLimit k c.0 p ws s
+limit_found k None g t s c p rest ws e is gapped h next goes =
     let same = same_Some {A = AnyRest} (None, t) c h in (
       [],
-      word_goes p g t rest s [] is gapped (ap (λ (q : AnyRest). q.1) same ∙ next) ended,
+      word_goes p g t rest s ws is gapped (ap (λ (q : AnyRest). q.1) same ∙ next) goes,
       subst (λ (n : Option (List ℕ)). AreCategoryWords k n []) (ap (λ (q : AnyRest). q.0) same)
           refl,
     )
-limit_found k (Some a) g t s c p rest e is gapped h next ended =
+limit_found k (Some a) g t s c p rest ws e is gapped h next goes =
     let i = if_true {A = AnyRest} (same_kind k Event) (option_map (of_category a.0) (gap a.1)) c h
     in
     let m = mapped (of_category a.0) (gap a.1) c i.1 in
     let f = category_found t a.0 a.1 e in
     let more = gap_found a.1 m.0 m.1 in
     let word : List ℕ = codes "category=" ++ f.0 in
-    let last : GoesOn (p ∷ []) a.1 =
-    word_goes p more.blanks m.0 rest a.1 [] more.whole more.is_gap
-    (ap (λ (q : AnyRest). q.1) m.2 ∙ next) ended in (
+    let last : GoesOn (p ∷ ws) a.1 =
+    word_goes p more.blanks m.0 rest a.1 ws more.whole more.is_gap
+    (ap (λ (q : AnyRest). q.1) m.2 ∙ next) goes in (
       word ∷ [],
-      word_goes word g t a.1 s (p ∷ []) is gapped f.1 last,
+      word_goes word g t a.1 s (p ∷ ws) is gapped f.1 last,
       subst (λ (n : Option (List ℕ)). AreCategoryWords k n (word ∷ []))
           (ap (λ (q : AnyRest). q.0) m.2) (f.0, refl, f.2, same_event k i.0),
+    )
+
+-- the next word, which is a name
+part_found : (s name rest : List ℕ) → part_at s ≡ Some (name, rest) → (n : List ℕ)
+    × ((ws : List (List ℕ)) → GoesOn ws rest → GoesOn (n ∷ ws) s) × IsName n name
+part_found s name rest h =
+    let y = bound name_at (gap s) (name, rest) h in
+    let before = gap_found s y.0 y.1 in
+    let f = name_found y.0 name rest y.2 in (
+      f.0,
+      λ ws on. (
+        before.blanks,
+        rest,
+        before.whole ∙ ap (λ (t : List ℕ). before.blanks ++ t) f.1,
+        before.is_gap,
+        on,
+      ),
+      f.2,
+    )
+
+-- the words after a place, and the rule that they state
+abbrev HasOthers : Rule → List ℕ → Statement → Type 0
+HasOthers r s st = (others : List (List ℕ)) × GoesOn others s
+    × ((ws : List (List ℕ)) → AreWordsOfRule ws r others → AreWordsOf ws st)
+
+stated_found : (r : Rule) (s : List ℕ) (ended : Bool) → is_end s ≡ ended → (st : Statement)
+    → stated_by r s ended ≡ Some st → HasOthers r s st
+stated_found r s true e st h =
+    ([], end_found s e, λ ws f. subst (AreWordsOf ws) (same_Some (change r) st h) f)
+stated_found r s false e st h =
+    let y = bound (label_at r) (gap s) st h in
+    let before = gap_found s y.0 y.1 in
+    let word = front is_plain y.0 in
+    let rest = behind is_plain y.0 in
+    let i = if_true (bytes_eq word (codes "as")) (option_and_then (labelled r) (part_at rest)) st
+    y.2 in
+    let q = bound (labelled r) (part_at rest) st i.1 in
+    let x : Declaration = record { rule = r; label = q.0.0 } in
+    let j = if_true (is_end q.0.1) (Some (declare x)) st q.2 in
+    let text : y.0 ≡ codes "as" ++ rest =
+    run_split is_plain y.0
+    ∙ ap (λ (v : List ℕ). v ++ rest) (same_word word (codes "as") i.0) in
+    let a = part_found rest q.0.0 q.0.1 q.1 in (
+      codes "as" ∷ a.0 ∷ [],
+      word_goes (codes "as") before.blanks y.0 rest s (a.0 ∷ []) before.whole before.is_gap text
+          (a.1 [] (end_found q.0.1 j.0)),
+      λ ws f. subst (AreWordsOf ws) (same_Some (declare x) st j.1) (a.0, f, a.2),
     )
 
 change_found : (v : Verb) (s : List ℕ) (st : Statement) → change_at v s ≡ Some st
@@ -432,17 +480,17 @@ change_found v s st e =
     let q = bound (placed v u.0.0 u.0.1 c.0.0) (place_at c.0.1) st c.2 in
     let r : Rule =
     record { verb = v; kind = u.0.0; name = u.0.1; category = c.0.0; place = q.0.0 } in
-    let i = if_true (is_end q.0.1) (Some (change r)) st q.2 in
+    let others = stated_found r q.0.1 (is_end q.0.1) refl st q.2 in
     let head = head_found s u.0 u.1 in
     let before = gap_found u.0.2 y.0 y.1 in
     let p = place_found c.0.1 q.0.0 q.0.1 q.1 in
-    let limit = limit_found u.0.0 (category_at y.0) before.blanks y.0 u.0.2 c.0 p.0 q.0.1 refl
-    before.whole before.is_gap c.1 p.1 (end_found q.0.1 i.0) in
-    let ws = limit.0 ++ p.0 ∷ [] in (
+    let limit = limit_found u.0.0 (category_at y.0) before.blanks y.0 u.0.2 c.0 p.0 q.0.1 others.0
+    refl before.whole before.is_gap c.1 p.1 others.1 in
+    let ws = limit.0 ++ p.0 ∷ others.0 in (
       kind_word u.0.0 ∷ head.2 ∷ ws,
       head_goes s u.0 ws head limit.1,
-      subst (AreWordsOf (verb_word v ∷ kind_word u.0.0 ∷ head.2 ∷ ws))
-          (same_Some (change r) st i.1) (head.2, limit.0, p.0, refl, head.6, limit.2, p.2),
+      others.2 (verb_word v ∷ kind_word u.0.0 ∷ head.2 ∷ ws)
+          (head.2, limit.0, p.0, refl, head.6, limit.2, p.2),
     )
 
 -- the words of a rule for events, before other words
@@ -566,24 +614,6 @@ join_found s st e =
     let i = if_true (is_output u.0.0 u.0.1) (joined_at u.0.2) st u.2 in
     joined_found s u.0 (head_found s u.0 u.1) (same_event u.0.0 (and_left event called i.0))
     (same_output u.0.1 (and_right event called i.0)) (is_end u.0.2) refl st i.1
-
--- the next word, which is a name
-part_found : (s name rest : List ℕ) → part_at s ≡ Some (name, rest) → (n : List ℕ)
-    × ((ws : List (List ℕ)) → GoesOn ws rest → GoesOn (n ∷ ws) s) × IsName n name
-part_found s name rest h =
-    let y = bound name_at (gap s) (name, rest) h in
-    let before = gap_found s y.0 y.1 in
-    let f = name_found y.0 name rest y.2 in (
-      f.0,
-      λ ws on. (
-        before.blanks,
-        rest,
-        before.whole ∙ ap (λ (t : List ℕ). before.blanks ++ t) f.1,
-        before.is_gap,
-        on,
-      ),
-      f.2,
-    )
 
 put_found : (s : List ℕ) (st : Statement) → put_at s ≡ Some st → HasRule (codes "word") s st
 put_found s st e =

@@ -12,15 +12,17 @@ use Rattle.dap_profile.specs.declared.profile.Kind.{Kind, TheVariants.{Request, 
 use Rattle.dap_mask.specs.Grammar.{IsGap, GoesOn, HasWords, IsName, bare, quoted, IsNameOrAny}
 use Rattle.dap_mask.specs.Grammar.{AreSteps, IsPlace, verb_word, kind_word, AreWordsOf, SaysRule}
 use Rattle.dap_mask.specs.Grammar.{AreCategoryWords, joining_words, IsValue, plain, in_quotes}
+use Rattle.dap_mask.specs.Declarations.{Declaration}
 use Rattle.dap_mask.specs.Categories.{CategoryRule, output_name}
 use Rattle.dap_mask.specs.Mask.{Statement, change, leave_out, leave_out_category, swap, restart}
 use Rattle.dap_mask.specs.Fills.{Fill, Scalar}
-use Rattle.dap_mask.specs.Mask.{join, put, fill, Line, nothing, rule}
+use Rattle.dap_mask.specs.Mask.{join, put, fill, declare, Line, nothing, rule}
 use Rattle.dap_mask.specs.RuleSteps.{RuleStep, named, elements}
 use Rattle.dap_mask.specs.RuleText.{quoted_at, plain_at, name_at, this_name, any_name, called_step}
 use Rattle.dap_mask.specs.RuleText.{member_step, next_step, step_then, steps_from, place_at}
 use Rattle.dap_mask.specs.RuleText.{verb_named, kind_named, Head, name_behind, kind_then, head_at}
 use Rattle.dap_mask.specs.RuleText.{text_behind, category_at, limit_from, limit_at, placed}
+use Rattle.dap_mask.specs.RuleText.{labelled, label_at, stated}
 use Rattle.dap_mask.specs.RuleText.{place_behind, change_behind, change_at, with_category}
 use Rattle.dap_mask.specs.RuleText.{category_behind, dropped_at, leave_out_at, half_at, swap_with}
 use Rattle.dap_mask.specs.RuleText.{swap_at, restart_at, is_output, join_ended, join_stops}
@@ -347,16 +349,17 @@ name_no_category (quoted {w} {name} inside is i r) rest e f =
     ap (λ (t : List ℕ). category_at (t ++ rest)) is
 
 -- no place starts as a category does
-place_no_category : (place : List RuleStep) (p rest : List ℕ) → IsPlace p place → GoesOn [] rest
-    → category_at (p ++ rest) ≡ None
-place_no_category [] p rest c ended = absurd c
-place_no_category (elements n ∷ steps) p rest c ended = absurd c
-place_no_category (named name ∷ steps) p rest (n, more, is, c, on) ended =
+place_no_category : (place : List RuleStep) (p rest : List ℕ) (ws : List (List ℕ))
+    → IsPlace p place → GoesOn ws rest → category_at (p ++ rest) ≡ None
+place_no_category [] p rest ws c goes = absurd c
+place_no_category (elements n ∷ steps) p rest ws c goes = absurd c
+place_no_category (named name ∷ steps) p rest ws (n, more, is, c, on) goes =
     ap category_at (ap (λ (t : List ℕ). t ++ rest) is ∙ append_assoc n more rest)
     ∙ name_no_category c (more ++ rest)
     (steps_stop is_plain steps more rest plain_no_step on
-    (end_stops is_plain rest plain_no_end ended))
-    (steps_stop is_sign steps more rest sign_no_step on (end_stops is_sign rest sign_no_end ended))
+    (words_stop is_plain ws rest plain_no_end goes))
+    (steps_stop is_sign steps more rest sign_no_step on
+    (words_stop is_sign ws rest sign_no_end goes))
 
 place_not_blank : (place : List RuleStep) (p rest : List ℕ) → IsPlace p place
     → begins_with is_blank (p ++ rest) ≡ false
@@ -366,32 +369,34 @@ place_not_blank place p rest d =
 abbrev pub of_category : List ℕ → List ℕ → Option (List ℕ) × List ℕ
 of_category c s = (Some c, s)
 
--- the text after the place, if the text continues with the category of a rule and its place
-record LimitRead (k : Kind) (c : Option (List ℕ)) (p s : List ℕ) : Type 0 where
+-- the text after the place, if the text continues with the category of a rule, its place, and other
+-- words
+record LimitRead (k : Kind) (c : Option (List ℕ)) (p : List ℕ) (ws : List (List ℕ)) (s : List ℕ)
+    : Type 0 where
   rest : List ℕ
   limit : option_and_then (limit_at k) (gap s) ≡ Some (c, p ++ rest)
-  ended : GoesOn [] rest
+  goes : GoesOn ws rest
 
 limit_read : (k : Kind) (c : Option (List ℕ)) (cs : List (List ℕ)) (p s : List ℕ)
-    (place : List RuleStep) → AreCategoryWords k c cs → IsPlace p place → GoesOn (cs ++ p ∷ []) s
-    → LimitRead k c p s
-limit_read k None cs p s place is d on =
-    let next = subst (λ (xs : List (List ℕ)). GoesOn (xs ++ p ∷ []) s) is on in
-    let ended = next.4 in
+    (ws : List (List ℕ)) (place : List RuleStep) → AreCategoryWords k c cs → IsPlace p place
+    → GoesOn (cs ++ p ∷ ws) s → LimitRead k c p ws s
+limit_read k None cs p s ws place is d on =
+    let next = subst (λ (xs : List (List ℕ)). GoesOn (xs ++ p ∷ ws) s) is on in
+    let goes = next.4 in
     let text = p ++ next.1 in
     record {
       rest = next.1;
       limit = ap (option_and_then (limit_at k)) (ap gap next.2
           ∙ gap_read next.0 text next.3 (place_not_blank place p next.1 d))
-          ∙ ap (limit_from k text) (place_no_category place p next.1 d ended);
-      ended = ended;
+          ∙ ap (limit_from k text) (place_no_category place p next.1 ws d goes);
+      goes = goes;
     }
-limit_read k (Some name) cs p s place (t, is, c, event) d on =
-    let first = subst (λ (xs : List (List ℕ)). GoesOn (xs ++ p ∷ []) s) is on in
+limit_read k (Some name) cs p s ws place (t, is, c, event) d on =
+    let first = subst (λ (xs : List (List ℕ)). GoesOn (xs ++ p ∷ ws) s) is on in
     let next = first.4 in
     let text : List ℕ = (codes "category=" ++ t) ++ first.1 in
     let read : category_at text ≡ Some (name, first.1) =
-    name_read c first.1 (words_stop is_plain (p ∷ []) first.1 plain_no_end next) in
+    name_read c first.1 (words_stop is_plain (p ∷ ws) first.1 plain_no_end next) in
     record {
       rest = next.1;
       limit = ap (option_and_then (limit_at k)) (ap gap first.2
@@ -401,30 +406,39 @@ limit_read k (Some name) cs p s place (t, is, c, event) d on =
           (option_map (of_category name) (gap first.1)) None) event
           ∙ ap (option_map (of_category name)) (ap gap next.2
           ∙ gap_read next.0 (p ++ next.1) next.3 (place_not_blank place p next.1 d));
-      ended = next.4;
+      goes = next.4;
     }
 
-placed_read : (r : Rule) (p rest : List ℕ) → IsPlace p r.place → GoesOn [] rest
-    → place_behind r.verb r.kind r.name (r.category, p ++ rest) ≡ Some (change r)
-placed_read r p rest d ended =
+placed_read : (r : Rule) (p rest : List ℕ) (ws : List (List ℕ)) (st : Statement)
+    → IsPlace p r.place → GoesOn ws rest → stated r rest ≡ Some st
+    → place_behind r.verb r.kind r.name (r.category, p ++ rest) ≡ Some st
+placed_read r p rest ws st d goes h =
     ap (option_and_then (placed r.verb r.kind r.name r.category))
-    (place_read r.place p rest d (end_stops goes_on rest place_no_end ended))
-    ∙ ap (λ (b : Bool). cond b (Some (change r)) None) (end_read rest ended)
+    (place_read r.place p rest d (words_stop goes_on ws rest place_no_end goes))
+    ∙ h
 
 abbrev pub change_on : Verb → Head → Option Statement
 change_on v h = option_and_then (change_behind v h.0 h.1) (gap h.2)
 
-change_read : (r : Rule) (n p s : List ℕ) (cs : List (List ℕ))
-    → GoesOn (kind_word r.kind ∷ n ∷ (cs ++ p ∷ [])) s → IsNameOrAny n r.name
+-- the words of a rule, and then other words by which it is stated
+change_read : (r : Rule) (n p s : List ℕ) (cs ws : List (List ℕ)) (st : Statement)
+    → GoesOn (kind_word r.kind ∷ n ∷ (cs ++ p ∷ ws)) s → IsNameOrAny n r.name
     → AreCategoryWords r.kind r.category cs → IsPlace p r.place
-    → change_at r.verb s ≡ Some (change r)
-change_read r n p s cs on c words d =
-    let h = head_read r.kind r.name n (cs ++ p ∷ []) s on c in
-    let l = limit_read r.kind r.category cs p h.rest r.place words d h.on in
+    → ((rest : List ℕ) → GoesOn ws rest → stated r rest ≡ Some st)
+    → change_at r.verb s ≡ Some st
+change_read r n p s cs ws st on c words d states =
+    let h = head_read r.kind r.name n (cs ++ p ∷ ws) s on c in
+    let l = limit_read r.kind r.category cs p h.rest ws r.place words d h.on in
     ap (option_and_then (change_on r.verb)) h.head
     ∙ then_then (place_behind r.verb r.kind r.name) (limit_at r.kind) (gap h.rest)
     ∙ ap (option_and_then (place_behind r.verb r.kind r.name)) l.limit
-    ∙ placed_read r p l.rest d l.ended
+    ∙ placed_read r p l.rest ws st d l.goes (states l.rest l.goes)
+
+abbrev pub stated_by : Rule → List ℕ → Bool → Option Statement
+stated_by r s ended = cond ended (Some (change r)) (option_and_then (label_at r) (gap s))
+
+change_states : (r : Rule) (s : List ℕ) → GoesOn [] s → stated r s ≡ Some (change r)
+change_states r s ended = ap (stated_by r s) (end_read s ended)
 
 abbrev pub leave_out_on : Head → Option Statement
 leave_out_on h = cond (same_kind h.0 Event) (dropped_at h.1 h.2) None
@@ -514,6 +528,26 @@ part_read name n ws s (blanks, rest, is, gapped, more) c =
     (opens_not_blank (n ++ rest) (opens_longer n rest (name_opens c))))
     ∙ name_read c rest (words_stop is_plain ws rest plain_no_end more)
 
+abbrev label_by : Rule → List ℕ → List ℕ → Option Statement
+label_by r w s =
+    cond (bytes_eq w (codes "as")) (option_and_then (labelled r) (part_at s)) None
+
+-- the word `as` and a label
+label_states : (x : Declaration) (l s : List ℕ) → GoesOn (codes "as" ∷ l ∷ []) s
+    → IsName l x.label → stated x.rule s ≡ Some (declare x)
+label_states x l s on c =
+    let next = on.4 in
+    let text : List ℕ = codes "as" ++ on.1 in
+    let more : is_end s ≡ false =
+    ap is_end on.2 ∙ ap is_over (behind_run is_blank on.0 text on.3.1 refl) in
+    let stops = words_stop is_plain (l ∷ []) on.1 plain_no_end next in
+    ap (stated_by x.rule s) more
+    ∙ ap (option_and_then (label_at x.rule)) (ap gap on.2 ∙ gap_read on.0 text on.3 refl)
+    ∙ ap₂ (label_by x.rule) (front_run is_plain (codes "as") on.1 refl stops)
+    (behind_run is_plain (codes "as") on.1 refl stops)
+    ∙ ap (option_and_then (labelled x.rule)) (part_read x.label l [] on.1 next c)
+    ∙ ap (λ (b : Bool). cond b (Some (declare x)) None) (end_read next.1 next.4)
+
 abbrev pub put_on : List ℕ × List ℕ → Option Statement
 put_on t = option_and_then (word_with t.0) (part_at t.1)
 
@@ -600,7 +634,17 @@ says_words l (change r) ws (n, cs, p, is, c, words, d) has =
     let on = subst (λ (xs : List (List ℕ)). HasWords xs l) is has in
     words_read l (verb_word r.verb) (kind_word r.kind ∷ n ∷ (cs ++ p ∷ [])) (change r) on
     (verb_begins r.verb) (verb_plain r.verb)
-    (verb_read r.verb on.1 ∙ change_read r n p on.1 cs on.4 c words d)
+    (verb_read r.verb on.1
+    ∙ change_read r n p on.1 cs [] (change r) on.4 c words d (change_states r))
+says_words l (declare x) ws (t, (n, cs, p, is, c, words, d), called) has =
+    let r = x.rule in
+    let others : List (List ℕ) = codes "as" ∷ t ∷ [] in
+    let on = subst (λ (xs : List (List ℕ)). HasWords xs l) is has in
+    words_read l (verb_word r.verb) (kind_word r.kind ∷ n ∷ (cs ++ p ∷ others)) (declare x) on
+    (verb_begins r.verb) (verb_plain r.verb)
+    (verb_read r.verb on.1
+    ∙ change_read r n p on.1 cs others (declare x) on.4 c words d
+    (λ rest goes. label_states x t rest goes called))
 says_words l (leave_out name) ws (n, is, c) has =
     let on = subst (λ (xs : List (List ℕ)). HasWords xs l) is has in
     words_read l (codes "drop") (codes "event" ∷ n ∷ []) (leave_out name) on refl refl

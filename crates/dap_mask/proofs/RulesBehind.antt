@@ -16,23 +16,28 @@ use Rattle.dap_mask.specs.Ids.{takes_profile_id, leave_ids}
 use Rattle.dap_mask.specs.Categories.{CategoryRule, category_of, categories_of, moves, moves_one_of}
 use Rattle.dap_mask.specs.Categories.{is_moved_by, keep_categories, is_category_among}
 use Rattle.dap_mask.specs.Categories.{moves_output, is_output_moved_by, moves_joined, keep_output}
+use Rattle.dap_mask.specs.Declarations.{Declaration, declaration_of, declarations_of, are_declared}
+use Rattle.dap_mask.specs.Declarations.{is_own_label, is_misdeclared, is_declared_among, shares_ids}
+use Rattle.dap_mask.specs.Declarations.{is_blurred_by, blurs_one_of}
+use Rattle.dap_mask.specs.declared.declarations.Declaration.{Declaration as ReadDeclaration}
 use Rattle.dap_mask.specs.Fills.{Fill, removes, removes_one_of, is_removed_by, keep_fills}
 use Rattle.dap_mask.specs.Fills.{is_fill_misplaced, is_fill_among, clashes_with_fills, fill_of}
 use Rattle.dap_mask.specs.Fills.{fills_of}
 use Rattle.dap_mask.specs.declared.fills.FillRule.{FillRule}
-use Rattle.dap_mask.specs.Mask.{Mask, change, leave_out_category, fill, rule_count}
+use Rattle.dap_mask.specs.Mask.{Mask, change, leave_out_category, fill, declare, rule_count}
 use Rattle.dap_mask.specs.RuleSteps.{RuleStep, named, elements}
 use Rattle.dap_mask.specs.Rules.{Rule, rule_of, rules_of, share_name, share_step, share_place}
 use Rattle.dap_mask.specs.Rules.{same_kind, excludes, clash, clashes_with, is_among, are_idempotent}
 use Rattle.dap_mask.specs.Rules.{comes_before, is_late, inserted, is_misplaced, are_safe, disturb}
 use Rattle.dap_mask.specs.Rules.{disturbs_one_of}
-use Rattle.dap_mask.specs.RulesFile.{cause_against, change_cause}
+use Rattle.dap_mask.specs.RulesFile.{cause_against, change_cause, declaration_cause}
 use Rattle.dap_mask.specs.declared.fault.RulesCause.{RulesCause}
 use Rattle.dap_mask.specs.declared.joining.Joining.{Joining}
 use Rattle.dap_mask.specs.declared.rules.MaskRule.{MaskRule}
 use Rattle.dap_mask.specs.declared.rules.Verb.{Verb, TheVariants.{Blank, Digits, Hex, Long, Uuid}}
 use Rattle.dap_mask.specs.declared.categories.CategoryRule.{CategoryRule as ReadCategoryRule}
 use Rattle.dap_mask.specs.declared.fault.RulesCause.TheVariants.{TooMany, BadPlace, Repeated, Clash}
+use Rattle.dap_mask.specs.declared.fault.RulesCause.TheVariants.{BadLabel}
 use Rattle.dap_mask.proofs.ByPath.{first_apart, first_early, first_placed, rest_safe}
 use Rattle.dap_mask.proofs.CategoryKept.{disturb_both}
 use Rattle.dap_mask.proofs.RuleOrder.{late_earlier, not_after}
@@ -136,6 +141,21 @@ pub pushed_fill_keeps : (b : Bool) (xs : List FillRule) (x : FillRule) (ys : Lis
     → test (fills_of xs ++ fill_of x ∷ []) ≡ true → test (fills_of ys) ≡ true
 pushed_fill_keeps true xs x ys e test h more = ap test (ap fills_of e ∙ fills_push xs x) ∙ more
 pushed_fill_keeps false xs x ys e test h more = ap (λ zs. test (fills_of zs)) e ∙ h
+
+declarations_push : (xs : List ReadDeclaration) (x : ReadDeclaration)
+    → declarations_of (xs ++ x ∷ []) ≡ declarations_of xs ++ declaration_of x ∷ []
+declarations_push xs x = map-append declaration_of xs (x ∷ [])
+
+-- the same for declarations
+pub pushed_declaration_keeps : (b : Bool) (xs : List ReadDeclaration) (x : ReadDeclaration)
+    (ys : List ReadDeclaration) → ys ≡ cond b (xs ++ x ∷ []) xs
+    → (test : List Declaration → Bool) → test (declarations_of xs) ≡ true
+    → test (declarations_of xs ++ declaration_of x ∷ []) ≡ true
+    → test (declarations_of ys) ≡ true
+pushed_declaration_keeps true xs x ys e test h more =
+    ap test (ap declarations_of e ∙ declarations_push xs x) ∙ more
+pushed_declaration_keeps false xs x ys e test h more =
+    ap (λ zs. test (declarations_of zs)) e ∙ h
 
 -- ---- the invariants hold after inserting a rule that is accepted
 
@@ -350,6 +370,52 @@ fill_may_stand m f h =
     go false false false false true k = cc
     go false false false false false k = (refl, refl)
 
+-- ---- declarations
+
+pub declaration_kept : (xs : List Declaration) (x : Declaration) → are_declared xs ≡ true
+    → is_own_label x.label ≡ true → is_misdeclared x.rule ≡ false
+    → are_declared (xs ++ x ∷ []) ≡ true
+declaration_kept [] x h l p = and_both _ _ l (and_both _ _ (ap not p) refl)
+declaration_kept (y ∷ ys) x h l p =
+    let rest = not (is_misdeclared y.rule) && are_declared ys in
+    let more = and_right (is_own_label y.label) rest h in
+    and_both _ _ (and_left (is_own_label y.label) rest h)
+    (and_both _ _ (and_left (not (is_misdeclared y.rule)) (are_declared ys) more)
+    (declaration_kept ys x (and_right (not (is_misdeclared y.rule)) (are_declared ys) more) l p))
+
+pub declaration_may_stand : (m : Mask) (x : Declaration) → cause_against m (declare x) ≡ None
+    → (is_own_label x.label ≡ true) × (is_misdeclared x.rule ≡ false)
+declaration_may_stand m x h =
+    go (nat_le 1000 (rule_count m)) (is_own_label x.label) (is_misdeclared x.rule)
+    (is_declared_among x m.declared) (shares_ids x m.declared || is_blurred_by m.changes x) h
+  where
+    go : (a b c d e : Bool) → cond a (Some TooMany) (cond (not b) (Some BadLabel)
+        (cond c (Some BadPlace) (cond d (Some Repeated) (cond e (Some Clash) None)))) ≡ None
+        → (b ≡ true) × (c ≡ false)
+    go true b c d e k = cc
+    go false false c d e k = cc
+    go false true true d e k = cc
+    go false true false d e k = (refl, refl)
+
+-- why a declaration with a label, a place and text of its own may not follow the rules of a mask
+pub exclusion_cause : (m : Mask) (x : Declaration) (excluded : Bool) (cause : Option RulesCause)
+    → is_own_label x.label ≡ true → is_misdeclared x.rule ≡ false
+    → is_declared_among x m.declared ≡ false
+    → excluded ≡ (shares_ids x m.declared || is_blurred_by m.changes x)
+    → cause ≡ cond excluded (Some Clash) None → cause ≡ declaration_cause m x
+exclusion_cause m x excluded cause labelled placed new is e =
+    e ∙ ap (λ b. cond b (Some Clash) None) is
+    ∙ sym (ap (λ b. cond b (Some Repeated) clash) new)
+    ∙ sym (ap (λ b. cond b (Some BadPlace) repeated) placed)
+    ∙ sym (ap (λ b. cond (not b) (Some BadLabel) (cond (is_misdeclared x.rule) (Some BadPlace)
+    repeated)) labelled)
+  where
+    clash : Option RulesCause
+    clash = cond (shares_ids x m.declared || is_blurred_by m.changes x) (Some Clash) None
+
+    repeated : Option RulesCause
+    repeated = cond (is_declared_among x m.declared) (Some Repeated) clash
+
 -- ---- a rule that has no error
 
 pub record MayStand (m : Mask) (r : Rule) : Type 0 where
@@ -365,25 +431,28 @@ pub change_may_stand : (m : Mask) (r : Rule) → cause_against m (change r) ≡ 
 change_may_stand m r h =
     go (nat_le 1000 (rule_count m)) (is_misplaced r) (takes_profile_id r) (is_among r m.changes)
     (clashes_with r m.changes) (disturbs_one_of r m.changes) (moves_one_of r m.categories)
-    (moves_joined r m.joining) (removes_one_of r m.fills) refl refl refl refl refl refl refl h
+    (moves_joined r m.joining) (removes_one_of r m.fills) (blurs_one_of r m.declared) refl refl refl
+    refl refl refl refl h
   where
-    go : (many a b among c d e f g : Bool) → is_misplaced r ≡ a → takes_profile_id r ≡ b
+    go : (many a b among c d e f g n : Bool) → is_misplaced r ≡ a → takes_profile_id r ≡ b
         → clashes_with r m.changes ≡ c → disturbs_one_of r m.changes ≡ d
         → moves_one_of r m.categories ≡ e → moves_joined r m.joining ≡ f
         → removes_one_of r m.fills ≡ g
         → cond many (Some TooMany) (cond (a || b) (Some BadPlace)
-        (cond among (Some Repeated) (cond (c || (d || (e || (f || g)))) (Some Clash) None))) ≡ None
+        (cond among (Some Repeated) (cond (c || (d || (e || (f || g)))) (Some Clash)
+        (cond n (Some Clash) None)))) ≡ None
         → MayStand m r
-    go true a b among c d e f g p q s t u v w k = cc
-    go false true b among c d e f g p q s t u v w k = cc
-    go false false true among c d e f g p q s t u v w k = cc
-    go false false false true c d e f g p q s t u v w k = cc
-    go false false false false true d e f g p q s t u v w k = cc
-    go false false false false false true e f g p q s t u v w k = cc
-    go false false false false false false true f g p q s t u v w k = cc
-    go false false false false false false false true g p q s t u v w k = cc
-    go false false false false false false false false true p q s t u v w k = cc
-    go false false false false false false false false false p q s t u v w k =
+    go true a b among c d e f g n p q s t u v w k = cc
+    go false true b among c d e f g n p q s t u v w k = cc
+    go false false true among c d e f g n p q s t u v w k = cc
+    go false false false true c d e f g n p q s t u v w k = cc
+    go false false false false true d e f g n p q s t u v w k = cc
+    go false false false false false true e f g n p q s t u v w k = cc
+    go false false false false false false true f g n p q s t u v w k = cc
+    go false false false false false false false true g n p q s t u v w k = cc
+    go false false false false false false false false true n p q s t u v w k = cc
+    go false false false false false false false false false true p q s t u v w k = cc
+    go false false false false false false false false false false p q s t u v w k =
         record { safe = p; leaves = q; settled = s; calm = t; moves = u; joins = v; fills = w }
 
 -- why a change with a place of its own that is not repeated may not follow the rules of a mask
@@ -391,17 +460,20 @@ pub clash_cause : (m : Mask) (r : Rule) (clashes : Bool) (cause : Option RulesCa
     → (is_misplaced r || takes_profile_id r) ≡ false → is_among r m.changes ≡ false
     → clashes ≡ (clashes_with r m.changes || (disturbs_one_of r m.changes
     || (moves_one_of r m.categories || (moves_joined r m.joining || removes_one_of r m.fills))))
-    → cause ≡ cond clashes (Some Clash) None → cause ≡ change_cause m r
+    → cause ≡ cond clashes (Some Clash) (cond (blurs_one_of r m.declared) (Some Clash) None)
+    → cause ≡ change_cause m r
 clash_cause m r clashes cause placed new is e =
-    e ∙ ap (λ b. cond b (Some Clash) None) is
-    ∙ sym (ap (λ b. cond b (Some Repeated) (cond (clashes_with r m.changes
-    || (disturbs_one_of r m.changes
-    || (moves_one_of r m.categories || (moves_joined r m.joining || removes_one_of r m.fills))))
-    (Some Clash) None)) new)
+    e ∙ ap last_cause is
+    ∙ sym (ap (λ b. cond b (Some Repeated) (last_cause all)) new)
     ∙ sym (ap (λ b. cond b (Some BadPlace) (cond (is_among r m.changes) (Some Repeated)
-    (cond (clashes_with r m.changes || (disturbs_one_of r m.changes
-    || (moves_one_of r m.categories || (moves_joined r m.joining || removes_one_of r m.fills))))
-    (Some Clash) None))) placed)
+    (last_cause all))) placed)
+  where
+    last_cause : Bool → Option RulesCause
+    last_cause b = cond b (Some Clash) (cond (blurs_one_of r m.declared) (Some Clash) None)
+
+    all : Bool
+    all = clashes_with r m.changes || (disturbs_one_of r m.changes
+        || (moves_one_of r m.categories || (moves_joined r m.joining || removes_one_of r m.fills)))
 
 pub category_not_moved : (m : Mask) (c : CategoryRule)
     → cause_against m (leave_out_category c) ≡ None → is_moved_by m.changes c ≡ false

@@ -5,10 +5,11 @@ use Rattle.serde_json.specs.Data as json
 use Rattle.dap_profile.specs.declared.profile.Kind.{Kind, TheVariants.{Request, Response, Event}}
 use Rattle.dap_tree.specs.Json.{Reads}
 use Rattle.dap_mask.specs.Mask.{Statement, change, leave_out, leave_out_category, swap, restart}
-use Rattle.dap_mask.specs.Mask.{join, put, fill, Line, nothing, rule, bad}
+use Rattle.dap_mask.specs.Mask.{join, put, fill, declare, Line, nothing, rule, bad}
 use Rattle.dap_mask.specs.Categories.{output_name}
 use Rattle.dap_mask.specs.Fills.{Scalar, string}
-use Rattle.dap_mask.specs.{RuleSteps.{RuleStep, named, elements}, RuleText.{line_said, scalar_in}}
+use Rattle.dap_mask.specs.RuleSteps.{RuleStep, named, elements}
+use Rattle.dap_mask.specs.{Rules.Rule, RuleText.{line_said, scalar_in}}
 use Rattle.dap_mask.specs.{Runs.{is_blank, is_plain}, Texts.{all_of, begins_with}}
 use Rattle.dap_mask.specs.declared.joining.Joining.{Joining, TheVariants.{Whole, PerStop}}
 use Rattle.dap_mask.specs.declared.rules.Verb.{Verb, TheVariants.{Blank, Digits, Hex, Long, Uuid}}
@@ -124,14 +125,20 @@ pub data IsValue : List ℕ → Scalar → Type 0 where
       → all_of is_plain w ≡ true → Reads w value → scalar_in (Some value) ≡ Some v → IsValue w v
   in_quotes : {w s : List ℕ} → IsQuotedName w s → IsValue w (string s)
 
--- The words represent this rule: `VERB KIND NAME PLACE`, `VERB event NAME category=TEXT PLACE`,
--- `drop event NAME`, `drop event NAME category=TEXT`, `swap KIND NAME KIND NAME`, `per-stop`,
--- `join event output`, `join event output per-stop`, `word TEXT WORD`, or `fill KIND NAME PLACE
--- VALUE`. TEXT and WORD are written as names are, and so is `output`.
-abbrev pub AreWordsOf : List (List ℕ) → Statement → Type 0
-AreWordsOf ws (change r) = (n : List ℕ) × (cs : List (List ℕ)) × (p : List ℕ)
-    × (ws ≡ verb_word r.verb ∷ kind_word r.kind ∷ n ∷ (cs ++ p ∷ [])) × IsNameOrAny n r.name
+-- The words represent this rule, and then there are the other words.
+abbrev pub AreWordsOfRule : List (List ℕ) → Rule → List (List ℕ) → Type 0
+AreWordsOfRule ws r others = (n : List ℕ) × (cs : List (List ℕ)) × (p : List ℕ)
+    × (ws ≡ verb_word r.verb ∷ kind_word r.kind ∷ n ∷ (cs ++ p ∷ others)) × IsNameOrAny n r.name
     × AreCategoryWords r.kind r.category cs × IsPlace p r.place
+
+-- The words represent this rule: `VERB KIND NAME PLACE`, `VERB event NAME category=TEXT PLACE`, one
+-- of these and `as LABEL`, `drop event NAME`, `drop event NAME category=TEXT`, `swap KIND NAME KIND
+-- NAME`, `per-stop`, `join event output`, `join event output per-stop`, `word TEXT WORD`, or `fill
+-- KIND NAME PLACE VALUE`. TEXT, WORD and LABEL are written as names are, and so is `output`.
+abbrev pub AreWordsOf : List (List ℕ) → Statement → Type 0
+AreWordsOf ws (change r) = AreWordsOfRule ws r []
+AreWordsOf ws (declare x) = (l : List ℕ) × AreWordsOfRule ws x.rule (codes "as" ∷ l ∷ [])
+    × IsName l x.label
 AreWordsOf ws (leave_out name) = (n : List ℕ) × (ws ≡ codes "drop" ∷ codes "event" ∷ n ∷ [])
     × IsNameOrAny n name
 AreWordsOf ws (leave_out_category c) = (n : List ℕ) × (t : List ℕ)

@@ -3,7 +3,8 @@ use Rattle.std.specs.Prelude.{Bool, List, ℕ, Option}
 use Rattle.dap_mask.specs.Categories.{CategoryRule}
 use Rattle.dap_mask.specs.ListedRules.{listed_changes, listed_dropped, listed_swaps, listed_mask}
 use Rattle.dap_mask.specs.ListedRules.{listed_categories, listed_per_stop, listed_joining}
-use Rattle.dap_mask.specs.{Fills.Fill, ListedRules.{listed_words, listed_fills}}
+use Rattle.dap_mask.specs.Declarations.{Declaration}
+use Rattle.dap_mask.specs.{Fills.Fill, ListedRules.{listed_words, listed_fills, listed_declared}}
 use Rattle.dap_mask.specs.{Mask.Mask, Rules.Rule, declared.mask_rules.MaskRules.MaskRules}
 use Rattle.dap_mask.specs.declared.joining.Joining.{Joining}
 use Rattle.dap_message.specs.SwapRules.{SwapRule}
@@ -36,6 +37,10 @@ words_of_mask r = listed_words r.list
 -- The rules that set members before the other rules apply.
 abbrev pub fills_of_mask : MaskRules → List Fill
 fills_of_mask r = listed_fills r.list
+
+-- The rules that declare ids.
+abbrev pub declared_of_mask : MaskRules → List Declaration
+declared_of_mask r = listed_declared r.list
 
 abbrev pub mask_of : MaskRules → Mask
 mask_of r = listed_mask r.list

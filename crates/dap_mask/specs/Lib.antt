@@ -7,6 +7,7 @@ pub mod Fills
 pub mod Mask
 pub mod Masked
 pub mod Ids
+pub mod Declarations
 pub mod Runs
 pub mod RuleText
 pub mod Grammar

@@ -1,6 +1,7 @@
 -- The mask that a `RuleList` represents.
 use Rattle.std.specs.Prelude.{Bool, List, map, ℕ, Option, option_map, string_bytes}
 use Rattle.dap_mask.specs.{Categories.{CategoryRule, categories_of}, Fills.{Fill, fills_of}}
+use Rattle.dap_mask.specs.Declarations.{Declaration, declarations_of}
 use Rattle.dap_mask.specs.{Mask.Mask, Rules.{Rule, rules_of}}
 use Rattle.dap_mask.specs.declared.rule_list.RuleList.{RuleList}
 use Rattle.dap_mask.specs.declared.joining.Joining.{Joining}
@@ -31,6 +32,9 @@ listed_words r = pairs_in r.words
 abbrev pub listed_fills : RuleList → List Fill
 listed_fills r = fills_of r.fills.items
 
+abbrev pub listed_declared : RuleList → List Declaration
+listed_declared r = declarations_of r.declared.items
+
 abbrev pub listed_mask : RuleList → Mask
 listed_mask r = record {
   changes = listed_changes r;
@@ -41,4 +45,5 @@ listed_mask r = record {
   joining = listed_joining r;
   words = listed_words r;
   fills = listed_fills r;
+  declared = listed_declared r;
 }

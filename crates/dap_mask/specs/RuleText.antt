@@ -7,9 +7,10 @@ use Rattle.serde_json.specs.Data as json
 use Rattle.serde_json.specs.Read.{read}
 use Rattle.dap_profile.specs.declared.profile.Kind.{Kind, TheVariants.{Request, Response, Event}}
 use Rattle.dap_mask.specs.Mask.{Statement, change, leave_out, leave_out_category, swap, restart}
-use Rattle.dap_mask.specs.Mask.{join, put, fill, Line, nothing, rule, bad}
+use Rattle.dap_mask.specs.Mask.{join, put, fill, declare, Line, nothing, rule, bad}
 use Rattle.dap_mask.specs.{Categories.output_name, Fills.{Scalar, flag, number, string}}
-use Rattle.dap_mask.specs.{RuleSteps.{RuleStep, named, elements}, Rules.{same_kind, same_name}}
+use Rattle.dap_mask.specs.RuleSteps.{RuleStep, named, elements}
+use Rattle.dap_mask.specs.Rules.{Rule, same_kind, same_name}
 use Rattle.dap_mask.specs.Runs.{is_plain, front, behind, closing, is_closed, gap, is_end, is_blank}
 use Rattle.dap_message.specs.SwapRules.{Half}
 use Rattle.dap_mask.specs.declared.joining.Joining.TheVariants.{Whole, PerStop}
@@ -147,10 +148,27 @@ limit_from k s (Some c) = category_then k c
 abbrev pub limit_at : Kind → List ℕ → Option (Option (List ℕ) × List ℕ)
 limit_at k s = limit_from k s (category_at s)
 
+-- The text, the word or the label of a rule, with which the text starts after blanks, and the rest.
+abbrev pub part_at : List ℕ → Option (List ℕ × List ℕ)
+part_at s = option_and_then name_at (gap s)
+
+-- The rule declares ids with this label, if the line ends after it.
+abbrev pub labelled : Rule → List ℕ × List ℕ → Option Statement
+labelled r l = cond (is_end l.1) (Some (declare (record { rule = r; label = l.0 }))) None
+
+-- The rule declares ids, if the text is the word `as`, a label, and the end of the line.
+abbrev pub label_at : Rule → List ℕ → Option Statement
+label_at r s = cond (bytes_eq (front is_plain s) (codes "as"))
+    (option_and_then (labelled r) (part_at (behind is_plain s))) None
+
+-- The rule is a change, or it declares ids unless the line ends.
+abbrev pub stated : Rule → List ℕ → Option Statement
+stated r s = cond (is_end s) (Some (change r)) (option_and_then (label_at r) (gap s))
+
 abbrev pub placed : Verb → Kind → Option (List ℕ) → Option (List ℕ) → List RuleStep × List ℕ
     → Option Statement
-placed v k n c p = cond (is_end p.1)
-    (Some (change (record { verb = v; kind = k; name = n; category = c; place = p.0 }))) None
+placed v k n c p =
+    stated (record { verb = v; kind = k; name = n; category = c; place = p.0 }) p.1
 
 abbrev pub place_behind : Verb → Kind → Option (List ℕ) → Option (List ℕ) × List ℕ
     → Option Statement
@@ -218,10 +236,6 @@ joined_at s = cond (is_end s) (Some (join Whole)) (option_and_then join_stops (g
 -- The rule that joins output, whose name is in the text.
 abbrev pub join_at : List ℕ → Option Statement
 join_at s = option_and_then (λ h. cond (is_output h.0 h.1) (joined_at h.2) None) (head_at s)
-
--- The text or the word of a rule, with which the text starts after blanks, and the rest.
-abbrev pub part_at : List ℕ → Option (List ℕ × List ℕ)
-part_at s = option_and_then name_at (gap s)
 
 -- The rule that puts this word in the place of this text, if the line ends after the word.
 abbrev pub word_with : List ℕ → List ℕ × List ℕ → Option Statement

@@ -227,10 +227,14 @@ excludes Uuid Digits = true
 excludes Digits Uuid = true
 excludes _ _ = false
 
+-- Some value of some message may be at the places of both rules.
+abbrev pub shares_values : Rule → Rule → Bool
+shares_values r t = share_place r.place t.place && (same_kind r.kind t.kind
+    && (share_name r.name t.name && share_category r.category t.category))
+
 -- The two rules clash: their actions exclude each other, at the same place of some message.
 abbrev pub clash : Rule → Rule → Bool
-clash r t = excludes r.verb t.verb && (share_place r.place t.place && (same_kind r.kind t.kind
-    && (share_name r.name t.name && share_category r.category t.category)))
+clash r t = excludes r.verb t.verb && shares_values r t
 
 abbrev pub clashes_with : Rule → List Rule → Bool
 clashes_with r rs = list_any (clash r) rs

@@ -1,16 +1,19 @@
 -- The meaning of a rules file, line by line, and the errors of its lines.
 use Rattle.std.specs.Prelude.{ℕ, suc, ◌==◌, Bool, cond, ◌||◌, nat_le, nat_lt, List, [], ◌∷◌, length}
+use Rattle.std.specs.Prelude.{not}
 use Rattle.std.specs.Prelude.{take, Option, Some, None, Result, Ok, Err, count_by, option_map}
 use Rattle.std.specs.Prelude.{is_some}
 use Rattle.std.specs.{Str.is_utf8, List.list_any}
 use Rattle.dap_mask.specs.Categories.{is_category_among, is_moved_by, moves_one_of, moves_joined}
 use Rattle.dap_mask.specs.Categories.{is_output_moved_by}
+use Rattle.dap_mask.specs.Declarations.{Declaration, is_own_label, is_misdeclared, shares_ids}
+use Rattle.dap_mask.specs.Declarations.{is_declared_among, blurs_one_of, is_blurred_by}
 use Rattle.dap_mask.specs.Ids.{takes_profile_id}
 use Rattle.dap_mask.specs.Mask.{Mask, no_rules, rule_count, with_rule, Statement, change, leave_out}
 use Rattle.dap_mask.specs.Fills.{Fill, is_fill_misplaced, is_fill_among, clashes_with_fills}
 use Rattle.dap_mask.specs.Fills.{removes_one_of, is_removed_by}
 use Rattle.dap_mask.specs.Mask.{leave_out_category, swap, restart, join, put, fill, Line, nothing}
-use Rattle.dap_mask.specs.Mask.{rule, bad}
+use Rattle.dap_mask.specs.Mask.{declare, rule, bad}
 use Rattle.dap_mask.specs.RuleText.{line_said}
 use Rattle.dap_mask.specs.Rules.{Rule, is_among, is_misplaced, clashes_with, disturbs_one_of}
 use Rattle.dap_mask.specs.Rules.{same_name}
@@ -18,7 +21,7 @@ use Rattle.dap_mask.specs.{Runs.lines_of, Swaps.is_swap_among}
 use Rattle.dap_mask.specs.declared.fault.RulesCause.{RulesCause}
 use Rattle.dap_mask.specs.declared.fault.RulesCause.TheVariants.{TooLong, NotUtf8, BadRule, TooMany}
 use Rattle.dap_mask.specs.declared.fault.RulesCause.TheVariants.{BadPlace, Repeated, Clash}
-use Rattle.dap_mask.specs.declared.fault.RulesCause.TheVariants.{BadWord, Memory}
+use Rattle.dap_mask.specs.declared.fault.RulesCause.TheVariants.{BadWord, BadLabel, Memory}
 use Rattle.dap_mask.specs.declared.fault.RulesFault.{RulesFault}
 use Rattle.dap_words.specs.Kept.{cause_against as word_cause}
 use Rattle.dap_words.specs.declared.word_list.WordCause.{WordCause}
@@ -35,7 +38,7 @@ change_cause m r =
     (cond (is_among r m.changes) (Some Repeated)
     (cond (clashes_with r m.changes || (disturbs_one_of r m.changes
     || (moves_one_of r m.categories || (moves_joined r m.joining || removes_one_of r m.fills))))
-    (Some Clash) None))
+    (Some Clash) (cond (blurs_one_of r m.declared) (Some Clash) None)))
 
 -- Why a rule that joins output may not follow the rules of a mask, apart from the limit on their
 -- number. A mask has at most one such rule.
@@ -49,6 +52,13 @@ abbrev pub fill_cause : Mask → Fill → Option RulesCause
 fill_cause m f = cond (is_fill_misplaced f) (Some BadPlace)
     (cond (is_fill_among f m.fills) (Some Repeated)
     (cond (clashes_with_fills f m.fills || is_removed_by m.changes f) (Some Clash) None))
+
+-- Why a declaration may not follow the rules of a mask, apart from the limit on their number.
+abbrev pub declaration_cause : Mask → Declaration → Option RulesCause
+declaration_cause m x = cond (not (is_own_label x.label)) (Some BadLabel)
+    (cond (is_misdeclared x.rule) (Some BadPlace)
+    (cond (is_declared_among x m.declared) (Some Repeated)
+    (cond (shares_ids x m.declared || is_blurred_by m.changes x) (Some Clash) None)))
 
 -- The cause, as an error of a rules file.
 abbrev pub cause_of_word : WordCause → RulesCause
@@ -68,6 +78,7 @@ cause_of m restart = cond m.per_stop (Some Repeated) None
 cause_of m (join j) = join_cause m
 cause_of m (put p) = option_map cause_of_word (word_cause m.words p)
 cause_of m (fill f) = fill_cause m f
+cause_of m (declare x) = declaration_cause m x
 
 -- Why a rule may not follow the rules of a mask; `None` if it may. A mask has at most a thousand
 -- rules.

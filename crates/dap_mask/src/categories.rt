@@ -77,7 +77,7 @@ pub(crate) fn is_output_moved_by(changes: &[MaskRule]) -> bool
     changes.iter().any(|change| moves_output(change))
 }
 
-fn holds_category(place: &[Step]) -> bool
+pub(crate) fn holds_category(place: &[Step]) -> bool
     ensures { result ≡ holds_category (plain_place (place_of place.now)) }
 {
     is_at(place, Place::Member("body")) || is_at(place, Place::Inner("body", "category"))

@@ -25,7 +25,7 @@ pub enum RulesCause {
     /// - Fix: write a line of one of these forms: `ACTION KIND NAME PLACE`, `ACTION event NAME
     ///   category=TEXT PLACE`, `drop event NAME`, `drop event NAME category=TEXT`, `swap KIND NAME
     ///   KIND NAME`, `word TEXT WORD`, `per-stop`, `join event output`, `join event output
-    ///   per-stop`, or `fill KIND NAME PLACE VALUE`.
+    ///   per-stop`, or `fill KIND NAME PLACE VALUE`. The first two may end in `as LABEL`.
     BadRule,
     /// A thousand rules precede it.
     ///
@@ -35,13 +35,15 @@ pub enum RulesCause {
     /// The place never changes: it is an id that the profile renames, the message itself, its
     /// `type`, `command`, `event` or `success`, or the name by which the rule selects an element.
     /// For a rule with a category, the place is also never `body` or `body.category`. The place of
-    /// a `fill` rule ends in a member and selects no element by its name.
+    /// a `fill` rule ends in a member and selects no element by its name. The place of declared ids
+    /// is also never the `name` of elements, nor `body` or `body.category`.
     ///
     /// - Cause: a rule for a number that `normalise` renames anyway.
     /// - Fix: leave the rule out.
     BadPlace,
     /// The same rule precedes it, or another word for the same text, or another `join` rule, or a
     /// `fill` rule for the same member. A `swap` rule with its halves exchanged is the same rule.
+    /// Two declarations are the same rule if they have the same label.
     ///
     /// - Cause: two rules files put together.
     /// - Fix: leave it out.
@@ -52,10 +54,13 @@ pub enum RulesCause {
     /// `body` or `body.category` of events, and the other applies only to events of one category.
     /// Or one of the two changes `body.category` of `output` events, and the other joins them by
     /// their category. Or both may set the same member of one message, or one of them sets a member
-    /// of a value that the other blanks.
+    /// of a value that the other blanks. Or both declare ids at the same place of messages that may
+    /// be the same. Or one of them declares ids there, and the other is `digits` or `long`, which
+    /// would change the numbers in their names.
     ///
     /// - Cause: `uuid` and `digits` at one place, a change of a category by which events are
-    ///   dropped, selected or joined, or a `blank` of a value that contains the place of a `fill`.
+    ///   dropped, selected or joined, a `blank` of a value that contains the place of a `fill`, or
+    ///   two rules for one place of which one ends in `as LABEL`.
     /// - Fix: leave one of the two out, or give two rules for events different categories.
     Clash,
     /// The text of a `word` line is empty, or a word of the file can overlap a text of the file:
@@ -65,6 +70,12 @@ pub enum RulesCause {
     /// - Cause: a word that is part of a path, or an empty word.
     /// - Fix: choose a word that no text contains, such as one in angle brackets.
     BadWord,
+    /// The text after `as` is not a label, or it is the name of a kind of id that `normalise`
+    /// renumbers: `client-seq`, `adapter-seq`, `frame`, `reference`, `thread` or `breakpoint`.
+    ///
+    /// - Cause: a label with an upper-case letter, a digit or `_`.
+    /// - Fix: choose another label, of lower-case letters and `-`, that starts with a letter.
+    BadLabel,
     /// An allocation failed.
     Memory,
 }
@@ -84,6 +95,7 @@ impl RulesCause {
             RulesCause::Repeated => "Repeated",
             RulesCause::Clash => "Clash",
             RulesCause::BadWord => "BadWord",
+            RulesCause::BadLabel => "BadLabel",
             RulesCause::Memory => "Memory",
         }
     }

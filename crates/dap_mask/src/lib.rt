@@ -6,8 +6,9 @@
 //! states the theorems. The file may also contain texts and their words, [`MaskRules::words`],
 //! and rules that set members that are absent or null. [`read_masked`] puts in the words, sets the
 //! members, and then applies the other rules. The file may contain rules for the order of messages,
-//! [`MaskRules::swaps`]; the line `per-stop`, [`MaskRules::per_stop`]; and a line that joins
-//! output, [`MaskRules::joining`]. Masking does not use the last three.
+//! [`MaskRules::swaps`]; the line `per-stop`, [`MaskRules::per_stop`]; a line that joins output,
+//! [`MaskRules::joining`]; and rules that declare ids, [`MaskRules::declared`]. Masking does not use
+//! the last four.
 //!
 //! [`digits`] and [`hex`] apply two of the actions to a text.
 //!
@@ -16,6 +17,7 @@
 #![tactic(auto)]
 
 mod categories;
+mod declarations;
 mod element_names;
 mod fault;
 mod fill_lines;
@@ -46,6 +48,7 @@ mod word_lines;
 
 pub use categories::CategoryRule;
 pub use dap_message::{Half, SwapRule};
+pub use declarations::Declaration;
 pub use fault::{RulesCause, RulesFault};
 pub use fill_lines::value_at;
 pub use fills::Scalar;
@@ -54,7 +57,7 @@ pub use joining::Joining;
 pub use loose::{read_by_rules, read_loosely, read_masked};
 pub use mask_rules::MaskRules;
 pub use masked_text::write_masked;
-pub use masking::{is_dropped, mask};
+pub use masking::{is_dropped, mask, rule_applies};
 pub use names::{any_name, name_at};
 pub use places::place_at;
 pub use rules::{MaskRule, Step, Verb};

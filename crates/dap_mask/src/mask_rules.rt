@@ -1,10 +1,11 @@
 //! The rules of a mask and an index of them.
 ghost use Rattle.std.specs.Prelude.{◌≡◌, ◌≢◌, ◌≤◌, Ok, Err, map, option_map, string_bytes, ◌<◌};
-ghost use Rattle.std.specs.Prelude.{IfOk, IfErr, length};
+ghost use Rattle.std.specs.Prelude.{IfOk, IfErr, length, true};
 ghost use Rattle.dap_profile.specs.declared.profile.Kind.TheVariants.{Request, Response, Event};
 ghost use Rattle.dap_mask.specs.{Index.IsIndex, ListedRules.listed_changes};
 
 use crate::categories::CategoryRule;
+use crate::declarations::Declaration;
 use crate::fault::{RulesCause, RulesFault};
 use crate::fills::FillRule;
 use crate::index::KindRules;
@@ -21,7 +22,7 @@ use std::alloc::{AllocError, Global};
 /// an id that the profile renames. No rule changes `body` or `body.category` of events to which it
 /// or another rule applies by their category, and none changes `body.category` of `output` events
 /// if [`MaskRules::joining`] is not `None`. Masking a masked message again does not change it, if
-/// its members are in order.
+/// its members are in order. The places of declared ids have the same restrictions.
 #[derive(Drop)]
 pub struct MaskRules {
     list: RuleList,
@@ -37,7 +38,8 @@ impl MaskRules {
     ghost use Rattle.dap_mask.specs.Index.{positions};
     ghost use Rattle.dap_mask.specs.KeptRules.{mask_of, changes_of, dropped_of, categories_of_mask};
     ghost use Rattle.dap_mask.specs.KeptRules.{swaps_of_mask, per_stop_of, joining_of};
-    ghost use Rattle.dap_mask.specs.KeptRules.{words_of_mask, fills_of_mask};
+    ghost use Rattle.dap_mask.specs.KeptRules.{words_of_mask, fills_of_mask, declared_of_mask};
+    ghost use Rattle.dap_mask.specs.Declarations.{declarations_of, are_declared};
     ghost use Rattle.dap_mask.specs.{Categories.categories_of, ListedRules.listed_mask};
     ghost use Rattle.dap_mask.specs.{Fills.fills_of};
     ghost use Rattle.dap_mask.specs.{Mask.no_rules, Rules.rules_of, RulesFile.rules_said};
@@ -135,6 +137,15 @@ impl MaskRules {
         ensures { pairs_in result.now ≡ words_of_mask self.now }
     {
         &self.list.words
+    }
+
+    /// Returns the rules that declare ids, in the order of the file. `dap_naming` replaces the ids by
+    /// names, after all other rules. Masking does not use them.
+    pub fn declared(&self) -> &[Declaration]
+        ensures same { declarations_of result.now ≡ declared_of_mask self.now }
+        ensures declared { are_declared (declarations_of result.now) ≡ true }
+    {
+        self.list.declared.as_slice()
     }
 
     /// Returns the rules that set members before the other rules apply, in the order of the file.

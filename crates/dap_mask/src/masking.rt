@@ -208,7 +208,9 @@ pub(crate) fn name_key(kind: Kind) -> &'static str
     }
 }
 
-fn rule_applies(rule: &MaskRule, tree: &Tree) -> bool
+/// Returns whether a rule applies to a message: its kind, its name and its category. Does not
+/// allocate.
+pub fn rule_applies(rule: &MaskRule, tree: &Tree) -> bool
     ensures { result ≡ rule_applies (rule_of rule.now) (view tree.now) }
 {
     is_of_kind(tree, rule.kind)

@@ -3,7 +3,8 @@ ghost use Rattle.std.specs.{Prelude.{◌≡◌, option_map, string_bytes}, List.
 ghost use Rattle.dap_mask.specs.Rules.{rule_of, step_of, place_of, same_rule_step};
 ghost use Rattle.dap_mask.specs.Rules.{same_rule_place, share_step, share_place, same_kind};
 ghost use Rattle.dap_mask.specs.Rules.{share_name, same_name, same_verb, same_rule, excludes};
-ghost use Rattle.dap_mask.specs.Rules.{clash, is_naming, is_telling, is_telling_place};
+ghost use Rattle.dap_mask.specs.Rules.{shares_values, clash, is_naming, is_telling};
+ghost use Rattle.dap_mask.specs.Rules.{is_telling_place};
 
 use crate::rules::{MaskRule, Step, Verb};
 use dap_message::Kind;
@@ -112,7 +113,7 @@ fn share_place(place: &[Step], other: &[Step]) -> bool
     rest.is_empty()
 }
 
-fn same_rule(rule: &MaskRule, other: &MaskRule) -> bool
+pub(crate) fn same_rule(rule: &MaskRule, other: &MaskRule) -> bool
     ensures { result ≡ same_rule (rule_of rule.now) (rule_of other.now) }
 {
     same_verb(rule.verb, other.verb)
@@ -138,14 +139,20 @@ fn excludes(verb: Verb, other: Verb) -> bool
     )
 }
 
-fn clash(rule: &MaskRule, other: &MaskRule) -> bool
-    ensures { result ≡ clash (rule_of rule.now) (rule_of other.now) }
+/// Returns whether some value of some message may be at the places of both rules.
+pub(crate) fn shares_values(rule: &MaskRule, other: &MaskRule) -> bool
+    ensures { result ≡ shares_values (rule_of rule.now) (rule_of other.now) }
 {
-    excludes(rule.verb, other.verb)
-        && share_place(&rule.place, &other.place)
+    share_place(&rule.place, &other.place)
         && same_kind(rule.kind, other.kind)
         && share_name(text_of(&rule.name), text_of(&other.name))
         && share_name(text_of(&rule.category), text_of(&other.category))
+}
+
+fn clash(rule: &MaskRule, other: &MaskRule) -> bool
+    ensures { result ≡ clash (rule_of rule.now) (rule_of other.now) }
+{
+    excludes(rule.verb, other.verb) && shares_values(rule, other)
 }
 
 /// Returns whether one of the others excludes the rule.

@@ -5,6 +5,7 @@ ghost use Rattle.std.specs.Prelude.{IfOk, IfErr, OnOk, length, string_bytes, ◌
 ghost use Rattle.std.specs.{Str.is_utf8, List.list_any};
 ghost use Rattle.dap_mask.specs.Categories.{category_of, categories_of, keep_categories};
 ghost use Rattle.dap_mask.specs.Categories.{keep_output};
+ghost use Rattle.dap_mask.specs.Declarations.{declaration_of, declarations_of, are_declared};
 ghost use Rattle.dap_mask.specs.Fills.{fill_of, fills_of, keep_fills};
 ghost use Rattle.dap_mask.specs.Ids.{leave_ids, takes_profile_id};
 ghost use Rattle.dap_mask.specs.Rules.{rule_of, rules_of, are_safe, are_idempotent, same_name};
@@ -15,6 +16,10 @@ ghost use Rattle.dap_words.specs.{Words.pair_of, Kept.pairs_in};
 use crate::categories::{
     CategoryRule, disturbs_one_of, is_category_among, is_moved_by, is_output_moved_by,
     moves_one_of, moves_output, recategorises,
+};
+use crate::declarations::{
+    Declaration, blurs_one_of, is_blurred_by, is_declared_among, is_misdeclared, is_own_label,
+    shares_ids,
 };
 use crate::element_names::renames;
 use crate::fault::{RulesCause, RulesFault};
@@ -47,7 +52,8 @@ const MAX_RULES: usize = 1_000;
 /// an id that the profile renames. No rule changes `body` or `body.category` of events to which it
 /// or another rule applies by their category, and none changes `body.category` of `output` events
 /// if output is joined. No rule removes a member that another rule sets. Masking a masked message
-/// again does not change it, if its members are in order.
+/// again does not change it, if its members are in order. The places of declared ids have the same
+/// restrictions, and are not names of elements.
 #[derive(Drop)]
 pub(crate) struct RuleList {
     changes: Vec<MaskRule>,
@@ -58,8 +64,9 @@ pub(crate) struct RuleList {
     pub(crate) joining: Option<Joining>,
     pub(crate) words: Words,
     pub(crate) fills: Vec<FillRule>,
+    pub(crate) declared: Vec<Declaration>,
     ghost few: { vec_len changes + vec_len dropped + vec_len categories + vec_len swaps
-        + length (pairs_in words) + vec_len fills ≤ 1000 },
+        + length (pairs_in words) + vec_len fills + vec_len declared ≤ 1000 },
     ghost safe: { are_safe (rules_of changes.items) ≡ true },
     ghost settled: { are_idempotent (rules_of changes.items) ≡ true },
     ghost leave: { leave_ids (rules_of changes.items) ≡ true },
@@ -67,19 +74,22 @@ pub(crate) struct RuleList {
         ≡ true },
     ghost apart: { keep_output (rules_of changes.items) joining ≡ true },
     ghost full: { keep_fills (rules_of changes.items) (fills_of fills.items) ≡ true },
+    ghost labelled: { are_declared (declarations_of declared.items) ≡ true },
 }
 
 impl RuleList {
     ghost use Rattle.dap_mask.specs.{Categories.{moves_one_of, moves_joined}, Rules.clashes_with};
     ghost use Rattle.dap_mask.specs.Rules.{disturbs_one_of};
     ghost use Rattle.dap_mask.specs.ListedRules.{listed_mask, listed_changes, listed_categories};
-    ghost use Rattle.dap_mask.specs.ListedRules.{listed_joining, listed_fills};
+    ghost use Rattle.dap_mask.specs.ListedRules.{listed_joining, listed_fills, listed_declared};
+    ghost use Rattle.dap_mask.specs.Declarations.{blurs_one_of, shares_ids, is_blurred_by};
     ghost use Rattle.dap_mask.specs.Fills.{removes_one_of, clashes_with_fills, is_removed_by};
     ghost use Rattle.dap_mask.specs.Mask.{no_rules, rule_count, with_rule, statement_of, nothing};
-    ghost use Rattle.dap_mask.specs.Mask.{change, leave_out_category, join, put, fill};
+    ghost use Rattle.dap_mask.specs.Mask.{change, leave_out_category, join, put, fill, declare};
     ghost use Rattle.dap_mask.specs.RuleText.{line_said};
     ghost use Rattle.dap_mask.specs.RulesFile.{cause_against, line_outcome, rules_from, rules_said};
     ghost use Rattle.dap_mask.specs.RulesFile.{change_cause, join_cause, fill_cause};
+    ghost use Rattle.dap_mask.specs.RulesFile.{declaration_cause};
     ghost use Rattle.dap_mask.specs.Runs.{lines_of};
 
     /// Reads the rules of a file.
@@ -121,6 +131,7 @@ impl RuleList {
             joining: None,
             words: Words::new(alloc),
             fills: Vec::new(alloc),
+            declared: Vec::new(alloc),
         }
     }
 
@@ -137,6 +148,7 @@ impl RuleList {
     {
         let values = self.changes.len() + self.dropped.len() + self.categories.len();
         let lists = values + self.swaps.len() + self.words.len() + self.fills.len();
+        let lists = lists + self.declared.len();
         let stops = if self.per_stop { lists + 1 } else { lists };
         match self.joining {
             Some(_) => stops + 1,
@@ -243,8 +255,10 @@ impl RuleList {
             Some(RulesCause::BadPlace)
         } else if is_among(rule, &self.changes) {
             Some(RulesCause::Repeated)
+        } else if self.clashes(rule) {
+            Some(RulesCause::Clash)
         } else {
-            cause_if(self.clashes(rule), RulesCause::Clash)
+            cause_if(blurs_one_of(rule, &self.declared), RulesCause::Clash)
         }
     }
 
@@ -285,6 +299,32 @@ impl RuleList {
         }
     }
 
+    // Returns whether another declaration may find the same ids, or a change may change a number in
+    // a name.
+    #[tactic(auto, using(crate::proofs::Lists::any_mapped))]
+    fn excludes_declaration(&self, rule: &Declaration) -> bool
+        ensures { result ≡ (shares_ids (declaration_of rule.now) (listed_declared self.now)
+            || is_blurred_by (listed_changes self.now) (declaration_of rule.now)) }
+    {
+        shares_ids(rule, &self.declared) || is_blurred_by(&self.changes, rule)
+    }
+
+    // Returns why a declaration may not follow the rules read so far, apart from their number.
+    #[tactic(auto, using(crate::proofs::Lists::any_mapped))]
+    fn declaration_cause(&self, rule: &Declaration) -> Option<RulesCause>
+        ensures { result ≡ declaration_cause (listed_mask self.now) (declaration_of rule.now) }
+    {
+        if !is_own_label(rule.label.as_str()) {
+            Some(RulesCause::BadLabel)
+        } else if is_misdeclared(&rule.rule) {
+            Some(RulesCause::BadPlace)
+        } else if is_declared_among(rule, &self.declared) {
+            Some(RulesCause::Repeated)
+        } else {
+            cause_if(self.excludes_declaration(rule), RulesCause::Clash)
+        }
+    }
+
     /// Returns why the rule may not follow the rules read so far; `None` if it may.
     #[tactic(auto, using(crate::proofs::Lists::any_mapped))]
     fn cause_against(&self, statement: &Statement) -> Option<RulesCause>
@@ -317,6 +357,7 @@ impl RuleList {
                 }
             }
             Statement::Fill(rule) => self.fill_cause(rule),
+            Statement::Declare(rule) => self.declaration_cause(rule),
         }
     }
 
@@ -365,6 +406,15 @@ impl RuleList {
         Ok(())
     }
 
+    fn take_declaration(&mut self, rule: Declaration) -> Result<(), AllocError>
+        requires { cause_against (listed_mask self.old) (declare (declaration_of rule)) ≡ None }
+        ensures { OnOk result (listed_mask self.new
+            ≡ with_rule (listed_mask self.old) (declare (declaration_of rule))) }
+    {
+        self.declared.push(rule)?;
+        Ok(())
+    }
+
     fn take(&mut self, statement: Statement) -> Result<(), AllocError>
         requires { cause_against (listed_mask self.old) (statement_of statement) ≡ None }
         ensures { OnOk result
@@ -379,6 +429,7 @@ impl RuleList {
             Statement::Join(joining) => self.take_joining(joining),
             Statement::Put(word) => self.take_word(word)?,
             Statement::Fill(rule) => self.take_fill(rule)?,
+            Statement::Declare(rule) => self.take_declaration(rule)?,
         }
         Ok(())
     }

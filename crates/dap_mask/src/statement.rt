@@ -4,11 +4,13 @@ ghost use Rattle.dap_mask.specs.Mask.{statement_of, line_of, nothing};
 ghost use Rattle.dap_mask.specs.RuleText.{verb_named, kind_named, head_at, change_at, category_at};
 ghost use Rattle.dap_mask.specs.RuleText.{limit_at, category_then, category_behind, leave_out_at};
 ghost use Rattle.dap_mask.specs.RuleText.{half_at, swap_at, is_output, join_ended, join_stops};
-ghost use Rattle.dap_mask.specs.RuleText.{joined_at, join_at};
+ghost use Rattle.dap_mask.specs.RuleText.{joined_at, join_at, stated, label_at};
 ghost use Rattle.dap_mask.specs.RuleText.{restart_at, part_at, put_at, statement_at, line_said};
+ghost use Rattle.dap_mask.specs.Rules.{rule_of};
 ghost use Rattle.dap_message.specs.SwapRules.{half_of};
 
 use crate::categories::CategoryRule;
+use crate::declarations::Declaration;
 use crate::fill_lines::fill_at;
 use crate::fills::FillRule;
 use crate::joining::Joining;
@@ -40,6 +42,8 @@ pub(crate) enum Statement {
     Put(Word),
     /// Sets a member that is absent or null.
     Fill(FillRule),
+    /// Declares ids.
+    Declare(Declaration),
 }
 
 /// The meaning of a line.
@@ -155,15 +159,42 @@ fn change_at(alloc: Global, verb: Verb, text: &[u8]) -> Result<Option<Statement>
         && let Some(text) = gap(text)
         && let Some((category, text)) = limit_at(alloc, kind, text)?
         && let Some((place, text)) = place_at(alloc, text)?
-        && is_end(text)
     {
-        return Ok(Some(Statement::Change(MaskRule {
+        let rule = MaskRule {
             verb,
             kind,
             name,
             category,
             place,
-        })));
+        };
+        return stated(alloc, rule, text);
+    }
+    Ok(None)
+}
+
+// Returns the rule as a change, or as a declaration unless the line ends.
+fn stated(alloc: Global, rule: MaskRule, text: &[u8]) -> Result<Option<Statement>, AllocError>
+    ensures { IfOk result (λ o. option_map statement_of o ≡ stated (rule_of rule) text.now) }
+{
+    if is_end(text) {
+        return Ok(Some(Statement::Change(rule)));
+    }
+    match gap(text) {
+        Some(text) => label_at(alloc, rule, text),
+        None => Ok(None),
+    }
+}
+
+// Returns the rule as a declaration, if the text is the word `as` and a label.
+fn label_at(alloc: Global, rule: MaskRule, text: &[u8]) -> Result<Option<Statement>, AllocError>
+    ensures { IfOk result (λ o. option_map statement_of o ≡ label_at (rule_of rule) text.now) }
+{
+    let (word, text) = split_run(text, ByteClass::Plain);
+    if word == b"as".as_slice()
+        && let Some((label, rest)) = part_at(alloc, text)?
+        && is_end(rest)
+    {
+        return Ok(Some(Statement::Declare(Declaration { rule, label })));
     }
     Ok(None)
 }
@@ -325,7 +356,8 @@ fn join_ended(text: &[u8]) -> Option<Statement>
     }
 }
 
-// Returns the text or the word of a rule, with which the text starts after blanks, and the rest.
+// Returns the text, the word or the label of a rule, with which the text starts after blanks, and
+// the rest.
 fn part_at(alloc: Global, text: &[u8]) -> Result<Option<(String, &[u8])>, AllocError>
     ensures { IfOk result
         (λ o. option_map (λ n. (string_bytes n.0, n.1.now)) o ≡ part_at text.now) }

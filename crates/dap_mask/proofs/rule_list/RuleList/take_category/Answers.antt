@@ -22,4 +22,5 @@ invariant_of-self c =
           (category_not_moved (listed_mask c.args.self.now) rule c.requires));
       apart = old.apart;
       full = old.full;
+      labelled = old.labelled;
     }

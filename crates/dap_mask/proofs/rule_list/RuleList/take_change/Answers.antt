@@ -40,6 +40,7 @@ invariant_of-self c =
           (output_inserted rules rule joining old.apart may.joins);
       full = keeps (λ rs. keep_fills rs fills) old.full
           (fills_inserted rules rule fills old.full may.fills);
+      labelled = old.labelled;
     }
 
 pub returns : goal.returns

@@ -22,4 +22,5 @@ invariant_of-self c =
       full = pushed_fill_keeps (is_ok c.push.result) old.fills.items c.args.rule
           c.push.new.self.items c.push.ensures.items (keep_fills changes) old.full
           (fill_kept changes (listed_fills c.args.self.now) rule old.full may.0 may.1);
+      labelled = old.labelled;
     }
