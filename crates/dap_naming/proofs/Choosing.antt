@@ -113,7 +113,7 @@ weight-inside d rs =
 
 -- ---- the rules of the program, one after another
 
-pub drop_first : (rs : List ReadDeclared) (i : ℕ) (d : ReadDeclared) → i < length rs
+pub drop_first : {X : Type 0} (rs : List X) (i : ℕ) (d : X) → i < length rs
     → drop i rs ≡ get_or rs i d ∷ drop (i + 1) rs
 drop_first rs i d h = rw add-one (drop-cons rs i d h)
 

@@ -30,7 +30,7 @@ distinct-more is l m w =
     ∙ by_bool (bytes_eq l m) (λ e. rw e refl) (λ e. rw e refl)
 
 -- an id that is known changes nothing
-distinct-known : (is : List Id) (l m w : List ℕ) → is_known is m w ≡ true
+pub distinct-known : (is : List Id) (l m w : List ℕ) → is_known is m w ≡ true
     → distinct l (is ++ (m, w) ∷ []) ≡ distinct l is
 distinct-known is l m w h =
     distinct-more is l m w
@@ -136,7 +136,7 @@ told_more is l v m w new =
     rw f (told_other w v (distinct l is) g)))))
     (λ e. let back : bytes_eq l m ≡ false = turned m l e in rw (e, back) refl)
 
-count_more : (is : List Id) (l v m : List ℕ) → is_known is l v ≡ false
+pub count_more : (is : List Id) (l v m : List ℕ) → is_known is l v ≡ false
     → length (distinct m (is ++ (l, v) ∷ []))
     ≡ cond (bytes_eq l m) (length (distinct l is) + 1) (length (distinct m is))
 count_more is l v m new =

@@ -15,3 +15,13 @@ pub mod TextUtf8
 pub mod MoreParts
 pub mod TreeNames
 pub mod Choosing
+pub mod SessionsPlaces
+pub mod SessionsNamed
+pub mod TypedMarks
+pub mod TypedFills
+pub mod TypedFaults
+pub mod TypedNames
+pub mod Limits
+pub mod Applying
+pub mod LimitsInTrees
+pub mod RuledTexts

@@ -1,5 +1,5 @@
 -- Lemmas about rules: the same rules apply inside a document and its named document.
-use Rattle.std.proofs.Common.{◌≡◌, ℕ, Bool, true, false, not, ◌&&◌, List, [], ◌∷◌, Option, Some}
+use Rattle.std.proofs.Common.{◌≡◌, ℕ, Bool, true, false, not, ◌&&◌, ◌||◌, List, [], ◌∷◌, Option, Some}
 use Rattle.std.proofs.Common.{None, Ordering, Less, Equal, Greater, nat_cmp, codes}
 use Rattle.std.proofs.Common.{bytes_eq, refl, ap}
 use Rattle.std.proofs.Common.{sym, ◌∙◌, true≢false}
@@ -9,26 +9,31 @@ use Rattle.std.proofs.lemmas.Map.Lookups.{exact_bytes}
 use Rattle.dap_tree.specs.Doc.{Doc, null, boolean, whole, text, list, object, id}
 use Rattle.dap_tree.specs.Doc.{Members, no_members, member, get_member}
 use Rattle.dap_mask.specs.RuleSteps.{RuleStep, named as to_member, elements, is_called}
+use Rattle.dap_mask.specs.Rules.{is_for_names, leads_to_name}
 use Rattle.dap_message.specs.Rows.{is_text}
 use Rattle.dap_tokens.specs.Tokens.{is_label}
 use Rattle.dap_naming.specs.Numbers.{Numbering}
 use Rattle.dap_naming.specs.Documents.{Declared, after_first, after_step}
 use Rattle.dap_naming.specs.Documents.{is_here, here, is_to_member}
 use Rattle.dap_naming.specs.Documents.{below, is_to_element, inside, named_doc, named_members}
-use Rattle.dap_naming.specs.Documents.{named_text, ends_at_name, are_sound}
+use Rattle.dap_naming.specs.Documents.{named_text, are_sound}
 use Rattle.dap_naming.specs.DeclaredRules.{HasLabel}
 use Rattle.dap_naming.proofs.Lists.{by_bool}
 
 -- ---- the rules after a step are sound
 
-pub ends-after : (place : List RuleStep) → ends_at_name place ≡ false
-    → ends_at_name (after_first place) ≡ false
+first_of_none : (a b : Bool) → (a || b) ≡ false → a ≡ false
+first_of_none true b e = e
+first_of_none false b e = refl
+
+second_of_none : (a b : Bool) → (a || b) ≡ false → b ≡ false
+second_of_none true b e = cc
+second_of_none false b e = e
+
+pub ends-after : (place : List RuleStep) → is_for_names place ≡ false
+    → is_for_names (after_first place) ≡ false
 ends-after [] e = refl
-ends-after (to_member k ∷ steps) e = e
-ends-after (elements n ∷ []) e = refl
-ends-after (elements n ∷ to_member k ∷ []) e = refl
-ends-after (elements n ∷ to_member k ∷ step ∷ steps) e = e
-ends-after (elements n ∷ elements m ∷ steps) e = e
+ends-after (step ∷ steps) e = second_of_none (leads_to_name step steps) (is_for_names steps) e
 
 each_is : (a b c : Bool) → (not a && (b && c)) ≡ true → (a ≡ false) × (b ≡ true) × (c ≡ true)
 each_is true b c e = cc
@@ -41,13 +46,13 @@ all_are a b c p q r = rw (p, q, r) refl
 
 -- what holds of the first rule, and of the others
 pub sound_parts : (r : Declared) (rs : List Declared) → are_sound (r ∷ rs) ≡ true
-    → (ends_at_name r.place ≡ false) × (is_label r.label ≡ true) × (are_sound rs ≡ true)
-sound_parts r rs s = each_is (ends_at_name r.place) (is_label r.label) (are_sound rs) s
+    → (is_for_names r.place ≡ false) × (is_label r.label ≡ true) × (are_sound rs ≡ true)
+sound_parts r rs s = each_is (is_for_names r.place) (is_label r.label) (are_sound rs) s
 
-pub sound-after : (r : Declared) (rs : List Declared) → ends_at_name r.place ≡ false
+pub sound-after : (r : Declared) (rs : List Declared) → is_for_names r.place ≡ false
     → is_label r.label ≡ true → are_sound rs ≡ true → are_sound (after_step r ∷ rs) ≡ true
 sound-after r rs e l s =
-    all_are (ends_at_name (after_first r.place)) (is_label r.label) (are_sound rs)
+    all_are (is_for_names (after_first r.place)) (is_label r.label) (are_sound rs)
     (ends-after r.place e) l s
 
 pub sound-below : (k : List ℕ) (rs : List Declared) → are_sound rs ≡ true
@@ -80,13 +85,14 @@ label-here (r ∷ rs) s =
 -- ---- no rule is for the `name` of an element
 
 not_here : (d : Doc) (place : List RuleStep) → is_to_element d place ≡ true
-    → is_to_member (codes "name") (after_first place) ≡ true → ends_at_name place ≡ false
+    → is_to_member (codes "name") (after_first place) ≡ true → is_for_names place ≡ false
     → is_here (after_first (after_first place)) ≡ false
 not_here d [] p q e = cc
 not_here d (to_member k ∷ steps) p q e = cc
 not_here d (elements n ∷ []) p q e = cc
 not_here d (elements n ∷ elements m ∷ steps) p q e = cc
-not_here d (elements n ∷ to_member k ∷ []) p q e = absurd (true≢false (sym q ∙ e))
+not_here d (elements n ∷ to_member k ∷ []) p q e =
+    absurd (true≢false (sym q ∙ first_of_none (bytes_eq (codes "name") k) false e))
 not_here d (elements n ∷ to_member k ∷ step ∷ steps) p q e = refl
 
 pub no_name : (d : Doc) (rs : List Declared) → are_sound rs ≡ true
@@ -103,7 +109,7 @@ no_name d (r ∷ rs) s =
 
 -- ---- an element keeps its `name`
 
-text-kept : (rs : List Declared) (number : Numbering) (n : List ℕ) (d : Doc) → here rs ≡ None
+pub text-kept : (rs : List Declared) (number : Numbering) (n : List ℕ) (d : Doc) → here rs ≡ None
     → is_text n (Some (named_doc rs number d)) ≡ is_text n (Some d)
 text-kept rs number n null h = refl
 text-kept rs number n (boolean b) h = refl
@@ -151,7 +157,7 @@ element-same d e [] h = refl
 element-same d e (to_member k ∷ steps) h = refl
 element-same d e (elements n ∷ steps) h = h n
 
-inside-same : (d e : Doc) (rs : List Declared)
+pub inside-same : (d e : Doc) (rs : List Declared)
     → ((n : Option (List ℕ)) → is_called n (Some d) ≡ is_called n (Some e))
     → inside d rs ≡ inside e rs
 inside-same d e [] h = refl

@@ -11,8 +11,10 @@ use Rattle.dap_tokens.specs.declared.form.Form.{Form}
 use Rattle.dap_tokens.specs.declared.form.Form.TheVariants.{Whole, Digits, Hex, Long, Uuid}
 use Rattle.dap_naming.specs.Numbers.{Id, Numbering, number}
 use Rattle.dap_naming.specs.Documents.{labelled}
-use Rattle.dap_naming.specs.Known.{Knows, Names, Writes, key}
+use Rattle.dap_naming.specs.Known.{Knows, Names, Writes, FitsLimit, ExceedsLimit, part_ids}
+use Rattle.dap_naming.specs.Known.{key, limit_of, HasRoom, IsFull}
 use Rattle.dap_naming.specs.declared.value_numbers.ValueNumbers.{ValueNumbers}
+use Rattle.dap_naming.proofs.Limits.{fits_then, exceeds_then, fits_one, exceeds_one}
 
 -- ---- ids after other ids
 
@@ -64,6 +66,12 @@ module _ (label : List ℕ) (form : Form) where
       ∙ by_nothing (is_nothing (value label form t)) (value label form t)
       (ids_of_parts label form ps) (ids_of_parts label form qs)
 
+  part_ids-append : (ps qs : List Part)
+      → part_ids label form (ps ++ qs) ≡ part_ids label form ps ++ part_ids label form qs
+  part_ids-append ps qs =
+      ap (labelled label) (ids-append ps qs)
+      ∙ labelled-append label (ids_of_parts label form ps) (ids_of_parts label form qs)
+
   named-append : (f : List ℕ → ℕ) (ps qs : List Part)
       → named_parts label form f (ps ++ qs)
       ≡ named_parts label form f ps ++ named_parts label form f qs
@@ -83,8 +91,7 @@ module _ (label : List ℕ) (form : Form) where
       λ u p q. q ∙ ap (λ s. s ++ named_parts label form u qs) p
       ∙ append_assoc x _ _ ∙ ap (λ s. x ++ s) (sym (named-append u ps qs)) in (
         subst (λ js. Names a c js (λ n. z ≡ x ++ named_parts label form (n label) (ps ++ qs)))
-            (sym (ap (labelled label) (ids-append ps qs)
-            ∙ labelled-append label (ids_of_parts label form ps) (ids_of_parts label form qs)))
+            (sym (part_ids-append ps qs))
             (names_then a b c _ _ (λ n. y ≡ x ++ named_parts label form (n label) ps)
             (λ n. z ≡ y ++ named_parts label form (n label) qs)
             (λ n. z ≡ x ++ named_parts label form (n label) (ps ++ qs)) f.0 g.0
@@ -142,11 +149,12 @@ module _ (label : List ℕ) (form : Form) where
 
   -- ---- the step of a reader
 
-  -- the parts `ps` are written, and the others are left
+  -- the parts `ps` are written within the limit, and the others are left
   abbrev pub Reads : ValueNumbers → ValueNumbers → List Part → Bool → List ℕ → List ℕ → List ℕ
       → Type 0
   Reads a c all d rest x y = (ps : List Part)
       × (ps ++ parts_from label form 0 d rest ≡ all) × Writes a c label form ps x y
+      × FitsLimit a (part_ids label form ps)
 
   pub literal_step : (a c : ValueNumbers) (all : List Part) (d e : Bool) (rest : List ℕ) (b : ℕ)
       (s : List ℕ) (n : ℕ) (x y z : List ℕ) → Reads a c all d rest x y → rest ≡ b ∷ s
@@ -162,27 +170,85 @@ module _ (label : List ℕ) (form : Form) where
             ∙ ap (λ ps. h.0 ++ ps) (sym read) ∙ h.1,
         subst (λ (t : List ℕ). Writes a c label form (h.0 ++ literal b ∷ []) x t) (sym written)
             (write_then a c c h.0 (literal b ∷ []) x y (y ++ b ∷ []) h.2 (write_literal c b y)),
+        subst (FitsLimit a) (sym (part_ids-append h.0 (literal b ∷ []) ∙ append-nil _)) h.3,
       )
+
+  read_part : (d : Bool) (rest part : List ℕ) (k : ℕ) (s : List ℕ) (n : ℕ) → rest ≡ k ∷ s
+      → n ≡ part_length label form d rest → (n ≡ 0 → ⊥) → part ≡ take n rest
+      → parts_from label form 0 d rest ≡ token part ∷ parts_from label form 0 false (drop n rest)
+  read_part d rest part k s n split length some first =
+      let positive : 0 < n = omega (arith, some) in
+      ap (parts_from label form 0 d) split
+      ∙ read_token d k s n (length ∙ ap (part_length label form d) split) positive
+      ∙ ap (λ r. token (take n r) ∷ parts_from label form 0 false (drop n r)) (sym split)
+      ∙ ap (λ t. token t ∷ parts_from label form 0 false (drop n rest)) (sym first)
 
   pub token_step : (a b c : ValueNumbers) (all : List Part) (d : Bool) (rest part others : List ℕ)
       (k : ℕ) (s : List ℕ) (n : ℕ) (x y z : List ℕ) → Reads a b all d rest x y → rest ≡ k ∷ s
       → n ≡ part_length label form d rest → (n ≡ 0 → ⊥) → part ≡ take n rest
       → others ≡ drop n rest → Writes b c label form (token part ∷ []) y z
+      → limit_of b ≡ limit_of a → FitsLimit b (part_ids label form (token part ∷ []))
       → Reads a c all false others x z
-  token_step a b c all d rest part others k s n x y z h split length some first after written =
-      let positive : 0 < n = omega (arith, some) in
+  token_step a b c all d rest part others k s n x y z h split length some first after written same
+      few =
       let read : parts_from label form 0 d rest
       ≡ token part ∷ parts_from label form 0 false others =
-      ap (parts_from label form 0 d) split
-      ∙ read_token d k s n (length ∙ ap (part_length label form d) split) positive
-      ∙ ap (λ r. token (take n r) ∷ parts_from label form 0 false (drop n r)) (sym split)
-      ∙ ap (λ t. token t ∷ parts_from label form 0 false (drop n rest)) (sym first)
+      read_part d rest part k s n split length some first
       ∙ ap (λ t. token part ∷ parts_from label form 0 false t) (sym after) in (
         h.0 ++ token part ∷ [],
         append_assoc h.0 (token part ∷ []) (parts_from label form 0 false others)
             ∙ ap (λ ps. h.0 ++ ps) (sym read) ∙ h.1,
         write_then a b c h.0 (token part ∷ []) x y z h.2 written,
+        subst (FitsLimit a) (sym (part_ids-append h.0 (token part ∷ [])))
+            (fits_then a b (part_ids label form h.0)
+            (λ n. y ≡ x ++ named_parts label form (n label) h.0) h.2.0 same
+            (part_ids label form (token part ∷ [])) h.3 few),
       )
+
+  -- a token whose id exceeds the limit
+  pub full_step : (a b : ValueNumbers) (all : List Part) (d : Bool) (rest part : List ℕ) (k : ℕ)
+      (s : List ℕ) (n : ℕ) (x y : List ℕ) → Reads a b all d rest x y → rest ≡ k ∷ s
+      → n ≡ part_length label form d rest → (n ≡ 0 → ⊥) → part ≡ take n rest
+      → limit_of b ≡ limit_of a → ExceedsLimit b (part_ids label form (token part ∷ []))
+      → ExceedsLimit a (part_ids label form all)
+  full_step a b all d rest part k s n x y h split length some first same full =
+      let others = parts_from label form 0 false (drop n rest) in
+      let read : part_ids label form (parts_from label form 0 d rest)
+      ≡ part_ids label form (token part ∷ []) ++ part_ids label form others =
+      ap (part_ids label form) (read_part d rest part k s n split length some first)
+      ∙ part_ids-append (token part ∷ []) others in
+      let whole : part_ids label form all ≡ part_ids label form h.0
+      ++ (part_ids label form (token part ∷ []) ++ part_ids label form others) =
+      ap (part_ids label form) (sym h.1) ∙ part_ids-append h.0 _
+      ∙ ap (λ is. part_ids label form h.0 ++ is) read in
+      subst (ExceedsLimit a) (sym whole)
+      (exceeds_then a b (part_ids label form h.0)
+      (λ n. y ≡ x ++ named_parts label form (n label) h.0) h.2.0 same
+      (part_ids label form (token part ∷ [])) (part_ids label form others) full)
+
+  -- ---- one token
+
+  by_some : (b : Bool) (v : List ℕ) → b ≡ false
+      → labelled label (cond b [] (v ∷ [])) ≡ (label, v) ∷ []
+  by_some true v e = cc
+  by_some false v e = refl
+
+  token_ids : (t v : List ℕ) → v ≡ value label form t → is_nothing v ≡ false
+      → part_ids label form (token t ∷ []) ≡ (label, v) ∷ []
+  token_ids t v e some =
+      by_some (is_nothing (value label form t)) (value label form t) (ap is_nothing (sym e) ∙ some)
+      ∙ ap (λ (w : List ℕ). (label, w) ∷ []) (sym e)
+
+  pub few_token : (a : ValueNumbers) (t v : List ℕ) → v ≡ value label form t
+      → is_nothing v ≡ false → HasRoom a (label, v) → FitsLimit a (part_ids label form (token t ∷ []))
+  few_token a t v e some room =
+      subst (FitsLimit a) (sym (token_ids t v e some)) (fits_one a label v room)
+
+  pub full_token : (a : ValueNumbers) (t v : List ℕ) → v ≡ value label form t
+      → is_nothing v ≡ false → IsFull a (label, v)
+      → ExceedsLimit a (part_ids label form (token t ∷ []))
+  full_token a t v e some full =
+      subst (ExceedsLimit a) (sym (token_ids t v e some)) (exceeds_one a label v full)
 
   -- ---- the parts of a text
 
@@ -192,10 +258,10 @@ module _ (label : List ℕ) (form : Form) where
       subst (λ (t : List ℕ). Writes a c label form qs t y) f
       (subst (λ rs. Writes a c label form rs x y) e h)
 
-  parts_whole : (f : Form) (s : List ℕ) → f ≡ Whole → token s ∷ [] ≡ parts label f s
+  pub parts_whole : (f : Form) (s : List ℕ) → f ≡ Whole → token s ∷ [] ≡ parts label f s
   parts_whole f s e = subst (λ g. token s ∷ [] ≡ parts label g s) (sym e) refl
 
-  parts_other : (f : Form) (s : List ℕ) → (f ≡ Whole → ⊥)
+  pub parts_other : (f : Form) (s : List ℕ) → (f ≡ Whole → ⊥)
       → parts_from label f 0 false s ≡ parts label f s
   parts_other Whole s h = absurd (h refl)
   parts_other Digits s h = refl

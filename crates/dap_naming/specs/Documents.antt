@@ -5,6 +5,7 @@ use Rattle.std.specs.Prelude.{decimal}
 use Rattle.dap_tree.specs.Doc.{Doc, null, boolean, whole, text, list, object, id, Items, no_items}
 use Rattle.dap_tree.specs.Doc.{item, Members, no_members, member}
 use Rattle.dap_mask.specs.RuleSteps.{RuleStep, named as to_member, elements, is_called}
+use Rattle.dap_mask.specs.Rules.{is_for_names}
 use Rattle.dap_tokens.specs.{Naming.{ids, named, IsNumbering}, Tokens.is_label, Values.is_nothing}
 use Rattle.dap_tokens.specs.declared.form.Form.{Form}
 use Rattle.dap_tokens.specs.declared.form.Form.TheVariants.{Whole, Digits, Hex, Long, Uuid}
@@ -145,13 +146,7 @@ skeleton_doc rs d = named_doc rs (λ label v. 1) d
 
 -- ---- the rules that can be used together
 
--- The place is that of the `name` of elements of an array, by which rules select elements.
-abbrev pub ends_at_name : List RuleStep → Bool
-ends_at_name [] = false
-ends_at_name (elements n ∷ to_member k ∷ []) = bytes_eq (codes "name") k
-ends_at_name (step ∷ steps) = ends_at_name steps
-
--- No rule changes the `name` of an element, and each label is one.
+-- No rule changes the `name` of an element, by which rules select elements, and each label is one.
 abbrev pub are_sound : List Declared → Bool
 are_sound [] = true
-are_sound (r ∷ rs) = not (ends_at_name r.place) && (is_label r.label && are_sound rs)
+are_sound (r ∷ rs) = not (is_for_names r.place) && (is_label r.label && are_sound rs)

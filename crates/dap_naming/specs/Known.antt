@@ -7,8 +7,10 @@ use Rattle.std.specs.Cmp.Lexicographic.{slice_cmp}
 use Rattle.std.specs.Ordering.{nat_cmp}
 use Rattle.dap_tokens.specs.{Tokens.{Part, is_label}, Naming.{ids_of_parts, named_parts}}
 use Rattle.dap_tokens.specs.declared.form.Form.{Form}
-use Rattle.dap_naming.specs.Documents.{labelled}
+use Rattle.dap_tree.specs.Doc.{Doc}
+use Rattle.dap_naming.specs.Documents.{Declared, labelled, ids_of, named_doc}
 use Rattle.dap_naming.specs.Numbers.{Id, Numbering, distinct, number}
+use Rattle.dap_naming.specs.Sessions.{AreFew, HasTooMany}
 use Rattle.dap_naming.specs.declared.value_numbers.ValueNumbers.{ValueNumbers}
 
 -- The key of a value: its label, a blank, and the value. A label contains no blank.
@@ -47,6 +49,11 @@ abbrev pub Names : ValueNumbers → ValueNumbers → List Id → (Numbering → 
 Names old new js P = (is : List Id) → Knows old is
     → Knows new (is ++ js) × ((ks : List Id) → P (number (is ++ (js ++ ks))))
 
+-- The document `e` is `d` with each declared id replaced by its name, and `new` knows the ids of
+-- `old` and then those of `d`.
+abbrev pub NamesDoc : ValueNumbers → ValueNumbers → List Declared → Doc → Doc → Type 0
+NamesDoc old new rs d e = Names old new (ids_of rs d) (λ number. e ≡ named_doc rs number d)
+
 -- The value of the id is new, and its label has as many values as the limit.
 abbrev pub IsFull : ValueNumbers → Id → Type 0
 IsFull numbers i = (is : List Id) → Knows numbers is
@@ -57,6 +64,16 @@ abbrev pub HasRoom : ValueNumbers → Id → Type 0
 HasRoom numbers i = (is : List Id) → Knows numbers is → is_known is i.0 i.1 ≡ false
     → length (distinct i.0 is) < limit_of numbers
 
+-- If no label of the ids so far has more values than the limit, then none has with the ids `js`.
+abbrev pub FitsLimit : ValueNumbers → List Id → Type 0
+FitsLimit numbers js = (is : List Id) → Knows numbers is → AreFew (limit_of numbers) is
+    → AreFew (limit_of numbers) (is ++ js)
+
+-- Some label of the ids so far and of the ids `js` has more values than the limit.
+abbrev pub ExceedsLimit : ValueNumbers → List Id → Type 0
+ExceedsLimit numbers js = (is : List Id) → Knows numbers is
+    → HasTooMany (limit_of numbers) (is ++ js)
+
 -- Each number of `old` is a number of `new`.
 abbrev pub Keeps : ValueNumbers → ValueNumbers → Type 0
 Keeps old new = (k : List ℕ) (n : ℕ) → number_at old k ≡ Some n → number_at new k ≡ Some n
@@ -66,12 +83,16 @@ abbrev pub HasNumbers : ValueNumbers → List ℕ → (List ℕ → ℕ) → Typ
 HasNumbers numbers label f =
     (v : List ℕ) (n : ℕ) → number_at numbers (key label v) ≡ Some n → f v ≡ n
 
+-- The ids of the parts of a text.
+abbrev pub part_ids : List ℕ → Form → List Part → List Id
+part_ids label form ps = labelled label (ids_of_parts label form ps)
+
 -- Appends the parts of a text, with the names of the ids. The last part holds even if the numbers
 -- are not those of a list of ids.
 abbrev pub Writes : ValueNumbers → ValueNumbers → List ℕ → Form → List Part → List ℕ → List ℕ
     → Type 0
 Writes old new label form ps before after =
-    Names old new (labelled label (ids_of_parts label form ps))
+    Names old new (part_ids label form ps)
     (λ number. after ≡ before ++ named_parts label form (number label) ps)
     × Keeps old new
     × ((f : List ℕ → ℕ) → HasNumbers new label f

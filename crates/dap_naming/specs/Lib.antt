@@ -4,3 +4,5 @@ pub mod Messages
 pub mod Laws
 pub mod Known
 pub mod DeclaredRules
+pub mod Sessions
+pub mod SessionLaws

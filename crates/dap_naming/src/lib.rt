@@ -3,13 +3,15 @@
 //! A declared id is a token of a string, or an integer. Each label has names of its own, which
 //! are given to its values in the order of their first appearance. So the names keep which values
 //! are equal, and nothing else. [`name_tree`] replaces the ids of a message by their names, in
-//! place. `specs/` defines the ids and the names, and [`laws`] states what holds for them.
+//! place, and [`name_message`] does so by the declarations of a rules file. `specs/` defines the ids
+//! and the names, and [`laws`] states what holds for them.
 #![tactic(auto)]
 
 mod choice;
 mod fault;
 pub mod laws;
 mod rules;
+mod sessions;
 mod texts;
 mod trees;
 mod value_numbers;
@@ -18,5 +20,6 @@ mod worked_names;
 
 pub use fault::NamingFault;
 pub use rules::Declared;
+pub use sessions::name_message;
 pub use trees::name_tree;
 pub use value_numbers::ValueNumbers;

@@ -4,7 +4,7 @@ ghost use Rattle.std.specs.Prelude.{take, drop};
 ghost use Rattle.dap_tokens.specs.Tokens.{is_label, token, parts, parts_from};
 ghost use Rattle.dap_tokens.specs.Naming.{ids, named};
 ghost use Rattle.dap_naming.specs.Documents.{labelled};
-ghost use Rattle.dap_naming.specs.Known.{Names, Writes};
+ghost use Rattle.dap_naming.specs.Known.{Names, Writes, FitsLimit, ExceedsLimit, part_ids, limit_of};
 
 use crate::fault::NamingFault;
 use crate::value_numbers::ValueNumbers;
@@ -25,9 +25,14 @@ pub(crate) fn name_text(
     text: &str,
 ) -> Result<String, NamingFault>
     requires { is_label label.now ≡ true }
-    ensures { IfOk result (λ s. Names numbers.old numbers.new
+    ensures names { IfOk result (λ s. Names numbers.old numbers.new
         (labelled label.now (ids label.now form text.now))
         (λ number. string_bytes s ≡ named label.now form (number label.now) text.now)) }
+    ensures few { OnOk result
+        (FitsLimit numbers.old (labelled label.now (ids label.now form text.now))) }
+    ensures full { result ≡ Err NamingFault.Full
+        → ExceedsLimit numbers.old (labelled label.now (ids label.now form text.now)) }
+    ensures limit { limit_of numbers.new ≡ limit_of numbers.old }
 {
     let named = name_bytes(alloc, numbers, label, form, text.as_bytes())?;
     Ok(String::from_utf8(named).unwrap())
@@ -41,8 +46,13 @@ fn name_bytes(
     text: &[u8],
 ) -> Result<Vec<u8>, NamingFault>
     requires { is_label label.now ≡ true }
-    ensures { IfOk result (λ v. Writes numbers.old numbers.new label.now form
+    ensures writes { IfOk result (λ v. Writes numbers.old numbers.new label.now form
         (parts label.now form text.now) [] v.items) }
+    ensures few { OnOk result
+        (FitsLimit numbers.old (part_ids label.now form (parts label.now form text.now))) }
+    ensures full { result ≡ Err NamingFault.Full
+        → ExceedsLimit numbers.old (part_ids label.now form (parts label.now form text.now)) }
+    ensures limit { limit_of numbers.new ≡ limit_of numbers.old }
 {
     let mut named = Vec::new(alloc);
     match form {
@@ -67,8 +77,13 @@ fn name_parts(
     named: &mut Vec<u8>,
 ) -> Result<(), NamingFault>
     requires { is_label label.now ≡ true }
-    ensures { OnOk result (Writes numbers.old numbers.new label.now form
+    ensures writes { OnOk result (Writes numbers.old numbers.new label.now form
         (parts_from label.now form 0 false text.now) named.old.items named.new.items) }
+    ensures few { OnOk result (FitsLimit numbers.old
+        (part_ids label.now form (parts_from label.now form 0 false text.now))) }
+    ensures full { result ≡ Err NamingFault.Full → ExceedsLimit numbers.old
+        (part_ids label.now form (parts_from label.now form 0 false text.now)) }
+    ensures limit { limit_of numbers.new ≡ limit_of numbers.old }
 {
     let mut rest = text;
     let mut after_digit = false;
@@ -117,8 +132,13 @@ fn name_token(
     named: &mut Vec<u8>,
 ) -> Result<(), NamingFault>
     requires { is_label label.now ≡ true }
-    ensures { OnOk result (Writes numbers.old numbers.new label.now form (token part.now ∷ [])
-        named.old.items named.new.items) }
+    ensures writes { OnOk result (Writes numbers.old numbers.new label.now form
+        (token part.now ∷ []) named.old.items named.new.items) }
+    ensures few { OnOk result
+        (FitsLimit numbers.old (part_ids label.now form (token part.now ∷ []))) }
+    ensures full { result ≡ Err NamingFault.Full
+        → ExceedsLimit numbers.old (part_ids label.now form (token part.now ∷ [])) }
+    ensures limit { limit_of numbers.new ≡ limit_of numbers.old }
 {
     let value = value(alloc, label, form, part)?;
     if is_nothing(&value) {

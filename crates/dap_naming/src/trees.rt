@@ -4,10 +4,10 @@ ghost use Rattle.std.specs.Prelude.{string_bytes, string_cmp};
 ghost use Rattle.std.specs.BTreeMap.{insert_entry};
 ghost use Rattle.dap_tokens.specs.Tokens.{is_label};
 ghost use Rattle.dap_tree.specs.View.{view, items_view, members_view};
-ghost use Rattle.dap_naming.specs.Documents.{ids_of, items_ids, members_ids, named_doc};
+ghost use Rattle.dap_naming.specs.Documents.{ids_of, items_ids, members_ids};
 ghost use Rattle.dap_naming.specs.Documents.{named_items, named_members};
 ghost use Rattle.dap_naming.specs.Documents.{ids_of_text, named_text, ids_of_whole, named_whole};
-ghost use Rattle.dap_naming.specs.Known.{Names};
+ghost use Rattle.dap_naming.specs.Known.{Names, NamesDoc, FitsLimit, ExceedsLimit, limit_of};
 ghost use Rattle.dap_naming.specs.DeclaredRules.{rules_of, have_labels, declared_as, HasLabel};
 
 use crate::choice::{below, here, inside};
@@ -38,9 +38,13 @@ pub fn name_tree(
     rules: &[Declared<'_>],
 ) -> Result<(), NamingFault>
     requires { have_labels (rules_of rules.now) ≡ true }
-    ensures { OnOk result (Names numbers.old numbers.new
-        (ids_of (rules_of rules.now) (view tree.old))
-        (λ number. view tree.new ≡ named_doc (rules_of rules.now) number (view tree.old))) }
+    ensures names { OnOk result
+        (NamesDoc numbers.old numbers.new (rules_of rules.now) (view tree.old) (view tree.new)) }
+    ensures few { OnOk result
+        (FitsLimit numbers.old (ids_of (rules_of rules.now) (view tree.old))) }
+    ensures full { result ≡ Err NamingFault.Full
+        → ExceedsLimit numbers.old (ids_of (rules_of rules.now) (view tree.old)) }
+    ensures limit { limit_of numbers.new ≡ limit_of numbers.old }
 {
     let old = mem::replace(tree, Tree::Null);
     *tree = named(alloc, numbers, old, rules)?;
@@ -55,9 +59,12 @@ fn named(
     rules: &[Declared<'_>],
 ) -> Result<Tree, NamingFault>
     requires { have_labels (rules_of rules.now) ≡ true }
-    ensures { IfOk result (λ t. Names numbers.old numbers.new
-        (ids_of (rules_of rules.now) (view tree))
-        (λ number. view t ≡ named_doc (rules_of rules.now) number (view tree))) }
+    ensures names { IfOk result
+        (λ t. NamesDoc numbers.old numbers.new (rules_of rules.now) (view tree) (view t)) }
+    ensures few { OnOk result (FitsLimit numbers.old (ids_of (rules_of rules.now) (view tree))) }
+    ensures full { result ≡ Err NamingFault.Full
+        → ExceedsLimit numbers.old (ids_of (rules_of rules.now) (view tree)) }
+    ensures limit { limit_of numbers.new ≡ limit_of numbers.old }
 {
     if rules.is_empty() {
         return Ok(tree);
@@ -82,10 +89,15 @@ fn named_items(
 ) -> Result<Vec<Tree>, NamingFault>
     requires labels { have_labels (rules_of rules.now) ≡ true }
     requires some { 0 < length rules.now }
-    ensures { IfOk result (λ v. Names numbers.old numbers.new
+    ensures names { IfOk result (λ v. Names numbers.old numbers.new
         (items_ids (rules_of rules.now) (items_view items.items))
         (λ number. items_view v.items
         ≡ named_items (rules_of rules.now) number (items_view items.items))) }
+    ensures few { OnOk result
+        (FitsLimit numbers.old (items_ids (rules_of rules.now) (items_view items.items))) }
+    ensures full { result ≡ Err NamingFault.Full
+        → ExceedsLimit numbers.old (items_ids (rules_of rules.now) (items_view items.items)) }
+    ensures limit { limit_of numbers.new ≡ limit_of numbers.old }
 {
     let mut list = Vec::new(alloc);
     for item in items {
@@ -111,10 +123,15 @@ fn named_members(
 ) -> Result<BTreeMap<String, Tree>, NamingFault>
     requires labels { have_labels (rules_of rules.now) ≡ true }
     requires some { 0 < length rules.now }
-    ensures { IfOk result (λ m. Names numbers.old numbers.new
+    ensures names { IfOk result (λ m. Names numbers.old numbers.new
         (members_ids (rules_of rules.now) (members_view members.entries))
         (λ number. members_view m.entries
         ≡ named_members (rules_of rules.now) number (members_view members.entries))) }
+    ensures few { OnOk result
+        (FitsLimit numbers.old (members_ids (rules_of rules.now) (members_view members.entries))) }
+    ensures full { result ≡ Err NamingFault.Full → ExceedsLimit numbers.old
+        (members_ids (rules_of rules.now) (members_view members.entries)) }
+    ensures limit { limit_of numbers.new ≡ limit_of numbers.old }
 {
     let mut object = BTreeMap::new(alloc);
     for (name, member) in members {
@@ -140,10 +157,15 @@ fn named_text(
     rule: Option<(Form, &str)>,
 ) -> Result<String, NamingFault>
     requires { HasLabel (declared_as rule) }
-    ensures { IfOk result (λ s. Names numbers.old numbers.new
+    ensures names { IfOk result (λ s. Names numbers.old numbers.new
         (ids_of_text (declared_as rule.entry) (string_bytes text))
         (λ number. string_bytes s
         ≡ named_text (declared_as rule.entry) number (string_bytes text))) }
+    ensures few { OnOk result
+        (FitsLimit numbers.old (ids_of_text (declared_as rule.entry) (string_bytes text))) }
+    ensures full { result ≡ Err NamingFault.Full
+        → ExceedsLimit numbers.old (ids_of_text (declared_as rule.entry) (string_bytes text)) }
+    ensures limit { limit_of numbers.new ≡ limit_of numbers.old }
 {
     match rule {
         Some((form, label)) => name_text(alloc, numbers, label, form, &text),
@@ -158,9 +180,14 @@ fn named_whole(
     rule: Option<(Form, &str)>,
 ) -> Result<i128, NamingFault>
     requires { HasLabel (declared_as rule) }
-    ensures { IfOk result (λ z. Names numbers.old numbers.new
+    ensures names { IfOk result (λ z. Names numbers.old numbers.new
         (ids_of_whole (declared_as rule.entry) value)
         (λ number. z ≡ named_whole (declared_as rule.entry) number value)) }
+    ensures few { OnOk result
+        (FitsLimit numbers.old (ids_of_whole (declared_as rule.entry) value)) }
+    ensures full { result ≡ Err NamingFault.Full
+        → ExceedsLimit numbers.old (ids_of_whole (declared_as rule.entry) value) }
+    ensures limit { limit_of numbers.new ≡ limit_of numbers.old }
 {
     match rule {
         Some((Form::Whole, label)) => number_whole(alloc, numbers, value, label),
@@ -177,9 +204,14 @@ fn number_whole(
     label: &str,
 ) -> Result<i128, NamingFault>
     requires { is_label label.now ≡ true }
-    ensures { IfOk result (λ z. Names numbers.old numbers.new
+    ensures names { IfOk result (λ z. Names numbers.old numbers.new
         (ids_of_whole (Some (Form.Whole, label.now)) value)
         (λ number. z ≡ named_whole (Some (Form.Whole, label.now)) number value)) }
+    ensures few { OnOk result
+        (FitsLimit numbers.old (ids_of_whole (Some (Form.Whole, label.now)) value)) }
+    ensures full { result ≡ Err NamingFault.Full
+        → ExceedsLimit numbers.old (ids_of_whole (Some (Form.Whole, label.now)) value) }
+    ensures limit { limit_of numbers.new ≡ limit_of numbers.old }
 {
     let mut buffer = Buffer::new();
     let text = buffer.format(value).as_bytes();

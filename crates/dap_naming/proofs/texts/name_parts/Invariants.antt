@@ -1,14 +1,17 @@
-use Rattle.std.proofs.Common.{◌≡◌, ◌++◌, List, length, false}
-use Rattle.dap_tokens.specs.Tokens.{Part, parts_from}
-use Rattle.dap_naming.specs.Known.{Writes}
+use Rattle.std.proofs.Common.{◌≡◌, length, false}
+use Rattle.dap_tokens.specs.Tokens.{parts_from}
+use Rattle.dap_naming.specs.Known.{limit_of}
+use Rattle.dap_naming.proofs.Writing.{Reads}
 use Rattle.dap_naming.proofs.texts.name_parts.Given as goal
 
--- the parts `ps` are written, and the others are left
+-- some parts are written, and the others are left
 abbrev pub invariant-parts : goal.invariant-parts
-invariant-parts l = (ps : List Part)
-    × (ps ++ parts_from l.label l.form 0 l.after_digit l.rest
-    ≡ parts_from l.label l.form 0 false l.fn.text)
-    × Writes l.fn.numbers l.numbers l.label l.form ps l.fn.named.items l.named.items
+invariant-parts l = record {
+  read : Reads l.label l.form l.fn.numbers l.numbers
+      (parts_from l.label l.form 0 false l.fn.text) l.after_digit l.rest l.fn.named.items
+      l.named.items;
+  limit : limit_of l.numbers ≡ limit_of l.fn.numbers;
+}
 
 abbrev pub decreases-parts : goal.decreases-parts
 decreases-parts l = length l.rest

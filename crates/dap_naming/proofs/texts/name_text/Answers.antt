@@ -8,4 +8,4 @@ unwrap-requires c =
     c.from_utf8.ensures.succeeds
     (written_utf8 c.args.numbers.now c.name_bytes.new.numbers c.args.label.now c.args.form
     c.args.text.now c.in_ok-named.named.items c.as_bytes.result.now c.requires c.utf8.text same
-    c.in_ok-named.ensures)
+    c.in_ok-named.ensures.writes)

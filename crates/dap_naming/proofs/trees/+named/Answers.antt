@@ -2,18 +2,26 @@ use Rattle.std.proofs.Common.{◌≡◌, ◌+◌, ◌*◌, ◌<◌, true, [], �
 use Rattle.std.proofs.Common.{append_assoc, string_bytes, string_cmp}
 use Rattle.std.specs.Map.{keys_of}
 use Rattle.std.specs.List.Sorted.{IsStrictlySortedBy}
-use Rattle.dap_tree.specs.View.{view}
-use Rattle.dap_naming.specs.Documents.{inside, below}
+use Rattle.dap_tree.specs.View.{view, items_view, members_view}
+use Rattle.dap_naming.specs.Documents.{inside, below, named_items, named_members}
 use Rattle.dap_naming.specs.DeclaredRules.{rules_of, have_labels, HasLabel}
 use Rattle.dap_naming.proofs.Choosing.{weight, falls_inside, falls_below, labels-inside}
 use Rattle.dap_naming.proofs.Choosing.{labels-below, labelled_here, no_rules}
+use Rattle.dap_naming.proofs.Limits.{same_fault}
+use Rattle.dap_naming.proofs.LimitsInTrees.{few_unruled, items_few, items_full, members_few}
+use Rattle.dap_naming.proofs.LimitsInTrees.{members_full}
 use Rattle.dap_naming.proofs.MoreParts.{Entry}
 use Rattle.dap_naming.proofs.TreeNames.{doc_unruled, items_more, members_more}
 use Rattle.dap_naming.proofs.trees.+named.Goals as goal
 
-pub named-returns-then-is_empty : goal.named-returns-then-is_empty
-named-returns-then-is_empty t c =
+pub named-returns-then-is_empty-clause-names : goal.named-returns-then-is_empty-clause-names
+named-returns-then-is_empty-clause-names t c =
     doc_unruled c.args.numbers.now (rules_of c.args.rules.now) (view c.args.tree)
+    (no_rules c.args.rules.now (sym c.is_empty.ensures ∙ c.if-is_empty.true))
+
+pub named-returns-then-is_empty-clause-few : goal.named-returns-then-is_empty-clause-few
+named-returns-then-is_empty-clause-few t c =
+    few_unruled c.args.numbers.now (rules_of c.args.rules.now) (view c.args.tree)
     (no_rules c.args.rules.now (sym c.is_empty.ensures ∙ c.if-is_empty.true))
 
 pub named-named_whole-requires : goal.named-named_whole-requires
@@ -47,9 +55,28 @@ named_items-loop-item-preserved t c =
       done = items_more c.args.numbers.now l.numbers c.named.new.numbers (rules_of c.args.rules.now)
           (rules_of c.deref.result.now) l.yielded l.list.items c.push.new.list.items
           c.in-Some.item c.in_ok-named.field-0 l.invariant.done
-          (ap rules_of c.deref.ensures.value ∙ c.in_ok-left.ensures) c.in_ok-named.ensures
+          (ap rules_of c.deref.ensures.value ∙ c.in_ok-left.ensures) c.in_ok-named.ensures.names
           c.in_ok-push.ensures;
+      few = items_few c.args.numbers.now l.numbers (rules_of c.args.rules.now)
+          (rules_of c.deref.result.now) l.yielded c.in-Some.item
+          (λ n. items_view l.list.items
+          ≡ named_items (rules_of c.args.rules.now) n (items_view l.yielded)) l.invariant.done
+          l.invariant.limit (ap rules_of c.deref.ensures.value ∙ c.in_ok-left.ensures)
+          l.invariant.few c.in_ok-named.ensures.few;
+      limit = c.in_ok-named.ensures.limit ∙ l.invariant.limit;
     }
+
+pub named_items-returns-in_err-named-clause-full : goal.named_items-returns-in_err-named-clause-full
+named_items-returns-in_err-named-clause-full t c =
+    let l = c.loop-item in
+    λ e. items_full c.args.numbers.now l.numbers (rules_of c.args.rules.now)
+    (rules_of c.deref.result.now) l.yielded c.in-Some.item
+    (λ n. items_view l.list.items
+    ≡ named_items (rules_of c.args.rules.now) n (items_view l.yielded)) l.invariant.done
+    l.invariant.limit (ap rules_of c.deref.ensures.value ∙ c.in_ok-left.ensures)
+    c.args.items.items _ (l.invariant.all ∙ ap (λ vs. l.yielded ++ vs) c.in-Some.ensures.steps.0)
+    (c.named.ensures.full (same_fault c.named.result c.from_residual-in_err-named.result
+    c.in_err-named.field-0.0 c.in_err-named.was c.from_residual-in_err-named.ensures.1 e))
 
 pub named_members-named-requires : goal.named_members-named-requires
 named_members-named-requires t c =
@@ -81,5 +108,30 @@ named_members-loop-name-preserved t c =
           l.invariant.done
           (ap rules_of c.deref-in-loop-name.ensures.value ∙ c.in_ok-left.ensures
           ∙ ap (λ n. below n (rules_of c.args.rules.now)) c.deref.ensures)
-          c.in_ok-member.ensures c.in_ok-put.ensures;
+          c.in_ok-member.ensures.names c.in_ok-put.ensures;
+      few = members_few c.args.numbers.now l.numbers (rules_of c.args.rules.now)
+          (rules_of c.deref-in-loop-name.result.now) l.yielded e
+          (λ n. members_view l.object.entries
+          ≡ named_members (rules_of c.args.rules.now) n (members_view l.yielded)) l.invariant.done
+          l.invariant.limit
+          (ap rules_of c.deref-in-loop-name.ensures.value ∙ c.in_ok-left.ensures
+          ∙ ap (λ n. below n (rules_of c.args.rules.now)) c.deref.ensures)
+          l.invariant.few c.in_ok-member.ensures.few;
+      limit = c.in_ok-member.ensures.limit ∙ l.invariant.limit;
     }
+
+pub named_members-returns-in_err-member-clause-full
+    : goal.named_members-returns-in_err-member-clause-full
+named_members-returns-in_err-member-clause-full t c =
+    let l = c.loop-name in
+    let e : Entry = (c.in-Some.name, c.in-Some.member) in
+    λ failed. members_full c.args.numbers.now l.numbers (rules_of c.args.rules.now)
+    (rules_of c.deref-in-loop-name.result.now) l.yielded e
+    (λ n. members_view l.object.entries
+    ≡ named_members (rules_of c.args.rules.now) n (members_view l.yielded)) l.invariant.done
+    l.invariant.limit
+    (ap rules_of c.deref-in-loop-name.ensures.value ∙ c.in_ok-left.ensures
+    ∙ ap (λ n. below n (rules_of c.args.rules.now)) c.deref.ensures)
+    c.args.members.entries _ (l.invariant.all ∙ ap (λ vs. l.yielded ++ vs) c.in-Some.ensures.steps)
+    (c.named.ensures.full (same_fault c.named.result c.from_residual-in_err-member.result
+    c.in_err-member.field-0.0 c.in_err-member.was c.from_residual-in_err-member.ensures.1 failed))
