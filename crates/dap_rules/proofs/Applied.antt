@@ -1,4 +1,4 @@
--- The result of applying rules to bytes in memory.
+-- The result of masking bytes in memory by rules, and of putting them in order.
 use Rattle.std.proofs.Common.{◌≡◌, inl, inr, ℕ, List, [], ◌∷◌, length, nat_eq, false, true}
 use Rattle.std.proofs.Common.{◌∙◌, Err, arith, refl, sym, subst, true≢false}
 use Rattle.dap_mask.specs.{KeptRules.mask_of, Mask.Mask, declared.mask_rules.MaskRules.MaskRules}
@@ -8,7 +8,7 @@ use Rattle.dap_rename.specs.declared.mode.Mode.{Mode}
 use Rattle.dap_input.specs.{Limits.AreSound, declared.limits.Limits.Limits}
 use Rattle.dap_input.specs.declared.refused.Refused.{Refused}
 use Rattle.dap_input.specs.declared.refused.Refused.TheVariants.{Memory}
-use Rattle.dap_normalise.specs.{Accepting.{Payload, text}, Normalising.RefusesBytes}
+use Rattle.dap_normalise.specs.{Accepting.{IsAccepted, Payload, text}, Normalising.RefusesBytes}
 use Rattle.dap_normalise.specs.RecordTexts.{FitRecords}
 use Rattle.dap_normalise.specs.declared.normal_session.NormalSession.{NormalSession}
 use Rattle.dap_recording.specs.Recording.{recording_text}
@@ -17,14 +17,14 @@ use Rattle.dap_rules.specs.declared.masked_session.MaskedSession.{MaskedSession}
 use Rattle.dap_order.specs.MessageOrder.{ordered}
 use Rattle.dap_rules.specs.OrderingSteps.{Arranges, Measures}
 use Rattle.dap_rules.specs.Ordering.{IsNotOrdered, NormalisesInOrder, Orders, RefusesToOrder}
-use Rattle.dap_rules.specs.Applying.{AppliesRules, IsNotNormalised, IsNotOrderedBy}
-use Rattle.dap_rules.specs.Applying.{IsRefusedByRules, NormalisesBy, OrdersBy, RefusesNormalBy}
-use Rattle.dap_rules.specs.Applying.{IsMaskedByRules, MakesSession, RefusesToMaskByRules}
-use Rattle.dap_rules.specs.ApplyingSteps.{IsMaskedSessionByRules, MakesSessionBy, mask_refusal}
-use Rattle.dap_rules.specs.ApplyingSteps.{order_refusal}
+use Rattle.dap_rules.specs.Applying.{IsMaskedByRules, IsNotOrderedBy, IsOrderedByRules}
+use Rattle.dap_rules.specs.Applying.{NormalisesBy, OrdersBy, RefusesNormalBy}
+use Rattle.dap_rules.specs.Applying.{RefusesToMaskByRules}
+use Rattle.dap_rules.specs.ApplyingSteps.{IsMaskedSessionByRules, IsRefusedInOrder}
+use Rattle.dap_rules.specs.ApplyingSteps.{IsRejectedInOrder, MakesOrdered, MakesSessionBy}
+use Rattle.dap_rules.specs.ApplyingSteps.{mask_refusal, order_refusal}
 use Rattle.dap_rules.specs.declared.fault.ApplyRefused.{ApplyRefused, TheVariants.Order}
 use Rattle.dap_rules.proofs.{MaskedSessions.{fit, masks, records}, OneOrderOutcome.outcome}
-use Rattle.dap_rules.proofs.JoinOutcomes.{masks_of}
 use Rattle.dap_rules.proofs.OrderAnswers.{arranged_text, not_written, recording_refused}
 
 -- Some of the rules are for the order.
@@ -85,27 +85,16 @@ module _ (limits : Limits) (mode : Mode) (recording : List ℕ) where
 
   module _ (mask : Mask) where
     pub cannot_mask : (because : Refused) → RefusesToMaskByRules limits mask recording because
-        → IsRefusedByRules limits mode mask recording (mask_refusal because)
+        → IsRefusedInOrder limits mode mask recording (mask_refusal because)
     cannot_mask Memory is = tt
     cannot_mask because is = is
 
     pub not_masked : (because : Refused) → RefusesToMaskByRules limits mask recording because
-        → IsNotNormalised limits mode mask recording (mask_refusal because)
+        → IsRejectedInOrder limits mode mask recording (mask_refusal because)
     not_masked Memory is = tt
     not_masked because is = is
 
     module _ (masked : List ℕ) (masks : IsMaskedByRules limits mask recording masked) where
-      pub applies : (written : List ℕ) → OrdersBy limits mode mask.swaps masked written
-          → AppliesRules limits mode mask recording written
-      applies written orders = record {
-        joined = masks.0;
-        numbers = masks.1;
-        joins = masks.2;
-        masked = masked;
-        masks = masks.3;
-        orders = orders;
-      }
-
       is_refused : (rules : List SwapRule) → (rules ≡ [] → ⊥) → (because : Refused)
           → IsNotOrdered limits mode rules masked because
           → IsNotOrderedBy limits mode rules masked because
@@ -114,7 +103,7 @@ module _ (limits : Limits) (mode : Mode) (recording : List ℕ) where
 
       pub cannot_order : (mask.swaps ≡ [] → ⊥) → (because : Refused)
           → RefusesToOrder limits mode mask.swaps masked because
-          → IsRefusedByRules limits mode mask recording (order_refusal because)
+          → IsRefusedInOrder limits mode mask recording (order_refusal because)
       cannot_order some Memory is = tt
       cannot_order some because is = (masked, masks, is_refused mask.swaps some because is)
 
@@ -122,11 +111,15 @@ module _ (limits : Limits) (mode : Mode) (recording : List ℕ) where
       -- in order.
       by_swaps : (swaps : List SwapRule) → mask.swaps ≡ swaps → (because : Refused)
           → RefusesNormalBy limits mode swaps masked because
-          → IsNotNormalised limits mode mask recording (order_refusal because)
+          → IsRejectedInOrder limits mode mask recording (order_refusal because)
       by_swaps swaps same Memory is = tt
       by_swaps [] none because is = inr (
         masked,
-        applies masked (subst (λ rules. OrdersBy limits mode rules masked masked) (sym none) refl),
+        (
+          masked,
+          masks,
+          subst (λ rules. OrdersBy limits mode rules masked masked) (sym none) refl,
+        ),
         is,
       )
       by_swaps (rule ∷ rules) same because is = inl (
@@ -137,7 +130,7 @@ module _ (limits : Limits) (mode : Mode) (recording : List ℕ) where
 
       pub not_normalised : (because : Refused)
           → RefusesNormalBy limits mode mask.swaps masked because
-          → IsNotNormalised limits mode mask recording (order_refusal because)
+          → IsRejectedInOrder limits mode mask recording (order_refusal because)
       not_normalised = by_swaps mask.swaps refl
 
 -- A masked session, and the rules for the order.
@@ -162,22 +155,24 @@ module _ (limits : Limits) (sound : AreSound limits) (mode : Mode) (rules : Mask
 
   pub session_applied : (fact : List ℕ → Type 0) → OfRecords (λ masked. (written : List ℕ)
       × OrdersBy limits mode swaps masked written × fact written)
-      → (written : List ℕ) × AppliesRules limits mode (mask_of rules) recording written
-      × fact written
+      → MakesOrdered limits mode (mask_of rules) recording fact
   session_applied fact made =
       let is_made = of_masked (λ masked. (written : List ℕ)
       × OrdersBy limits mode swaps masked written × fact written) made in
       let result = is_made.2 in (
         result.0,
-        applies limits mode recording (mask_of rules) is_made.0 is_made.1 result.0
-            (subst (λ (all : List SwapRule). OrdersBy limits mode all is_made.0 result.0) same
-            result.1),
+        (
+          is_made.0,
+          is_made.1,
+          subst (λ (all : List SwapRule). OrdersBy limits mode all is_made.0 result.0) same
+              result.1,
+        ),
         result.2,
       )
 
   pub session_refused : (because : Refused)
       → OfRecords (λ masked. RefusesNormalBy limits mode swaps masked because)
-      → IsNotNormalised limits mode (mask_of rules) recording (order_refusal because)
+      → IsRejectedInOrder limits mode (mask_of rules) recording (order_refusal because)
   session_refused because refuses =
       let is_made = of_masked (λ masked. RefusesNormalBy limits mode swaps masked because) refuses in
       not_normalised limits mode recording (mask_of rules) is_made.0 is_made.1 because
@@ -188,38 +183,38 @@ module _ (limits : Limits) (sound : AreSound limits) (mode : Mode) (rules : Mask
 module _ (limits : Limits) (mode : Mode) (mask : Mask) (some : mask.swaps ≡ [] → ⊥)
     (recording : List ℕ) where
   -- The text in order is accepted.
-  pub not_made : (because : ApplyRefused) → IsNotNormalised limits mode mask recording because
-      → IsRefusedByRules limits mode mask recording because
+  pub not_made : (because : ApplyRefused) → IsRejectedInOrder limits mode mask recording because
+      → IsRefusedInOrder limits mode mask recording because
   not_made (Order refused) (inl is) = is
-  not_made (Order refused) (inr (written, made, is)) =
-      let in_order = ordered_by limits mode made.masked mask.swaps some written made.orders in
+  not_made (Order refused) (inr (written, (masked, masks, made), is)) =
+      let in_order = ordered_by limits mode masked mask.swaps some written made in
       absurd ((outcome limits mode).not_both written (ordered mask.swaps in_order.messages) refused
       in_order.accepted is)
   not_made because is = is
 
-  module _ (messages : List Sent) (made : MakesSession limits mode mask recording messages) where
+  module _ (messages : List Sent) (made : MakesOrdered limits mode mask recording
+      (λ written. IsAccepted limits mode written messages)) where
     abbrev masked_text : List ℕ
-    masked_text = made.applies.masked
-
-    masks_to : IsMaskedByRules limits mask recording masked_text
-    masks_to = masks_of limits mode mask recording made.written made.applies
+    masked_text = made.1.0
 
     arranges : Arranges limits mode mask.swaps masked_text messages
     arranges = (
-      made.written,
-      ordered_by limits mode masked_text mask.swaps some made.written made.applies.orders,
-      made.accepted,
+      made.0,
+      ordered_by limits mode masked_text mask.swaps some made.0 made.1.2,
+      made.2,
     )
 
     pub text_applied : (written : List ℕ) → written ≡ text messages
-        → AppliesRules limits mode mask recording written
-    text_applied written same =
-        applies limits mode recording mask masked_text masks_to written
-        (orders limits mode masked_text mask.swaps some written
-        (arranged_text limits mode mask.swaps masked_text messages arranges written same))
+        → IsOrderedByRules limits mode mask recording written
+    text_applied written same = (
+      masked_text,
+      made.1.1,
+      orders limits mode masked_text mask.swaps some written
+          (arranged_text limits mode mask.swaps masked_text messages arranges written same),
+    )
 
     pub text_refused : (because : Refused) → Measures limits messages (Err because)
-        → IsRefusedByRules limits mode mask recording (order_refusal because)
+        → IsRefusedInOrder limits mode mask recording (order_refusal because)
     text_refused because long =
-        cannot_order limits mode recording mask masked_text masks_to some because
+        cannot_order limits mode recording mask masked_text made.1.1 some because
         (not_written limits mode mask.swaps masked_text messages arranges because long)

@@ -15,7 +15,11 @@ use Rattle.dap_input.proofs.Runs.{run_none}
 use Rattle.dap_normalise.specs.Accepting.{Fits, IsAccepted, accepting, text}
 use Rattle.dap_normalise.proofs.AcceptingFacts as normalised
 use Rattle.dap_order.specs.MessageOrder.{ordered}
-use Rattle.dap_rules.specs.Applying.{AppliesRules, JoinsBy, OrdersBy}
+use Rattle.dap_mask.specs.Declarations.{Declaration, are_declared}
+use Rattle.dap_rules.specs.Applying.{AppliesRules, JoinsBy, NamesBy, OrdersBy}
+use Rattle.dap_rules.specs.{NamedRecordings.IsNamedTo, Naming.naming}
+use Rattle.dap_rules.proofs.NamedForms.{named_to}
+use Rattle.dap_rules.proofs.NamingFacts as named
 use Rattle.dap_rules.specs.MaskedRecordings.{IsMaskedTo}
 use Rattle.dap_rules.specs.Masking.{masking}
 use Rattle.dap_rules.specs.Ordering.{Orders}
@@ -51,12 +55,24 @@ module _ (limits : Limits) (sound : AreSound limits) where
       ((masked.accepted_facts limits mask).accepted_of_run [] []
       (run_none (masking limits mask) [] 0))
 
+  pub none_named : (declared : List Declaration) → are_declared declared ≡ true
+      → IsNamedTo limits declared [] []
+  none_named declared are =
+      named_to limits sound declared are [] []
+      ((named.accepted_facts limits declared).accepted_of_run [] []
+      (run_none (naming limits declared) [] 0))
+
   pub masked_is_empty : (rules : MaskRules) (recording written : List ℕ) → recording ≡ []
       → IsMaskedTo limits (mask_of rules) recording written → written ≡ []
   masked_is_empty rules recording written none is =
       one_masked limits (mask_of rules) [] written []
       (subst (λ bytes. IsMaskedTo limits (mask_of rules) bytes written) none is)
       (none_masked rules)
+
+  none_named_by : (declared : List Declaration) → are_declared declared ≡ true
+      → NamesBy limits declared [] []
+  none_named_by [] are = refl
+  none_named_by (d ∷ declared) are = none_named (d ∷ declared) are
 
   module _ (mode : Mode) where
     none_accepted : IsAccepted limits mode [] []
@@ -86,5 +102,7 @@ module _ (limits : Limits) (sound : AreSound limits) where
       joins = none_joined limits (mask_of rules).joining;
       masked = [];
       masks = none_masked rules;
+      ordered = [];
       orders = none_in_order_by (mask_of rules).swaps;
+      names = none_named_by (mask_of rules).declared rules.list.labelled;
     }

@@ -1,5 +1,6 @@
 pub mod MemoryRuns
 pub mod Applied
+pub mod NamesApplied
 pub mod InputAnswers
 pub mod InputTexts
 pub mod MaskOutcomes
@@ -9,7 +10,14 @@ pub mod LeftLists
 pub mod MaskingFacts
 pub mod MaskedTexts
 pub mod MaskedRecords
-pub mod MaskingLoop
+pub mod FewValues
+pub mod NamedSound
+pub mod NamingFacts
+pub mod NamedRecords
+pub mod NamedTexts
+pub mod NamedForms
+pub mod RewritingFacts
+pub mod RewritingLoop
 pub mod MaskedSessions
 pub mod MaskedSessionLoop
 pub mod CheckedSessions
@@ -22,3 +30,12 @@ pub mod OrderAnswers
 pub mod OneOrderOutcome
 pub mod TextsByRules
 pub mod EmptyRecordings
+pub mod NamedCounts
+pub mod NamedIds
+pub mod NamedOrder
+pub mod NamedSameness
+pub mod NamedOrdered
+pub mod NamedChain
+pub mod NamedEquality
+pub mod NamedRules
+pub mod NamedContents

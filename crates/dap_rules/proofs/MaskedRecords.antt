@@ -17,7 +17,9 @@ use Rattle.dap_rename.proofs.Lists.{each-append, each_right}
 use Rattle.dap_mask.specs.Loose.{IsLeftOf, LeavesFraction}
 use Rattle.dap_mask.specs.Mask.{Mask}
 use Rattle.dap_rules.specs.Masking.{AreWhole, IsNext, Rejects, left_of, masked_text}
-use Rattle.dap_rules.specs.MaskingSteps.{Masked}
+use Rattle.dap_rules.specs.RewritingSteps.{Rewritten}
+use Rattle.dap_rules.specs.declared.passes.Pass.TheVariants.{Mask as MaskPass}
+use Rattle.dap_naming.specs.declared.value_numbers.ValueNumbers.{ValueNumbers}
 use Rattle.dap_rules.proofs.LeftLists.{left-append, left_none, left_one, masked_text-append}
 
 module _ (limits : Limits) (mask : Mask) (messages : List Sent) (held : Payload) (n written : ℕ)
@@ -42,9 +44,9 @@ module _ (limits : Limits) (mask : Mask) (messages : List Sent) (held : Payload)
         same,
       )
 
-  pub left_out : (out : List ℕ) → IsLeftOf mask held.1 None
-      → Masked limits mask messages held n out out (Ok written)
-  left_out out is =
+  pub left_out : (out : List ℕ) (numbers : ValueNumbers) → IsLeftOf mask held.1 None
+      → Rewritten MaskPass limits mask messages held n out out numbers (Ok written)
+  left_out out numbers is =
       let left = none_left is in
       record {
         message = left.0;
@@ -53,6 +55,7 @@ module _ (limits : Limits) (mask : Mask) (messages : List Sent) (held : Payload)
         appended = sym (append-nil out);
         text_is = ap text left.2 ∙ sym (append-nil (masked_text mask messages));
         count = count ∙ ap (λ ms. length (text ms)) (sym left.2);
+        numbered = tt;
       }
 
   -- A number that is not an integer of 64 bits remains after masking.
@@ -142,10 +145,10 @@ module _ (limits : Limits) (mask : Mask) (messages : List Sent) (held : Payload)
       long ∙ sym next_length,
     )
 
-    written_on : (old new : List ℕ) (after : ℕ)
+    written_on : (old new : List ℕ) (numbers : ValueNumbers) (after : ℕ)
         → WritesRecord limits left n written old new (Ok after)
-        → Masked limits mask messages held n old new (Ok after)
-    written_on old new after writes =
+        → Rewritten MaskPass limits mask messages held n old new numbers (Ok after)
+    written_on old new numbers after writes =
         let next = next_left old new after writes in
         record {
           message = message;
@@ -154,10 +157,11 @@ module _ (limits : Limits) (mask : Mask) (messages : List Sent) (held : Payload)
           appended = writes.1;
           text_is = text_is;
           count = next.1;
+          numbered = tt;
         }
 
-    pub recorded : (old new : List ℕ) (result : Result ℕ Refused)
+    pub recorded : (old new : List ℕ) (numbers : ValueNumbers) (result : Result ℕ Refused)
         → WritesRecord limits left n written old new result
-        → Masked limits mask messages held n old new result
-    recorded old new (Ok after) writes = written_on old new after writes
-    recorded old new (Err because) writes = not_written because old new writes
+        → Rewritten MaskPass limits mask messages held n old new numbers result
+    recorded old new numbers (Ok after) writes = written_on old new numbers after writes
+    recorded old new numbers (Err because) writes = not_written because old new writes

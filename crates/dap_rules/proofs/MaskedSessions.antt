@@ -28,7 +28,8 @@ use Rattle.dap_rules.specs.MaskedSessions.{Adds, HoldUpTo, Holds, IsMaskedSessio
 use Rattle.dap_rules.specs.MaskedSessions.{RepresentsMasked}
 use Rattle.dap_rules.specs.declared.masked_session.MaskedSession.{MaskedSession}
 use Rattle.dap_rules.proofs.MaskedRecords.{all_left, message, next_left, none_left}
-use Rattle.dap_rules.proofs.MaskingLoop.{promised}
+use Rattle.dap_rules.specs.declared.passes.Pass.TheVariants as pass
+use Rattle.dap_rules.proofs.RewritingFacts.{promised}
 
 -- ---- one more record
 
@@ -176,4 +177,4 @@ module _ (limits : Limits) (sound : AreSound limits) (rules : MaskRules) (record
   pub masks : IsMaskedTo limits mask recording (recording_text records)
   masks =
       subst (IsMaskedTo limits mask recording) (sym text_is)
-      (promised limits sound rules recording is.messages is.accepted)
+      (promised pass.Mask limits sound rules recording is.messages is.accepted)

@@ -4,7 +4,6 @@ use Rattle.std.proofs.Common.{◌≡◌, ℕ, Bool, true, false, not, List, [], 
 use Rattle.std.proofs.Common.{refl, sym, ◌∙◌, ap, ap₂, subst}
 use Rattle.std.specs.List.{AllByRecursion, AllZip}
 use Rattle.dap_tree.specs.Doc.{is_ordered}
-use Rattle.dap_tree.specs.Json.{text_of}
 use Rattle.dap_frame.proofs.Ends.{not_empty}
 use Rattle.dap_frame.proofs.ItemStreams as items
 use Rattle.dap_message.specs.Message.{Sent, IsTyped}
@@ -34,6 +33,7 @@ use Rattle.dap_mask.proofs.Loosening.{read_loose}
 use Rattle.dap_mask.proofs.Settled.{masked_once}
 use Rattle.dap_rules.specs.Masking.{AreMessages, AreWhole, IsAccepted, is_kept, kept, left_of}
 use Rattle.dap_rules.specs.Masking.{mask_message, masking}
+use Rattle.dap_rules.specs.Naming.{AreMessages as AreReadMessages}
 use Rattle.dap_rules.specs.MaskedRecordings.{Agree, HaveNoText, IsMasked, IsMaskedTo}
 use Rattle.dap_rules.specs.MaskedRecordings.{IsTypedAs, Masks, with_words}
 use Rattle.dap_rules.proofs.LeftLists.{by_bool}
@@ -70,6 +70,14 @@ AreReadLoosely [] (m ∷ ms) = ⊥
 AreReadLoosely (held ∷ records) [] = ⊥
 AreReadLoosely (held ∷ records) (m ∷ ms) = (m.side ≡ held.0) × IsReadLoosely held.1 m.doc
     × AreReadLoosely records ms
+
+loosely : (records : List Payload) (ms : List Sent) → AreReadMessages records ms
+    → AreReadLoosely records ms
+loosely [] [] read = tt
+loosely [] (m ∷ ms) read = absurd read
+loosely (held ∷ records) [] read = absurd read
+loosely (held ∷ records) (m ∷ ms) read =
+    (read.0.0, read_loose held.1 m.doc read.0.1, loosely records ms read.1)
 
 -- The rules set no member of the messages.
 abbrev AreFilled : Mask → List Sent → Type 0
@@ -133,22 +141,30 @@ module _ (mask : Mask) (safe : are_safe mask.changes ≡ true)
       (all_equal ms ns read.1 agree.1)
 
   -- The masked messages are read from their own text.
-  read_again : AreUtf8 mask.words → AreFillsUtf8 mask.fills → (messages : List Sent)
+  left_read : AreUtf8 mask.words → AreFillsUtf8 mask.fills → (messages : List Sent)
       → AllByRecursion (IsSomeRead mask) messages → AreWhole (left_of mask messages)
-      → AreReadLoosely (contents_of (left_of mask messages)) (left_of mask messages)
-  read_again utf8 fills [] read whole = tt
-  read_again utf8 fills (m ∷ messages) read whole =
+      → AreReadMessages (contents_of (left_of mask messages)) (left_of mask messages)
+  left_read utf8 fills [] read whole = tt
+  left_read utf8 fills (m ∷ messages) read whole =
       by_bool (leaves_out mask m.doc)
-      (λ yes. rw yes (read_again utf8 fills messages read.1 (rw yes at whole)))
+      (λ yes. rw yes (left_read utf8 fills messages read.1 (rw yes at whole)))
       (λ no.
       let sound = rw no at whole in
       let e = masked mask.changes m.doc in
       rw no (
-        refl,
-        read_loose (text_of e) e
-            (left_is_read mask read.0.0 e utf8 fills (m.doc, read.0.1, (no, refl, sound.0))),
-        read_again utf8 fills messages read.1 sound.1,
+        (
+          refl,
+          left_is_read mask read.0.0 e utf8 fills (m.doc, read.0.1, (no, refl, sound.0)),
+        ),
+        left_read utf8 fills messages read.1 sound.1,
       ))
+
+  read_again : AreUtf8 mask.words → AreFillsUtf8 mask.fills → (messages : List Sent)
+      → AllByRecursion (IsSomeRead mask) messages → AreWhole (left_of mask messages)
+      → AreReadLoosely (contents_of (left_of mask messages)) (left_of mask messages)
+  read_again utf8 fills messages read whole =
+      loosely (contents_of (left_of mask messages)) (left_of mask messages)
+      (left_read utf8 fills messages read whole)
 
   -- No member of the masked messages is left to be set.
   all_filled : keep_fills mask.changes mask.fills ≡ true → (messages : List Sent)
@@ -350,6 +366,11 @@ module _ (limits : Limits) (sound : AreSound limits) where
             masks = masks;
             places = each_masked (kept mask messages)
                 (kept_read mask messages (all_read mask accepted.records messages accepted.read));
+            records = contents_of (left_of mask messages);
+            recording = let fits = accepted.fits in
+                recording_of limits sound (left_of mask messages) fits.each;
+            read = left_read mask safe settled keep utf8 fills messages
+                (all_read mask accepted.records messages accepted.read) accepted.whole;
             again = again;
             only = λ other is. one_text written written other again is;
             again_with_words = λ none. masks_with bytes written masks none;

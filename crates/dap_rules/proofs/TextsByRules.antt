@@ -5,7 +5,10 @@ use Rattle.std.specs.List.{AllZip}
 use Rattle.dap_recording.proofs.Records.{readable}
 use Rattle.dap_message.specs.Message.{Sent}
 use Rattle.dap_message.specs.SwapRules.{SwapRule}
-use Rattle.dap_mask.specs.Mask.{Mask}
+use Rattle.dap_recording.specs.Recording.{IsRecording}
+use Rattle.dap_mask.specs.{Declarations.Declaration, Mask.Mask}
+use Rattle.dap_naming.specs.Sessions.{named_sents}
+use Rattle.dap_naming.proofs.SessionsNamed.{no_declarations}
 use Rattle.dap_rename.specs.Messages.{AreSame, no_stop, normal_of}
 use Rattle.dap_rename.specs.Modes.{stop_in}
 use Rattle.dap_rename.specs.declared.mode.Mode.{Mode}
@@ -13,23 +16,27 @@ use Rattle.dap_rename.specs.declared.mode.Mode.TheVariants.{Whole}
 use Rattle.dap_input.specs.declared.limits.Limits.{Limits}
 use Rattle.dap_input.proofs.Outcomes.{one_list}
 use Rattle.dap_normalise.specs.declared.normal_session.NormalSession.{NormalSession}
-use Rattle.dap_normalise.specs.Accepting.{IsAccepted, text}
+use Rattle.dap_normalise.specs.Accepting.{IsAccepted, text, AreMessages as AreTypedMessages}
+use Rattle.dap_normalise.specs.Normalising.{Normalises}
 use Rattle.dap_normalise.proofs.AcceptingFacts.{messages_proper}
 use Rattle.dap_normalise.proofs.NormalFormLaws.{numbered}
 use Rattle.dap_normalise.proofs.NormalTexts.{normal}
 use Rattle.dap_order.specs.Free.{free}
 use Rattle.dap_order.specs.Swaps.{Reordered, unmoved, swapped}
-use Rattle.dap_order.specs.MessageOrder.{ordered}
+use Rattle.dap_order.specs.MessageOrder.{ordered as in_order}
 use Rattle.dap_order.proofs.MessageOrder.{to_ordered}
 use Rattle.dap_order.proofs.SameMessages.{same_orders, from_same_orders}
-use Rattle.dap_rules.specs.Applying.{IsMaskedByRules, MakesSession, NormalisesByRules, OrdersBy}
+use Rattle.dap_rules.specs.Applying.{IsMaskedByRules, MakesSession, NamesBy, NormalisesByRules}
+use Rattle.dap_rules.specs.Applying.{OrdersBy}
 use Rattle.dap_rules.specs.Laws.{EqualTextsByRules, EqualTextsInEachMode, OneMaskedList}
-use Rattle.dap_rules.specs.Laws.{SameSessionsByRules, SessionIsOrdered}
-use Rattle.dap_rules.specs.MaskedMessages.{AreMaskedMessages}
+use Rattle.dap_rules.specs.Laws.{SameNamedSessions, SameSessionsByRules, SessionIsOrdered}
+use Rattle.dap_rules.specs.MaskedMessages.{AreMaskedMessages, named_by, ordered_by}
 use Rattle.dap_rules.specs.MaskedRecordings.{IsTypedAs}
 use Rattle.dap_rules.specs.Masking.{IsAccepted as IsAcceptedMasked, left_of, masking}
+use Rattle.dap_rules.specs.{NamedRecordings.IsNamedTo, Naming.AreMessages, Ordering.Orders}
 use Rattle.dap_rules.proofs.JoinOutcomes.{masks_of, one_joined_by}
 use Rattle.dap_rules.proofs.MaskingFacts as mask_facts
+use Rattle.dap_rules.proofs.NamedForms.{one_reading, one_records, typed_from}
 use Rattle.dap_rules.proofs.OrderedTexts.{one_accepted}
 
 -- ---- one list of masked messages
@@ -78,86 +85,201 @@ record FromMasked (limits : Limits) (mode : Mode) (swaps : List SwapRule) (maske
     (session : List Sent) : Type 0 where
   messages : List Sent
   accepted : IsAccepted limits mode masked messages
-  in_order : session ≡ ordered swaps messages
+  is_ordered : session ≡ in_order swaps messages
 
 module _ (limits : Limits) (mode : Mode) where
+  -- The accepted messages are those of a normal text.
+  abbrev normalises_as : (bytes : List ℕ) (messages : List Sent)
+      → IsAccepted limits mode bytes messages
+      → Normalises limits mode bytes (text (normal_of (stop_in mode) messages))
+  normalises_as bytes messages accepted = record {
+    messages = messages;
+    accepts = accepted;
+    normal = normal_of (stop_in mode) messages;
+    is_normal = normal mode messages (messages_proper accepted.records messages accepted.typed);
+    text_is = refl;
+  }
+
+  unnamed : (declared : List Declaration) → declared ≡ [] → (bytes written : List ℕ)
+      → NamesBy limits declared bytes written → written ≡ bytes
+  unnamed [] none bytes written same = same
+  unnamed (d ∷ declared) none bytes written names = absurd (let e = none in cc)
+
   from_masked : (swaps : List SwapRule) (masked written : List ℕ) (session : List Sent)
       → OrdersBy limits mode swaps masked written → IsAccepted limits mode written session
       → FromMasked limits mode swaps masked session
   from_masked [] masked written session same accepted = record {
     messages = session;
     accepted = subst (λ bytes. IsAccepted limits mode bytes session) same accepted;
-    in_order = unswapped session (ordered [] session) (to_ordered [] session);
+    is_ordered = unswapped session (in_order [] session) (to_ordered [] session);
   }
   from_masked (rule ∷ rules) masked written session orders accepted = record {
     messages = orders.messages;
     accepted = orders.accepts;
-    in_order = one_accepted limits mode written session (ordered (rule ∷ rules) orders.messages)
-        accepted orders.accepted;
+    is_ordered = one_accepted limits mode written session
+        (in_order (rule ∷ rules) orders.messages) accepted orders.accepted;
   }
 
-  module _ (mask : Mask) (recording : List ℕ) where
-    are_masked : (masked : List ℕ) (messages : List Sent)
-        → IsMaskedByRules limits mask recording masked → IsAccepted limits mode masked messages
+  -- ---- with names
+
+  module _ (mask : Mask) (recording masked : List ℕ)
+      (masks : IsMaskedByRules limits mask recording masked) where
+    are_masked : (messages : List Sent) → IsAccepted limits mode masked messages
         → AreMaskedMessages limits mask recording messages
-    are_masked masked messages (joined, numbers, joins, is) accepted = record {
-      joined = joined;
-      numbers = numbers;
-      joins = joins;
-      read = is.masks.messages;
-      accepts = is.masks.accepts;
-      typed = is.typed mode (text (normal_of (stop_in mode) messages)) record {
-        messages = messages;
-        accepts = accepted;
-        normal = normal_of (stop_in mode) messages;
-        is_normal = normal mode messages
-            (messages_proper accepted.records messages accepted.typed);
-        text_is = refl;
-      };
+    are_masked messages accepted = record {
+      joined = masks.0;
+      numbers = masks.1;
+      joins = masks.2;
+      read = masks.3.masks.messages;
+      accepts = masks.3.masks.accepts;
+      typed = masks.3.typed mode (text (normal_of (stop_in mode) messages))
+          (normalises_as masked messages accepted);
     }
 
-    made_from : (session : List Sent) (makes : MakesSession limits mode mask recording session)
-        → FromMasked limits mode mask.swaps makes.applies.masked session
-    made_from session makes =
-        from_masked mask.swaps makes.applies.masked makes.written session makes.applies.orders
+    -- The masked messages of which the rules make a session.
+    pub record FromRules (swaps : List SwapRule) (declared : List Declaration)
+        (session : List Sent) : Type 0 where
+      messages : List Sent
+      are : AreMaskedMessages limits mask recording messages
+      named : session ≡ named_sents declared (in_order swaps messages)
+
+    module _ (declared : List Declaration) (ordered written : List ℕ)
+        (names : IsNamedTo limits declared ordered written) (session : List Sent)
+        (accepted : IsAccepted limits mode written session) where
+      abbrev plain : List Sent
+      plain = names.names.messages
+
+      typed : (messages : List Sent) × AllZip IsTypedAs plain messages
+          × (session ≡ named_sents declared messages)
+      typed = names.typed mode (text (normal_of (stop_in mode) session))
+          (normalises_as written session accepted)
+
+      -- Without rules for the order.
+      left_typed : ordered ≡ masked
+          → AllZip IsTypedAs (left_of mask masks.3.masks.messages) typed.0
+      left_typed same =
+          let is = masks.3 in
+          let accepts = names.names.accepts in
+          let records : accepts.records ≡ is.records =
+          one_records limits ordered accepts.records is.records accepts.recording
+          (subst (λ bytes. IsRecording limits.frame bytes is.records) (sym same) is.recording) in
+          subst (λ ms. AllZip IsTypedAs ms typed.0)
+          (one_reading is.records plain (left_of mask is.masks.messages)
+          (subst (λ rs. AreMessages rs plain) records accepts.read) is.read) typed.1
+
+      -- With rules for the order.
+      typed_in_order : (rules : List SwapRule) (orders : Orders limits mode rules masked ordered)
+          → typed.0 ≡ in_order rules orders.messages
+      typed_in_order rules orders =
+          let all = in_order rules orders.messages in
+          let accepts = names.names.accepts in
+          let own = orders.accepted in
+          let records : own.records ≡ accepts.records =
+          one_records limits ordered own.records accepts.records own.recording accepts.recording in
+          all_typed plain typed.0 all typed.1
+          (typed_from accepts.records plain all accepts.read
+          (subst (λ rs. AreTypedMessages rs all) records own.typed))
+
+      from_named : (swaps : List SwapRule) → OrdersBy limits mode swaps masked ordered
+          → FromRules swaps declared session
+      from_named [] same = record {
+        messages = typed.0;
+        are = record {
+          joined = masks.0;
+          numbers = masks.1;
+          joins = masks.2;
+          read = masks.3.masks.messages;
+          accepts = masks.3.masks.accepts;
+          typed = left_typed same;
+        };
+        named = typed.2 ∙ ap (named_sents declared)
+            (unswapped typed.0 (in_order [] typed.0) (to_ordered [] typed.0));
+      }
+      from_named (rule ∷ rules) orders = record {
+        messages = orders.messages;
+        are = are_masked orders.messages orders.accepts;
+        named = typed.2 ∙ ap (named_sents declared) (typed_in_order (rule ∷ rules) orders);
+      }
+
+    from_rules : (swaps : List SwapRule) (declared : List Declaration) (ordered written : List ℕ)
+        → OrdersBy limits mode swaps masked ordered → NamesBy limits declared ordered written
+        → (session : List Sent) → IsAccepted limits mode written session
+        → FromRules swaps declared session
+    from_rules swaps [] ordered written orders same session accepted =
+        let from = from_masked swaps masked ordered session orders
+        (subst (λ bytes. IsAccepted limits mode bytes session) same accepted) in
+        record {
+          messages = from.messages;
+          are = are_masked from.messages from.accepted;
+          named = from.is_ordered ∙ sym (no_declarations (in_order swaps from.messages));
+        }
+    from_rules swaps (d ∷ declared) ordered written orders names session accepted =
+        from_named (d ∷ declared) ordered written names session accepted swaps orders
+
+  module _ (mask : Mask) (recording : List ℕ) (session : List Sent)
+      (makes : MakesSession limits mode mask recording session) where
+    pub masked_by : IsMaskedByRules limits mask recording makes.applies.masked
+    masked_by = masks_of limits mode mask recording makes.written makes.applies
+
+    pub made_from : FromRules mask recording makes.applies.masked masked_by mask.swaps mask.declared
+        session
+    made_from =
+        from_rules mask recording makes.applies.masked masked_by mask.swaps mask.declared
+        makes.applies.ordered makes.written makes.applies.orders makes.applies.names session
         makes.accepted
 
-    -- The session has the masked messages in order. They are accepted as a recording.
-    pub made_of : (session ms : List Sent) → MakesSession limits mode mask recording session
+    -- The session has the masked messages in order, with names.
+    pub named_of : (ms : List Sent) → AreMaskedMessages limits mask recording ms
+        → session ≡ named_by mask ms
+    named_of ms are =
+        let from = made_from in
+        from.named ∙ ap (named_by mask)
+        (one_masked_list limits mask recording from.messages ms from.are are)
+
+    -- Without declarations, it has the masked messages in order, which are accepted as a recording.
+    pub accepted_of : mask.declared ≡ [] → (ms : List Sent)
         → AreMaskedMessages limits mask recording ms
-        → (bytes : List ℕ) × IsAccepted limits mode bytes ms × (session ≡ ordered mask.swaps ms)
-    made_of session ms makes are =
-        let from = made_from session makes in
+        → (bytes : List ℕ) × IsAccepted limits mode bytes ms × (session ≡ ordered_by mask ms)
+    accepted_of none ms are =
         let masked = makes.applies.masked in
-        let same : from.messages ≡ ms = one_masked_list limits mask recording from.messages ms
-        (are_masked masked from.messages
-        (masks_of limits mode mask recording makes.written makes.applies) from.accepted) are in (
+        let from = from_masked mask.swaps masked makes.applies.ordered session makes.applies.orders
+        (subst (λ bytes. IsAccepted limits mode bytes session)
+        (unnamed mask.declared none makes.applies.ordered makes.written makes.applies.names)
+        makes.accepted) in
+        let same = one_masked_list limits mask recording from.messages ms
+        (are_masked mask recording masked masked_by from.messages from.accepted) are in (
           masked,
           subst (IsAccepted limits mode masked) same from.accepted,
-          from.in_order ∙ ap (ordered mask.swaps) same,
+          from.is_ordered ∙ ap (ordered_by mask) same,
         )
 
 pub session_is_ordered : SessionIsOrdered
 session_is_ordered limits mode mask recording session makes =
-    let from = made_from limits mode mask recording session makes in (
-      from.messages,
-      are_masked limits mode mask recording makes.applies.masked from.messages
-          (masks_of limits mode mask recording makes.written makes.applies) from.accepted,
-      from.in_order,
-    )
+    let from = made_from limits mode mask recording session makes in
+    (from.messages, from.are, from.named)
 
 -- ---- two recordings
 
+pub same_named_sessions : SameNamedSessions
+same_named_sessions limits mode mask recording other first second ms ns makes also are_ms are_ns =
+    let one = named_of limits mode mask recording first makes ms are_ms in
+    let two = named_of limits mode mask other second also ns are_ns in
+    subst (λ list. AreSame (stop_in mode) list second
+    ↔ AreSame (stop_in mode) (named_by mask ms) (named_by mask ns)) (sym one)
+    (subst (λ list. AreSame (stop_in mode) (named_by mask ms) list
+    ↔ AreSame (stop_in mode) (named_by mask ms) (named_by mask ns)) (sym two)
+    (λ same. same, λ same. same))
+
 pub same_sessions : SameSessionsByRules
-same_sessions limits mask recording other first second ms ns makes also are_ms are_ns =
-    let one = made_of limits Whole mask recording first ms makes are_ms in
-    let two = made_of limits Whole mask other second ns also are_ns in
+same_sessions limits mask none recording other first second ms ns makes also are_ms are_ns =
+    let one = accepted_of limits Whole mask recording first makes none ms are_ms in
+    let two = accepted_of limits Whole mask other second also none ns are_ns in
     let is = numbered one.1.records ms one.1.typed in (
       λ same. from_same_orders mask.swaps ms ns is
-          (subst (λ list. AreSame no_stop list (ordered mask.swaps ns)) one.2
+          (subst (λ list. AreSame no_stop list (ordered_by mask ns)) one.2
           (subst (λ list. AreSame no_stop first list) two.2 same)),
       λ same. subst (λ list. AreSame no_stop list second) (sym one.2)
-          (subst (λ list. AreSame no_stop (ordered mask.swaps ms) list) (sym two.2)
+          (subst (λ list. AreSame no_stop (ordered_by mask ms) list) (sym two.2)
           (same_orders mask.swaps ms ns is one.1.rules same)),
     )
 
@@ -175,20 +297,16 @@ pub equal_texts_in_each_mode : EqualTextsInEachMode
 equal_texts_in_each_mode limits mode mask recording other a b ms ns is also are_ms are_ns =
     let first = is.2.canonical.normalises.messages in
     let second = also.2.canonical.normalises.messages in
-    let one = made_of limits mode mask recording first ms (made limits mode mask recording a is)
-    are_ms in
-    let two = made_of limits mode mask other second ns (made limits mode mask other b also) are_ns
-    in
-    subst (λ list. (a.bytes.items ≡ b.bytes.items)
-    ↔ AreSame (stop_in mode) list (ordered mask.swaps ns)) one.2
-    (subst (λ list. (a.bytes.items ≡ b.bytes.items) ↔ AreSame (stop_in mode) first list) two.2
-    (is.2.canonical.tells also.0 b.bytes.items also.2.canonical.normalises))
+    let tells = is.2.canonical.tells also.0 b.bytes.items also.2.canonical.normalises in
+    let same = same_named_sessions limits mode mask recording other first second ms ns
+    (made limits mode mask recording a is) (made limits mode mask other b also) are_ms are_ns in
+    (λ equal. same.0 (tells.0 equal), λ renamed. tells.1 (same.1 renamed))
 
 pub equal_texts_by_rules : EqualTextsByRules
-equal_texts_by_rules limits mask recording other a b ms ns is also are_ms are_ns =
+equal_texts_by_rules limits mask none recording other a b ms ns is also are_ms are_ns =
     let first = is.2.canonical.normalises.messages in
     let second = also.2.canonical.normalises.messages in
     let tells = is.2.canonical.tells also.0 b.bytes.items also.2.canonical.normalises in
-    let same = same_sessions limits mask recording other first second ms ns
+    let same = same_sessions limits mask none recording other first second ms ns
     (made limits Whole mask recording a is) (made limits Whole mask other b also) are_ms are_ns in
     (λ equal. same.0 (tells.0 equal), λ swapped. tells.1 (same.1 swapped))

@@ -3,7 +3,7 @@
 use Rattle.std.specs.Prelude.{◌≡◌, ◌⊎◌, ℕ, List, [], ◌∷◌, Option, Some, None}
 use Rattle.dap_join.specs.Joining.{IsNotJoined, Joins}
 use Rattle.dap_mask.specs.declared.joining.Joining.{Joining}
-use Rattle.dap_mask.specs.Mask.{Mask}
+use Rattle.dap_mask.specs.{Declarations.Declaration, Mask.Mask}
 use Rattle.dap_message.specs.{Message.Sent, SwapRules.SwapRule}
 use Rattle.dap_rename.specs.declared.mode.Mode.{Mode}
 use Rattle.dap_input.specs.{declared.limits.Limits.Limits, declared.refused.Refused.Refused}
@@ -13,6 +13,7 @@ use Rattle.dap_normalise.specs.NormalSession.{IsNormalSession}
 use Rattle.dap_normalise.specs.Normalising.{RefusesBytes}
 use Rattle.dap_normalise.specs.declared.normal_session.NormalSession.{NormalSession}
 use Rattle.dap_rules.specs.{MaskedRecordings.IsMaskedTo, Masking.masking, Renumbering.renumbered}
+use Rattle.dap_rules.specs.{NamedRecordings.IsNamedTo, Naming.naming}
 use Rattle.dap_rules.specs.Ordering.{IsNotOrdered, Orders, RefusesToOrder}
 use Rattle.dap_rules.specs.declared.fault.ApplyRefused.{ApplyRefused}
 use Rattle.dap_rules.specs.declared.fault.ApplyRefused.TheVariants as because
@@ -40,7 +41,20 @@ OrdersBy limits mode (rule ∷ rules) recording written =
     Orders limits mode (rule ∷ rules) recording written
 
 -- The output of the recording is joined if the rules say so, the joined recording is masked, and
--- the masked recording is put in order: `written` is its text.
+-- the result is put in order.
+abbrev pub IsOrderedByRules : Limits → Mode → Mask → List ℕ → List ℕ → Type 0
+IsOrderedByRules limits mode mask recording ordered = (masked : List ℕ)
+    × IsMaskedByRules limits mask recording masked × OrdersBy limits mode mask.swaps masked ordered
+
+-- Names replace the ids that are declared. Without declarations the recording is unchanged.
+abbrev pub NamesBy : Limits → List Declaration → List ℕ → List ℕ → Type 0
+NamesBy limits [] recording written = written ≡ recording
+NamesBy limits (declared ∷ others) recording written =
+    IsNamedTo limits (declared ∷ others) recording written
+
+-- The output of the recording is joined if the rules say so, the joined recording is masked, the
+-- masked recording is put in order, and its declared ids are replaced by names: `written` is the
+-- text of the result.
 pub record AppliesRules (limits : Limits) (mode : Mode) (mask : Mask)
     (recording written : List ℕ) : Type 0 where
   pub joined : List ℕ
@@ -48,7 +62,9 @@ pub record AppliesRules (limits : Limits) (mode : Mode) (mask : Mask)
   pub joins : JoinsBy limits mask.joining recording joined numbers
   pub masked : List ℕ
   pub masks : IsMaskedTo limits mask joined masked
-  pub orders : OrdersBy limits mode mask.swaps masked written
+  pub ordered : List ℕ
+  pub orders : OrdersBy limits mode mask.swaps masked ordered
+  pub names : NamesBy limits mask.declared ordered written
 
 -- The rules turn the recording into a text, which is accepted, and these are its messages.
 pub record MakesSession (limits : Limits) (mode : Mode) (mask : Mask) (recording : List ℕ)
@@ -100,14 +116,33 @@ IsNotOrderedBy limits mode [] recording refused = ⊥
 IsNotOrderedBy limits mode (rule ∷ rules) recording refused =
     IsNotOrdered limits mode (rule ∷ rules) recording refused
 
--- The rules cannot be applied to the recording, for this reason. Ordering was reached only if
--- masking succeeded.
+-- The rules mask the recording, and they cannot put the result in order, for this reason.
+abbrev pub IsNotOrderedByRules : Limits → Mode → Mask → List ℕ → Refused → Type 0
+IsNotOrderedByRules limits mode mask recording refused = (masked : List ℕ)
+    × IsMaskedByRules limits mask recording masked
+    × IsNotOrderedBy limits mode mask.swaps masked refused
+
+-- There are declarations, and the declared ids of the recording cannot be named for this reason.
+abbrev pub IsNotNamedBy : Limits → List Declaration → List ℕ → Refused → Type 0
+IsNotNamedBy limits [] recording refused = ⊥
+IsNotNamedBy limits (declared ∷ others) recording refused =
+    IsRefused (naming limits (declared ∷ others)) recording refused
+
+-- The rules mask the recording and put it in order, and the declared ids of the result cannot be
+-- named, for this reason.
+abbrev pub IsNotNamedByRules : Limits → Mode → Mask → List ℕ → Refused → Type 0
+IsNotNamedByRules limits mode mask recording refused = (ordered : List ℕ)
+    × IsOrderedByRules limits mode mask recording ordered
+    × IsNotNamedBy limits mask.declared ordered refused
+
+-- The rules cannot be applied to the recording, for this reason. Each step was reached only if the
+-- steps before it succeeded.
 abbrev pub IsRefusedByRules : Limits → Mode → Mask → List ℕ → ApplyRefused → Type 0
 IsRefusedByRules limits mode mask recording (because.Mask refused) =
     IsNotMaskedByRules limits mask recording refused
 IsRefusedByRules limits mode mask recording (because.Order refused) =
-    (masked : List ℕ) × IsMaskedByRules limits mask recording masked
-    × IsNotOrderedBy limits mode mask.swaps masked refused
+    IsNotOrderedByRules limits mode mask recording refused
+    ⊎ IsNotNamedByRules limits mode mask recording refused
 IsRefusedByRules limits mode mask recording because.ReadFault = ⊥
 IsRefusedByRules limits mode mask recording because.Memory = Unit {0}
 
@@ -122,8 +157,14 @@ abbrev pub RefusesToMask : Limits → Mask → List ℕ → Refused → Type 0
 RefusesToMask limits mask recording Memory = Unit {0}
 RefusesToMask limits mask recording refused = IsRefused (masking limits mask) recording refused
 
+-- The declared ids of the recording cannot be named for this reason, or an allocation failed.
+abbrev pub RefusesToName : Limits → List Declaration → List ℕ → Refused → Type 0
+RefusesToName limits declared recording Memory = Unit {0}
+RefusesToName limits declared recording refused =
+    IsRefused (naming limits declared) recording refused
+
 -- The rules cannot be applied to the recording, or the text into which they turn it is rejected. A
--- text in order is never rejected.
+-- text in order is never rejected before its ids are named.
 abbrev pub IsNotNormalised : Limits → Mode → Mask → List ℕ → ApplyRefused → Type 0
 IsNotNormalised limits mode mask recording (because.Order refused) =
     IsRefusedByRules limits mode mask recording (because.Order refused)

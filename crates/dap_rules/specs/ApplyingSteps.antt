@@ -1,5 +1,5 @@
 -- What the steps of applying rules do, for private clauses.
-use Rattle.std.specs.Prelude.{ℕ, List, [], Option, Some, None, Result, Ok, Err}
+use Rattle.std.specs.Prelude.{◌⊎◌, ℕ, List, [], Option, Some, None, Result, Ok, Err}
 use Rattle.dap_join.specs.declared.joined.Joined.{Joined}
 use Rattle.dap_mask.specs.declared.joining.Joining.{Joining}
 use Rattle.dap_mask.specs.Mask.{Mask}
@@ -8,8 +8,10 @@ use Rattle.dap_message.specs.{Message.Sent, SwapRules.SwapRule}
 use Rattle.dap_rename.specs.declared.mode.Mode.{Mode}
 use Rattle.dap_input.specs.{declared.limits.Limits.Limits, declared.refused.Refused.Refused}
 use Rattle.dap_input.specs.declared.refused.Refused.TheVariants.{Memory, Record}
-use Rattle.dap_normalise.specs.Accepting.{IsAccepted}
+use Rattle.dap_input.specs.Refusals.{IsRefused}
+use Rattle.dap_normalise.specs.Accepting.{IsAccepted, accepting}
 use Rattle.dap_recording.specs.declared.record_fault.RecordCause.TheVariants.{Cut}
+use Rattle.dap_rules.specs.Applying.{IsNotMaskedByRules, IsNotOrderedByRules, IsOrderedByRules}
 use Rattle.dap_rules.specs.Applying.{JoinsBy, OrdersBy}
 use Rattle.dap_rules.specs.MaskedSessions.{IsMaskedSession}
 use Rattle.dap_rules.specs.declared.masked_session.MaskedSession.{MaskedSession}
@@ -46,6 +48,31 @@ order_refusal refused = because.Order refused
 abbrev pub MakesSessionBy : Limits → Mode → List SwapRule → List ℕ → List Sent → Type 0
 MakesSessionBy limits mode rules recording messages = (written : List ℕ)
     × OrdersBy limits mode rules recording written × IsAccepted limits mode written messages
+
+-- ---- before ids are named
+
+-- The rules mask the recording and put it in order, and this holds for the result.
+abbrev pub MakesOrdered : Limits → Mode → Mask → List ℕ → (List ℕ → Type 0) → Type 0
+MakesOrdered limits mode mask recording Holds = (ordered : List ℕ)
+    × IsOrderedByRules limits mode mask recording ordered × Holds ordered
+
+-- The rules cannot mask the recording or put it in order, for this reason.
+abbrev pub IsRefusedInOrder : Limits → Mode → Mask → List ℕ → ApplyRefused → Type 0
+IsRefusedInOrder limits mode mask recording (because.Mask refused) =
+    IsNotMaskedByRules limits mask recording refused
+IsRefusedInOrder limits mode mask recording (because.Order refused) =
+    IsNotOrderedByRules limits mode mask recording refused
+IsRefusedInOrder limits mode mask recording because.ReadFault = ⊥
+IsRefusedInOrder limits mode mask recording because.Memory = Unit {0}
+
+-- The same, or the text in order is rejected, which is possible only without rules for the order.
+abbrev pub IsRejectedInOrder : Limits → Mode → Mask → List ℕ → ApplyRefused → Type 0
+IsRejectedInOrder limits mode mask recording (because.Order refused) =
+    IsNotOrderedByRules limits mode mask recording refused
+    ⊎ MakesOrdered limits mode mask recording
+    (λ ordered. IsRefused (accepting limits mode) ordered refused)
+IsRejectedInOrder limits mode mask recording refused =
+    IsRefusedInOrder limits mode mask recording refused
 
 -- The result of `read_session_by_rules` for an input whose reader stopped for this reason, given
 -- the result for the bytes read.

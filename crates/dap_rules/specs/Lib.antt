@@ -8,9 +8,13 @@ pub mod Modes
 pub mod Masking
 pub mod MaskedRecordings
 pub mod MaskedMessages
-pub mod MaskingSteps
+pub mod Naming
+pub mod NamedRecordings
+pub mod Rewriting
+pub mod RewritingSteps
 pub mod MaskedSessions
 pub mod Outcomes
 pub mod Ordering
 pub mod OrderingSteps
 pub mod OrderLaws
+pub mod NamedSessions

@@ -1,10 +1,11 @@
--- The masked messages of a recording: its messages after all rules but those for the order. If the
--- rules join output, they are the messages of the joined recording. And what the rules for the
--- order do with them. Source: own, over joined output, the rules of a mask, the types of the
--- profile and the order of messages.
+-- The masked messages of a recording: its messages after all rules but those for the order and
+-- those that declare ids. If the rules join output, they are the messages of the joined recording.
+-- And what the other rules do with them. Source: own, over joined output, the rules of a mask, the
+-- types of the profile, the order of messages and the names of declared ids.
 use Rattle.std.specs.{Prelude.{ℕ, List}, List.AllZip}
 use Rattle.dap_message.specs.Message.{Sent}
 use Rattle.dap_mask.specs.Mask.{Mask}
+use Rattle.dap_naming.specs.Sessions.{named_sents}
 use Rattle.dap_input.specs.declared.limits.Limits.{Limits}
 use Rattle.dap_order.specs.{MessageOrder.ordered, SameButOrder.AreSameButOrder}
 use Rattle.dap_rules.specs.{Applying.JoinsBy, Masking.{IsAccepted, left_of}}
@@ -26,6 +27,10 @@ pub record AreMaskedMessages (limits : Limits) (mask : Mask) (recording : List �
 -- The messages in the order of the `swap` rules.
 abbrev pub ordered_by : Mask → List Sent → List Sent
 ordered_by mask messages = ordered mask.swaps messages
+
+-- The messages in this order, with names in the place of the declared ids.
+abbrev pub named_by : Mask → List Sent → List Sent
+named_by mask messages = named_sents mask.declared (ordered_by mask messages)
 
 -- Swaps of neighbours that the `swap` rules make free, and a one-to-one renaming of each kind of
 -- id, turn the first list into the second.

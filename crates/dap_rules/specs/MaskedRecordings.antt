@@ -5,8 +5,9 @@ use Rattle.dap_rename.specs.{Messages.AreSame, Modes.stop_in, declared.mode.Mode
 use Rattle.dap_mask.specs.{Mask.Mask, Masked.AgreeBut, Promises.IsMaskedAs, Rules.Rule}
 use Rattle.dap_words.specs.{Words.Pair, Worded.worded_message}
 use Rattle.dap_input.specs.declared.limits.Limits.{Limits}
-use Rattle.dap_normalise.specs.Normalising.{Normalises}
-use Rattle.dap_rules.specs.Masking.{IsAccepted, kept, left_of, masked_text}
+use Rattle.dap_recording.specs.Recording.{IsRecording}
+use Rattle.dap_normalise.specs.{Accepting.Payload, Normalising.Normalises}
+use Rattle.dap_rules.specs.{Masking.{IsAccepted, kept, left_of, masked_text}, Naming.AreMessages}
 
 -- The recording is accepted, and `written` is the text of its masked messages.
 pub record Masks (limits : Limits) (mask : Mask) (bytes written : List ℕ) : Type 0 where
@@ -44,6 +45,10 @@ pub record IsMaskedTo (limits : Limits) (mask : Mask) (bytes written : List ℕ)
   -- their order.
   pub places : AllZip (IsMasked mask.changes) (kept mask masks.messages)
       (left_of mask masks.messages)
+  -- The records of the output contain the masked messages. Their numbers are integers of 64 bits.
+  pub records : List Payload
+  pub recording : IsRecording limits.frame written records
+  pub read : AreMessages records (left_of mask masks.messages)
   -- Masking the output again by the rules leaves it unchanged. With the words it is unchanged too,
   -- if the rules left no text of the words: a rule such as `digits` can write one.
   pub again : Masks limits (with_words [] mask) written written

@@ -1,117 +1,37 @@
 //! Applies the rules of a file to a recording in memory.
-ghost use Rattle.std.specs.Prelude.{◌≡◌, [], IfErr, IfOk, IsOk, List};
-ghost use Rattle.dap_message.specs.SwapRules.{swaps_of};
+ghost use Rattle.std.specs.Prelude.{◌≡◌, [], IfErr, IfOk, IsOk};
 ghost use Rattle.dap_input.specs.Limits.{AreSound};
 ghost use Rattle.dap_mask.specs.KeptRules.{mask_of};
-ghost use Rattle.dap_normalise.specs.{Accepting.Payload, RecordTexts.FitRecords};
-ghost use Rattle.dap_recording.specs.Recording.{recording_text};
 ghost use Rattle.dap_rules.specs.Applying.{AppliesRules, IsNotNormalised, IsRefusedByRules};
-ghost use Rattle.dap_rules.specs.Applying.{MakesSession, NormalisesBy, NormalisesByRules};
-ghost use Rattle.dap_rules.specs.{Applying.RefusesNormalBy, ApplyingSteps.MakesSessionBy};
-ghost use Rattle.dap_rules.specs.ApplyingSteps.{mask_refusal, order_refusal};
-ghost use Rattle.dap_rules.specs.MaskedSessions.{Holds};
+ghost use Rattle.dap_rules.specs.Applying.{MakesSession, NormalisesByRules};
 ghost use Rattle.dap_stored.specs.Sessions.{messages_of};
 
 use crate::fault::ApplyRefused;
-use crate::joined_masking::mask_by_rules;
-use crate::joined_session::{into_session, read_session_of};
-use crate::masked_session::{MaskedSession, check_masked, normalise_masked};
-use crate::ordering::{arranged, normalise_in_order};
-use crate::writing::text_of_session;
-use dap_input::{Limits, Refused};
+use crate::naming::name_bytes;
+use crate::ordered_by_rules::{
+    normalise_in_order_by, order_refusal, session_in_order_by, text_in_order_by,
+};
+use dap_input::Limits;
 use dap_mask::MaskRules;
-use dap_message::SwapRule;
-use dap_normalise::NormalSession;
+use dap_normalise::{NormalSession, normalise_session, read_session};
 use dap_rename::Mode;
 use dap_stored::StoredSession;
 use std::alloc::Global;
 
-/// Normalises the records of a masked session, in order if some rules are for the order.
+/// Joins the output of a recording if the rules say so, masks the result, puts it in order if some
+/// of the rules are for the order, and replaces the ids that the rules declare by names.
 ///
-/// # Errors
-///
-/// Those of [`order_bytes`](crate::order_bytes), or those of
-/// [`normalise_session`](dap_normalise::normalise_session) if no rules are for the order.
-fn normalise_by(
-    alloc: Global,
-    swaps: &[SwapRule],
-    masked: MaskedSession,
-    limits: Limits,
-    mode: Mode,
-) -> Result<NormalSession, Refused>
-    requires limits { AreSound limits }
-    ensures ok { (records : List Payload) → FitRecords limits records → Holds masked records
-        → IfOk result (NormalisesBy limits mode (swaps_of swaps.now) (recording_text records)) }
-    ensures err { (records : List Payload) → FitRecords limits records → Holds masked records
-        → IfErr result (RefusesNormalBy limits mode (swaps_of swaps.now) (recording_text records)) }
-{
-    if swaps.is_empty() {
-        return normalise_masked(alloc, &masked, limits, mode);
-    }
-    check_masked(alloc, &masked, limits, mode)?;
-    normalise_in_order(alloc, swaps, masked.messages, limits, mode)
-}
-
-/// Returns the messages of a masked session, in order if some rules are for the order. They are
-/// checked.
-///
-/// # Errors
-///
-/// Those of [`check_masked`], and of [`arranged`] if some rules are for the order.
-fn session_by(
-    alloc: Global,
-    swaps: &[SwapRule],
-    masked: MaskedSession,
-    limits: Limits,
-    mode: Mode,
-) -> Result<StoredSession, Refused>
-    requires limits { AreSound limits }
-    ensures ok { (records : List Payload) → FitRecords limits records → Holds masked records
-        → IfOk result (λ session. MakesSessionBy limits mode (swaps_of swaps.now)
-        (recording_text records) (messages_of session)) }
-    ensures err { (records : List Payload) → FitRecords limits records → Holds masked records
-        → IfErr result (RefusesNormalBy limits mode (swaps_of swaps.now) (recording_text records)) }
-{
-    check_masked(alloc, &masked, limits, mode)?;
-    if swaps.is_empty() {
-        return Ok(masked.messages);
-    }
-    arranged(alloc, swaps, masked.messages, limits, mode)
-}
-
-/// Returns the error of the step that masks a recording.
-fn mask_refusal(refused: Refused) -> ApplyRefused
-    ensures { result ≡ mask_refusal refused }
-{
-    match refused {
-        Refused::Memory => ApplyRefused::Memory,
-        refused => ApplyRefused::Mask(refused),
-    }
-}
-
-/// Returns the error of the step that puts a recording in order.
-fn order_refusal(refused: Refused) -> ApplyRefused
-    ensures { result ≡ order_refusal refused }
-{
-    match refused {
-        Refused::Memory => ApplyRefused::Memory,
-        refused => ApplyRefused::Order(refused),
-    }
-}
-
-/// Joins the output of a recording if the rules say so, masks the result, and then puts it in order
-/// if some of the rules are for the order.
-///
-/// If no rules are for the order, returns the masked text and does not check its session. Otherwise
-/// the masked recording and the returned text are both checked in the same way as by
-/// [`check`](dap_normalise::check) in this mode. An empty recording does not allocate.
+/// If no rules are for the order, returns the masked text, or its text with names, and does not
+/// check its session. Otherwise the masked recording and its text in order are both checked in the
+/// same way as by [`check`](dap_normalise::check) in this mode. An empty recording does not
+/// allocate.
 ///
 /// # Errors
 ///
 /// The error of the first step that fails:
 ///
 /// - `Mask`: the output of the recording cannot be joined, or the rules cannot mask a record.
-/// - `Order`: the masked recording, or its text in order, was rejected.
+/// - `Order`: the masked recording, its text in order, or its text with names was rejected.
 /// - `Memory`: an allocation failed.
 pub fn apply_rules(
     alloc: Global,
@@ -132,29 +52,26 @@ pub fn apply_rules(
     if recording.is_empty() {
         return Ok(Vec::new(alloc));
     }
-    if rules.swaps().is_empty() {
-        return match mask_by_rules(alloc, rules, recording, limits) {
-            Ok(masked) => Ok(masked),
-            Err(refused) => Err(mask_refusal(refused)),
-        };
+    let ordered = text_in_order_by(alloc, rules, recording, limits, mode)?;
+    if rules.declared().is_empty() {
+        return Ok(ordered);
     }
-    let session = session_by_rules(alloc, rules, recording, limits, mode)?;
-    match text_of_session(alloc, &session, limits) {
-        Ok(text) => Ok(text),
+    match name_bytes(alloc, rules, ordered.as_slice(), limits) {
+        Ok(named) => Ok(named),
         Err(refused) => Err(order_refusal(refused)),
     }
 }
 
 /// Returns the normal form of the text that [`apply_rules`] returns, and its counts, as
-/// [`normalise_session`](dap_normalise::normalise_session) does. Creates neither the masked text
-/// nor the text in order. Drops the recording once its output is joined, and the joined recording
-/// once its messages are read. If the rules do not join output, reads the recording once, and drops
-/// it once its messages are read.
+/// [`normalise_session`](dap_normalise::normalise_session) does.
+///
+/// If the rules declare no ids, creates neither the masked text nor the text in order. Drops the
+/// recording once its output is joined, and the joined recording once its messages are read. If the
+/// rules do not join output, reads the recording once, and drops it once its messages are read.
 ///
 /// # Errors
 ///
-/// Those of [`apply_rules`]. `Order` also if no rules are for the order and the masked recording
-/// was rejected.
+/// Those of [`apply_rules`]. `Order` also if the text that it returns was rejected.
 pub fn normalise_by_rules(
     alloc: Global,
     rules: &MaskRules,
@@ -167,20 +84,20 @@ pub fn normalise_by_rules(
         (NormalisesByRules limits mode (mask_of rules.now) recording.items) }
     ensures err { IfErr result (IsNotNormalised limits mode (mask_of rules.now) recording.items) }
 {
-    let masked = match into_session(alloc, rules, recording, limits) {
-        Ok(masked) => masked,
-        Err(refused) => return Err(mask_refusal(refused)),
-    };
-    match normalise_by(alloc, rules.swaps(), masked, limits, mode) {
+    if rules.declared().is_empty() {
+        return normalise_in_order_by(alloc, rules, recording, limits, mode);
+    }
+    let text = apply_rules(alloc, rules, recording.as_slice(), limits, mode)?;
+    drop(recording);
+    match normalise_session(alloc, text.as_slice(), limits, mode) {
         Ok(normal) => Ok(normal),
         Err(refused) => Err(order_refusal(refused)),
     }
 }
 
-/// Joins the output of a recording if the rules say so, masks the result and, if some of the rules
-/// are for the order, puts it in order. Returns the messages of the result, which is checked in the
-/// same way as by [`check`](dap_normalise::check) in this mode. Creates no text but that of the
-/// joined recording.
+/// Returns the messages of the text that [`apply_rules`] returns, which is checked in the same way
+/// as by [`check`](dap_normalise::check) in this mode. If the rules declare no ids, creates no text
+/// but that of the joined recording.
 ///
 /// # Errors
 ///
@@ -197,11 +114,11 @@ pub fn session_by_rules(
         (messages_of session)) }
     ensures err { IfErr result (IsNotNormalised limits mode (mask_of rules.now) recording.now) }
 {
-    let masked = match read_session_of(alloc, rules, recording, limits) {
-        Ok(masked) => masked,
-        Err(refused) => return Err(mask_refusal(refused)),
-    };
-    match session_by(alloc, rules.swaps(), masked, limits, mode) {
+    if rules.declared().is_empty() {
+        return session_in_order_by(alloc, rules, recording, limits, mode);
+    }
+    let text = apply_rules(alloc, rules, recording, limits, mode)?;
+    match read_session(alloc, text.as_slice(), limits, mode) {
         Ok(session) => Ok(session),
         Err(refused) => Err(order_refusal(refused)),
     }

@@ -9,8 +9,9 @@ pub enum ApplyRefused {
     /// numbered from 1 in the recording.
     #[error("{0}")]
     Mask(Refused),
-    /// The masked recording was rejected, and its records are numbered from 1; or its text in order
-    /// was rejected, and the records of that text are numbered from 1.
+    /// The masked recording, its text in order, or its text with names was rejected. The records of
+    /// the masked recording or of the text in order are numbered from 1. A text with names has the
+    /// records of the text before it.
     #[error("{0}")]
     Order(Refused),
     /// A read of the recording failed.

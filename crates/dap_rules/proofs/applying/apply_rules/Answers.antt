@@ -1,11 +1,10 @@
 use Rattle.std.proofs.Common.{◌∙◌, sym, subst}
-use Rattle.std.proofs.lemmas.Result.{err_from_is_err_and}
 use Rattle.dap_mask.specs.KeptRules.{mask_of}
-use Rattle.dap_stored.specs.Sessions.{messages_of}
-use Rattle.dap_rules.specs.Applying.{IsRefusedByRules}
-use Rattle.dap_rules.proofs.Applied.{not_made, some_are, text_applied}
-use Rattle.dap_rules.proofs.Applied.{text_refused}
+use Rattle.dap_rules.specs.Applying.{IsRefusedByRules, RefusesToName}
+use Rattle.dap_rules.specs.NamedRecordings.{IsNamedTo}
 use Rattle.dap_rules.proofs.EmptyRecordings.{no_bytes, none_applied}
+use Rattle.dap_rules.proofs.NamesApplied.{applies_named, applies_unnamed, none_are, refuses_names}
+use Rattle.dap_rules.proofs.NamesApplied.{some_are}
 use Rattle.dap_rules.proofs.applying.apply_rules.Goals as goal
 
 pub returns-then-is_empty-clause-ok : goal.returns-then-is_empty-clause-ok
@@ -14,31 +13,32 @@ returns-then-is_empty-clause-ok c =
     rw (none, c.new.ensures.items)
     (none_applied c.args.limits c.requires.limits c.args.mode c.args.rules.now)
 
-pub returns-in_err-session-clause-err : goal.returns-in_err-session-clause-err
-returns-in_err-session-clause-err c =
-    let because = err_from_is_err_and c.from_residual.result c.from_residual.ensures.1 in
+pub returns-then-is_empty-2-clause-ok : goal.returns-then-is_empty-2-clause-ok
+returns-then-is_empty-2-clause-ok c =
     let mask = mask_of c.args.rules.now in
-    rw (because.1, because.2)
-    (not_made c.args.limits c.args.mode mask (some_are c.swaps.result.now mask.swaps c.swaps.ensures
-    (sym c.is_empty-2.ensures ∙ c.if-is_empty-2.false)) c.args.recording.now _
-    c.in_err-session.ensures.err)
+    applies_unnamed c.args.limits c.args.mode mask c.args.recording.now
+    (none_are c.declared.result.now mask.declared c.declared.ensures.same
+    (sym c.is_empty-2.ensures ∙ c.if-is_empty-2.true)) c.in_ok-ordered.ordered.items
+    c.in_ok-ordered.ensures.ok
 
-pub returns-in-Ok-text_of_session-clause-ok : goal.returns-in-Ok-text_of_session-clause-ok
-returns-in-Ok-text_of_session-clause-ok c =
+pub returns-in-Ok-clause-ok : goal.returns-in-Ok-clause-ok
+returns-in-Ok-clause-ok c =
     let mask = mask_of c.args.rules.now in
-    text_applied c.args.limits c.args.mode mask
-    (some_are c.swaps.result.now mask.swaps c.swaps.ensures
-    (sym c.is_empty-2.ensures ∙ c.if-is_empty-2.false)) c.args.recording.now
-    (messages_of c.in_ok-session.session) c.in_ok-session.ensures.ok _
-    c.in-Ok-text_of_session.ensures.ok
+    applies_named c.args.limits c.args.mode mask c.args.recording.now
+    (some_are c.declared.result.now mask.declared c.declared.ensures.same
+    (sym c.is_empty-2.ensures ∙ c.if-is_empty-2.false)) c.in_ok-ordered.ordered.items
+    c.in_ok-ordered.ensures.ok c.in-Ok.named.items
+    (subst (λ bytes. IsNamedTo c.args.limits mask.declared bytes c.in-Ok.named.items)
+    c.as_slice.ensures.value c.in-Ok.ensures.ok)
 
 pub returns-clause-err : goal.returns-clause-err
 returns-clause-err c =
     let mask = mask_of c.args.rules.now in
     subst (IsRefusedByRules c.args.limits c.args.mode mask c.args.recording.now)
     (sym c.order_refusal.ensures)
-    (text_refused c.args.limits c.args.mode mask
-    (some_are c.swaps.result.now mask.swaps c.swaps.ensures
-    (sym c.is_empty-2.ensures ∙ c.if-is_empty-2.false)) c.args.recording.now
-    (messages_of c.in_ok-session.session) c.in_ok-session.ensures.ok _
-    c.in-Err-text_of_session.ensures.err)
+    (refuses_names c.args.limits c.args.mode mask c.args.recording.now
+    (some_are c.declared.result.now mask.declared c.declared.ensures.same
+    (sym c.is_empty-2.ensures ∙ c.if-is_empty-2.false)) c.in_ok-ordered.ordered.items
+    c.in_ok-ordered.ensures.ok c.in-Err.refused
+    (subst (λ bytes. RefusesToName c.args.limits mask.declared bytes c.in-Err.refused)
+    c.as_slice.ensures.value c.in-Err.ensures.err))

@@ -1,22 +1,18 @@
 use Rattle.std.proofs.Common.{sym, subst}
 use Rattle.dap_mask.specs.KeptRules.{mask_of}
-use Rattle.dap_message.specs.SwapRules.{swaps_of}
-use Rattle.dap_normalise.specs.NormalSession.{IsNormalSession}
-use Rattle.dap_rules.specs.Applying.{IsNotNormalised}
-use Rattle.dap_rules.proofs.Applied.{session_applied, session_refused}
+use Rattle.dap_normalise.specs.Normalising.{RefusesBytes}
+use Rattle.dap_rules.specs.Applying.{AppliesRules, IsNotNormalised}
+use Rattle.dap_rules.proofs.NamesApplied.{text_rejected}
 use Rattle.dap_rules.proofs.applying.normalise_by_rules.Goals as goal
 
-pub returns-in-Ok-normalise_by-clause-ok : goal.returns-in-Ok-normalise_by-clause-ok
-returns-in-Ok-normalise_by-clause-ok c =
-    session_applied c.args.limits c.requires.limits c.args.mode c.args.rules.now
-    c.args.recording.items c.in-Ok.masked c.in-Ok.ensures.ok (swaps_of c.swaps.result.now)
-    c.swaps.ensures (λ written. IsNormalSession c.args.limits c.args.mode written
-    c.in-Ok-normalise_by.normal) c.in-Ok-normalise_by.ensures.ok
-
-pub returns-in-Err-normalise_by-clause-err : goal.returns-in-Err-normalise_by-clause-err
-returns-in-Err-normalise_by-clause-err c =
-    subst (IsNotNormalised c.args.limits c.args.mode (mask_of c.args.rules.now)
-    c.args.recording.items) (sym c.order_refusal.ensures)
-    (session_refused c.args.limits c.requires.limits c.args.mode c.args.rules.now
-    c.args.recording.items c.in-Ok.masked c.in-Ok.ensures.ok (swaps_of c.swaps.result.now)
-    c.swaps.ensures c.in-Err-normalise_by.refused c.in-Err-normalise_by.ensures.err)
+pub returns-clause-err : goal.returns-clause-err
+returns-clause-err c =
+    let limits = c.args.limits in
+    let mode = c.args.mode in
+    let mask = mask_of c.args.rules.now in
+    subst (IsNotNormalised limits mode mask c.args.recording.items) (sym c.order_refusal.ensures)
+    (text_rejected limits mode mask c.args.recording.items c.in_ok-text.text.items
+    (subst (λ bytes. AppliesRules limits mode mask bytes c.in_ok-text.text.items)
+    c.as_slice.ensures.value c.in_ok-text.ensures.ok) c.in-Err.refused
+    (subst (λ bytes. RefusesBytes limits mode bytes c.in-Err.refused) c.as_slice-2.ensures.value
+    c.in-Err.ensures.err))

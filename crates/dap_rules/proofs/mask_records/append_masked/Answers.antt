@@ -13,7 +13,7 @@ returns-in-Ok-true-clause-masked c messages fits count =
     rw (c.as_slice-content.ensures, c.in-Ok-true.field-0-test) at c.in-Ok-true.ensures.ok in
     recorded c.args.limits mask messages (payload_of c.args.whole.now) c.args.number c.args.written
     fits count adds.0 adds.1 c.args.out.now.items c.append_record.new.out.items
-    c.append_record.result
+    c.args.room.now.numbers c.append_record.result
     (c.append_record.ensures.writes
     (record { side = c.args.whole.now.side; doc = adds.0 }) refl
     (sym (c.as_slice-content-in-Ok-true.ensures.value ∙ adds.2
@@ -26,7 +26,7 @@ returns-in-Ok-false-clause-masked c messages fits count =
     c.write_masked.new.out.items =
     rw (c.as_slice-content.ensures, c.in-Ok-false.field-0-test) at c.in-Ok-false.ensures.ok in
     left_out c.args.limits mask messages (payload_of c.args.whole.now) c.args.number c.args.written
-    fits count c.args.out.now.items adds.0
+    fits count c.args.out.now.items c.args.room.now.numbers adds.0
 
 pub returns-in-Err-Fraction-clause-masked : goal.returns-in-Err-Fraction-clause-masked
 returns-in-Err-Fraction-clause-masked c messages fits count =

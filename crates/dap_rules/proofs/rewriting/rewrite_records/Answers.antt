@@ -3,21 +3,24 @@ use Rattle.dap_device.specs.Written.{AllWritten, PrefixWritten}
 use Rattle.dap_input.proofs.StreamEnds.{all_written, front_written, not_given_up}
 use Rattle.dap_normalise.specs.Streaming.{Ends}
 use Rattle.dap_mask.specs.KeptRules.{mask_of}
-use Rattle.dap_rules.proofs.MaskingLoop.{all_masked, fewer, none_read, not_masked}
-use Rattle.dap_rules.proofs.MaskingLoop.{not_masked_gives_up, not_read, not_read_gives_up, passed}
-use Rattle.dap_rules.proofs.MaskingLoop.{promised, waited_on, written_on}
-use Rattle.dap_rules.proofs.mask_records.mask_records.Goals as goal
+use Rattle.dap_rules.proofs.RewritingLoop.{all_rewritten, fewer, none_read, not_rewritten}
+use Rattle.dap_rules.proofs.RewritingLoop.{not_rewritten_gives_up, not_read, not_read_gives_up}
+use Rattle.dap_rules.proofs.RewritingLoop.{passed}
+use Rattle.dap_rules.proofs.RewritingLoop.{waited_on, written_on}
+use Rattle.dap_rules.proofs.RewritingFacts.{promised}
+use Rattle.dap_rules.proofs.rewriting.rewrite_records.Goals as goal
 
 pub records-init : goal.records-init
 records-init g c =
     rw c.new-text.ensures.items
-    (none_read c.args.limits (mask_of c.args.rules.now) g.R.Source g.W.Sink c.args.reader.now
-    c.args.writer.now c.args.records.now c.requires.start)
+    (none_read c.args.pass c.args.limits (mask_of c.args.rules.now) g.R.Source g.W.Sink
+    c.args.reader.now c.args.writer.now c.args.records.now c.requires.start
+    c.new-3.result c.new-3.ensures.empty c.new-3.ensures.limit)
 
 pub returns-in-Ok-None-clause-outcome : goal.returns-in-Ok-None-clause-outcome
 returns-in-Ok-None-clause-outcome g c =
     let was = c.records.invariant in
-    all_masked was (promised c.args.limits c.requires.limits c.args.rules.now)
+    all_rewritten was (promised c.args.pass c.args.limits c.requires.limits c.args.rules.now)
     (rw c.in-Ok-None.field-0-is at c.in-Ok-None.ensures c.args.limits.frame
     was.judged.behind.between)
     c.finish_output.new.writer c.finish_output.result
@@ -48,33 +51,33 @@ returns-in-Err-clause-given_up g c =
     (Err c.in-Err.because) c.finish_output-in-Err.result)
     c.as_slice-in-Err.ensures.value c.finish_output-in-Err.ensures)
 
-pub returns-in-Err-append_masked-clause-given_up : goal.returns-in-Err-append_masked-clause-given_up
-returns-in-Err-append_masked-clause-given_up g c =
+pub returns-in-Err-append-clause-given_up : goal.returns-in-Err-append-clause-given_up
+returns-in-Err-append-clause-given_up g c =
     let was = c.records.invariant in
-    not_masked_gives_up was
+    not_rewritten_gives_up was
     (rw c.in-Ok-Some.field-0-is at c.in-Ok-Some.ensures c.args.limits.frame
     was.judged.behind.between)
-    c.in-Err-append_masked.because
-    c.finish_output-in-Err-append_masked.new.writer c.finish_output-in-Err-append_masked.result
-    (subst (λ t. Ends g.W.Sink t c.records.writer c.finish_output-in-Err-append_masked.new.writer
-    (Err c.in-Err-append_masked.because) c.finish_output-in-Err-append_masked.result)
-    (c.as_slice-in-Err-append_masked.ensures.value ∙ c.in-Err-append_masked.ensures.kept)
-    c.finish_output-in-Err-append_masked.ensures)
+    c.in-Err-append.because
+    c.finish_output-in-Err-append.new.writer c.finish_output-in-Err-append.result
+    (subst (λ t. Ends g.W.Sink t c.records.writer c.finish_output-in-Err-append.new.writer
+    (Err c.in-Err-append.because) c.finish_output-in-Err-append.result)
+    (c.as_slice-in-Err-append.ensures.value ∙ c.in-Err-append.ensures.kept)
+    c.finish_output-in-Err-append.ensures)
 
-pub returns-in-Err-append_masked-clause-outcome : goal.returns-in-Err-append_masked-clause-outcome
-returns-in-Err-append_masked-clause-outcome g c =
+pub returns-in-Err-append-clause-outcome : goal.returns-in-Err-append-clause-outcome
+returns-in-Err-append-clause-outcome g c =
     let was = c.records.invariant in
-    not_masked was
+    not_rewritten was
     (rw c.in-Ok-Some.field-0-is at c.in-Ok-Some.ensures c.args.limits.frame
     was.judged.behind.between)
-    c.in-Err-append_masked.because c.append_masked.new.out.items
-    (rw c.number-number.ensures at c.in-Err-append_masked.ensures.masked was.values was.fits
-    was.count)
-    c.finish_output-in-Err-append_masked.new.writer c.finish_output-in-Err-append_masked.result
-    (subst (λ t. Ends g.W.Sink t c.records.writer c.finish_output-in-Err-append_masked.new.writer
-    (Err c.in-Err-append_masked.because) c.finish_output-in-Err-append_masked.result)
-    (c.as_slice-in-Err-append_masked.ensures.value ∙ c.in-Err-append_masked.ensures.kept)
-    c.finish_output-in-Err-append_masked.ensures)
+    c.in-Err-append.because c.append.new.out.items c.append.new.room.numbers
+    (rw c.number-number.ensures at c.in-Err-append.ensures.rewritten was.values was.fits
+    was.count was.numbered)
+    c.finish_output-in-Err-append.new.writer c.finish_output-in-Err-append.result
+    (subst (λ t. Ends g.W.Sink t c.records.writer c.finish_output-in-Err-append.new.writer
+    (Err c.in-Err-append.because) c.finish_output-in-Err-append.result)
+    (c.as_slice-in-Err-append.ensures.value ∙ c.in-Err-append.ensures.kept)
+    c.finish_output-in-Err-append.ensures)
 
 pub returns-then-is_err-clause-outcome : goal.returns-then-is_err-clause-outcome
 returns-then-is_err-clause-outcome g c =
@@ -82,7 +85,8 @@ returns-then-is_err-clause-outcome g c =
     (passed was
     (rw c.in-Ok-Some.field-0-is at c.in-Ok-Some.ensures c.args.limits.frame
     was.judged.behind.between)
-    (c.in-Ok.ensures.masked was.values was.fits was.count)).fails c.write_all.new.writer
+    (c.in-Ok.ensures.rewritten was.values was.fits was.count was.numbered)).fails
+    c.write_all.new.writer
     (subst (PrefixWritten g.W.Sink c.records.writer c.write_all.new.writer)
     c.as_slice-then-len-ge-PIECE.ensures.value
     (front_written g.W.Sink c.records.writer c.write_all.new.writer c.write_all.result
@@ -103,7 +107,7 @@ records-preserved-in-records g c =
     (written_on was
     (rw c.in-Ok-Some.field-0-is at c.in-Ok-Some.ensures c.args.limits.frame
     was.judged.behind.between)
-    (c.in-Ok.ensures.masked was.values was.fits was.count) c.write_all.new.writer
+    (c.in-Ok.ensures.rewritten was.values was.fits was.count was.numbered) c.write_all.new.writer
     (subst (AllWritten g.W.Sink c.records.writer c.write_all.new.writer)
     c.as_slice-then-len-ge-PIECE.ensures.value
     (all_written g.W.Sink c.records.writer c.write_all.new.writer c.write_all.result
@@ -123,6 +127,6 @@ records-preserved g c =
     let read = rw c.in-Ok-Some.field-0-is at c.in-Ok-Some.ensures c.args.limits.frame
     was.judged.behind.between in
     rw c.recycle.ensures
-    (waited_on was read (c.in-Ok.ensures.masked was.values was.fits was.count)
+    (waited_on was read (c.in-Ok.ensures.rewritten was.values was.fits was.count was.numbered)
     (rw c.recycle.ensures at c.has_next.ensures c.args.limits.frame read.finds.1.between
     c.if-not-has_next.false))

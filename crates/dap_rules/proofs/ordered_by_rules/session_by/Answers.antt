@@ -4,7 +4,7 @@ use Rattle.dap_message.specs.SwapRules.{swaps_of}
 use Rattle.dap_recording.specs.Recording.{recording_text}
 use Rattle.dap_stored.specs.Sessions.{messages_of}
 use Rattle.dap_rules.proofs.Applied.{is_empty, makes, not_accepted, not_empty, refuses_normal}
-use Rattle.dap_rules.proofs.applying.session_by.Goals as goal
+use Rattle.dap_rules.proofs.ordered_by_rules.session_by.Goals as goal
 
 pub returns-in_err-check_masked-clause-err : goal.returns-in_err-check_masked-clause-err
 returns-in_err-check_masked-clause-err c records fit holds =

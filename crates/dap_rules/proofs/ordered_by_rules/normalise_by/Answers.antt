@@ -3,7 +3,7 @@ use Rattle.std.proofs.lemmas.Result.{IfErr-weaker, IfOk-weaker, err_from_is_err_
 use Rattle.dap_message.specs.SwapRules.{swaps_of}
 use Rattle.dap_recording.specs.Recording.{recording_text}
 use Rattle.dap_rules.proofs.Applied.{is_empty, normalises, not_accepted, not_empty, refuses_normal}
-use Rattle.dap_rules.proofs.applying.normalise_by.Goals as goal
+use Rattle.dap_rules.proofs.ordered_by_rules.normalise_by.Goals as goal
 
 pub returns-then-is_empty-clause-ok : goal.returns-then-is_empty-clause-ok
 returns-then-is_empty-clause-ok c records fit holds =
