@@ -11,10 +11,14 @@ use Rattle.dap_rename.specs.declared.mode.Mode.TheVariants.{Whole}
 use Rattle.dap_normalise.specs.declared.normal_session.NormalSession.{NormalSession}
 use Rattle.dap_rules.specs.Applying.{NormalisesByRules}
 use Rattle.dap_rules.specs.MaskedMessages.{AreMaskedMessages}
+use Rattle.dap_rules.specs.MaskedMessages.{ordered_by}
+use Rattle.dap_rules.proofs.NamedOrdered.{equal_named_orders}
+use Rattle.dap_rules.proofs.NamedSameness.{equal_names_and_ids}
 use Rattle.dap_rules.proofs.TextsByRules as by_rules
 use Rattle.dap_golden.specs.Golden.{AreMaskedMessagesOf, IsGolden, IsRecordingOf}
 use Rattle.dap_golden.specs.Golden.{messages_of}
 use Rattle.dap_golden.specs.Laws.{EqualGoldenTextsByRules, EqualGoldenTextsInEachMode}
+use Rattle.dap_golden.specs.Laws.{EqualGoldenTextsByExchanges, EqualGoldenTextsByNames}
 use Rattle.dap_golden.specs.Laws.{GoldenIsOrdered, OneMaskedListOfInput}
 use Rattle.dap_golden.specs.declared.golden.GoldenText.{GoldenText}
 use Rattle.dap_golden.proofs.OneGoldenText.{one_recording}
@@ -81,9 +85,27 @@ equal_in_each_mode limits mode sound mask allow_open either input other a b ms n
     (masked_of limits sound mask input one.of_input.recording ms one.of_input.of_input are_ms)
     (masked_of limits sound mask other two.of_input.recording ns two.of_input.of_input are_ns)
 
+pub equal_by_names : EqualGoldenTextsByNames
+equal_by_names limits mode sound mask are allow_open either input other a b ms ns one two are_ms
+    are_ns few less =
+    let texts = equal_in_each_mode limits mode sound mask allow_open either input other a b ms ns
+    one two are_ms are_ns in
+    let names = equal_names_and_ids mode mask.declared (ordered_by mask ms) (ordered_by mask ns) are
+    few less in
+    (λ e. names.0 (texts.0 e), λ same. texts.1 (names.1 same))
+
+pub equal_by_exchanges : EqualGoldenTextsByExchanges
+equal_by_exchanges limits sound mask are allow_open either input other a b ms ns one two are_ms
+    are_ns numbered keeps few less =
+    let texts = equal_in_each_mode limits Whole sound mask allow_open either input other a b ms ns
+    one two are_ms are_ns in
+    let names = equal_named_orders mask.swaps mask.declared ms ns are numbered keeps few less in
+    (λ e. names.0 (texts.0 e), λ same. texts.1 (names.1 same))
+
 pub equal_by_rules : EqualGoldenTextsByRules
-equal_by_rules limits sound mask allow_open either input other a b ms ns one two are_ms are_ns =
-    by_rules.equal_texts_by_rules limits mask one.of_input.recording two.of_input.recording
+equal_by_rules limits sound mask none allow_open either input other a b ms ns one two are_ms
+    are_ns =
+    by_rules.equal_texts_by_rules limits mask none one.of_input.recording two.of_input.recording
     (session limits Whole mask allow_open input a one)
     (session limits Whole mask either other b two) ms ns
     (normalises limits Whole mask allow_open input a one)

@@ -41,8 +41,9 @@ pub data IsRecordingOf (limits : Limits) (input recording : List ℕ) : Type 0 w
       → IsRecordingOf limits input recording
   unchanged : (IsTraceHead input → ⊥) → recording ≡ input → IsRecordingOf limits input recording
 
--- The rules turn the recording into this session: it is masked, and then put in order if some of
--- the rules are for the order. Without rules it is unchanged.
+-- The rules turn the recording into this session: it is masked, put in order if some of the rules
+-- are for the order, and names replace the ids that the rules declare. Without rules it is
+-- unchanged.
 abbrev pub AppliesBy : Limits → Mode → Option Mask → List ℕ → List ℕ → Type 0
 AppliesBy limits mode None recording session = session ≡ recording
 AppliesBy limits mode (Some mask) recording session =
@@ -56,7 +57,7 @@ pub record IsSessionOf (limits : Limits) (mode : Mode) (mask : Option Mask)
   pub applies : AppliesBy limits mode mask recording session
 
 -- The recording of the input has these masked messages: its messages after all rules but those for
--- the order.
+-- the order and for declared ids.
 pub record AreMaskedMessagesOf (limits : Limits) (mask : Mask) (input : List ℕ)
     (messages : List Sent) : Type 0 where
   pub recording : List ℕ
@@ -121,7 +122,8 @@ pub record HasNoSession (limits : Limits) (mode : Mode) (mask : Option Mask) (in
   pub is_refused : IsRefusedByRules limits mode rules recording refused
 
 -- Why an input has no golden text. Each step was reached only if all steps before it succeeded.
--- `Session` is an error of putting the masked recording in order, or of the resulting session.
+-- `Session` is an error of putting the masked recording in order, of naming its declared ids, or of
+-- the resulting session.
 abbrev pub IsRefusedGolden : Limits → Mode → Option Mask → Bool → List ℕ → GoldenRefused → Type 0
 IsRefusedGolden limits mode mask allow_open input (because.Trace refused) =
     IsTraceHead input

@@ -15,8 +15,8 @@ pub enum GoldenRefused {
     #[error("{0}")]
     Mask(Refused),
     /// The masked recording was rejected, or has a request without a response. Records are numbered
-    /// from 1 in the masked recording. If its text in order exceeds the limits, they are numbered
-    /// from 1 in that text.
+    /// from 1 in the masked recording. If its text in order exceeds the limits, or the same text
+    /// with names in the place of declared ids, they are numbered from 1 in that text.
     #[error("{0}")]
     Session(Refused),
     /// The masked recording has no records.

@@ -61,8 +61,8 @@ pub fn recording_of(alloc: Global, input: Vec<u8>, limits: Limits) -> Result<Vec
     }
 }
 
-/// Normalises a recording. If there are rules, masks it before that, and then puts it in order if
-/// some of the rules are for the order.
+/// Normalises a recording. If there are rules, masks it before that, puts it in order if some of
+/// the rules are for the order, and replaces the ids that the rules declare by names.
 fn normalise_recording(
     alloc: Global,
     recording: Vec<u8>,
@@ -143,10 +143,10 @@ pub(crate) fn mode_given(rules: Option<&MaskRules>, mode: Mode) -> Mode
 /// Creates the text of a golden file from a trace or a recording in memory.
 ///
 /// An input that starts with a marker, decimal digits and LF is a trace, and is recorded. Any other
-/// input is a recording. If there are rules, the recording is masked, and then put in order if some
-/// of the rules are for the order. The resulting session is checked in the same way as by
-/// [`check`](dap_normalise::check), and normalised. It must have at least one record. Each request
-/// must have a response, unless `allow_open` is set.
+/// input is a recording. If there are rules, the recording is masked, put in order if some of the
+/// rules are for the order, and names replace the ids that the rules declare. The resulting session
+/// is checked in the same way as by [`check`](dap_normalise::check), and normalised. It must have
+/// at least one record. Each request must have a response, unless `allow_open` is set.
 ///
 /// If the rules have the line `per-stop`, the mode is `PerStop`.
 ///
@@ -159,8 +159,8 @@ pub(crate) fn mode_given(rules: Option<&MaskRules>, mode: Mode) -> Mode
 ///
 /// - `Trace`: the trace was rejected, or ends inside a piece or a frame.
 /// - `Mask`: the rules cannot mask a record of the recording.
-/// - `Session`: the masked recording was rejected, or its text in order was, or `allow_open` is not
-///   set and a request has no response (`Incomplete`).
+/// - `Session`: the masked recording was rejected, or its text in order or with names was, or
+///   `allow_open` is not set and a request has no response (`Incomplete`).
 /// - `NoRecords`: the masked recording has no records.
 /// - `Memory`: an allocation failed.
 pub fn golden_text(
