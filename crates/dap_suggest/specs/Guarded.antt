@@ -2,7 +2,8 @@
 use Rattle.std.specs.Prelude.{◌≡◌, ℕ, ◌+◌, Bool, true, false, ◌&&◌, ◌||◌, List, [], ◌∷◌, Option}
 use Rattle.std.specs.Prelude.{Some, None, Ok, bytes_eq, codes, count_by}
 use Rattle.std.specs.List.{list_any}
-use Rattle.dap_mask.specs.{Mask.Mask, RuleSteps.{RuleStep, named, elements}}
+use Rattle.dap_mask.specs.{Declarations.Declaration, Mask.Mask}
+use Rattle.dap_mask.specs.RuleSteps.{RuleStep, named, elements}
 use Rattle.dap_mask.specs.{Rules.{Rule, same_verb}, RulesFile.rules_said}
 use Rattle.dap_mask.specs.declared.rules.Verb.TheVariants.{Blank}
 use Rattle.dap_profile.specs.declared.profile.Kind.{Kind, TheVariants.{Request, Response, Event}}
@@ -52,11 +53,16 @@ is_guarded_place kind name place = false
 abbrev pub is_guarded : Rule → Bool
 is_guarded rule = same_verb rule.verb Blank && is_guarded_place rule.kind rule.name rule.place
 
--- How many rules of the mask blank guarded places.
-abbrev pub guarded_count : Mask → ℕ
-guarded_count mask = count_by is_guarded mask.changes
+-- The rule declares the value at a guarded place as an id, so a name replaces it.
+abbrev pub is_guarded_id : Declaration → Bool
+is_guarded_id x = is_guarded x.rule
 
--- The second file of rules blanks this number of guarded places more than the first one.
+-- How many rules for guarded places the mask has: those that blank them, or declare their values as
+-- ids.
+abbrev pub guarded_count : Mask → ℕ
+guarded_count mask = count_by is_guarded mask.changes + count_by is_guarded_id mask.declared
+
+-- The second file of rules has this number of rules for guarded places more than the first one.
 abbrev pub AddsGuarded : ℕ → List ℕ → List ℕ → Type 0
 AddsGuarded added given whole = (before after : Mask) → rules_said given ≡ Ok before
     → rules_said whole ≡ Ok after → guarded_count after ≡ guarded_count before + added

@@ -46,12 +46,12 @@ pub record AreSameBy (limits : Limits) (mode : Mode) (rules a b : List ℕ) : Ty
 abbrev pub HasBroad : List ℕ → Broad → Type 0
 HasBroad rules broad = (mask : Mask) → rules_said rules ≡ Ok mask → broad_of mask ≡ broad
 
--- If the file of rules is accepted, it blanks this number of guarded places.
+-- If the file of rules is accepted, it has this number of rules for guarded places.
 abbrev pub HasGuarded : List ℕ → ℕ → Type 0
 HasGuarded rules n = (mask : Mask) → rules_said rules ≡ Ok mask → guarded_count mask ≡ n
 
 -- The rules make both recordings the same in this mode. They have as many broad rules as those that
--- were given, and blank this number of guarded places more.
+-- were given, and this number of rules for guarded places more.
 pub record IsConfirmedBy (inputs : Inputs) (mask : Mask) (added : ℕ) (mode : Mode) : Type 0 where
   pub mode_is : mode ≡ mode_by mask Whole
   pub one : HaveOneNormal inputs.limits mode mask inputs.a.now inputs.b.now
@@ -59,7 +59,7 @@ pub record IsConfirmedBy (inputs : Inputs) (mask : Mask) (added : ℕ) (mode : M
   pub guarded : guarded_count mask ≡ inputs.guarded + added
 
 -- The file of rules makes both recordings the same in this mode. It has as many broad rules as the
--- rules that were given, and blanks this number of guarded places more.
+-- rules that were given, and this number of rules for guarded places more.
 pub record IsConfirmed (inputs : Inputs) (rules : List ℕ) (mode : Mode) (added : ℕ) : Type 0 where
   pub same : AreSameBy inputs.limits mode rules inputs.a.now inputs.b.now
   pub broad : HasBroad rules inputs.broad
@@ -76,7 +76,7 @@ check_note n = if n == 0 then [] else if n == 1 then codes " (1 rule to check)"
     else codes " (" ++ decimal n ++ codes " rules to check)"
 
 -- The last line of rules that are suggested: the mode in which the recordings are the same, and how
--- many rules blank a guarded place. 10 is LF.
+-- many rules are for guarded places. 10 is LF.
 abbrev pub last_line : Mode → ℕ → List ℕ
 last_line mode added = verdict mode ++ (check_note added ++ 10 ∷ [])
 

@@ -1,10 +1,11 @@
 //! Counts the rules that a suggestion never adds.
 ghost use Rattle.std.specs.Prelude.{◌≡◌, Some, count_by, is_none, option_map, string_bytes};
 ghost use Rattle.dap_mask.specs.{Categories.category_of, KeptRules.mask_of, Rules.rule_of};
+ghost use Rattle.dap_mask.specs.Declarations.{declaration_of};
 ghost use Rattle.dap_message.specs.SwapRules.{swap_of};
 ghost use Rattle.dap_suggest.specs.Broad.{broad_of, is_needed, is_open_swap};
 
-use dap_mask::{CategoryRule, MaskRule, MaskRules};
+use dap_mask::{CategoryRule, Declaration, MaskRule, MaskRules};
 use dap_message::SwapRule;
 
 /// Returns whether a session needs the events of this name.
@@ -57,14 +58,21 @@ fn open_swaps(swaps: &[SwapRule]) -> usize
     swaps.iter().filter(|swap| is_open_swap(swap)).count()
 }
 
-/// How many broad rules a mask has: changes and exchanges of messages of any name, and rules that
-/// drop events of any name or events that a session needs.
+fn broad_declarations(rules: &[Declaration]) -> usize
+    ensures { result ≡ count_by (λ x. is_none (declaration_of x).rule.name) rules.now }
+{
+    rules.iter().filter(|x| x.rule.name.is_none()).count()
+}
+
+/// How many broad rules a mask has: changes, declarations and exchanges for messages of any name,
+/// and rules that drop events of any name or events that a session needs.
 #[derive(Clone, Copy, PartialEq, Eq)]
 pub struct Broad {
     pub changes: usize,
     pub drops: usize,
     pub categories: usize,
     pub swaps: usize,
+    pub declared: usize,
 }
 
 /// Returns how many broad rules a mask has.
@@ -77,5 +85,6 @@ pub fn broad_of(rules: &MaskRules) -> Broad
         drops: broad_drops(rules.dropped()),
         categories: broad_categories(rules.categories()),
         swaps: open_swaps(rules.swaps()),
+        declared: broad_declarations(rules.declared()),
     }
 }

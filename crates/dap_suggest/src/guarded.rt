@@ -1,12 +1,14 @@
 //! The rules that hide what a test looks at.
 ghost use Rattle.std.specs.Prelude.{◌≡◌, count_by, option_map, string_bytes};
 ghost use Rattle.dap_mask.specs.{KeptRules.mask_of, Rules.{place_of, rule_of}};
+ghost use Rattle.dap_mask.specs.Declarations.{declaration_of};
 ghost use Rattle.dap_suggest.specs.Guarded.{guarded_count, is_guarded, is_guarded_event};
+ghost use Rattle.dap_suggest.specs.Guarded.{is_guarded_id};
 ghost use Rattle.dap_suggest.specs.Guarded.{is_guarded_inside, is_guarded_list, is_guarded_member};
 ghost use Rattle.dap_suggest.specs.Guarded.{is_guarded_place, is_list_or_names};
 
 use crate::words::parts_of;
-use dap_mask::{MaskRule, MaskRules, RulesCause, Step, Verb};
+use dap_mask::{Declaration, MaskRule, MaskRules, RulesCause, Step, Verb};
 use dap_message::Kind;
 use std::alloc::{AllocError, Global};
 
@@ -86,12 +88,19 @@ fn guarded_changes(rules: &[MaskRule]) -> usize
     rules.iter().filter(|rule| is_guarded(rule)).count()
 }
 
-/// Returns how many rules of a mask blank guarded places.
+fn guarded_ids(rules: &[Declaration]) -> usize
+    ensures { result ≡ count_by (λ x. is_guarded_id (declaration_of x)) rules.now }
+{
+    rules.iter().filter(|x| is_guarded(&x.rule)).count()
+}
+
+/// Returns how many rules for guarded places a mask has: those that blank them, or declare their
+/// values as ids.
 #[tactic(auto, using(crate::proofs::Lists::counted_mapped))]
 pub fn guarded_count(rules: &MaskRules) -> usize
     ensures { result ≡ guarded_count (mask_of rules.now) }
 {
-    guarded_changes(rules.changes())
+    guarded_changes(rules.changes()) + guarded_ids(rules.declared())
 }
 
 /// What is hidden if a guarded member of a body is blanked, or the names of its elements.

@@ -237,7 +237,7 @@ fn suggest_by(
 }
 
 /// Suggests rules that make two recordings of one scenario the same, in addition to the rules that
-/// were given.
+/// were given. These are applied first, and names replace the ids that they declare.
 ///
 /// The records are matched as those of [`diff_all_with`](dap_diff::diff_all_with). Equal output in
 /// other pieces is joined. Events that the recordings have in different numbers are dropped, only
@@ -278,8 +278,8 @@ pub fn suggest(
     ensures narrow { IfOk result
         (λ s. AddsNoBroadRule given.now (given.now ++ s.rules.items)) }
 
-    // The last line says in which mode the recordings are the same, and how many rules blank a
-    // guarded place. If `strict`, none does.
+    // The last line says in which mode the recordings are the same, and how many rules are for
+    // guarded places. If `strict`, none is.
     ensures checked { IfOk result (λ s. SaysWhatToCheck given.now s.mode s.rules.items) }
     ensures strict { strict ≡ true → IfOk result
         (λ s. AddsGuarded 0 given.now (given.now ++ s.rules.items)) }

@@ -13,7 +13,7 @@ pub struct Inputs<'i> {
     pub given: &'i [u8],
     /// How many broad rules they have.
     pub broad: Broad,
-    /// How many guarded places they blank.
+    /// How many rules they have for guarded places.
     pub guarded: usize,
     /// Whether no rule may be suggested that has to be checked.
     pub strict: bool,

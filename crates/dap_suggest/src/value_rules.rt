@@ -100,7 +100,8 @@ pub struct Chooser<'c> {
 }
 
 impl Chooser<'_> {
-    /// Returns the index of the first rule of a spot that a file cannot have.
+    /// Returns the index of the first rule of a spot that a file cannot have, such as `digits` at a
+    /// place of declared ids.
     fn refused(&self, target: &[u8], spot: &Spot) -> Result<Option<usize>, AllocError> {
         let mut rules = Vec::new(self.alloc);
         for index in 0..spot.rules.len() {
