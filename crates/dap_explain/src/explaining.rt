@@ -45,7 +45,7 @@ fn add_message(
         Refused::Fraction(_) => explain_fraction(lines, record.content, message, head),
         Refused::Rule(number, rule) => explain_rule(lines, records.before(number), &head, rule),
         Refused::TooManyIds(_) =>
-            fill!(lines; "the limit is {0} different ids of a kind: record shorter sessions",
+            fill!(lines; "the limit is {0} different ids of a kind or a label: record shorter sessions",
                 Number(limits.ids as u64)),
         Refused::Grew(_) =>
             fill!(lines; "dapnorm writes at most {0} bytes for a record and {1} bytes in all: record shorter sessions",

@@ -1,19 +1,21 @@
 //! Explains rejected files of rules.
 ghost use Rattle.std.specs.Prelude.{◌≡◌, IfOk, string_bytes};
+ghost use Rattle.dap_mask.specs.Declarations.{is_sort_word};
 ghost use Rattle.dap_explain.specs.{Lines.AreLines, Unexplained.IsEmpty};
 
 use crate::header::{is_lf, line_at};
 use crate::lines::{Lines, fill};
 use crate::words::Word::{self, Bytes, Cut, Line, Number};
 use RulePart::{
-    Category, Event, JoinedKind, JoinedName, Kind, Limit, Name, Place, SecondKind, Span, Text,
-    Value,
+    As, Category, Event, JoinedKind, JoinedName, Kind, Label, Limit, Name, Place, SecondKind, Span,
+    Text, Value,
 };
 use dap_mask::{
     ByteClass, MaskRules, RulesCause, RulesFault, any_name, is_end, name_at, place_at, split_run,
     value_at,
 };
 use dap_profile::Kind as MessageKind;
+use dap_tree::SORTS;
 use std::alloc::{AllocError, Global};
 use std::str;
 
@@ -62,12 +64,18 @@ enum RulePart {
     Span,
     /// The value of a member that a rule sets.
     Value,
+    /// The word `as`, which may be missing with the label after it.
+    As,
+    /// The label of declared ids.
+    Label,
 }
 
-/// Returns the parts of a rule with a verb. A place is the last one, except for a value.
+/// Returns the parts of a rule with a verb.
 fn parts_of(verb: &[u8]) -> Option<&'static [RulePart]> {
     match verb {
-        b"blank" | b"digits" | b"hex" | b"long" | b"uuid" => Some(&[Kind, Name, Limit, Place]),
+        b"blank" | b"digits" | b"hex" | b"long" | b"uuid" => {
+            Some(&[Kind, Name, Limit, Place, As, Label])
+        }
         b"drop" => Some(&[Event, Name, Category]),
         b"fill" => Some(&[Kind, Name, Place, Value]),
         b"join" => Some(&[JoinedKind, JoinedName, Span]),
@@ -94,6 +102,7 @@ impl RulePart {
             Place | Category | Limit => "after the name comes a place, such as body.reason",
             JoinedKind | JoinedName | Span => "only output is joined: write join event output",
             Value => "after the place comes a value: an integer, true, false or a string in quotes",
+            As | Label => "after as comes a label, such as address",
         }
     }
 
@@ -112,6 +121,8 @@ impl RulePart {
             JoinedKind | JoinedName => "cannot be joined: write join event output",
             Span => "is not per-stop: write join event output per-stop, or leave it out",
             Value => "is not a value: write an integer, true, false or a string in quotes",
+            As => "is after the rule: only as LABEL or a comment may be there",
+            Label => LABEL_WORDS,
         }
     }
 
@@ -124,9 +135,10 @@ impl RulePart {
             Event | JoinedKind => (kind_of(word)? == MessageKind::Event).then_some(rest),
             JoinedName => matches!(word, b"output" | b"\"output\"").then_some(rest),
             Span => matches!(word, b"per-stop").then_some(rest),
+            As => matches!(word, b"as").then_some(rest),
             Value => Some(lines.value_of(value_at(alloc, bytes))??.1),
             Name => Some(lines.value_of(any_name(alloc, bytes))??.1),
-            Text => Some(lines.value_of(name_at(alloc, bytes))??.1),
+            Text | Label => Some(lines.value_of(name_at(alloc, bytes))??.1),
             Place => Some(lines.value_of(place_at(alloc, bytes))??.1),
             Category | Limit => {
                 let text = bytes.strip_prefix(b"category=")?;
@@ -165,18 +177,29 @@ impl RulePart {
     }
 }
 
-/// Returns the last part of a rule before its value, which is the place of a rule that has one. For
-/// a line that is not a rule, adds the line about what is wrong with it, if that is recognised.
-fn place_of<'l>(lines: &mut Lines, line: &'l [u8]) -> Option<&'l [u8]> {
-    let (mut last, mut rest) = split_verb(line);
-    let Some(parts) = parts_of(last) else {
-        let verbs =
-            "is not a verb: write blank, digits, hex, long, uuid, drop, fill, join, swap, word or per-stop";
-        add_wrong(lines, last, verbs);
-        return None;
-    };
-    let kind = kind_of(split_verb(rest).0);
+/// The parts of a rule that its explanation shows.
+#[derive(Clone, Copy)]
+struct Shown<'l> {
+    /// The place, or the verb of a rule without a place.
+    place: &'l [u8],
+    /// The label, if the rule declares ids.
+    label: Option<&'l [u8]>,
+}
+
+/// Reads the parts of a rule after its verb. Returns those that are shown, and the bytes after all
+/// parts. If a part is wrong, adds the line about it.
+fn read_parts<'l>(
+    lines: &mut Lines,
+    parts: &[RulePart],
+    verb: &'l [u8],
+    text: &'l [u8],
+) -> Option<(Shown<'l>, &'l [u8])> {
+    let kind = kind_of(split_verb(text).0);
+    let (mut place, mut label, mut rest) = (verb, None, text);
     for part in parts {
+        if *part == As && is_end(rest) {
+            break;
+        }
         if part.is_left_out(rest) {
             continue;
         }
@@ -185,13 +208,29 @@ fn place_of<'l>(lines: &mut Lines, line: &'l [u8]) -> Option<&'l [u8]> {
             return None;
         }
         let (bytes, after) = part.read(lines, rest)?;
-        if *part != Value {
-            last = bytes;
+        match part {
+            Place => place = bytes,
+            Label => label = Some(bytes),
+            _ => {}
         }
         rest = after;
     }
+    Some((Shown { place, label }, rest))
+}
+
+/// Returns the parts of a rule that are shown. For a line that is not a rule, adds the line about
+/// what is wrong with it, if that is recognised.
+fn parts_in<'l>(lines: &mut Lines, line: &'l [u8]) -> Option<Shown<'l>> {
+    let (verb, text) = split_verb(line);
+    let Some(parts) = parts_of(verb) else {
+        let verbs =
+            "is not a verb: write blank, digits, hex, long, uuid, drop, fill, join, swap, word or per-stop";
+        add_wrong(lines, verb, verbs);
+        return None;
+    };
+    let (shown, rest) = read_parts(lines, parts, verb, text)?;
     if is_end(rest) {
-        return Some(last);
+        return Some(shown);
     }
     let comment = "is after the rule: only a comment may be there";
     add_wrong(lines, after_blanks(rest), comment);
@@ -215,6 +254,12 @@ const FILL_ADVICE: &str =
 
 const UUID_ADVICE: &str = "no place has both: leave one of them out";
 
+const LABEL_ADVICE: &str =
+    "a place has at most one rule that ends in as LABEL: leave one of them out";
+
+const NUMBER_ADVICE: &str =
+    "no rule changes the numbers in the names of declared ids: leave one of them out";
+
 /// What to do about a word that can overlap a text.
 const WORD_ADVICE: &str =
     "choose a word that shares no start or end with a text, such as \"<home>\"";
@@ -222,14 +267,26 @@ const WORD_ADVICE: &str =
 /// What is wrong with a path to a member of the message itself that no rule may change.
 const RECOGNISED: &str = "a member by which dapnorm recognises messages";
 
-/// Returns what is wrong with a path that no rule may change.
-fn place_words(place: &[u8]) -> &'static str {
+/// What is wrong with a text that is not a label.
+const LABEL_WORDS: &str =
+    "is not a label: write lower-case letters and -, with a letter first, such as address";
+
+/// Returns what is wrong with a path that no rule may change, or at which none may declare ids.
+fn place_words(place: &[u8], declares: bool) -> &'static str {
     if matches!(place, b"type" | b"command" | b"event" | b"success") {
         RECOGNISED
     } else if place.ends_with(b".name") || place.ends_with(b".\"name\"") {
-        "the name by which the rule finds its element"
+        if declares {
+            "the name by which rules find elements"
+        } else {
+            "the name by which the rule finds its element"
+        }
     } else if matches!(place, b"body" | b"body.category") {
-        "the category by which the rule finds its events, or the body that contains it"
+        if declares {
+            "the category by which rules find events, or the body that contains it"
+        } else {
+            "the category by which the rule finds its events, or the body that contains it"
+        }
     } else if place.contains(&b'"') {
         "an id, or a member by which dapnorm or the rule recognises messages"
     } else {
@@ -237,15 +294,42 @@ fn place_words(place: &[u8]) -> &'static str {
     }
 }
 
-/// Adds the line about a place that no rule may change, or that is not that of a member to set.
-fn add_bad_place(lines: &mut Lines, line: &[u8], place: &[u8]) {
-    let what = place_words(place);
+/// Adds the line about a place that no rule may change, or at which none may declare ids, or that
+/// is not that of a member to set.
+fn add_bad_place(lines: &mut Lines, line: &[u8], shown: Shown<'_>) {
+    let Shown { place, label } = shown;
+    let what = place_words(place, label.is_some());
     let text = if has_verb(line, b"fill") && what != RECOGNISED {
         "{0} is not a place of fill: end it with a name, and write [] for elements"
     } else {
         "{0} is {1}: leave the rule out"
     };
     fill!(lines; text, Bytes(place), Word::Text(what));
+}
+
+fn is_sort_word(text: &str) -> bool
+    ensures { result ≡ is_sort_word text.now }
+{
+    SORTS.iter().any(|sort| sort.word() == text)
+}
+
+/// Returns whether a label is the name of a kind of id. Stores if an allocation failed.
+fn is_kind_of_id(lines: &mut Lines, label: &[u8]) -> bool {
+    let name = name_at(lines.alloc, label);
+    match lines.value_of(name) {
+        Some(Some((name, _))) => is_sort_word(name.as_str()),
+        _ => false,
+    }
+}
+
+/// Adds the line about a label that no rule may have.
+fn add_bad_label(lines: &mut Lines, label: &[u8]) {
+    let what = if is_kind_of_id(lines, label) {
+        "is the name of a kind of id that normalise renames: choose another label"
+    } else {
+        LABEL_WORDS
+    };
+    add_wrong(lines, label, what);
 }
 
 /// Reads a file of rules. Stores if an allocation failed.
@@ -284,8 +368,31 @@ fn has_category(lines: &mut Lines, line: &[u8]) -> bool {
     rules.is_ok_and(|rules| matches!(rules.changes(), [rule] if rule.category.is_some()))
 }
 
-/// Returns how an earlier line clashes with a line, and what to do. A rule that changes the category
-/// by which another rule selects events is without a category itself.
+/// Returns whether a line is a rule that declares ids.
+fn is_declaration(lines: &mut Lines, line: &[u8]) -> bool {
+    let rules = read_rules(lines, line);
+    rules.is_ok_and(|rules| !rules.declared().is_empty())
+}
+
+/// Returns how an earlier line clashes with a line, and what to do, if one of them declares ids.
+fn clash_of_ids(
+    lines: &mut Lines,
+    earlier: &[u8],
+    line: &[u8],
+) -> Option<(&'static str, &'static str)> {
+    match (is_declaration(lines, earlier), is_declaration(lines, line)) {
+        (true, true) => Some(("declares ids at the same place", LABEL_ADVICE)),
+        (true, false) => Some(("declares ids at the same place", NUMBER_ADVICE)),
+        (false, true) if has_verb(earlier, b"digits") => {
+            Some(("has a digits rule for the same place", NUMBER_ADVICE))
+        }
+        (false, true) => Some(("has a long rule for the same place", NUMBER_ADVICE)),
+        (false, false) => None,
+    }
+}
+
+/// Returns how an earlier line clashes with a line, and what to do. Neither declares ids. A rule
+/// that changes the category by which another rule selects events is without a category itself.
 fn clash(lines: &mut Lines, earlier: &[u8], line: &[u8]) -> (&'static str, &'static str) {
     if has_verb(line, b"fill") && has_verb(earlier, b"fill") {
         ("may set the same member", ONE_ADVICE)
@@ -345,7 +452,10 @@ fn exclusion(
             "has a text or a word that can overlap those of this line",
             WORD_ADVICE,
         ),
-        _ => clash(lines, earlier, line),
+        _ => match clash_of_ids(lines, earlier, line) {
+            Some(clash) => clash,
+            None => clash(lines, earlier, line),
+        },
     }
 }
 
@@ -370,15 +480,22 @@ fn add_excluded(lines: &mut Lines, rules: &[u8], line: &[u8], fault: RulesFault)
 fn add_cause(lines: &mut Lines, rules: &[u8], line: &[u8], fault: RulesFault) {
     match fault.cause {
         RulesCause::BadRule => {
-            if place_of(lines, line).is_some() {
+            if parts_in(lines, line).is_some() {
                 lines.add(
-                    "a rule is VERB KIND NAME PLACE, VERB event NAME category=TEXT PLACE, drop event NAME, drop event NAME category=TEXT, join event output, fill KIND NAME PLACE VALUE, swap KIND NAME KIND NAME, word TEXT WORD, or per-stop",
+                    "a rule is VERB KIND NAME PLACE, VERB event NAME category=TEXT PLACE, one of these and as LABEL, drop event NAME, drop event NAME category=TEXT, join event output, fill KIND NAME PLACE VALUE, swap KIND NAME KIND NAME, word TEXT WORD, or per-stop",
                 );
             }
         }
         RulesCause::BadPlace => {
-            if let Some(place) = place_of(lines, line) {
-                add_bad_place(lines, line, place);
+            if let Some(shown) = parts_in(lines, line) {
+                add_bad_place(lines, line, shown);
+            }
+        }
+        RulesCause::BadLabel => {
+            if let Some(shown) = parts_in(lines, line)
+                && let Some(label) = shown.label
+            {
+                add_bad_label(lines, label);
             }
         }
         RulesCause::TooMany => {

@@ -63,7 +63,7 @@ fn rules_name<'c, 'a>(command: &'c Command<'a>) -> Option<&'c Name<'a>> {
         | Command::Suggest { rules, .. } => rules.as_ref(),
         Command::Golden(golden) => golden.rules.as_ref(),
         _ => match task_of(command) {
-            Some(Task::Mask(rules) | Task::Order(rules)) => Some(rules),
+            Some(Task::Mask(rules) | Task::Order(rules) | Task::Name(rules)) => Some(rules),
             _ => None,
         },
     }
