@@ -2,7 +2,7 @@
 
 _dapnorm() {
     local word=${COMP_WORDS[COMP_CWORD]} before=${COMP_WORDS[COMP_CWORD - 1]} command=${COMP_WORDS[1]} words=
-    local commands='golden record check normalise compare diff suggest show mask order compact rows help'
+    local commands='golden record check normalise compare diff suggest show mask order name compact rows help'
     COMPREPLY=()
     if ((COMP_CWORD == 1)); then
         words="$commands -h --help -V --version"
@@ -21,6 +21,7 @@ _dapnorm() {
             show) words+=' --full --yaml --faulty --record --explain -o --output' ;;
             mask) words+=' --word --explain -o --output' ;;
             order) words+=' -o --output' ;;
+            name) words+=' --explain -o --output' ;;
             compact) words+=' --explain -o --output' ;;
         esac
     elif [[ $command != rows ]]; then

@@ -13,6 +13,7 @@ complete -c dapnorm -n __fish_use_subcommand -a suggest -d 'Prints rules that ma
 complete -c dapnorm -n __fish_use_subcommand -a show -d 'Prints one line for each record'
 complete -c dapnorm -n __fish_use_subcommand -a mask -d 'Redacts a recording by the rules of a file'
 complete -c dapnorm -n __fish_use_subcommand -a order -d 'Puts the records of a recording in the order that the rules define'
+complete -c dapnorm -n __fish_use_subcommand -a name -d 'Replaces declared ids by names, by the rules of a file'
 complete -c dapnorm -n __fish_use_subcommand -a compact -d 'Rewrites frames of one direction with canonical JSON'
 complete -c dapnorm -n __fish_use_subcommand -a rows -d 'Prints the rows of the profile, or row N'
 complete -c dapnorm -n __fish_use_subcommand -a help -d 'Prints the help of the program or of a command'
@@ -21,8 +22,8 @@ complete -c dapnorm -n '__fish_seen_subcommand_from golden check compare diff su
 complete -c dapnorm -n '__fish_seen_subcommand_from golden check normalise compare diff' -l per-stop -d 'Restarts frame ids and variables references at 1 after each stop'
 complete -c dapnorm -n '__fish_seen_subcommand_from golden' -l open -d 'Accepts a session in which some request has no response'
 complete -c dapnorm -n '__fish_seen_subcommand_from golden' -l update -d 'Writes the golden file if it differs or does not exist'
-complete -c dapnorm -n '__fish_seen_subcommand_from record check normalise compare diff suggest show mask compact' -l explain -d 'Explains an error in further lines; buffers the whole input'
-complete -c dapnorm -n '__fish_seen_subcommand_from record normalise show mask order compact' -s o -l output -r -F -d 'The output file; without it, standard output'
+complete -c dapnorm -n '__fish_seen_subcommand_from record check normalise compare diff suggest show mask name compact' -l explain -d 'Explains an error in further lines; buffers the whole input'
+complete -c dapnorm -n '__fish_seen_subcommand_from record normalise show mask order name compact' -s o -l output -r -F -d 'The output file; without it, standard output'
 complete -c dapnorm -n '__fish_seen_subcommand_from check' -l complete -d 'Also requires a response to each request'
 complete -c dapnorm -n '__fish_seen_subcommand_from diff' -l all -d 'Pairs the records of both files, and prints all differences'
 complete -c dapnorm -n '__fish_seen_subcommand_from suggest' -l rules -r -F -d 'The file of the rules that there are; only further rules are printed'
@@ -31,5 +32,5 @@ complete -c dapnorm -n '__fish_seen_subcommand_from show' -l full -d 'Prints eac
 complete -c dapnorm -n '__fish_seen_subcommand_from show' -l yaml -d 'Prints the recording as a transcript, in YAML'
 complete -c dapnorm -n '__fish_seen_subcommand_from show' -l faulty -d 'Marks rejected records and continues'
 complete -c dapnorm -n '__fish_seen_subcommand_from show' -l record -r -d 'Prints only the content of record N, as indented JSON'
-complete -c dapnorm -n '__fish_seen_subcommand_from golden record check normalise compare diff suggest show mask order compact' -F
-complete -c dapnorm -n '__fish_seen_subcommand_from help' -a 'golden record check normalise compare diff suggest show mask order compact rows help'
+complete -c dapnorm -n '__fish_seen_subcommand_from golden record check normalise compare diff suggest show mask order name compact' -F
+complete -c dapnorm -n '__fish_seen_subcommand_from help' -a 'golden record check normalise compare diff suggest show mask order name compact rows help'

@@ -154,6 +154,23 @@ def nested_fractions(file, count):
     launched(file, '{"x":1.5,"x":' + '{"x":' * 120 + "[" + ",".join(map(str, range(count))) + "]" + "}" * 121)
 
 
+def addresses(file, count):
+    """Texts of a thousand hexadecimal numbers, all of them different."""
+    begin_session(file)
+    for seq in range(1, count + 1):
+        text = " ".join(f"0x{number * 2_654_435_761 % 2**32 + 2**32:x}" for number in range(1000 * seq, 1000 * seq + 1000))
+        file.write(record("client", request(seq, "launch", {"x": text})))
+
+
+def pointers(file, count):
+    """Texts that have each hexadecimal number in two spellings."""
+    begin_session(file)
+    for seq in range(1, count + 1):
+        file.write(record("client", request(seq, "variables", {"variablesReference": 1})))
+        found = [{"name": "v", "value": f"0x{number:x} 0x{number:08x}", "variablesReference": 0} for number in range(100 * seq, 100 * seq + 100)]
+        file.write(record("adapter", response(seq, seq, "variables", body={"variables": found})))
+
+
 def crossing(file, count):
     """Responses that all pass each other."""
     begin_session(file)
@@ -174,6 +191,10 @@ SWAPS = "swap response * response *\n"
 # A thousand texts with a common start, and a text of many equal letters.
 ALIKE = "".join(f'word "{"ab" * 8}{number:04}" "<{number}>"\n' for number in range(1000))
 LONG = f'word "{"a" * 30_000}b" "<long>"\n'
+# Rules that declare ids: at one place, and a thousand that apply to the same messages, of which only the last one names members that exist.
+ONE_LABEL = "hex request launch arguments.x as address\n"
+LABELS = "".join(f"hex response variables body.variables[].none{number} as address\n" for number in range(999))
+LABELS += "hex response variables body.variables[].value as address\n"
 # A thousand rules for the order of two thousand names.
 NAMED = "".join(f"swap event name{number} event name{number + 1000}\n" for number in range(1000))
 
@@ -203,6 +224,25 @@ def masked(recording):
             for variable in message["body"]["variables"]:
                 variable["value"] = re.sub("0[xX][0-9a-fA-F]+", "0x0", variable["value"])
                 variable["name"] = re.sub("[0-9]+", "0", variable["name"])
+        content = canonical(message)
+        out.append(b"%sContent-Length: %d\r\n\r\n%s\n" % (MARKERS[side], len(content), content))
+    return b"".join(out)
+
+
+def named(recording):
+    """The recording with canonical contents, and with a name in the place of each hexadecimal number in a `launch` request or in the value of
+    a variable."""
+    out, numbers = [], {}
+
+    def name(found):
+        return f"<address {numbers.setdefault(int(found[0], 16), len(numbers) + 1)}>"
+
+    for side, _, content in records(recording):
+        message = json.loads(content)
+        if message.get("command") == "launch":
+            message["arguments"]["x"] = re.sub("0x[0-9a-f]+", name, message["arguments"]["x"])
+        for variable in message.get("body", {}).get("variables", []):
+            variable["value"] = re.sub("0x[0-9a-f]+", name, variable["value"])
         content = canonical(message)
         out.append(b"%sContent-Length: %d\r\n\r\n%s\n" % (MARKERS[side], len(content), content))
     return b"".join(out)
@@ -283,7 +323,8 @@ CASES = [
     Case("order", crossing, 25_000, in_order, by(SWAPS)), Case("normalise", nested_fractions, 500_000, normalised),
     Case("order", named_events, 1_000, in_order, by(NAMED)), Case("mask", letters, 50_000, masked, by(ALIKE)),
     Case("mask", one_letter, 50_000, masked, by(LONG)), Case("suggest", new_members, 5_000, suggested, with_other_values),
-    Case("suggest", new_commands, 10_000, suggested, with_other_values),
+    Case("suggest", new_commands, 10_000, suggested, with_other_values), Case("name", addresses, 250, named, by(ONE_LABEL)),
+    Case("name", pointers, 100, named, by(LABELS)),
 ]
 
 

@@ -30,6 +30,7 @@ SCRIPTS = {
         "joining": "output that is joined",
         "filling": "members that are filled in",
         "order": "recordings in order",
+        "names": "names of declared ids",
         "example_rules": "the rules of the examples",
         "showing": "recordings shown",
         "transcripts": "recordings as transcripts and back",

@@ -6,14 +6,15 @@ import tempfile
 from tests.program.faulty import Faulty
 from tests.report import PROGRAM, Report
 from tests.program.worked_runs import (
-    BEGUN, CANONICAL, COMPARED, CONFIGURED, DIFFERENCES, FRAME, INITIALIZED, LOOSE, NEW_FRAME, NORMAL_PER_STOP, NORMAL_STOPS, RECORDED,
-    RULES, STOP_PAIRS, THREADS, TRACE, Run, frame, masked, recording,
+    BEGUN, CANONICAL, COMPARED, CONFIGURED, DIFFERENCES, FRAME, INITIALIZED, LOOSE, NAMES, NEW_FRAME, NORMAL_PER_STOP, NORMAL_STOPS, RECORDED,
+    RULES, STOP_PAIRS, THREADS, TRACE, WITH_IDS, WITH_NAMES, Run, frame, masked, recording,
 )
 
 OPEN = recording([*BEGUN, THREADS])
 FILES = {
     "a.rec": COMPARED["a stale frame"][0], "b.rec": COMPARED["a stale frame"][1], "lldb.rules": RULES, "open.rec": OPEN, "loose": frame(LOOSE),
     "session.trace": TRACE, "configured.rec": recording(CONFIGURED), "normal": recording([*NORMAL_STOPS, FRAME % (2, 3, 5)]),
+    "names.rules": NAMES, "ids.rec": recording([*BEGUN, *WITH_IDS]),
 }
 ACCEPTED, INCOMPLETE = (0, b"accepted records=3 open=1,0\n", b""), (2, b"", b"dapnorm: incomplete: 1 client, 0 adapter\n")
 FULL = b'1 < event "initialized" seq=2\n  event "initialized"\n  seq 2\n  type "event"\n'
@@ -30,6 +31,9 @@ JOBS = [
     (["normalise", "--per-stop"], recording(NEW_FRAME), (0, recording(NORMAL_PER_STOP), b"")),
     (["show"], recording([INITIALIZED]), (0, b'1 < event "initialized" seq=2\n', b"")),
     (["mask", "lldb.rules"], recording(CONFIGURED), (0, recording(masked(CONFIGURED)), b"")),
+    (["name", "lldb.rules"], recording(CONFIGURED), (0, recording(CONFIGURED), b"")),
+    (["name", "names.rules", "ids.rec"], b"", (0, recording([*BEGUN, *WITH_NAMES]), b"")),
+    (["name", "names.rules", "-", "-o", "-"], recording([*BEGUN, *WITH_IDS]), (0, recording([*BEGUN, *WITH_NAMES]), b"")),
     (["mask", "--word", "x=<w>", "lldb.rules", "--word=y=<v>"], recording(CONFIGURED), (0, recording(masked(CONFIGURED)), b"")),
     (["rows", "62"], b"", (0, ROW, b"")),
     (["check"], OPEN, ACCEPTED),
@@ -72,7 +76,8 @@ NO_JOBS = [
     ["compare", "a.rec"], ["mask"], ["--per-stop"], ["show", "--per-stop"], ["normalise", "--per-stop", "--per-stop"], ["check", "-o", "a"],
     ["golden"], ["golden", "a", "b", "c"], ["golden", "a", "-o", "b"], ["golden", "--rules"], ["normalise", "-o"], ["rows", "-o", "a"],
     ["mask", "--rules", "lldb.rules"], ["compare", "--word", "a.rec", "b.rec"], ["diff", "a.rec", "b.rec", "--word"],
-    ["order", "--word", "x=<w>", "lldb.rules"], ["show", "--word", "x=<w>"], ["check", "--word", "x"], ["check", "--rules"], ["check", "--rules", "lldb.rules", "a", "b"], ["golden", "--word", "x", "normal", "b.rec"],
+    ["order", "--word", "x=<w>", "lldb.rules"], ["name"], ["name", "--word", "x=<w>", "lldb.rules"], ["name", "--rules", "lldb.rules"], ["name", "--per-stop", "lldb.rules"],
+    ["show", "--word", "x=<w>"], ["check", "--word", "x"], ["check", "--rules"], ["check", "--rules", "lldb.rules", "a", "b"], ["golden", "--word", "x", "normal", "b.rec"],
     ["compare", "-", "-"], ["show", "--record"], ["show", "--record", "0"], ["show", "--record", "x"],
     ["show", "--record", "1", "--full"], ["show", "--faulty", "--record", "1"], ["show", "--full", "--full"], ["golden", "--explain", "a"],
     ["suggest", "a.rec"], ["suggest", "-", "-"], ["suggest", "--per-stop", "a.rec", "b.rec"], ["suggest", "a.rec", "b.rec", "-o", "a"],
@@ -86,13 +91,14 @@ MISSING = [
     (["diff"], ["A", "B"]), (["diff", "a.rec"], ["B"]), (["diff", "--all", "--word", "x=<w>", "a.rec"], ["B"]),
     (["suggest"], ["A", "B"]), (["suggest", "a.rec"], ["B"]), (["suggest", "--rules", "lldb.rules"], ["A", "B"]),
     (["mask"], ["RULES"]), (["mask", "--word", "x=<w>", "-o", "masked"], ["RULES"]), (["order"], ["RULES"]), (["order", "-o", "ordered"], ["RULES"]),
+    (["name"], ["RULES"]), (["name", "--explain", "-o", "named"], ["RULES"]),
 ]
 
 # Words that request help or the version, and a part of the text that is printed.
 HELP = [
     (["--help"], b"Usage: dapnorm"), (["--version"], b"dapnorm 0.1.0 "), (["compact", "--help"], b"Usage: dapnorm"),
     (["check", "--help"], b"Usage: dapnorm check [OPTIONS]"), (["check", "--help"], b"--complete"), (["diff", "--help"], b"--per-stop"),
-    (["help"], b"Usage: dapnorm"), (["help", "check"], b"Usage: dapnorm check"), (["-V"], b"dapnorm 0.1.0 "), (["mask", "-h"], b"RULES"),
+    (["help"], b"Usage: dapnorm"), (["help", "check"], b"Usage: dapnorm check"), (["-V"], b"dapnorm 0.1.0 "), (["mask", "-h"], b"RULES"), (["name", "-h"], b"RULES"),
 ]
 
 # Words that request help or the version, and a mistake after them: the request comes first.

@@ -14,7 +14,7 @@ from normalise_reference import fill
 EXAMPLES = os.path.join(TOP, "examples")
 RULES = os.path.join(EXAMPLES, "rules")
 
-# The rules, and two runs of one session that differ, after `mask`, in the order of their messages alone.
+# The rules, and two runs of one session that differ, after `mask` and `name`, in the order of their messages alone.
 ORDERS = [
     ("delve", "pairs/dlv-j-restart.1", "pairs/dlv-j-restart.2"),
     ("lldb", "pairs/lldb14-g-hangup.1", "pairs/lldb14-g-hangup.2"),
@@ -52,11 +52,11 @@ def compared(folder, rules, a, b, command="compare"):
 
 
 def files(report, _folder):
-    """Each file is read by each command that takes rules, and a comment says why it has the rules after it."""
+    """Each file is read by each command that has it as an argument, and a comment says why it has the rules after it."""
     names = sorted(os.listdir(RULES))
     report.check("there are rules for five adapters", names == [f"{it}.rules" for it in ("debugpy", "delve", "lldb", "perl", "rdbg")], repr(names))
     for name in [*(os.path.join(RULES, it) for it in names), os.path.join(EXAMPLES, "session.rules")]:
-        for command in ("mask", "order"):
+        for command in ("mask", "order", "name"):
             answer = run([command, name])
             report.check(f"{command} reads {os.path.basename(name)}", answer == (0, b"", b""), repr(answer))
         with open(name, encoding="utf-8") as file:
@@ -72,9 +72,9 @@ def pairs(report, folder):
 
 
 def one_after_another(rules, recording):
-    """The texts of `mask`, of `order` after it, and of `normalise` after both."""
+    """The texts of `mask`, of `order` after it, of `name` after both, and of `normalise` after all."""
     texts = []
-    for words in (["mask", path(rules)], ["order", path(rules)], ["normalise"]):
+    for words in (["mask", path(rules)], ["order", path(rules)], ["name", path(rules)], ["normalise"]):
         recording = run(words, recording)[1]
         texts.append(recording)
     return texts
@@ -91,8 +91,9 @@ def contents(recording):
 def orders(report, folder):
     for rules, first, second in ORDERS:
         title, (a, b) = f"{first} and {second}", [read(f"{name}.rec") for name in (first, second)]
-        (masked, in_order, normal), (other_masked, _, other_normal) = (one_after_another(rules, text) for text in (a, b))
-        report.check(f"{title} differ after mask", run(["compare", written(folder, "a", masked), written(folder, "b", other_masked)])[0] == 1)
+        (masked, in_order, _, normal), (other_masked, _, _, other_normal) = (one_after_another(rules, text) for text in (a, b))
+        texts = [run(["name", path(rules)], text)[1] for text in (masked, other_masked)]
+        report.check(f"{title} differ after mask and name", run(["compare", written(folder, "a", texts[0]), written(folder, "b", texts[1])])[0] == 1)
         report.check(f"{title} have one normal form in order", normal == other_normal != b"")
         report.check(f"{title}: order changes no record", sorted(contents(masked)) == sorted(contents(in_order)))
         answer = compared(folder, rules, a, b)
@@ -103,7 +104,7 @@ def orders(report, folder):
 
 
 def golden(report, folder, title, rules, a, b, normal):
-    """The golden file has the normal form after `mask` and `order`."""
+    """The golden file has the normal form after `mask`, `order` and `name`."""
     there, words = os.path.join(folder, "golden"), ["--rules", path(rules), "--open"]
     answer = run(["golden", *words, "--update", there, written(folder, "a", a)])
     report.check(f"{title}: golden --update", (answer[0], answer[2]) == (0, b""), repr(answer))

@@ -32,6 +32,10 @@ EXPLAINED = [
     (["compact", "frames"], ["0.5"]),
     (["mask", "events", "fraction"], [PLACE]),
     (["mask", "bad", "fraction"], ['"hide"']),
+    (["name", "events", "fraction"], [PLACE]),
+    (["name", "bad", "good"], ['"hide"']),
+    (["name", "none", "good"], ["none: No such file or directory"]),
+    (["name", "events", "trace"], ["this looks like a trace"]),
     (["record", "trace"], ["6"]),
     (["compare", "good", "fraction"], [PLACE]),
     (["compare", "fraction", "good"], [PLACE]),
@@ -119,7 +123,7 @@ def refusals(report, folder):
 
 def successes(report, folder):
     """A command that succeeds prints nothing more."""
-    for words in (["check", "good"], ["check", "--rules", "swaps", "good"], ["normalise", "good"], ["show", "good"], ["mask", "rules", "good"], ["compare", "good", "good"], ["diff", "good", "good"]):
+    for words in (["check", "good"], ["check", "--rules", "swaps", "good"], ["normalise", "good"], ["show", "good"], ["mask", "rules", "good"], ["name", "rules", "good"], ["compare", "good", "good"], ["diff", "good", "good"]):
         report.check(f"{words}: nothing to explain", ran(folder, [*words, "--explain"]) == ran(folder, words))
     report.check("an output file is not written", ran(folder, ["normalise", "--explain", "fraction", "-o", "out"])[0] == 2 and folder.read("out") is None)
     report.check("standard input is named", "  standard input: " in closed(folder), closed(folder))

@@ -26,6 +26,8 @@ PRINTED = ["a program may have printed text between two frames", "let it print t
 NOTHING_CHANGES = "no rule of a mask changes it: let the program that sent it write an integer"
 BOTH_HALVES = "let the program that sent it write both halves of the character, or \\ufffd"
 IN_RANGE = "let the program that sent it write a number of that range"
+NO_LABEL = "is not a label: write lower-case letters and -, with a letter first, such as address"
+NUMBERS_STAY = "no rule changes the numbers in the names of declared ids: leave one of them out"
 DROPPED = "drop event *\n"
 STATISTICS = '<{"seq":2,"type":"event","event":"terminated","statistics":{"all":0.50,"one":[1,-0]}}'
 EVENT = '<{"seq":2,"type":"event","event":"output","body":{"output":%s}}'
@@ -392,7 +394,8 @@ RULES = {
         ],
     ),
     "more after the rule": (
-        b"blank event x y z\n", "line 1: BadRule", ["line 1 is: blank event x y z", '"z" is after the rule: only a comment may be there'],
+        b"blank event x y z\n", "line 1: BadRule",
+        ["line 1 is: blank event x y z", '"z" is after the rule: only as LABEL or a comment may be there'],
     ),
     "half a swap": (
         b"swap response continue # and\n", "line 1: BadRule",
@@ -612,6 +615,72 @@ RULES = {
     "a text twice": (
         b'word a 1\n\nword "a" 2\n', "line 3: Repeated",
         ['line 3 is: word "a" 2', "line 1 has a word for this text", "leave one of them out"],
+    ),
+    "no label": (b"hex event x y as # z\n", "line 1: BadRule", ["line 1 is: hex event x y as # z", "after as comes a label, such as address"]),
+    "a word that is not a label": (
+        b"hex event x y as a.b\n", "line 1: BadRule",
+        ["line 1 is: hex event x y as a.b", f'"a.b" {NO_LABEL}'],
+    ),
+    "a label with an upper-case letter": (
+        b"hex event x y as Address\n", "line 1: BadLabel",
+        ["line 1 is: hex event x y as Address", f'"Address" {NO_LABEL}'],
+    ),
+    "an empty label": (
+        b'hex event x y as ""\n', "line 1: BadLabel",
+        ['line 1 is: hex event x y as ""', f'"\\"\\"" {NO_LABEL}'],
+    ),
+    "a kind of id as a label": (
+        b'hex event x y as "frame"\n', "line 1: BadLabel",
+        ['line 1 is: hex event x y as "frame"', '"\\"frame\\"" is the name of a kind of id that normalise renames: choose another label'],
+    ),
+    "more after a label": (
+        b"hex event x y as address z\n", "line 1: BadRule",
+        ["line 1 is: hex event x y as address z", '"z" is after the rule: only a comment may be there'],
+    ),
+    "a label of a member that is set": (
+        b"fill event x y 1 as a\n", "line 1: BadRule",
+        ["line 1 is: fill event x y 1 as a", '"as a" is after the rule: only a comment may be there'],
+    ),
+    "names of elements that are declared": (
+        b'digits response threads body.threads["a"].name as process\n', "line 1: BadPlace",
+        [
+            'line 1 is: digits response threads body.threads["a"].name as process',
+            '"body.threads[\\"a\\"].name" is the name by which rules find elements: leave the rule out',
+        ],
+    ),
+    "a category that is declared": (
+        b"blank event x body.category as process\n", "line 1: BadPlace",
+        [
+            "line 1 is: blank event x body.category as process",
+            '"body.category" is the category by which rules find events, or the body that contains it: leave the rule out',
+        ],
+    ),
+    "a sequence number that is declared": (
+        b"blank event x seq as process\n", "line 1: BadPlace",
+        ["line 1 is: blank event x seq as process", '"seq" is an id that normalise renames, so no rule changes it: leave the rule out'],
+    ),
+    "declared twice": (
+        b"hex event x y as a\nhex event x y as a\n", "line 2: Repeated",
+        ["line 2 is: hex event x y as a", "line 1 has the same rule", "leave one of them out"],
+    ),
+    "declared with two labels": (
+        b"hex event x y as a\nhex event * y as b\n", "line 2: Clash",
+        [
+            "line 2 is: hex event * y as b", "line 1 declares ids at the same place",
+            "a place has at most one rule that ends in as LABEL: leave one of them out",
+        ],
+    ),
+    "declared after digits": (
+        b"digits event x y\nhex event * y as b\n", "line 2: Clash",
+        ["line 2 is: hex event * y as b", "line 1 has a digits rule for the same place", NUMBERS_STAY],
+    ),
+    "declared after long": (
+        b"long event x y\nhex event * y as b\n", "line 2: Clash",
+        ["line 2 is: hex event * y as b", "line 1 has a long rule for the same place", NUMBERS_STAY],
+    ),
+    "digits of declared ids": (
+        b"hex event * y as b\n\ndigits event x y\n", "line 3: Clash",
+        ["line 3 is: digits event x y", "line 1 declares ids at the same place", NUMBERS_STAY],
     ),
     "no UTF-8": (b"\n# \xff\n", "line 2: NotUtf8", ['line 2 is not UTF-8 after 2 bytes: "\\xff"', "save the file as UTF-8"]),
     "too many rules": (

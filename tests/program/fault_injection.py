@@ -14,11 +14,11 @@ FROM_THE_START = {
     "compact of a loose frame", "record of two sides", "check of a configuration", "normalise of a configuration", "show of frames",
     "mask rules of a configuration", "compare a b of frames exchanged", "diff a b of a stale frame",
     "check --complete of a configuration", "normalise --per-stop of a new frame", "compare --per-stop a b of a stale frame",
-    "mask --word mock=<m> rules of a word", "compare --word x=<w> --word mock=mo a a of a wrong word",
+    "name rules of names", "mask --word mock=<m> rules of a word", "compare --word x=<w> --word mock=mo a a of a wrong word",
     "compare --rules rules a b of stops", "golden g of a configuration", "golden --rules rules g of a stop",
 }
 WORDS = [[], ["--help"], ["--version"], ["check", "--all"], ["rows"], ["rows", "62"], ["rows", "0"]]
-WRITE_RECORDS = ("normalise", "mask")
+WRITE_RECORDS = ("normalise", "mask", "name")
 MEMORY, GOLDEN_MEMORY = b"dapnorm: out of memory\n", b"dapnorm: golden: out of memory\n"
 
 

@@ -20,6 +20,7 @@ WRITTEN = [
     (["record"], TRACE, RECORDED),
     (["show"], recording(SESSIONS["frames"][0]), SHOWN["frames"].encode()),
     (["mask", "rules"], recording(CONFIGURED), recording(masked(CONFIGURED))),
+    (["name", "rules"], recording(CONFIGURED), recording(CONFIGURED)),
     (["compact"], frame(LOOSE), frame(CANONICAL)),
 ]
 

@@ -36,7 +36,7 @@ def named(name):
 # A run of each command that ends well, and how many files it opens before it reads.
 COMMANDS = [
     "compact of a loose frame", "record of two sides", "normalise of a configuration", "check of a configuration", "show of frames",
-    "mask rules of a configuration", "compare a b of frames exchanged", "diff a b of a stale frame",
+    "mask rules of a configuration", "name rules of ids", "compare a b of frames exchanged", "diff a b of a stale frame",
 ]
 
 # Runs whose writes fail too, and how many bytes a write takes at most.
@@ -65,12 +65,13 @@ def so_far(place, texts):
 
 MASKED_TEXTS = [recording(masked([line])) for line in CONFIGURED]
 NORMAL_TEXTS = [record(line) for line in NORMAL_CONFIGURED]
-MASKING, NORMALISING = "mask rules of a configuration", "normalise of a configuration"
+CONFIGURED_TEXTS = [record(line) for line in CONFIGURED]
+MASKING, NORMALISING, NAMING = "mask rules of a configuration", "normalise of a configuration", "name rules of a configuration"
 
 
 def failing_readers(report, faulty):
     """A reader that fails after each number of bytes: what the records before it are made into has been written."""
-    for name, texts in ((MASKING, MASKED_TEXTS), (NORMALISING, NORMAL_TEXTS)):
+    for name, texts in ((MASKING, MASKED_TEXTS), (NORMALISING, NORMAL_TEXTS), (NAMING, CONFIGURED_TEXTS)):
         for read in (5, PIECE):
             cases = [({"read_fails": place, "read": read}, (4, so_far(place, texts), READ_FAULT)) for place in range(len(SESSION) + 1)]
             asks_each(report, f"{name} with reads of {read} that fail", faulty, named(name), cases)
@@ -174,7 +175,7 @@ def growing_file(report, faulty):
     half = recording([OUTPUT] * 3000)
     with open(path, "wb") as file:
         file.write(half)
-    for command, wanted in ((["normalise"], half), (["mask", "rules"], half)):
+    for command, wanted in ((["normalise"], half), (["mask", "rules"], half), (["name", "rules"], half)):
         os.truncate(path, len(half))
         folder = faulty.place({"rules": RULES})
         with open(path, "rb") as source:
@@ -201,7 +202,7 @@ def read_of(path, run, folder, out):
 def bounded_reading(report, faulty):
     """At most a chunk is read after the record at which a run ends."""
     path = os.path.join(faulty.folder, "long")
-    runs = [named(name) for name in (NORMALISING, "check of a configuration", MASKING)]
+    runs = [named(name) for name in (NORMALISING, "check of a configuration", MASKING, NAMING)]
     with open(path, "wb") as file:
         file.write(recording(BEGUN) + b"!" + b"a" * 1_000_000)
     for run in runs:
@@ -210,7 +211,7 @@ def bounded_reading(report, faulty):
         report.check(f"{run.arguments[0]} has read little", taken <= 212 + PIECE, str(taken))
     with open(path, "wb") as file:
         file.write(record(OUTPUT) * 10_000)
-    for run in (runs[0], runs[2]):
+    for run in (runs[0], *runs[2:]):
         with open("/dev/full", "wb") as full:
             status, errors, taken = read_of(path, run, faulty.place(run.files), full)
         report.check(f"{run.arguments[0]} reads no more than a chunk after a failed write", (status, errors) == (4, WRITE_FAULT), repr(errors))
@@ -223,7 +224,7 @@ def long_inputs(report, faulty):
     same = b"same\nadapter-seq 1 1\n"
     for rest, told in ((b"", b""), (b"!", refusal("record 100001: BadMarker"))):
         status = 2 if rest else 0
-        for arguments in (["normalise"], ["mask", "rules"]):
+        for arguments in (["normalise"], ["mask", "rules"], ["name", "rules"]):
             run = Run("", arguments, long + rest, {"rules": RULES}, None)
             answer = faulty.run(run)
             report.check(f"{arguments[0]} of 8.8 MB{' and a fault' if rest else ''}", answer == (status, long, told), repr((answer[0], answer[2])))

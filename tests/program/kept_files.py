@@ -83,6 +83,7 @@ def outputs_that_are_inputs(report):
             ("dapnorm mask rules g -o rules", "the output and the rules file are the same file: rules"),
             ("dapnorm order rules g -o ./rules", "the output and the rules file are the same file: rules"),
             ("dapnorm mask --word a=b rules g -o rules", "the output and the rules file are the same file: rules"),
+            ("dapnorm name rules g -o rules", "the output and the rules file are the same file: rules"),
         ]
         for command, line in cases:
             answer = shell(folder, command)
@@ -97,7 +98,7 @@ def closed_streams(report):
         for command, line in [
             ("compare empty -", "B: read fault"), ("compare - empty", "A: read fault"), ("diff empty -", "B: read fault"), ("diff --all empty -", "B: read fault"),
             ("suggest empty -", "B: read fault"), ("compare --rules rules session -", "B: read fault"), ("golden g -", "golden: read fault"),
-            ("golden --rules rules g", "golden: read fault"), ("golden --update g", "golden: read fault"), ("mask rules", "read fault"), ("check", "read fault"),
+            ("golden --rules rules g", "golden: read fault"), ("golden --update g", "golden: read fault"), ("mask rules", "read fault"), ("name rules", "read fault"), ("check", "read fault"),
         ]:
             answer = shell(folder, f"dapnorm {command} <&-")
             report.check(f"{command} <&-", answer == (4, b"", told(line, reason)), repr(answer))
@@ -132,6 +133,7 @@ def reasons(report):
             ("compare --rules none session session", 4, "rules: read fault", none), ("suggest --rules none session session", 4, "rules: read fault", none),
             ("compare --rules rules session none", 4, "B: read fault", none), ("compare --word a=b --rules none session session", 4, "rules: read fault", none),
             ("golden --rules none g session", 4, "rules: read fault", none), ("golden g none", 4, "golden: read fault", none), ("order none session", 4, "rules: read fault", none),
+            ("name none session", 4, "rules: read fault", none), ("name rules none", 4, "read fault", none),
             ("mask bad session", 2, "rules: line 1: BadRule", "line 1 is: blank event", "after the kind comes a command or an event, or * for any"),
             ("compare --rules bad session session", 2, "rules: line 1: BadRule", "line 1 is: blank event", "after the kind comes a command or an event, or * for any"),
             ("suggest --rules bad session session", 2, "rules: line 1: BadRule", "line 1 is: blank event", "after the kind comes a command or an event, or * for any"),
@@ -140,7 +142,7 @@ def reasons(report):
             report.check(f"{command}: the reason", answer == (status, b"", told(line, *words)), repr(answer))
         for command, line, named in [
             ("check trace", "record 1: HeaderLine", "trace"), ("check <trace", "record 1: HeaderLine", "standard input"), ("show trace", "record 1: HeaderLine", "trace"),
-            ("normalise trace -o out", "record 1: HeaderLine", "trace"), ("mask rules trace", "record 1: HeaderLine", "trace"), ("compare session trace", "B: record 1: HeaderLine", "trace"),
+            ("normalise trace -o out", "record 1: HeaderLine", "trace"), ("mask rules trace", "record 1: HeaderLine", "trace"), ("name rules trace", "record 1: HeaderLine", "trace"), ("compare session trace", "B: record 1: HeaderLine", "trace"),
             ("diff trace session", "A: record 1: HeaderLine", "trace"), ("diff --all trace session", "A: record 1: HeaderLine", "trace"),
             ("suggest session trace", "B: record 1: HeaderLine", "trace"), ("compare --rules rules trace session", "A: record 1: HeaderLine", "trace"),
         ]:

@@ -129,6 +129,19 @@ REFUSED = [
     (b"join event output\nblank event output body.category\n", "line 2: Clash"),
     (b"digits event * body.category\njoin event output per-stop\n", "line 2: Clash"),
     (b'hex event "output" body."category"\n\njoin event output\n', "line 3: Clash"),
+    # Rules that declare ids.
+    (b"hex event a x as", "line 1: BadRule"),
+    (b"hex event a x as address again", "line 1: BadRule"),
+    (b"drop event a as address", "line 1: BadRule"),
+    (b"hex event a x as Address", "line 1: BadLabel"),
+    (b"hex event a x as address\nhex event b x as frame\n", "line 2: BadLabel"),
+    (b"hex event a v[].name as address", "line 1: BadPlace"),
+    (b"blank event a body as address", "line 1: BadPlace"),
+    (b"blank event * seq as number", "line 1: BadPlace"),
+    (b'hex event a x as address\n\nhex event a x as "address"', "line 3: Repeated"),
+    (b"hex event a x as address\nhex event * x as pointer\n", "line 2: Clash"),
+    (b"hex event a x as address\ndigits event a x\n", "line 2: Clash"),
+    (b"long event a x\nhex event a x as address\n", "line 2: Clash"),
     (b"per-stop event stopped", "line 1: BadRule"),
     (b"per-stops", "line 1: BadRule"),
     (b"per stop", "line 1: BadRule"),
@@ -213,6 +226,14 @@ WORDED = [
     ('{"type":"event","event":"gone","body":{"category":"/home/me"}}', ""),
     ('{"type":"event","event":"gone","body":{"category":"home"}}', '{"body":{"category":"home"},"event":"gone","type":"event"}'),
 ]
+
+# Rules that declare ids, beside the rules below. `mask` ignores them.
+LABELS = b"""blank  event process body.name as process
+hex    response variables body.variables[].value as address
+uuid   response evaluate body.type as object
+\tdigits  event "process" body."pid" as  "number" # a comment
+hex event a as as as
+"""
 
 # Lines of rules for the order, all of one file, which is accepted.
 SWAPS = [
@@ -607,6 +628,8 @@ def masked_contents(report):
     masks(report, "all masked contents, one after the other", RULES, whole, written)
     masks(report, "the same with rules for the order", with_swaps(RULES), whole, written)
     masks(report, "the same with per-stop", b"  per-stop # of debugpy\r\n" + RULES, whole, written)
+    masks(report, "the same with declared ids", RULES + LABELS, whole, written)
+    masks(report, "the same with declared ids first", LABELS + RULES, whole, written)
 
 
 def masked_recordings(report):

@@ -1,4 +1,4 @@
-"""Masks pairs of fresh runs of real adapters, and compares what is left of them."""
+"""Masks pairs of fresh runs of real adapters and gives names to their ids, and compares what is left of them."""
 import os
 import sys
 import tempfile
@@ -7,7 +7,7 @@ from tests.report import PROGRAM, TOP, Report, run
 
 EXAMPLES = os.path.join(TOP, "examples")
 
-# The mask, two runs of one session, and what `compare` says of them as they came and masked. Two values of debugpy's
+# The rules, two runs of one session, and what `compare` says of them as they came, and masked and named. Two values of debugpy's
 # g-cancel and addresses in the texts of delve's a-basic, which are decimal there, really differ.
 PAIRS = [
     ("debugpy", "pairs/debugpy-e-errors.1", "pairs/debugpy-e-errors.2", "differ", "same"),
@@ -43,6 +43,11 @@ def read(name):
         return file.read()
 
 
+def masked_and_named(rules, recording):
+    """A recording after `mask` and `name` by these rules."""
+    return run(["name", rules], run(["mask", rules], recording)[1])[1]
+
+
 def compared(folder, first, second):
     """The first word of what `compare` says, or its refusal."""
     paths = []
@@ -66,9 +71,14 @@ def pairs(report, folder):
             report.check(f"{name}: mask", (status, errors) == (0, b""), repr(errors))
             again = run(["mask", rules], output)
             report.check(f"{name}: masked again it is what it was", again == (0, output, b""), repr(again[2]))
-            masked.append(output)
+            answer = run(["name", rules], output)
+            report.check(f"{name}: name", (answer[0], answer[2]) == (0, b""), repr(answer[2]))
+            for command in ("mask", "name"):
+                again = run([command, rules], answer[1])
+                report.check(f"{name}: {command} of the names leaves them", again == answer, repr(again[2]))
+            masked.append(answer[1])
         answer = compared(folder, *masked)
-        report.check(f"{first} and {second}, masked", answer == left, repr(answer))
+        report.check(f"{first} and {second}, masked and named", answer == left, repr(answer))
 
 
 def session_of_lldb_16(report):

@@ -8,6 +8,7 @@ import sys
 import tempfile
 
 from tests.program.captures import OPEN, REFUSED_RECORDINGS
+from tests.program.masks import masked_and_named
 from tests.program.normal_form import PAIRS, leading
 from tests.report import PROGRAM, TOP, Report, run
 from tests.program.worked_runs import BEGUN, FRAME, NEW_FRAME, SECOND_STOP, STACK, STOPPED, TWO_STOPS, recording
@@ -154,7 +155,7 @@ def pairs(report, folder):
         report.check(f"{one} and {other} have one normal form per stop", written[0] == written[1])
     for mask, one, other in FRESH:
         rules = os.path.join(EXAMPLES, "rules", f"{mask}.rules")
-        texts = [run(["mask", rules], read("pairs", f"{name}.rec"))[1] for name in (one, other)]
+        texts = [masked_and_named(rules, read("pairs", f"{name}.rec")) for name in (one, other)]
         whole, answer = same_per_stop(report, folder, f"{one} and {other}, masked", *texts)
         report.check(f"{one} and {other}, masked, are the same in both modes", (whole[0], answer[0]) == (0, 0), repr((whole, answer)))
 
@@ -208,7 +209,7 @@ def by_hand(report, folder):
 def fresh_reference(report, folder):
     """A real adapter that gave a number of before in one run, and a new one in the other: the whole differs there."""
     rules = os.path.join(EXAMPLES, "rules", "debugpy.rules")
-    one, other = [run(["mask", rules], text)[1] for text in (read("captures", "debugpy-l-stopentry.1.rec"), read("pairs", "debugpy-l-stopentry.3.rec"))]
+    one, other = [masked_and_named(rules, text) for text in (read("captures", "debugpy-l-stopentry.1.rec"), read("pairs", "debugpy-l-stopentry.3.rec"))]
     whole, answer = same_per_stop(report, folder, "two runs of debugpy", one, other)
     report.check("two runs of debugpy differ in the whole", whole[0] == 1, repr(whole))
     report.check("two runs of debugpy are the same per stop", answer[0] == 0, repr(answer))
@@ -239,7 +240,7 @@ def words(report):
         for options in ([OPTION, os.devnull, os.devnull], [os.devnull, OPTION, os.devnull], [os.devnull, os.devnull, OPTION]):
             answer = run([command, *options])
             report.check(f"{command} {' '.join(options)}", answer == (0, b"same\n", b""), repr(answer))
-    for command in (["record"], ["show"], ["compact"], ["rows"], ["mask", os.devnull]):
+    for command in (["record"], ["show"], ["compact"], ["rows"], ["mask", os.devnull], ["name", os.devnull]):
         answer = run([*command, OPTION])
         report.check(f"{command[0]} has no such option", answer[:2] == (3, b"") and answer[2].startswith(b"error: "), repr(answer))
 

@@ -141,7 +141,7 @@ def is_read_by_others(text, found):
 # Words of commands that read one recording, which is x, and of commands that read two. A transcript takes its place.
 SINGLE = [
     "check x", "check --complete x", "check --per-stop x", "normalise x", "normalise --per-stop x", "show x", "show --full x", "show --faulty x",
-    "show --record 2 x", "show --record 9999 x", "mask rules x", "order rules x", "golden --open g x", "golden --open --rules rules g x",
+    "show --record 2 x", "show --record 9999 x", "mask rules x", "order rules x", "name rules x", "golden --open g x", "golden --open --rules rules g x",
 ]
 DOUBLE = [
     "compare a b", "compare --per-stop a b", "diff a b", "diff --per-stop a b", "diff --all a b", "suggest a b", "compare --rules rules a b",

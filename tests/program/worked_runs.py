@@ -86,6 +86,11 @@ PAUSE = '>{"arguments":{"threadId":%d},"command":"pause","seq":3,"type":"request
 PAUSED = '%s{"command":"pause","request_seq":%d,"seq":%d,"success":true,"type":"response"}'
 CHANGED = '<{"body":{"breakpoint":{"id":%d,"verified":true},"reason":"changed"},"event":"breakpoint","seq":2,"type":"event"}'
 STOPPED_AT = '<{"body":{"hitBreakpointIds":[%d,%d],"reason":"breakpoint","threadId":%d},"event":"stopped","seq":3,"type":"event"}'
+POINTERS = (
+    '<{"body":{"variables":[{"name":"p","value":"%s","variablesReference":0},{"name":"q","value":"%s","variablesReference":0}]},'
+    '"command":"variables","request_seq":2,"seq":2,"success":true,"type":"response"}'
+)
+PROCESS = '<{"body":{"name":"p","systemProcessId":%d},"event":"process","seq":%d,"type":"event"}'
 SCOPES = (
     '<{"body":{"scopes":[{"name":"a \\"b\\"\\n","variablesReference":-7},{"name":"\u00e9","variablesReference":0}]},"command":"scopes",'
     '"request_seq":-2,"seq":0,"success":true,"type":"response"}'
@@ -238,6 +243,8 @@ REFUSED_RULES = {
     "a rule twice": (b"drop event *\r\ndrop event *\r\n", "line 2: Repeated"),
     "digits and uuid at one place": (b"uuid event output body.output\ndigits event * body.output\n", "line 2: Clash"),
     "no text": (b"\n# \xff\n", "line 2: NotUtf8"),
+    "no label": (b"hex event a x as address\nhex event b x as Address\n", "line 2: BadLabel"),
+    "two labels at one place": (b"hex event a x as address\nhex event * x as pointer\n", "line 2: Clash"),
 }
 
 LOOSE, CANONICAL = '{ "b":1,"a":2 }', '{"a":2,"b":1}'
@@ -489,10 +496,9 @@ def of_rules():
 
 def of_suggestions():
     """Rules that are suggested, and a record that prevents them."""
-    process = '<{"body":{"name":"p","systemProcessId":%d},"event":"process","seq":2,"type":"event"}'
     comment = b"# A record 3: 17\n# B record 3: 4\n"
     suggested = comment + b"blank  event    process body.systemProcessId\n\n# with these rules: same\n"
-    files = {"a": recording([*BEGUN, process % 17]), "b": recording([*BEGUN, process % 4])}
+    files = {"a": recording([*BEGUN, PROCESS % (17, 2)]), "b": recording([*BEGUN, PROCESS % (4, 2)])}
     yield stream("a process id", ["suggest", "a", "b"], b"", (0, suggested, b""), files)
     start = '<{"body":{"name":"p","startTime":%s},"event":"process","seq":2,"type":"event"}'
     blanked = b"# A record 3: 1.5\nblank  event    process body.startTime\n\n# with these rules: same\n"
@@ -527,6 +533,37 @@ def of_order():
     ]
     rules = {"rules": b"swap response continue event stopped\n"}
     yield stream("a stop", ["order", "rules"], recording(lines), (0, recording([*lines[:3], lines[4], lines[3]]), b""), rules)
+
+
+# Rules that declare ids, and a session with an address in two spellings, another one, a null pointer and a process id.
+NAMES = b"hex response variables body.variables[].value as address\nblank event process body.systemProcessId as process\n"
+WITH_IDS = [VARIABLES % 9, POINTERS % ("0x7f10 at 0x20", "0X07F10 and 0x0"), PROCESS % (28201, 3)]
+WITH_NAMES = [VARIABLES % 9, POINTERS % ("<address 1> at <address 2>", "<address 1> and 0x0"), PROCESS % (1, 3)]
+
+
+def of_names():
+    """Ids that are replaced by names, alone and by the commands with rules."""
+    files, names = {"rules": NAMES}, recording([*BEGUN, *WITH_NAMES])
+    for name, given, answer in (
+        ("a configuration", recording(CONFIGURED), (0, recording(CONFIGURED), b"")), ("ids", recording([*BEGUN, *WITH_IDS]), (0, names, b"")),
+        ("names", names, (0, names, b"")), ("ids and a fraction", recording([*BEGUN, *WITH_IDS, LAUNCH % "0.5"]), (2, names, refusal("record 6: Fraction"))),
+        ("ids and no record", recording([*BEGUN, *WITH_IDS]) + b"!", (2, names, refusal("record 6: BadMarker"))), ("nothing", b"", (0, b"", b"")),
+    ):
+        yield stream(name, ["name", "rules"], given, answer, files)
+    others = [VARIABLES % 9, POINTERS % ("0x8 at 0x9", "0x8 and 0x0"), PROCESS % (5, 3)]
+    alias = [VARIABLES % 9, POINTERS % ("0x8 at 0x9", "0x9 and 0x0"), PROCESS % (5, 3)]
+    files.update({name: recording([*BEGUN, *lines]) for name, lines in {"a": WITH_IDS, "b": others, "c": alias}.items()})
+    files["g"] = recording([*NORMAL_BEGUN, VARIABLES % 1, *WITH_NAMES[1:]])
+    told = b'< response "variables"\nA body.variables[1].value "<address 1> and 0x0"\nB body.variables[1].value "<address 2> and 0x0"\n'
+    pairs = b"same\nclient-seq 1 1\nclient-seq 2 2\nadapter-seq 1 1\nadapter-seq 2 2\nadapter-seq 3 3\nreference 9 9\n"
+    for command, given, answer in (
+        (["compare", "a", "b"], b"", (0, pairs, b"")), (["compare", "a", "c"], b"", (1, b"differ 4\n", b"")),
+        (["diff", "a", "c"], b"", (1, b"differ 4\n" + told, b"")),
+        (["diff", "--all", "a", "c"], b"", (1, b"differ: 1 paired, 0 only in A, 0 only in B\n4/4 " + told, b"")),
+        (["check", "a"], b"", (0, b"accepted records=5 open=0,0\n", b"")), (["golden", "g"], files["b"], (0, b"same\n", b"")),
+        (["golden", "g"], files["c"], (1, b"differ 4\n" + told, b"")), (["suggest", "a", "b"], b"", (0, b"# with these rules: same\n", b"")),
+    ):
+        yield stream("ids" if given != files["c"] else "an alias", [command[0], "--rules", "rules", *command[1:]], given, answer, files)
 
 
 # A file of rules by which the two sessions that stop for different reasons are the same.
@@ -581,7 +618,7 @@ def all_runs():
     """Each run, by its name."""
     runs = [
         *of_sessions(), *of_refusals(), *of_others(), *of_stops(), *of_rules(), *of_suggestions(), *of_options(), *of_order(),
-        *of_applied_rules(), *of_golden(),
+        *of_names(), *of_applied_rules(), *of_golden(),
     ]
     assert len({run.name for run in runs}) == len(runs)
     return runs

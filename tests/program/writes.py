@@ -1,4 +1,4 @@
-"""How `normalise` and `mask` write: the records that come together go out in one write, and a record that comes alone goes out before the next
+"""How `normalise`, `mask` and `name` write: the records that come together go out in one write, and a record that comes alone goes out before the next
 one comes. The output is a socket that keeps the bounds of writes."""
 import os
 import socket
@@ -48,6 +48,7 @@ def commands(folder):
     return [
         (["normalise"], [record(line) for line in NORMAL_CONFIGURED]),
         (["mask", rules], [recording(masked([line])) for line in CONFIGURED]),
+        (["name", rules], [record(line) for line in CONFIGURED]),
     ]
 
 

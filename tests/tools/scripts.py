@@ -178,7 +178,7 @@ def figures_of(scratch, name):
 # The commands that the benchmarks measure, and options that they reject.
 MEASURED = {
     "bench": "check compact compare diff golden mask normalise order record show suggest",
-    "costs": "check compact compare mask normalise order record suggest",
+    "costs": "check compact compare mask name normalise order record suggest",
 }
 WRONG_OPTIONS = [
     ("--size", "smal", "invalid choice"), ("--program", "nothing", "is not a program"), ("--json", "no/such", "does not exist"),

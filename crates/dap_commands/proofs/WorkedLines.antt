@@ -9,7 +9,7 @@ use Rattle.dap_commands.specs.LeadingArguments.{decided_kinds}
 use Rattle.dap_commands.specs.declared.commands.Command.{Command}
 use Rattle.dap_commands.specs.declared.commands.Command.TheVariants.{Check, Pair, Stream}
 use Rattle.dap_commands.specs.declared.commands.Printed.TheVariants.{Verdict, AllDifferences}
-use Rattle.dap_commands.specs.declared.commands.Task.TheVariants.{Mask, Order, Show}
+use Rattle.dap_commands.specs.declared.commands.Task.TheVariants.{Mask, Name, Order, Show}
 use Rattle.dap_rename.specs.declared.mode.Mode.TheVariants.{PerStop, Whole}
 
 -- The arguments of a line, between spaces; 32 is a space.
@@ -44,8 +44,10 @@ commands : Selects (codes "dapnorm check -") (Check false Whole (Some (codes "-"
     (Pair Verdict (codes "a") (codes "b") (Some (codes "rules")) PerStop)
     × Selects (codes "dapnorm order -o out rules")
     (Stream (Order (codes "rules")) None (Some (codes "out")))
+    × Selects (codes "dapnorm name rules in")
+    (Stream (Name (codes "rules")) (Some (codes "in")) None)
 unfolding clap_on_literals
-commands = (refl, refl, refl, refl, refl, refl, refl, refl)
+commands = (refl, refl, refl, refl, refl, refl, refl, refl, refl)
 
 -- Each use of the option has a value, in order.
 words : (words_named program (split (codes "dapnorm mask --word b=<b> rules --word=a== in"))

@@ -49,6 +49,7 @@ program = program_with (subcommand (codes "golden") (option (codes "rules")
     ∷ flag (codes "faulty") ∷ option (codes "record") ∷ explain ∷ streams)
     ∷ subcommand (codes "mask") (file (codes "RULES") ∷ repeated (codes "word") ∷ explain ∷ streams)
     ∷ subcommand (codes "order") (file (codes "RULES") ∷ streams)
+    ∷ subcommand (codes "name") (file (codes "RULES") ∷ explain ∷ streams)
     ∷ subcommand (codes "compact") (explain ∷ streams)
     ∷ subcommand (codes "rows") (optional (codes "N") ∷ [])
     ∷ [])
@@ -69,6 +70,7 @@ task_of name given =
     }))
     else if bytes_eq name (codes "mask") then Some (task.Mask (required (codes "RULES") given))
     else if bytes_eq name (codes "order") then Some (task.Order (required (codes "RULES") given))
+    else if bytes_eq name (codes "name") then Some (task.Name (required (codes "RULES") given))
     else if bytes_eq name (codes "compact") then Some task.Compact
     else None
 

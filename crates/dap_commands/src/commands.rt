@@ -105,6 +105,8 @@ pub enum Task<'a> {
     Mask(Name<'a>),
     /// Put a recording in order by the rules in the file with this name.
     Order(Name<'a>),
+    /// Replace the declared ids of a recording by names, by the rules in the file with this name.
+    Name(Name<'a>),
 }
 
 /// The options of `show`.
@@ -135,6 +137,7 @@ pub(crate) fn task_by<'a>(name: &str, rows: &ArgMatches<'a>) -> Option<Task<'a>>
         }),
         "mask" => Task::Mask(required(rows, "RULES")),
         "order" => Task::Order(required(rows, "RULES")),
+        "name" => Task::Name(required(rows, "RULES")),
         "compact" => Task::Compact,
         _ => return None,
     })

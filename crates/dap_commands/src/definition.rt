@@ -89,6 +89,10 @@ pub(crate) const PROGRAM: Program = define_program! {
         Argument("RULES", File, "The rules file: which messages may change places"), INPUT, OUTPUT
     ): "Puts the records of a recording in the order that the rules define",
         "lldb.rules session.rec -o session.ordered";
+    "name"(
+        Argument("RULES", File, "The rules file: the ids that get names"), EXPLAIN, INPUT, OUTPUT
+    ): "Replaces declared ids by names, by the rules of a file",
+        "lldb.rules session.rec -o session.named";
     "compact"(EXPLAIN, INPUT, OUTPUT):
         "Rewrites frames of one direction with canonical JSON",
         "session.frames -o session.compact";

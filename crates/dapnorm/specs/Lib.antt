@@ -41,6 +41,8 @@ pub use Rattle.dap_mask.specs.Mask
 pub use Rattle.dap_mask.specs.RulesFile
 pub use Rattle.dap_rules.specs.MaskedRecordings
 pub use Rattle.dap_rules.specs.Masking
+pub use Rattle.dap_rules.specs.NamedRecordings
+pub use Rattle.dap_rules.specs.Naming
 pub use Rattle.dap_normalise.specs.Accepting
 pub use Rattle.dap_normalise.specs.Checking
 pub use Rattle.dap_normalise.specs.HeldMessages

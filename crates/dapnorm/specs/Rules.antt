@@ -30,7 +30,7 @@ module _ {I O T : Type 0} (files : Files I O T) (source : Source I) where
     IsRulesText (Err (NoRules.File why)) = IsTextOf name (Err why)
     IsRulesText (Err why) = ⊥
 
-    -- The rules are accepted, or the text has no rules: a line of it is rejected, or an allocation
+    -- The rules are accepted, or the text is not one of rules: a line is rejected, or an allocation
     -- failed.
     abbrev pub AreRules : Result MaskRules NoRules → Type 0
     AreRules (Ok rules) = (text : Vec ℕ Global) × IsRulesText (Ok text)
@@ -40,7 +40,7 @@ module _ {I O T : Type 0} (files : Files I O T) (source : Source I) where
     AreRules (Err NoRules.Memory) = (text : Vec ℕ Global) × IsRulesText (Ok text)
     AreRules (Err why) = IsRulesText (Err why)
 
-    -- Without a file and words, a command has no rules.
+    -- Without a file and words, a command applies an empty list of rules.
     abbrev pub AreGivenRules : Result (Option MaskRules) NoRules → Type 0
     AreGivenRules (Ok None) = (name ≡ None) × (values ≡ [])
     AreGivenRules (Ok (Some rules)) = AreRules (Ok rules)

@@ -10,13 +10,15 @@ use Rattle.dap_host.specs.declared.host.{Purpose.Purpose, Stream.TheVariants.Byt
 use Rattle.dap_host.specs.declared.limits.TheConstants.{LIMITS}
 use Rattle.dap_input.specs.{Engine.Answers, Streaming.Streams}
 use Rattle.dap_input.specs.declared.refused.Refused.{Refused, TheVariants.Memory}
-use Rattle.dap_mask.specs.{KeptRules.mask_of, Mask.Mask, declared.joining.Joining.Joining}
+use Rattle.dap_mask.specs.{Declarations.Declaration, KeptRules.mask_of, Mask.Mask}
+use Rattle.dap_mask.specs.declared.joining.Joining.{Joining}
 use Rattle.dap_mask.specs.declared.mask_rules.MaskRules.{MaskRules}
 use Rattle.dap_message.specs.SwapRules.{SwapRule}
 use Rattle.dap_record.specs.TracingRun.{RecordsTrace}
 use Rattle.dap_rename.specs.declared.mode.Mode.TheVariants.{Whole}
 use Rattle.dap_rules.specs.Applying.{IsMaskedByRules, IsNotMaskedByRules}
 use Rattle.dap_rules.specs.{MaskedRecordings.{IsMaskedTo, Masks}, Masking.masking}
+use Rattle.dap_rules.specs.{NamedRecordings.IsNamedTo, Naming.{Names, naming}}
 use Rattle.dap_rules.specs.{Memory.WrittenBytes, Ordering.{IsNotOrdered, Orders, ReadsSomeOrAll}}
 use Rattle.dap_show.specs.{OneRecord.ShowsRecord, Viewing.{ShowsInput, ViewsInput, with_marks}}
 use Rattle.dap_show.specs.declared.detail.Detail.{Detail, TheVariants.{Leaves, Lists}}
@@ -75,6 +77,7 @@ TaskRequests one outcome = outcome ≡ Ok None
 abbrev pub task_rules : Task → Option (List ℕ)
 task_rules (Task.Mask rules) = Some rules
 task_rules (Task.Order rules) = Some rules
+task_rules (Task.Name rules) = Some rules
 task_rules one = None
 
 -- ---- the engines
@@ -101,6 +104,12 @@ abbrev pub HasMasked : {R W : Type 0} → Source R → Sink W → Mask → Optio
 HasMasked source sink mask None = Streams (masking LIMITS mask) (Masks LIMITS mask)
     (IsMaskedTo LIMITS mask) source sink
 HasMasked source sink mask (Some joining) = HasJoined source sink mask
+
+-- The result of `name` by these declarations, record by record.
+abbrev pub HasNamed : {R W : Type 0} → Source R → Sink W → List Declaration → R → R → W → W
+    → Result (Unit {0}) Refused → Type 0
+HasNamed source sink declared = Streams (naming LIMITS declared) (Names LIMITS declared)
+    (IsNamedTo LIMITS declared) source sink
 
 -- An engine leaves the devices like this with its result.
 abbrev pub unstreamed_of : Result (Unit {0}) Refused → Result (Unit {0}) Unstreamed
@@ -158,6 +167,8 @@ module _ {R W : Type 0} (input : Read R) (output : Written W) where
       Over (HasMasked input.source output.sink mask mask.joining) outcome
   IsStreamed (Task.Order rules) shown mask outcome =
       Over (HasOrdered input.source output.sink mask.swaps) outcome
+  IsStreamed (Task.Name rules) shown mask outcome =
+      Over (HasNamed input.source output.sink mask.declared) outcome
 
 -- ---- the output
 

@@ -117,6 +117,7 @@ pub use dap_rules::ApplyRefused;
 pub use dap_rules::join_and_mask;
 pub use dap_rules::mask;
 pub use dap_rules::mode_by;
+pub use dap_rules::name;
 pub use dap_rules::order;
 pub use dap_rules::order_bytes;
 pub use dap_rules::read_session_by_rules;

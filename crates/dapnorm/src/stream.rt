@@ -29,7 +29,7 @@ use dap_mask::MaskRules;
 use dap_normalise::normalise_with;
 use dap_record::record;
 use dap_rename::{Mode, NameTable, Tables};
-use dap_rules::{TextSink, join_and_mask, mask, order};
+use dap_rules::{TextSink, join_and_mask, mask, name, order};
 use dap_show::{
     Detail, RecordShown, ShowRequest, show, show_faulty, show_record, show_transcript, show_with,
 };
@@ -92,7 +92,7 @@ fn task_rules<'a>(task: &Task<'a>) -> Option<&'a str>
     ensures { text_in result ≡ task_rules task.now }
 {
     match task {
-        Task::Mask(rules) | Task::Order(rules) => Some(rules.as_str()),
+        Task::Mask(rules) | Task::Order(rules) | Task::Name(rules) => Some(rules.as_str()),
         _ => None,
     }
 }
@@ -211,6 +211,7 @@ fn streamed<R: Source, W: Sink, T: NameTable + Drop>(
             let swaps = rules.swaps();
             ended(order(alloc, swaps, reader, writer, LIMITS, Mode::Whole))
         }
+        Task::Name(_) => ended(name(alloc, rules, reader, writer, LIMITS)),
     }
 }
 
