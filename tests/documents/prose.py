@@ -26,7 +26,7 @@ NEVER = {
     r"\bof one processor\b": "processor minutes",
     r"\bfrom nothing\b": "from scratch",
     r"\bmend\b": "fix",
-    r"\b(?:read|passed|passes) over\b": "ignored",
+    r"\b(?:read|passed|(?<![Tt]he )passes) over\b": "ignored",
     r"\blean on\b": "depend on",
     r"\bstretch(?:es)?\b": "range",
     r"\bbehind\b": "after",
@@ -42,13 +42,13 @@ FEWER = {
     r"\b(?:give|gives|given|gave) up\b": "stops",
     r"\b(?:hand|hands|handed|handing)\b": "pass",
     r"\b(?:lent|lend|lends|lending)\b": "borrowed",
-    r"\b(?:is|are|be|was|were|has|have) no\b": "is not a",
+    r"\b(?:is|are|be|was|were|has|have) no\b(?! (?:more|fewer|less|longer)\b)": "is not a",
     r"(?:^|[.;:*] |\*\*)That (?!is |was )[a-z`]": "subject first",
     r"(?:^|[.:;] )Of [a-z`]": "the of-phrase after its noun",
 }
 CASED = ("That (", "Of [")
-# How many words a sentence of a document may have.
-LONGEST, LONGEST_OF_README = 35, 30
+# How many words a sentence of a document may have, and one in the cell of a table, which may list causes.
+LONGEST, LONGEST_OF_README, LONGEST_IN_CELL = 35, 30, 45
 
 
 def read(path):
@@ -104,10 +104,11 @@ def counts(patterns, texts):
 def sentences(report):
     for path in documents():
         name = os.path.relpath(path, TOP)
-        most = LONGEST_OF_README if name == "README.md" else LONGEST
-        for sentence in re.split(r"(?<=[.?!:])\s|\n|\|", re.sub(r"^(?:[-*]|\d+\.) ", "", prose(read(path)), flags=re.MULTILINE)):
-            words = sentence.split()
-            report.check(f"{name}: at most {most} words: {' '.join(words[:8])}", len(words) <= most, f"{len(words)}: {sentence}")
+        for line in re.sub(r"^(?:[-*]|\d+\.) ", "", prose(read(path)), flags=re.MULTILINE).splitlines():
+            most = LONGEST_OF_README if name == "README.md" else LONGEST_IN_CELL if line.startswith("|") else LONGEST
+            for sentence in re.split(r"(?<=[.?!:])\s|\|", line):
+                words = sentence.split()
+                report.check(f"{name}: at most {most} words: {' '.join(words[:8])}", len(words) <= most, f"{len(words)}: {sentence}")
 
 
 def main():
