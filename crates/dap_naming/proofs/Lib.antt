@@ -25,3 +25,5 @@ pub mod Limits
 pub mod Applying
 pub mod LimitsInTrees
 pub mod RuledTexts
+pub mod Occurring
+pub mod NoIds

@@ -45,7 +45,8 @@ distinct-grows label is js =
     let h = length-add_all (distinct label is) (values label js) in omega arith
 
 too_many_more : (limit : ℕ) (is js : List Id) → HasTooMany limit is → HasTooMany limit (is ++ js)
-too_many_more limit is js h = (h.0, let more = distinct-grows h.0 is js in let less = h.1 in omega arith)
+too_many_more limit is js h =
+    (h.0, let more = distinct-grows h.0 is js in let less = h.1 in omega arith)
 
 -- ---- one id
 

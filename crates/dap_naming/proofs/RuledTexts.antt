@@ -1,12 +1,13 @@
 -- The ids of a string and of an integer that a rule declares as ids.
-use Rattle.std.proofs.Common.{◌≡◌, ◌∙◌, sym, ap, subst, ℕ, ℤ, false, cond, not, List, [], ◌∷◌, Option}
-use Rattle.std.proofs.Common.{Some, String, string_bytes, Result, IfOk, pos, negsuc, refl}
+use Rattle.std.proofs.Common.{◌≡◌, ◌∙◌, sym, ap, subst, ℕ, ℤ, false, cond, not, List, [], ◌∷◌}
+use Rattle.std.proofs.Common.{Option, Some, String, string_bytes, Result, IfOk, pos, negsuc, refl}
 use Rattle.std.specs.{declared.alloc.Global.Global, Fmt.signed_decimal}
 use Rattle.dap_tokens.specs.{Naming.{ids, named}, Values.is_nothing}
 use Rattle.dap_tokens.specs.declared.form.Form.{Form, TheVariants.{Whole}}
 use Rattle.dap_naming.specs.declared.fault.NamingFault.{NamingFault}
 use Rattle.dap_naming.specs.declared.value_numbers.ValueNumbers.{ValueNumbers}
-use Rattle.dap_naming.specs.Documents.{integer_text, labelled, ids_of_text, named_text, ids_of_whole}
+use Rattle.dap_naming.specs.Documents.{integer_text, labelled, ids_of_text, ids_of_whole}
+use Rattle.dap_naming.specs.Documents.{named_text}
 use Rattle.dap_naming.specs.Known.{Names}
 
 -- a string, by a rule with this form and label; t is the same string

@@ -1,5 +1,6 @@
 -- Lemmas about rules: the same rules apply inside a document and its named document.
-use Rattle.std.proofs.Common.{◌≡◌, ℕ, Bool, true, false, not, ◌&&◌, ◌||◌, List, [], ◌∷◌, Option, Some}
+use Rattle.std.proofs.Common.{◌≡◌, ℕ, Bool, true, false, not, ◌&&◌, ◌||◌, List, [], ◌∷◌, Option}
+use Rattle.std.proofs.Common.{Some}
 use Rattle.std.proofs.Common.{None, Ordering, Less, Equal, Greater, nat_cmp, codes}
 use Rattle.std.proofs.Common.{bytes_eq, refl, ap}
 use Rattle.std.proofs.Common.{sym, ◌∙◌, true≢false}

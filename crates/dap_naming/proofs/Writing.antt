@@ -240,7 +240,8 @@ module _ (label : List ℕ) (form : Form) where
       ∙ ap (λ (w : List ℕ). (label, w) ∷ []) (sym e)
 
   pub few_token : (a : ValueNumbers) (t v : List ℕ) → v ≡ value label form t
-      → is_nothing v ≡ false → HasRoom a (label, v) → FitsLimit a (part_ids label form (token t ∷ []))
+      → is_nothing v ≡ false → HasRoom a (label, v)
+      → FitsLimit a (part_ids label form (token t ∷ []))
   few_token a t v e some room =
       subst (FitsLimit a) (sym (token_ids t v e some)) (fits_one a label v room)
 

@@ -6,3 +6,5 @@ pub mod Known
 pub mod DeclaredRules
 pub mod Sessions
 pub mod SessionLaws
+pub mod Absence
+pub mod Joint

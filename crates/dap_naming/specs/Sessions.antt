@@ -16,7 +16,8 @@ declared_by x = record { place = x.rule.place; form = form_of x.rule.verb; label
 -- The declarations that apply to the message (own): those whose rule applies to it.
 abbrev pub rules_for : List Declaration → Doc → List Declared
 rules_for [] d = []
-rules_for (x ∷ xs) d = cond (rule_applies x.rule d) (declared_by x ∷ rules_for xs d) (rules_for xs d)
+rules_for (x ∷ xs) d =
+    cond (rule_applies x.rule d) (declared_by x ∷ rules_for xs d) (rules_for xs d)
 
 -- The messages, each with the declarations that apply to it.
 abbrev pub with_rules : List Declaration → List Sent → List Message

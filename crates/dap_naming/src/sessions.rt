@@ -49,7 +49,7 @@ pub fn name_message(
 }
 
 // Returns the declarations that apply to the message.
-fn rules_for<'d>(
+pub(crate) fn rules_for<'d>(
     alloc: Global,
     declarations: &'d [Declaration],
     tree: &Tree,

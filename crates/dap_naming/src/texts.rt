@@ -4,7 +4,8 @@ ghost use Rattle.std.specs.Prelude.{take, drop};
 ghost use Rattle.dap_tokens.specs.Tokens.{is_label, token, parts, parts_from};
 ghost use Rattle.dap_tokens.specs.Naming.{ids, named};
 ghost use Rattle.dap_naming.specs.Documents.{labelled};
-ghost use Rattle.dap_naming.specs.Known.{Names, Writes, FitsLimit, ExceedsLimit, part_ids, limit_of};
+ghost use Rattle.dap_naming.specs.Known.{Names, Writes, FitsLimit, ExceedsLimit, limit_of};
+ghost use Rattle.dap_naming.specs.Known.{part_ids};
 
 use crate::fault::NamingFault;
 use crate::value_numbers::ValueNumbers;
@@ -104,7 +105,7 @@ fn name_parts(
 }
 
 // Returns the first `length` bytes, and the bytes after them.
-fn split_part(text: &[u8], length: usize) -> (&[u8], &[u8])
+pub(crate) fn split_part(text: &[u8], length: usize) -> (&[u8], &[u8])
     ensures part { result.0.now ≡ take length text.now }
     ensures rest { result.1.now ≡ drop length text.now }
 {

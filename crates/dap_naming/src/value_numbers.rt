@@ -1,11 +1,12 @@
 //! The numbers of the values of each label.
-ghost use Rattle.std.specs.Prelude.{◌≡◌, ℕ, ◌<◌, ◌^◌, true, cond, List, [], ◌∷◌, Some, IfOk, OnOk};
-ghost use Rattle.std.specs.Prelude.{bytes_eq, unwrap_or};
+ghost use Rattle.std.specs.Prelude.{◌≡◌, ℕ, ◌+◌, ◌<◌, ◌^◌, true, cond, List, [], ◌∷◌, Some, IfOk};
+ghost use Rattle.std.specs.Prelude.{OnOk, bytes_eq, unwrap_or};
 ghost use Rattle.dap_tokens.specs.Tokens.{is_label};
 
 use crate::fault::NamingFault;
 use std::alloc::{AllocError, Global};
 use std::collections::BTreeMap;
+use std::mem;
 
 /// The numbers of the values of each label so far. Each label has at most as many values as the
 /// limit, which is at most 2,147,483,647.
@@ -68,7 +69,7 @@ impl ValueNumbers {
         Ok(count + 1)
     }
 
-    fn at(&self, key: &Vec<u8>) -> Option<u64>
+    pub(crate) fn at(&self, key: &Vec<u8>) -> Option<u64>
         ensures { result ≡ number_at self.now key.now.items }
     {
         self.numbers.get(key.as_slice()).copied()
@@ -80,8 +81,29 @@ impl ValueNumbers {
         self.counts.get(label).copied().unwrap_or(0)
     }
 
+    // Returns the next number of a label.
+    pub(crate) fn next(&self, label: &str) -> Result<u64, NamingFault>
+        ensures { IfOk result (λ n. n ≡ count_of self.now label.now + 1) }
+    {
+        let count = self.count(label);
+        if count >= self.limit {
+            return Err(NamingFault::Full);
+        }
+        Ok(count + 1)
+    }
+
+    // Exchanges the numbers of the values. The counts stay.
+    pub(crate) fn swap_numbers(&mut self, numbers: &mut BTreeMap<Vec<u8>, u64>)
+        ensures numbers { self.new.numbers ≡ numbers.old }
+        ensures others { numbers.new ≡ self.old.numbers }
+        ensures counts { self.new.counts ≡ self.old.counts }
+        ensures limit { limit_of self.new ≡ limit_of self.old }
+    {
+        mem::swap(&mut self.numbers, numbers);
+    }
+
     // Adds the value with this key, whose number is the new count of its label.
-    fn add(
+    pub(crate) fn add(
         &mut self,
         alloc: Global,
         label: &str,
@@ -100,7 +122,7 @@ impl ValueNumbers {
     }
 
     // Returns the key of a value.
-    fn key(alloc: Global, label: &str, value: &[u8]) -> Result<Vec<u8>, AllocError>
+    pub(crate) fn key(alloc: Global, label: &str, value: &[u8]) -> Result<Vec<u8>, AllocError>
         ensures { IfOk result (λ k. k.items ≡ key label.now value.now) }
     {
         let mut key = Vec::from_slice(alloc, label.as_bytes())?;

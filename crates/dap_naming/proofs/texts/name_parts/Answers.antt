@@ -22,10 +22,11 @@ pub parts-preserved : goal.parts-preserved
 parts-preserved c =
     let label = c.args.label.now in
     record {
-      read = token_step label c.args.form c.args.numbers.now c.parts.numbers c.name_token.new.numbers
-          (parts_from label c.args.form 0 false c.args.text.now) c.parts.after_digit c.parts.rest.now
-          c.split_part.result.0.now c.split_part.result.1.now _ _ c.part_length-length.result
-          c.args.named.now.items c.parts.named.items c.name_token.new.named.items c.parts.invariant.read
+      read = token_step label c.args.form c.args.numbers.now c.parts.numbers
+          c.name_token.new.numbers (parts_from label c.args.form 0 false c.args.text.now)
+          c.parts.after_digit c.parts.rest.now c.split_part.result.0.now
+          c.split_part.result.1.now _ _ c.part_length-length.result c.args.named.now.items
+          c.parts.named.items c.name_token.new.named.items c.parts.invariant.read
           c.in-Some.ensures.cases.0
           c.part_length-length.ensures c.if-length-eq0.false c.split_part.ensures.part
           c.split_part.ensures.rest c.in_ok-name_token.ensures.writes c.parts.invariant.limit
