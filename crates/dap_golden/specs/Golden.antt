@@ -121,9 +121,9 @@ pub record HasNoSession (limits : Limits) (mode : Mode) (mask : Option Mask) (in
   pub are_given : mask ≡ Some rules
   pub is_refused : IsRefusedByRules limits mode rules recording refused
 
--- Why an input has no golden text. Each step was reached only if all steps before it succeeded.
--- `Session` is an error of putting the masked recording in order, of naming its declared ids, or of
--- the resulting session.
+-- Why an input does not have a golden text. Each step was reached only if all steps before it
+-- succeeded. `Session` is an error of putting the masked recording in order, of naming its declared
+-- ids, or of the resulting session.
 abbrev pub IsRefusedGolden : Limits → Mode → Option Mask → Bool → List ℕ → GoldenRefused → Type 0
 IsRefusedGolden limits mode mask allow_open input (because.Trace refused) =
     IsTraceHead input

@@ -52,7 +52,7 @@ module _ (limit : ℕ) (is : List Id) where
       both (inr few) (inl rest) = inl (few, rest)
       both (inr few) (inr many) = inr many
 
-  -- The label has no value in the list, or few among all ids.
+  -- The label is without values in the list, or has few among all ids.
   few_or_none : (label : List ℕ) (js : List Id) → AllByRecursion IsFew js
       → (values label js ≡ []) ⊎ (length (distinct label is) ≤ limit)
   few_or_none label [] each = inl refl

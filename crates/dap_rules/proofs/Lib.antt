@@ -39,3 +39,10 @@ pub mod NamedChain
 pub mod NamedEquality
 pub mod NamedRules
 pub mod NamedContents
+pub mod WithoutDeclared
+pub mod NamedMessages
+pub mod NamedPlaces
+pub mod TypedLengths
+pub mod RecordLengths
+pub mod NamedDirectly
+pub mod NamedByRules

@@ -34,7 +34,7 @@ use Rattle.dap_normalise.specs.Accepting.{Fits, Payload, text, AreMessages as Ar
 use Rattle.dap_normalise.specs.{Normalising.Normalises, RecordTexts.contents_of}
 use Rattle.dap_normalise.proofs.NormalFormLaws.{recording_of}
 use Rattle.dap_rules.specs.MaskedRecordings.{IsTypedAs}
-use Rattle.dap_rules.specs.NamedRecordings.{AreSameButDeclared, IsNamedTo}
+use Rattle.dap_rules.specs.{NamedRecordings.IsNamedTo, NamedSessions.AreSameDeclared}
 use Rattle.dap_rules.specs.Naming.{AreMessages, IsAccepted, Names, named_text}
 use Rattle.dap_rules.proofs.FewValues.{few_are_small}
 use Rattle.dap_rules.proofs.NamedSound.{AreSmall}
@@ -107,7 +107,7 @@ module _ (limits : Limits) (sound : AreSound limits) (declared : List Declaratio
 
   -- ---- the text is read again
 
-  read_each : (number : Numbering) → AreSmall number → (records : List Payload) (ms : List Sent)
+  pub read_each : (number : Numbering) → AreSmall number → (records : List Payload) (ms : List Sent)
       → AreMessages records ms
       → AreMessages (contents_of (map (name_sent declared number) ms))
       (map (name_sent declared number) ms)
@@ -223,7 +223,7 @@ module _ (limits : Limits) (sound : AreSound limits) (declared : List Declaratio
         (subst (λ rs. AreMessages rs two) records (read_named others ns also))
 
     equal : (text (named_sents declared ms) ≡ text (named_sents declared ns))
-        ↔ AreSameButDeclared declared ms ns
+        ↔ AreSameDeclared declared ms ns
     equal =
         let law = equal_named_sessions names_are_read named_twice equal_named declared ms ns are
         (countable (declared_ids declared ms) accepted.few)

@@ -71,7 +71,7 @@ module _ (limits : Limits) (declared : List Declaration) (messages : List Sent) 
       ∙ ap (λ is. named_doc (rules_for declared m.doc) (number is) m.doc)
       (ap (λ is. all ++ is) (append-nil own) ∙ sym (ids_push declared messages m))
 
-  few_on : AreFew limits.ids (declared_ids declared (messages ++ m ∷ []))
+  pub few_on : AreFew limits.ids (declared_ids declared (messages ++ m ∷ []))
   few_on =
       subst (AreFew limits.ids) (sym (ids_push declared messages m))
       (subst (λ most. AreFew most (declared_ids declared messages ++ own_ids declared m.doc))

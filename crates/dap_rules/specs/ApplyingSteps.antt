@@ -1,10 +1,11 @@
 -- What the steps of applying rules do, for private clauses.
-use Rattle.std.specs.Prelude.{◌⊎◌, ℕ, List, [], Option, Some, None, Result, Ok, Err}
+use Rattle.std.specs.Prelude.{◌≡◌, ◌⊎◌, ℕ, List, [], Option, Some, None, Result, Ok, Err}
 use Rattle.dap_join.specs.declared.joined.Joined.{Joined}
 use Rattle.dap_mask.specs.declared.joining.Joining.{Joining}
 use Rattle.dap_mask.specs.Mask.{Mask}
 use Rattle.dap_device.specs.{declared.reading.Stop.Stop, declared.reading.Stop.TheVariants.Failed}
 use Rattle.dap_message.specs.{Message.Sent, SwapRules.SwapRule}
+use Rattle.dap_naming.specs.Sessions.{AreFew, declared_ids, named_sents}
 use Rattle.dap_rename.specs.declared.mode.Mode.{Mode}
 use Rattle.dap_input.specs.{declared.limits.Limits.Limits, declared.refused.Refused.Refused}
 use Rattle.dap_input.specs.declared.refused.Refused.TheVariants.{Memory, Record}
@@ -73,6 +74,17 @@ IsRejectedInOrder limits mode mask recording (because.Order refused) =
     (λ ordered. IsRefused (accepting limits mode) ordered refused)
 IsRejectedInOrder limits mode mask recording refused =
     IsRefusedInOrder limits mode mask recording refused
+
+-- The rules mask the recording and put it in order, and these are the named messages of the result,
+-- which is accepted. No label has more values than the limit.
+pub record MakesNamed (limits : Limits) (mode : Mode) (mask : Mask) (recording : List ℕ)
+    (messages : List Sent) : Type 0 where
+  pub ordered : List ℕ
+  pub made : IsOrderedByRules limits mode mask recording ordered
+  pub unnamed : List Sent
+  pub accepted : IsAccepted limits mode ordered unnamed
+  pub few : AreFew limits.ids (declared_ids mask.declared unnamed)
+  pub named : messages ≡ named_sents mask.declared unnamed
 
 -- The result of `read_session_by_rules` for an input whose reader stopped for this reason, given
 -- the result for the bytes read.

@@ -18,7 +18,7 @@ OneTextByRules = (limits : Limits) (mode : Mode) (mask : Mask) (recording writte
     → AppliesRules limits mode mask recording written
     → AppliesRules limits mode mask recording other → written ≡ other
 
--- If rules turn a recording into a text, there is no error, unless an allocation fails.
+-- If rules turn a recording into a text, only an allocation can fail.
 abbrev pub AppliedHasNoError : Type 0
 AppliedHasNoError = (limits : Limits) (mode : Mode) (mask : Mask) (recording written : List ℕ)
     (because : ApplyRefused) → AppliesRules limits mode mask recording written

@@ -18,3 +18,4 @@ pub mod Ordering
 pub mod OrderingSteps
 pub mod OrderLaws
 pub mod NamedSessions
+pub mod NamingSteps

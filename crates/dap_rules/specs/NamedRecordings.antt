@@ -1,21 +1,14 @@
 -- The result of replacing the declared ids of a recording by names, and all guarantees about it.
 -- Source: own.
-use Rattle.std.specs.{Prelude.{◌≡◌, ◌↔◌, ℕ, List, map}, List.AllZip}
+use Rattle.std.specs.{Prelude.{◌≡◌, ◌↔◌, ℕ, List}, List.AllZip}
 use Rattle.dap_message.specs.Message.{Sent}
 use Rattle.dap_mask.specs.Declarations.{Declaration}
-use Rattle.dap_naming.specs.Numbers.{AreRenamed}
-use Rattle.dap_naming.specs.Sessions.{declared_ids, named_sents, sent_skeleton}
+use Rattle.dap_naming.specs.Sessions.{named_sents}
 use Rattle.dap_rename.specs.declared.mode.Mode.{Mode}
 use Rattle.dap_input.specs.declared.limits.Limits.{Limits}
 use Rattle.dap_normalise.specs.Normalising.{Normalises}
-use Rattle.dap_rules.specs.{MaskedRecordings.IsTypedAs, Naming.Names}
-
--- The messages of the two lists are the same, except for their declared ids. A one-to-one renaming
--- of the values of each label turns the ids of one list into those of the other.
-abbrev pub AreSameButDeclared : List Declaration → List Sent → List Sent → Type 0
-AreSameButDeclared declared ms ns =
-    (map (sent_skeleton declared) ms ≡ map (sent_skeleton declared) ns)
-    × ∥ AreRenamed (declared_ids declared ms) (declared_ids declared ns) ∥₁
+use Rattle.dap_rules.specs.{MaskedRecordings.IsTypedAs, NamedSessions.AreSameDeclared}
+use Rattle.dap_rules.specs.Naming.{Names}
 
 -- `written` is the recording with names in the place of its declared ids, with all guarantees about
 -- it.
@@ -27,7 +20,7 @@ pub record IsNamedTo (limits : Limits) (declared : List Declaration)
   -- Another recording has equal output if and only if the messages of the two are the same, except
   -- for a one-to-one renaming of the declared ids of each label.
   pub equal : (others other : List ℕ) (b : Names limits declared others other) → (written ≡ other)
-      ↔ AreSameButDeclared declared names.messages b.messages
+      ↔ AreSameDeclared declared names.messages b.messages
   -- If the output is normalised, in any mode, its messages are those of the recording, typed, with
   -- names in the place of their declared ids.
   pub typed : (mode : Mode) (normal : List ℕ) (n : Normalises limits mode written normal)

@@ -7,6 +7,7 @@ ghost use Rattle.dap_rules.specs.Applying.{MakesSession, NormalisesByRules};
 ghost use Rattle.dap_stored.specs.Sessions.{messages_of};
 
 use crate::fault::ApplyRefused;
+use crate::named_by_rules::{check_named, normalise_named};
 use crate::naming::name_bytes;
 use crate::ordered_by_rules::{
     normalise_in_order_by, order_refusal, session_in_order_by, text_in_order_by,
@@ -65,9 +66,15 @@ pub fn apply_rules(
 /// Returns the normal form of the text that [`apply_rules`] returns, and its counts, as
 /// [`normalise_session`](dap_normalise::normalise_session) does.
 ///
-/// If the rules declare no ids, creates neither the masked text nor the text in order. Drops the
-/// recording once its output is joined, and the joined recording once its messages are read. If the
-/// rules do not join output, reads the recording once, and drops it once its messages are read.
+/// Creates neither the masked text nor the text in order nor its text with names.
+///
+/// If the rules declare no ids, drops the recording once its output is joined, and the joined
+/// recording once its messages are read. If the rules do not join output, reads the recording once,
+/// and drops it once its messages are read.
+///
+/// If the rules declare ids, drops the recording at the end, because this way does not find the
+/// first error. If a step fails, creates the texts after all, one after the other, which gives the
+/// result or the first error. Drops the recording before the last text is normalised.
 ///
 /// # Errors
 ///
@@ -87,6 +94,9 @@ pub fn normalise_by_rules(
     if rules.declared().is_empty() {
         return normalise_in_order_by(alloc, rules, recording, limits, mode);
     }
+    if let Some(normal) = normalise_named(alloc, rules, recording.as_slice(), limits, mode) {
+        return Ok(normal);
+    }
     let text = apply_rules(alloc, rules, recording.as_slice(), limits, mode)?;
     drop(recording);
     match normalise_session(alloc, text.as_slice(), limits, mode) {
@@ -96,8 +106,9 @@ pub fn normalise_by_rules(
 }
 
 /// Returns the messages of the text that [`apply_rules`] returns, which is checked in the same way
-/// as by [`check`](dap_normalise::check) in this mode. If the rules declare no ids, creates no text
-/// but that of the joined recording.
+/// as by [`check`](dap_normalise::check) in this mode. Creates no text but that of the joined
+/// recording. If the rules declare ids and a step fails, creates the texts after all, one after the
+/// other, which gives the result or the first error.
 ///
 /// # Errors
 ///
@@ -116,6 +127,9 @@ pub fn session_by_rules(
 {
     if rules.declared().is_empty() {
         return session_in_order_by(alloc, rules, recording, limits, mode);
+    }
+    if let Some(session) = check_named(alloc, rules, recording, limits, mode) {
+        return Ok(session);
     }
     let text = apply_rules(alloc, rules, recording, limits, mode)?;
     match read_session(alloc, text.as_slice(), limits, mode) {

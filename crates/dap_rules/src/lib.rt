@@ -27,6 +27,8 @@ mod masking;
 mod modes;
 pub mod name_laws;
 mod name_records;
+mod named_by_rules;
+mod named_session;
 mod naming;
 pub mod order_laws;
 mod ordered_by_rules;

@@ -167,7 +167,7 @@ pub(crate) fn normalise_in_order(
 ///
 /// - `Grew`: their text exceeds `limits`. Records are numbered from 1.
 /// - `Memory`: an allocation failed.
-fn views_within(
+pub(crate) fn views_within(
     alloc: Global,
     session: &StoredSession,
     limits: Limits,

@@ -1,9 +1,14 @@
-use Rattle.std.proofs.Common.{sym, subst}
+use Rattle.std.proofs.Common.{◌∙◌, sym, subst}
 use Rattle.dap_mask.specs.KeptRules.{mask_of}
 use Rattle.dap_normalise.specs.Normalising.{RefusesBytes}
 use Rattle.dap_rules.specs.Applying.{IsNotNormalised}
-use Rattle.dap_rules.proofs.NamesApplied.{text_rejected}
+use Rattle.dap_rules.proofs.NamesApplied.{some_are, text_rejected}
 use Rattle.dap_rules.proofs.applying.session_by_rules.Goals as goal
+
+pub check_named-requires-clause-declared : goal.check_named-requires-clause-declared
+check_named-requires-clause-declared c =
+    some_are c.declared.result.now (mask_of c.args.rules.now).declared c.declared.ensures.same
+    (sym c.is_empty.ensures ∙ c.if-is_empty.false)
 
 pub returns-clause-err : goal.returns-clause-err
 returns-clause-err c =
