@@ -310,6 +310,84 @@ def other_commands(report):
             report.check(f"{command} ignores labels", folder.run(command, "rules", "a") == folder.run(command, "none", "a") and folder.run(command, "rules", "a")[0] == 0)
 
 
+# Rules, the events of A and of B as (name, members), and the output of `diff --all`. The first event is record 3.
+ADDRESSES = "hex event * x as address\nhex event * y as address\n"
+JOINT = {
+    # Without joint names each later line differs.
+    "a new address of B": (
+        ADDRESSES,
+        [("a", {"x": "0x10"}), ("c", {"x": "none"}), ("a", {"x": "0x20"}), ("a", {"x": "at 0x30, 0x10"})],
+        [("a", {"x": "0x11"}), ("c", {"x": "0x99"}), ("a", {"x": "0x21"}), ("a", {"x": "at 0x31, 0x11"})],
+        ['1 paired, 0 only in A, 0 only in B', '4/4 < event "c"', 'A x "none"', 'B x "<address 4>"'],
+    ),
+    "a new event of B": (
+        ADDRESSES, [("a", {"x": "0x10"}), ("a", {"x": "0x20"})], [("b", {"x": "0x99"}), ("a", {"x": "0x11"}), ("a", {"x": "0x21"})],
+        ['0 paired, 0 only in A, 1 only in B', '-/3 < event "b"'],
+    ),
+    "another alias": (
+        ADDRESSES,
+        [("b", {"x": "none"}), ("a", {"x": "0x10", "y": "0x20"}), ("a", {"x": "0x10", "y": "0x20"})],
+        [("b", {"x": "0x99"}), ("a", {"x": "0x11", "y": "0x21"}), ("a", {"x": "0x21", "y": "0x21"})],
+        ['2 paired, 0 only in A, 0 only in B', '3/3 < event "b"', 'A x "none"', 'B x "<address 3>"', '5/5 < event "a"', 'A x "<address 1>"', 'B x "<address 2>"'],
+    ),
+    # By first appearance both have `<address 2>` in their last event.
+    "an address of A that B lacks, and equal texts": (
+        ADDRESSES,
+        [("c", {"x": "0x10"}), ("a", {"x": "0x20"}), ("d", {"x": "0x20"})], [("c", {"x": "none"}), ("a", {"x": "0x21"}), ("d", {"x": "0x31"})],
+        ['2 paired, 0 only in A, 0 only in B', '3/3 < event "c"', 'A x "<address 2>"', 'B x "none"', '5/5 < event "d"', 'A x "<address 1>"', 'B x "<address 3>"'],
+    ),
+    "positions among the tokens": (
+        ADDRESSES,
+        [("b", {"x": "none"}), ("a", {"x": "0x0 0x20 0x30"}), ("a", {"x": "0x30"})], [("b", {"x": "0x99"}), ("a", {"x": "0x0 0x21 0x31 0x41"}), ("a", {"x": "0x31"})],
+        [
+            '2 paired, 0 only in A, 0 only in B', '3/3 < event "b"', 'A x "none"', 'B x "<address 3>"',
+            '4/4 < event "a"', 'A x "0x0 <address 1> <address 2>"', 'B x "0x0 <address 1> <address 2> <address 4>"',
+        ],
+    ),
+    # A value is paired by its place, so one that comes before others in a string or a list shifts them.
+    "a new address before another one in a string": (
+        ADDRESSES,
+        [("a", {"x": "0x20 0x30"}), ("a", {"x": "0x30"})], [("a", {"x": "0x21 0x99 0x31"}), ("a", {"x": "0x31"})],
+        [
+            '2 paired, 0 only in A, 0 only in B', '3/3 < event "a"', 'A x "<address 1> <address 2>"', 'B x "<address 1> <address 2> <address 3>"',
+            '4/4 < event "a"', 'A x "<address 2>"', 'B x "<address 3>"',
+        ],
+    ),
+    "a new address before another one in a list": (
+        "hex event * x as address\nhex event * v[].x as address\n",
+        [("a", {"v": [{"x": "0x20"}, {"x": "0x30"}]}), ("a", {"x": "0x30"})],
+        [("a", {"v": [{"x": "0x21"}, {"x": "0x99"}, {"x": "0x31"}]}), ("a", {"x": "0x31"})],
+        [
+            '2 paired, 0 only in A, 0 only in B', '3/3 < event "a"', 'B v[2] {"x":"<address 3>"}',
+            '4/4 < event "a"', 'A x "<address 2>"', 'B x "<address 3>"',
+        ],
+    ),
+    "integers, digits and elements": (
+        "blank event * v[].id as process\ndigits event * x as process\n",
+        [("b", {"x": "none"}), ("a", {"v": [{"id": 70}, {"id": 71}]}), ("a", {"x": "71 70"}), ("a", {"v": [{"id": 0}, {"id": 70}]})],
+        [("b", {"x": "9"}), ("a", {"v": [{"id": 80}, {"id": 81}]}), ("a", {"x": "81 80"}), ("a", {"v": [{"id": 0}, {"id": 81}]})],
+        ['2 paired, 0 only in A, 0 only in B', '3/3 < event "b"', 'A x "none"', 'B x "<process 3>"', '6/6 < event "a"', 'A v[1].id 1', 'B v[1].id 2'],
+    ),
+    "labels have their own numbers": (
+        "hex event * x as code\nhex event * y as heap\n",
+        [("b", {"x": "none"}), ("a", {"x": "0x10", "y": "0x10"}), ("a", {"x": "0x20"})], [("b", {"x": "0x99"}), ("a", {"x": "0x11", "y": "0x12"}), ("a", {"x": "0x21"})],
+        ['1 paired, 0 only in A, 0 only in B', '3/3 < event "b"', 'A x "none"', 'B x "<code 3>"'],
+    ),
+}
+
+
+def joint_names(report):
+    """What `diff --all` reports of declared ids."""
+    for title, (rules, *sides, lines) in JOINT.items():
+        a, b = (
+            recording(BEGUN) + recorded([("adapter", {"seq": number, "type": "event", "event": name, **members}) for number, (name, members) in enumerate(it, 2)])
+            for it in sides
+        )
+        with Folder(rules=rules.encode(), a=a, b=b) as folder:
+            answer = folder.run("diff", "--all", "--rules", "rules", "a", "b")
+            report.check(f"diff --all: {title}", answer == (1, ("differ: " + "".join(line + "\n" for line in lines)).encode(), b""), repr(answer))
+
+
 # Rules, the texts of a value, and the text after all rules.
 TOGETHER_WITH = [
     # Words, actions and members that are filled in come first.
@@ -654,7 +732,7 @@ def main():
     report = Report()
     count = int(sys.argv[1]) if len(sys.argv) == 2 else SESSIONS
     if report.check("the gate has built the program", os.access(PROGRAM, os.X_OK)):
-        for test in (worked, rejected_rules, accepted_rules, stops_at_errors, files, aliases, other_commands, rules_together, over_order, captures, document):
+        for test in (worked, rejected_rules, accepted_rules, stops_at_errors, files, aliases, other_commands, joint_names, rules_together, over_order, captures, document):
             test(report)
         random_sessions(report, count)
     return report.close()

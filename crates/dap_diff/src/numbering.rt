@@ -4,6 +4,7 @@ ghost use Rattle.dap_stored.specs.Sessions.{stored_sent};
 ghost use Rattle.dap_tree.specs.Ids.{ids};
 
 use crate::contents::have_one_text;
+use crate::declared_names::DeclaredNames;
 use crate::entry::StoredEntry;
 use crate::ids::{Id, JointNumbers};
 use crate::rows::Row;
@@ -106,23 +107,33 @@ fn join_pair(
     b: &StoredEntry<'_>,
     scratch: &mut Scratch,
     numbers: &mut JointNumbers,
+    names: &mut DeclaredNames<'_>,
 ) -> Result<(), AllocError> {
     let stops = (a.stop, b.stop);
-    if have_one_text(&a.message, &b.message) {
+    let is_named = names.may_be_in(&a.message) || names.may_be_in(&b.message);
+    if !is_named && have_one_text(&a.message, &b.message) {
         return join_marks(stops, a.message.marks(), b.message.marks(), numbers);
     }
     let message = tree_of(alloc, &a.message, scratch)?;
     let other = tree_of(alloc, &b.message, scratch)?;
+    if is_named {
+        names.join(alloc, message.tree(), other.tree())?;
+    }
     join_trees(stops, message.tree(), other.tree(), numbers)
 }
 
-/// Numbers the ids of the pairs jointly, in the order of the rows.
-pub fn join_pairs(alloc: Global, rows: &[Row<'_>]) -> Result<JointNumbers, AllocError> {
+/// Numbers the ids of the pairs jointly, in the order of the rows. Also joins the declared ids of
+/// the pairs.
+pub fn join_pairs(
+    alloc: Global,
+    rows: &[Row<'_>],
+    names: &mut DeclaredNames<'_>,
+) -> Result<JointNumbers, AllocError> {
     let mut numbers = JointNumbers::new(alloc);
     let mut scratch = Scratch::new(alloc);
     for row in rows {
         if let Row::Pair(a, b) = row {
-            join_pair(alloc, a, b, &mut scratch, &mut numbers)?;
+            join_pair(alloc, a, b, &mut scratch, &mut numbers, names)?;
         }
     }
     Ok(numbers)

@@ -1,10 +1,12 @@
 //! The lines that report all differences of two recordings.
-ghost use Rattle.std.specs.Prelude.{◌≡◌, IfOk, length};
+ghost use Rattle.std.specs.Prelude.{◌≡◌, IfOk, length, true};
 ghost use Rattle.dap_diff.specs.RecordLines.{count_line};
+ghost use Rattle.dap_mask.specs.Declarations.{declarations_of, are_declared};
 ghost use Rattle.dap_stored.specs.Sessions.{stored_sent};
 ghost use Rattle.dap_tree.specs.{Ids.{ids, with_ids}, Json.text_of};
 
 use crate::contents::have_one_text;
+use crate::declared_names::DeclaredNames;
 use crate::entry::StoredEntry;
 use crate::ids::JointNumbers;
 use crate::matching::match_records;
@@ -12,6 +14,7 @@ use crate::numbering::{join_pairs, numbers_of};
 use crate::record_lines::{push_content_leaves, push_count, push_place};
 use crate::rows::{Row, first_out_of_order, rows_of};
 use dap_compare::Which;
+use dap_mask::Declaration;
 use dap_message::AnyMessage;
 use dap_stored::StoredMessage;
 use dap_tree::Scratch;
@@ -41,21 +44,32 @@ impl Report {
         }
     }
 
-    /// Adds a pair, if its messages differ by the joint numbers of their ids.
+    /// Adds a pair, if its messages differ by the joint numbers and names of their ids. With names,
+    /// messages with one text may differ: `<address 2>` of A and of B may be different ids.
     fn add_pair(
         &mut self,
         alloc: Global,
         a: &StoredEntry<'_>,
         b: &StoredEntry<'_>,
         numbers: &mut JointNumbers,
+        names: &mut DeclaredNames<'_>,
     ) -> Result<(), AllocError> {
         let numbers_a = numbers_of(alloc, Which::A, a, numbers)?;
         let numbers_b = numbers_of(alloc, Which::B, b, numbers)?;
-        if numbers_a.as_slice() == numbers_b.as_slice() && have_one_text(&a.message, &b.message) {
+        let is_named = names.may_be_in(&a.message) || names.may_be_in(&b.message);
+        if !is_named
+            && numbers_a.as_slice() == numbers_b.as_slice()
+            && have_one_text(&a.message, &b.message)
+        {
             return Ok(());
         }
-        let content_a = numbered_content(alloc, &a.message, numbers_a.as_slice())?;
-        let content_b = numbered_content(alloc, &b.message, numbers_b.as_slice())?;
+        let mut content_a = numbered_content(alloc, &a.message, numbers_a.as_slice())?;
+        let mut content_b = numbered_content(alloc, &b.message, numbers_b.as_slice())?;
+        if is_named {
+            let scratch = &mut self.scratch;
+            content_a = names.named_content(alloc, Which::A, content_a.as_slice(), scratch)?;
+            content_b = names.named_content(alloc, Which::B, content_b.as_slice(), scratch)?;
+        }
         let (one, other) = (content_a.as_slice(), content_b.as_slice());
         if one == other {
             return Ok(());
@@ -76,9 +90,10 @@ impl Report {
         alloc: Global,
         row: Row<'_>,
         numbers: &mut JointNumbers,
+        names: &mut DeclaredNames<'_>,
     ) -> Result<(), AllocError> {
         match row {
-            Row::Pair(a, b) => self.add_pair(alloc, a, b, numbers),
+            Row::Pair(a, b) => self.add_pair(alloc, a, b, numbers, names),
             Row::OnlyA(a) => {
                 self.only_a = self.only_a.saturating_add(1);
                 push_place(Some(a.number), None, a.head.as_str(), &mut self.lines)
@@ -134,11 +149,15 @@ fn push_order(rows: &[Row<'_>], out: &mut Vec<u8>) -> Result<(), AllocError> {
 }
 
 /// Returns the lines of the rows.
-fn report_rows(alloc: Global, rows: &[Row<'_>]) -> Result<Vec<u8>, AllocError> {
-    let mut numbers = join_pairs(alloc, rows)?;
+fn report_rows(
+    alloc: Global,
+    rows: &[Row<'_>],
+    names: &mut DeclaredNames<'_>,
+) -> Result<Vec<u8>, AllocError> {
+    let mut numbers = join_pairs(alloc, rows, names)?;
     let mut report = Report::new(alloc);
     for row in rows {
-        report.add(alloc, *row, &mut numbers)?;
+        report.add(alloc, *row, &mut numbers, names)?;
     }
     if report.is_empty() {
         push_order(rows, &mut report.lines)?;
@@ -148,13 +167,18 @@ fn report_rows(alloc: Global, rows: &[Row<'_>]) -> Result<Vec<u8>, AllocError> {
     Ok(out)
 }
 
-/// Returns the lines that report all differences of two recordings.
+/// Returns the lines that report all differences of two recordings, with joint names in the place
+/// of the ids that these rules declare.
 pub fn report_lines<'m>(
     alloc: Global,
     a: &mut [StoredEntry<'m>],
     b: &mut [StoredEntry<'m>],
-) -> Result<Vec<u8>, AllocError> {
+    declarations: &[Declaration],
+) -> Result<Vec<u8>, AllocError>
+    requires { are_declared (declarations_of declarations.now) ≡ true }
+{
     match_records(alloc, a, b)?;
     let rows = rows_of(alloc, a, b)?;
-    report_rows(alloc, rows.as_slice())
+    let mut names = DeclaredNames::new(alloc, declarations);
+    report_rows(alloc, rows.as_slice(), &mut names)
 }

@@ -1,9 +1,10 @@
 //! Compares two recordings: readers, or the files that names lead to.
-ghost use Rattle.std.specs.Prelude.{◌≡◌, ◌+◌, ◌≤◌};
+ghost use Rattle.std.specs.Prelude.{◌≡◌, ◌+◌, ◌≤◌, true};
 ghost use Rattle.dap_commands.specs.Reading.{text_in};
 ghost use Rattle.dap_compare.specs.Sessions.{AreAccepted};
 ghost use Rattle.dap_host.specs.declared.limits.TheConstants.{LIMITS};
 ghost use Rattle.dap_input.specs.Limits.{AreSound};
+ghost use Rattle.dap_mask.specs.Declarations.{declarations_of, are_declared};
 ghost use Rattle.dap_normalise.specs.NameTables.{AreReady};
 ghost use Rattle.dap_stored.specs.Sessions.{messages_of};
 ghost use Rattle.dapnorm.specs.Comparisons.{Finds, FindsByRules, FindsOn, PairIsRun};
@@ -21,10 +22,10 @@ use crate::why::{Mistake, Why};
 use dap_commands::{Name, Printed};
 use dap_compare::{CompareRefused, Which, compare_sessions, compare_with};
 use dap_device::{Sink, Source};
-use dap_diff::{diff_all_sessions, diff_all_with, diff_sessions, diff_with};
+use dap_diff::{diff_all_named_sessions, diff_all_with, diff_sessions, diff_with};
 use dap_host::{Host, LIMITS, Purpose, is_standard};
 use dap_input::Limits;
-use dap_mask::MaskRules;
+use dap_mask::{Declaration, MaskRules};
 use dap_rename::{Mode, NameTable, Tables, index_tables};
 use dap_rules::{mode_by, read_session_by_rules};
 use dap_stored::StoredSession;
@@ -173,13 +174,15 @@ fn found_by_rules<'a, H: Host>(
         Err(refused) => return Err(Why::Unapplied(Some(Which::B), refused, rules)),
     };
     let (tables_a, tables_b) = (host.tables(alloc), host.tables(alloc));
+    let declared = rules.declared();
     found_on(
-        alloc, printed, used, &session_a, &session_b, tables_a, tables_b,
+        alloc, printed, used, &session_a, &session_b, tables_a, tables_b, declared,
     )
 }
 
-/// Compares the messages of two accepted recordings, and returns what the command finds. The tables
-/// must be empty, each with the limit of ids of the program.
+/// Compares the messages of two accepted recordings, and returns what the command finds. All
+/// differences have joint names in the place of the ids that rules declare. The tables must be
+/// empty, each with the limit of ids of the program.
 fn found_on<'a, T: NameTable + Drop>(
     alloc: Global,
     printed: Printed,
@@ -188,11 +191,13 @@ fn found_on<'a, T: NameTable + Drop>(
     b: &StoredSession,
     tables_a: Tables<T>,
     tables_b: Tables<T>,
+    declarations: &[Declaration],
 ) -> Result<Option<Answer<'a>>, Why<'a>>
     requires tables_a { AreReady T.numbers T.limit LIMITS tables_a }
     requires tables_b { AreReady T.numbers T.limit LIMITS tables_b }
     requires accepted_a { AreAccepted LIMITS mode (messages_of a.now) }
     requires accepted_b { AreAccepted LIMITS mode (messages_of b.now) }
+    requires declared { are_declared (declarations_of declarations.now) ≡ true }
     ensures { FindsOn mode (messages_of a.now) (messages_of b.now) printed result }
 {
     match printed {
@@ -221,7 +226,16 @@ fn found_on<'a, T: NameTable + Drop>(
             }
         }
         Printed::AllDifferences => {
-            match diff_all_sessions(alloc, a, b, LIMITS, tables_a, tables_b, mode) {
+            match diff_all_named_sessions(
+                alloc,
+                a,
+                b,
+                declarations,
+                LIMITS,
+                tables_a,
+                tables_b,
+                mode,
+            ) {
                 Ok(all) => Ok(Some(Answer::Differences(all))),
                 Err(_) => Err(Why::Pair(CompareRefused::Memory)),
             }

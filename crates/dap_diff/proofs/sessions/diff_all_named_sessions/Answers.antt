@@ -1,6 +1,6 @@
 use Rattle.dap_stored.specs.Sessions.{messages_of}
 use Rattle.dap_diff.proofs.SessionTexts.{not_the_same}
-use Rattle.dap_diff.proofs.sessions.diff_all_sessions.Goals as goal
+use Rattle.dap_diff.proofs.sessions.diff_all_named_sessions.Goals as goal
 
 pub returns : goal.returns
 returns g c =
