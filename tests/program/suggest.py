@@ -54,12 +54,12 @@ def read(path):
 # ---- the values that rules hide, counted here once more
 
 STEP = re.compile(r'\["(?:[^"\\]|\\.)*"\]|\[\]|"(?:[^"\\]|\\.)*"|[^.\[\s"]+')
-RULE = re.compile(r'(blank|digits|hex|long|uuid) +(request|response|event) +("(?:[^"\\]|\\.)*"|\S+) (.*)')
-COUNT = re.compile(r"# also hides (?:(1) value that is|(\d+) values that are) equal")
+RULE = re.compile(r'(blank|digits|hex|long|uuid) +(request|response|event) +("(?:[^"\\]|\\.)*"|\S+) (.*?)(?:  as ([a-z-]+))?')
+COUNT = re.compile(r"# also hides (?:(1) value that is|(\d+) values that are) equal(; keeps which ids are equal)?")
 
 
 def read_rules(printed):
-    """The rules of each block for values, the messages and the place without names, and the number in its comment."""
+    """The rules of each block for values without labels, the messages and the place without names, and the number in its comment."""
     for block in printed.decode().split("\n\n"):
         lines = block.splitlines()
         rules = [RULE.fullmatch(line) for line in lines]
@@ -68,7 +68,18 @@ def read_rules(printed):
             count = next((int(found[1] or found[2]) for found in map(COUNT.fullmatch, lines) if found), 0)
             kind, name, place = rules[0][2], rules[0][3], rules[0][4]
             steps = ["[]" if step[0] == "[" else json.loads(step) if step[0] == '"' else step for step in STEP.findall(place)]
-            yield "".join(f"{rule[0]}\n" for rule in rules), (kind, json.loads(name) if name[0] == '"' else name, tuple(steps)), count
+            plain = "".join(" ".join(rule.groups()[:4]) + "\n" for rule in rules)
+            yield plain, (kind, json.loads(name) if name[0] == '"' else name, tuple(steps)), count
+
+
+def wrong_comments(printed):
+    """The blocks whose comment does not say truly whether all of their rules have labels."""
+    for block in printed.decode().split("\n\n"):
+        lines = block.splitlines()
+        said = [found for found in map(COUNT.fullmatch, lines) if found]
+        labels = [rule[5] for rule in map(RULE.fullmatch, lines) if rule]
+        if said and (said[0][3] is not None) != all(labels):
+            yield block
 
 
 def plain(value):
@@ -157,6 +168,8 @@ def real_pairs(report, folders):
                 report.check(f"nothing is added to what was suggested for {name}", again == (0, last, b""), repr(again))
                 wrong = [it for it in hidden_values(files, printed) if it[1] != it[2]]
                 report.check(f"the comments count what the rules for {name} hide", wrong == [], repr(wrong[:3]))
+                wrong = list(wrong_comments(printed))
+                report.check(f"the comments say what the rules for {name} keep", wrong == [], repr(wrong[:3]))
             else:
                 named = status == 1 and printed == b"" and NO_RULES.fullmatch(errors.decode())
                 report.check(f"{name} has rules, or a record is named", named, repr((status, printed, errors)))
@@ -238,20 +251,23 @@ def worked(report):
     head = "# A record 3: %s\n# B record 3: %s\n%s event    process body.%s\n\n"
     same = "# with these rules: same\n"
     for name, a, b, verbs in (
-        ("an address", "at 0x1f", "at 0x2e", ["hex"]), ("a number", "run 17", "run 4", ["digits"]), ("a word", "red", "blue", ["blank"]),
-        ("a shortened address", "at 7f3a1c", "at 9b00d4e", ["long"]), ("a UUID", f"at {FIRST[0]}", f"at {SECOND[0]}", ["uuid"]),
-        ("a digit and an address", "1 0xa", "2 0xb", ["digits", "hex"]), ("a UUID and an address", f"{FIRST[0]} 0xa", f"{SECOND[0]} 0xb", ["uuid", "hex"]),
+        ("an address", "at 0x1f", "at 0x2e", ["hex address"]), ("a number", "run 17", "run 4", ["digits number"]), ("a word", "red", "blue", ["blank"]),
+        ("a shortened address", "at 7f3a1c", "at 9b00d4e", ["long address"]), ("a UUID", f"at {FIRST[0]}", f"at {SECOND[0]}", ["uuid uuid"]),
+        ("a digit and an address", "1 0xa", "2 0xb", ["digits number", "hex"]),
+        ("a UUID and an address", f"{FIRST[0]} 0xa", f"{SECOND[0]} 0xb", ["uuid uuid", "hex"]),
+        ("a shortened address and an address", "7f3a1c 0xa", "9b00d4e 0xb", ["long address", "hex"]),
         ("a shortened address and a digit", "7f3a1c 1", "9b00d4e 2", ["long", "digits"]),
     ):
-        rules = "".join(f"{it:6} event    process body.name\n" for it in verbs)
+        lines = (it.partition(" ") for it in verbs)
+        rules = "".join(f"{verb:6} event    process body.name{'  as ' if label else ''}{label}\n" for verb, _, label in lines)
         wanted = f"# A record 3: {json.dumps(a)}\n# B record 3: {json.dumps(b)}\n{rules}\n"
         answer = asked(started(1, a), started(1, b))
         report.check(f"{name} is masked by the least action", answer == (0, (wanted + same).encode(), b""), repr(answer))
     answer = asked(started(1, "x" * 300 + "1"), started(1, "x" * 300 + "2" * 200))
-    wanted = (head % (f'...{"x" * 16}1"', f'...{"x" * 16}{"2" * 104}...', "digits", "name") + same).encode()
+    wanted = (head % (f'...{"x" * 16}1"', f'...{"x" * 16}{"2" * 104}...', "digits", "name  as number") + same).encode()
     report.check("of long values the part that differs is shown", answer == (0, wanted, b""), repr(answer))
     answer = asked(started(1, "a"), started(2, "a"))
-    report.check("a process id is blanked", answer == (0, (head % (1, 2, "blank ", "systemProcessId") + same).encode(), b""), repr(answer))
+    report.check("a process id is blanked", answer == (0, (head % (1, 2, "blank ", "systemProcessId  as process") + same).encode(), b""), repr(answer))
     answer = asked(started(1, "a", 1), started(1, "a", 2))
     report.check("an element of a list", answer == (0, (head % (1, 2, "blank ", "x[].y") + same).encode(), b""), repr(answer))
     answer = asked(started(1, "a", 1), started(1, "a", "b"))
@@ -263,7 +279,7 @@ def worked(report):
     answer = asked(started(1, "red"), started(1, "blue"), "--rules", "given", given=b"blank event process body.name")
     report.check("what was given is not suggested again", answer == (0, b"\n" + same.encode(), b""), repr(answer))
     answer = asked(started(1, "1 0xa"), started(1, "2 0xb"), "--rules", "given", given=b"hex event process body.name\n")
-    wanted = (head % ('"1 0x0"', '"2 0x0"', "digits", "name") + same).encode()
+    wanted = (head % ('"1 0x0"', '"2 0x0"', "digits", "name  as number") + same).encode()
     report.check("an action that comes before a given one", answer == (0, wanted, b""), repr(answer))
     answer = asked(started(1, "run 1"), started(1, "run 22"), "--rules", "given", given=b"uuid event process body.name\n")
     wanted = (head % ('"run 1"', '"run 22"', "blank ", "name") + same).encode()
@@ -390,14 +406,14 @@ def elements(report):
     check("a name in quotes", [('a "b" \u00fc', 1), kept], [('a "b" \u00fc', 2), kept], (1, 2, f'blank {place}["a \\"b\\" \u00fc"].y'))
     check(
         "two elements, each with its least action", [("n", "run 1"), ("a", "red")], [("n", "run 22"), ("a", "blue")],
-        ("run 1", "run 22", f'digits{place}["n"].y'), ("red", "blue", f'blank {place}["a"].y'),
+        ("run 1", "run 22", f'digits{place}["n"].y  as number'), ("red", "blue", f'blank {place}["a"].y'),
     )
     check(
         "digits for each name", [("n", "run 1"), ("a", "4"), kept], [("n", "run 22"), ("a", "5"), kept],
-        ("4", "5", f'digits{place}["a"].y'), ("run 1", "run 22", f'digits{place}["n"].y'),
+        ("4", "5", f'digits{place}["a"].y  as number'), ("run 1", "run 22", f'digits{place}["n"].y  as number'),
     )
     check("hex for all", [("n", "0x1f"), ("a", "0x1"), kept], [("n", "0x2"), ("a", "0x2"), kept], ("0x1f", "0x2", f"hex   {place}[].y"))
-    check("hex for one, if others have an address", [("n", "0x1f"), ("a", "0x1")], [("n", "0x2"), ("a", "0x1")], ("0x1f", "0x2", f'hex   {place}["n"].y'))
+    check("hex for one, if others have an address", [("n", "0x1f"), ("a", "0x1")], [("n", "0x2"), ("a", "0x1")], ("0x1f", "0x2", f'hex   {place}["n"].y  as address'))
     names = [f"n{number:02}" for number in range(17)]
     check("16 elements", [(it, 1) for it in names[:16]], [(it, 2) for it in names[:16]], *((1, 2, f'blank {place}["{it}"].y') for it in names[:16]))
     check("17 elements", [(it, 1) for it in names], [(it, 2) for it in names], (1, 2, f"blank {place}[].y"))
@@ -431,7 +447,7 @@ def strict(report):
         ])
 
     for name, a, b, given, wanted in (
-        ("a process id", exited(0, 1), exited(0, 2), b"", (0, b"# A record 3: 1\n# B record 3: 2\nblank  event    process body.systemProcessId\n\n" + SAME + b"\n", b"")),
+        ("a process id", exited(0, 1), exited(0, 2), b"", (0, b"# A record 3: 1\n# B record 3: 2\nblank  event    process body.systemProcessId  as process\n\n" + SAME + b"\n", b"")),
         (
             "an exit code", exited(0, 1), exited(1, 2), b"",
             (1, b"", b'no rules can: record 4 of A, event "exited", differs where no rule may change it from B\n'),
@@ -485,7 +501,7 @@ def cheapest(report):
     others = [("x", "12"), ("y", "0x10"), ("z", "")]
     check(
         "a process id hides no other variable", variables(("pid", "4711"), *others), variables(("pid", "815"), *others),
-        f'# A record 4: "4711"\n# B record 4: "815"\ndigits {place}["pid"].value\n\n',
+        f'# A record 4: "4711"\n# B record 4: "815"\ndigits {place}["pid"].value  as number\n\n',
     )
     check(
         "names by address", variables(("139872345678912", "'a'"), ("139872345678999", "'c'"), ("len()", "2")),
@@ -495,7 +511,7 @@ def cheapest(report):
     )
     check(
         "a name that occurs twice", variables(("v", "1"), ("v", "2"), ("v", "3"), ("w", "4")), variables(("v", "5"), ("v", "2"), ("v", "3"), ("w", "4")),
-        f'# A record 4: "1"\n# B record 4: "5"\n# also hides 2 values that are equal\ndigits {place}["v"].value\n\n',
+        f'# A record 4: "1"\n# B record 4: "5"\n# also hides 2 values that are equal; keeps which ids are equal\ndigits {place}["v"].value  as number\n\n',
     )
     check(
         "other variables", variables(("x", "1"), ("y", "2")), variables(("x", "1")),
@@ -520,6 +536,91 @@ def cheapest(report):
         "another order", toy(*FIRST), toy(*FIRST, stopped_first=True),
         "# in A records 6 and 7, in B the other way round\nswap   response next event    stopped\n\n",
     )
+
+
+# The members of ids that the protocol defines, around a value, each with its label.
+IDENTITIES = {
+    "progressId": "progress", "dataId": "data", "sourceReference": "source", "locationReference": "location", "valueLocationReference": "location",
+    "declarationLocationReference": "location", "moduleId": "module", "module.id": "module", "modules[].id": "module", "targetId": "target",
+    "targets[].id": "target", "systemProcessId": "process", "processId": "process", "shellProcessId": "process", "memoryReference": "address",
+    "instructionReference": "address", "instructionPointerReference": "address", "instructions[].address": "address",
+}
+OTHERS = ("id", "source.id", "sources[].id", "address", "instruction.address", "processIds", "output.progressIds[]")
+
+
+def within(place, value):
+    """The body that has a value at a place."""
+    for step in reversed(place.split(".")):
+        value = {step.removesuffix("[]"): [value] if step.endswith("[]") else value}
+    return value
+
+
+def labels(report):
+    """Rules keep which ids are equal, except for those by which the recordings would differ."""
+    hexes, result = "hex    response variables body.variables[].value", "hex    response evaluate body.result"
+
+    def asked(values, shown):
+        """A session that shows variables, and then the result of an evaluation."""
+        lines = [*BEGUN, message(">", "request", "variables", 2, {"variablesReference": 9})]
+        body = {"variables": [{"name": name, "value": value, "variablesReference": 0} for name, value in values.items()]}
+        lines.append(message("<", "response", "variables", 2, body, request_seq=2, success=True))
+        lines.append(message(">", "request", "evaluate", 3, {"expression": "x"}))
+        return recording([*lines, message("<", "response", "evaluate", 3, {"result": shown, "variablesReference": 0}, request_seq=3, success=True)])
+
+    def sent(*bodies):
+        return recording([*BEGUN, *(message("<", "event", f"x{seq}", seq, body) for seq, body in enumerate(bodies, 2))])
+
+    def rules(printed):
+        return [line for line in printed.decode().splitlines() if line and not line.startswith("#")]
+
+    def check(name, a, b, *wanted, given=b"", options=()):
+        with Folder(a=a, b=b, given=given) as folder:
+            answer = folder.run("suggest", *options, "--rules", "given", "a", "b")
+            report.check(f"labels: {name}", (answer[0], rules(answer[1]), answer[2]) == (0, list(wanted), b""), repr(answer))
+            report.check(f"labels: {name}: they make it the same", makes_same(folder, answer[1], "a", "b", given + b"\n"), repr(answer))
+            return answer[1]
+
+    a, b = asked({"p": "0x7f", "q": "0x7f", "r": "0x5"}, "0x5"), asked({"p": "0x9", "q": "0x9", "r": "0x8"}, "0x8")
+    printed = check("equal addresses", a, b, f"{result}  as address", f"{hexes}  as address")
+    with Folder(a=a, rules=printed, broken=asked({"p": "0x1", "q": "0x2", "r": "0x3"}, "0x3"), other=asked({"p": "0x1", "q": "0x1", "r": "0x2"}, "0x1")) as folder:
+        for name, line in (("broken", b"differ 4\n"), ("other", b"differ 6\n")):
+            answer = folder.run("compare", "--rules", "rules", "a", name)
+            report.check(f"labels: an error of aliases differs, {name}", answer == (1, line, b""), repr(answer))
+    a, b = asked({"p": "0x7f", "q": "0x0"}, "0x7f"), asked({"p": "0x9", "q": "0x8"}, "0x9")
+    check("a null pointer in A", a, b, f"{result}  as address", hexes)
+    a, b = asked({"p": "0x7f", "q": "0x7f"}, "0x1"), asked({"p": "0x9", "q": "0x8"}, "0x3")
+    check("an alias in A", a, b, f"{result}  as address", hexes)
+    a, b = asked({"p": "0x7f", "q": "0x5"}, "0x7f"), asked({"p": "0x9", "q": "0x8"}, "0x8")
+    check("another alias", a, b, result, f"{hexes}  as address")
+    a, b = asked({"p": "0x7f", "n": "17"}, "0x7f"), asked({"p": "0x9", "n": "4"}, "0x9")
+    check("what would change a name", a, b, f"{result}  as address", hexes, 'digits response variables body.variables["n"].value  as number')
+    a, b = asked({}, "0x7f"), asked({}, "0x9")
+    check("a given rule that would change a name", a, b, result, given=b"long response * body.result\n")
+    check("a given rule for other values", a, b, f"{result}  as address", given=b"long response * body.type\n")
+    check("a given rule that comes first", a, b, f"{result}  as address", given=b"uuid response * body.result")
+    a, b = asked({"p": "0x7f"}, "0x7f"), asked({"p": "0x9"}, "0x9")
+    check("a given label", a, b, f"{result}  as address", given=b"hex response variables body.variables[].value as address\n")
+    check("another address than that of a given label", a, asked({"p": "0x9"}, "0x8"), result, given=b"hex response variables body.variables[].value as address\n")
+
+    for place, label in (*IDENTITIES.items(), *((place, None) for place in OTHERS)):
+        for name, values in (("text", ("red", "blue")), ("number", (17, 4))):
+            rule = f"blank  event    x2 body.{place}" + (f"  as {label}" if label else "")
+            check(f"{place}, a {name}", *(sent(within(place, value)) for value in values), rule)
+    check("an id that is null in B", *(sent({"data": {"dataId": it}, "y": "a"}, {"dataId": one}) for it, one in (("red", "c"), ("", "d"))),
+          "blank  event    x2 body.data.dataId", "blank  event    x3 body.dataId  as data")
+
+    for count, is_kept in ((16, True), (17, False)):
+        a, b = (sent(*({"x": "at 0x1f", "y": f"at 0x{it}f"} for _ in range(count))) for it in ("1", "2"))
+        b = b.replace(b"at 0x1f", b"at 0x3f")
+        wanted = (f"hex    event    x{number} body.{name}" + ("  as address" if is_kept and name == "x" else "")
+                  for number in sorted(range(2, count + 2), key=str) for name in "xy")
+        check(f"{count} messages that differ", a, b, *wanted)
+
+    a, b = COMPARED["a stale frame"][:2]
+    ended = [record(message("<", "event", "x", 99, {"y": f"at {it}"})) for it in ("0x1f", "0x2e")]
+    check("ids at each stop", a + ended[0], b + ended[1], "hex    event    x body.y  as address", "per-stop")
+    check("ids at each stop, given", a + ended[0], b + ended[1], "hex    event    x body.y  as address", given=b"per-stop\n")
+    check("strict rules", sent({"processId": 7}), sent({"processId": 8}), "blank  event    x2 body.processId  as process", options=["--strict"])
 
 
 def refused(report):
@@ -578,6 +679,7 @@ def main():
     categories(report)
     elements(report)
     cheapest(report)
+    labels(report)
     strict(report)
     fractions(report)
     refused(report)

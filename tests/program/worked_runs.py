@@ -497,7 +497,7 @@ def of_rules():
 def of_suggestions():
     """Rules that are suggested, and a record that prevents them."""
     comment = b"# A record 3: 17\n# B record 3: 4\n"
-    suggested = comment + b"blank  event    process body.systemProcessId\n\n# with these rules: same\n"
+    suggested = comment + b"blank  event    process body.systemProcessId  as process\n\n# with these rules: same\n"
     files = {"a": recording([*BEGUN, PROCESS % (17, 2)]), "b": recording([*BEGUN, PROCESS % (4, 2)])}
     yield stream("a process id", ["suggest", "a", "b"], b"", (0, suggested, b""), files)
     start = '<{"body":{"name":"p","startTime":%s},"event":"process","seq":2,"type":"event"}'

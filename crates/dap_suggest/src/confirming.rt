@@ -10,7 +10,7 @@ ghost use Rattle.dap_suggest.specs.Suggested.{check_note, last_line, verdict};
 use crate::broad::broad_of;
 use crate::guarded::guarded_count;
 use crate::joined_rules::{joined, read_joined};
-use crate::obstacle::{Obstacle, Unsolved};
+use crate::obstacle::{Mismatch, Obstacle, Unsolved};
 use crate::suggestion::{Inputs, Suggestion};
 use dap_compare::Which;
 use dap_input::Limits;
@@ -57,13 +57,25 @@ fn last_line(alloc: Global, mode: Mode, to_check: usize) -> Result<Vec<u8>, Allo
     Ok(line)
 }
 
-/// Returns the number of the record in which two different normal texts first differ.
-fn first_difference(text: &[u8], other: &[u8]) -> u64 {
+/// Returns the content of the record of a normal text that a number of records precede.
+fn content_after(alloc: Global, text: &[u8], records: usize) -> Result<Vec<u8>, AllocError> {
+    let mut lines = text.split(|byte| *byte == b'\n');
+    let line = lines.nth(records.saturating_mul(3).saturating_add(2));
+    Vec::from_slice(alloc, line.unwrap_or(&[]))
+}
+
+/// Returns the record in which two different normal texts first differ.
+fn first_mismatch(alloc: Global, text: &[u8], other: &[u8]) -> Result<Mismatch, AllocError> {
     let both = text.iter().zip(other);
     let same = both.take_while(|(byte, found)| **byte == **found);
     let ends = same.filter(|(byte, _)| **byte == b'\n').count();
     // A record has three LF: two in its header part, and one after its content.
-    (ends as u64 / 3).saturating_add(1)
+    let records = ends / 3;
+    Ok(Mismatch {
+        record: (records as u64).saturating_add(1),
+        a: content_after(alloc, text, records)?,
+        b: content_after(alloc, other, records)?,
+    })
 }
 
 /// Returns the normal form of what the rules make of a recording.
@@ -110,8 +122,7 @@ fn compare_by(
     if one == other {
         return Ok(());
     }
-    let record = first_difference(one, other);
-    Err(Unsolved::NoRules(Obstacle::StillDiffers(record)))
+    Err(Unsolved::Differs(first_mismatch(alloc, one, other)?))
 }
 
 /// Compares two recordings by these rules, as `compare --rules` does. Returns the mode in which they
@@ -185,10 +196,14 @@ fn to_check_in(alloc: Global, inputs: &Inputs<'_>, found: &[u8]) -> Result<usize
     Ok(guarded_count(&rules).saturating_sub(inputs.guarded))
 }
 
-/// Suggests these rules, if two recordings are the same by them. Ids are numbered once in each
-/// recording; or from each stop, if the rules that were given say so, or if only that makes the
-/// recordings the same.
-pub fn confirm(alloc: Global, inputs: &Inputs<'_>, found: &[u8]) -> Result<Suggestion, Unsolved>
+/// Suggests these rules, if two recordings are the same by them in this mode. Adds the line
+/// `per-stop`, if the mode needs it and the rules that were given lack it.
+pub fn confirm_in(
+    alloc: Global,
+    inputs: &Inputs<'_>,
+    found: &[u8],
+    mode: Mode,
+) -> Result<Suggestion, Unsolved>
     requires { AreSound inputs.now.limits }
     ensures { IfOk result (IsSuggestion inputs.now) }
 {
@@ -196,14 +211,24 @@ pub fn confirm(alloc: Global, inputs: &Inputs<'_>, found: &[u8]) -> Result<Sugge
     if inputs.strict && to_check > 0 {
         return Err(Unsolved::NoRules(Obstacle::Unread));
     }
-    match inputs.mode {
-        Mode::Whole => match suggested(alloc, inputs, found, Mode::Whole, to_check) {
-            Err(Unsolved::NoRules(_)) => {
-                let found = joined(alloc, found, ADDED_PER_STOP)?;
-                suggested(alloc, inputs, found.as_slice(), Mode::PerStop, to_check)
-            }
-            confirmed => confirmed,
-        },
-        Mode::PerStop => suggested(alloc, inputs, found, Mode::PerStop, to_check),
+    if mode == inputs.mode {
+        return suggested(alloc, inputs, found, mode, to_check);
     }
+    let found = joined(alloc, found, ADDED_PER_STOP)?;
+    suggested(alloc, inputs, found.as_slice(), mode, to_check)
+}
+
+/// Suggests these rules, if two recordings are the same by them. Ids are numbered once in each
+/// recording; or from each stop, if the rules that were given say so, or if only that makes the
+/// recordings the same.
+pub fn confirm(alloc: Global, inputs: &Inputs<'_>, found: &[u8]) -> Result<Suggestion, Unsolved>
+    requires { AreSound inputs.now.limits }
+    ensures { IfOk result (IsSuggestion inputs.now) }
+{
+    let confirmed = confirm_in(alloc, inputs, found, inputs.mode);
+    let differs = matches!(&confirmed, Err(Unsolved::NoRules(_) | Unsolved::Differs(_)));
+    if differs && inputs.mode == Mode::Whole {
+        return confirm_in(alloc, inputs, found, Mode::PerStop);
+    }
+    confirmed
 }

@@ -5,10 +5,9 @@ use crate::comments::push_check;
 use crate::guarded::hidden_at;
 use crate::joined_rules::{fault_after, missing_end};
 use crate::suggestion::Inputs;
-use crate::words::{class_of, push_member, push_parts, text_at};
+use crate::words::{class_of, head_of, push_member, push_parts};
 use dap_compare::Which;
 use dap_mask::{MaskRules, is_dropped, mask, read_by_rules};
-use dap_message::Kind;
 use dap_recording::{FedRecord, Record, RecordCause, RecordReader};
 use dap_tree::{Scratch, Tree, TreeFault};
 use serde_json::{Map, Value};
@@ -92,16 +91,6 @@ fn search_members(
         }
     }
     Ok(())
-}
-
-/// Returns the kind and the name of a message, if it has them.
-fn head_of(message: &Tree) -> Option<(Kind, &str)> {
-    let kind = Kind::named(text_at(message, "type")?)?;
-    let name = match kind {
-        Kind::Request | Kind::Response => text_at(message, "command"),
-        Kind::Event => text_at(message, "event"),
-    };
-    Some((kind, name?))
 }
 
 /// Adds the rules for the numbers of a content that remain in `left`.

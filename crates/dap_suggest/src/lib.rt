@@ -14,6 +14,7 @@ mod elements;
 mod fractions;
 mod guarded;
 mod joined_rules;
+mod labels;
 mod matched;
 mod obstacle;
 mod pairs;

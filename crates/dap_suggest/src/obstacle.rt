@@ -118,11 +118,23 @@ impl Display for Obstacle {
     }
 }
 
+/// The first record in which the normal forms of two recordings differ.
+#[derive(Drop)]
+pub struct Mismatch {
+    /// The number of the record.
+    pub record: u64,
+    /// Its content in A, and in B.
+    pub a: Vec<u8>,
+    pub b: Vec<u8>,
+}
+
 /// Why a search found no rules.
 #[derive(Drop)]
 pub enum Unsolved {
     /// There are none.
     NoRules(Obstacle),
+    /// With the rules that were found, the recordings still differ.
+    Differs(Mismatch),
     /// An allocation failed.
     Memory,
 }

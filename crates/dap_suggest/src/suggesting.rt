@@ -8,11 +8,11 @@ ghost use Rattle.dap_suggest.specs.Guarded.{guarded_count};
 ghost use Rattle.dap_suggest.specs.Suggested.{AreSameBy, IsSuggestion, SaysWhatToCheck};
 
 use crate::broad::broad_of;
-use crate::confirming::confirm;
 use crate::counting::{EventsByName, add_differing, forget_categories, have_categories};
 use crate::fractions::fraction_rules;
 use crate::guarded::guarded_count;
 use crate::joined_rules::{joined, missing_end, read_joined};
+use crate::labels::confirm_labelled;
 use crate::obstacle::Unsolved;
 use crate::pieces::{JOINS, comment_on_join};
 use crate::searching::rules_for;
@@ -26,8 +26,8 @@ use std::alloc::Global;
 use std::collections::BTreeMap;
 
 /// Searches rules for two recordings and their sessions, which the rules that were given and those
-/// `before` the others make. Some of these events are dropped. Confirms the rules, after the
-/// sessions are dropped from memory.
+/// `before` the others make. Some of these events are dropped. Confirms and labels the rules, after
+/// the sessions are dropped from memory.
 fn find_by(
     alloc: Global,
     inputs: &Inputs<'_>,
@@ -39,7 +39,7 @@ fn find_by(
     ensures { IfOk result (IsSuggestion inputs.now) }
 {
     let rules = rules_for(alloc, inputs, before, sessions, events)?;
-    confirm(alloc, inputs, rules.as_slice())
+    confirm_labelled(alloc, inputs, rules.as_slice())
 }
 
 /// Searches and confirms rules by events of one category, or by all events of a name, if no rules
@@ -57,7 +57,8 @@ fn find_by_events(
 {
     add_differing(alloc, &sessions, events)?;
     let found = find_by(alloc, inputs, before, sessions, events);
-    if !have_categories(events) || !matches!(&found, Err(Unsolved::NoRules(_))) {
+    let has_none = matches!(&found, Err(Unsolved::NoRules(_) | Unsolved::Differs(_)));
+    if !have_categories(events) || !has_none {
         return found;
     }
     forget_categories(events);
@@ -117,7 +118,7 @@ fn find_joined(
         let mut before = joined(alloc, before, comment)?;
         before.extend_from_slice(join)?;
         match find_with_join(alloc, inputs, before.as_slice()) {
-            Ok(None) | Err(Unsolved::NoRules(_)) => {}
+            Ok(None) | Err(Unsolved::NoRules(_) | Unsolved::Differs(_)) => {}
             found => return found,
         }
     }
@@ -245,10 +246,12 @@ fn suggest_by(
 /// the rules that hide the fewest equal values are suggested, for all elements of a list or for
 /// those of one name; or a parent is blanked. Pairs in another order may change places. Numbers
 /// that are not integers of 64 bits are blanked. Then the rules are applied to both recordings, and
-/// the results are compared.
+/// the results are compared. Last, the rules get labels, so that they keep which ids are equal,
+/// except for labels with which the recordings differ.
 ///
 /// Each rule follows a comment with the two values and their records, and with the number of equal
-/// values that it also hides. The last line says in which mode the recordings are the same:
+/// values that it also hides. If it has a label, the comment says that it keeps which ids are equal.
+/// The last line says in which mode the recordings are the same:
 /// `# with these rules: same`, or `# with these rules and per-stop: same`. It also counts the rules
 /// that hide what a test looks at, each of which follows a comment that starts with `# CHECK`.
 ///

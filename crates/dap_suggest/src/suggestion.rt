@@ -82,6 +82,9 @@ impl From<Unsolved> for SuggestRefused {
     fn from(unsolved: Unsolved) -> SuggestRefused {
         match unsolved {
             Unsolved::NoRules(obstacle) => SuggestRefused::NoRules(obstacle),
+            Unsolved::Differs(mismatch) => {
+                SuggestRefused::NoRules(Obstacle::StillDiffers(mismatch.record))
+            }
             Unsolved::Memory => SuggestRefused::Memory,
         }
     }

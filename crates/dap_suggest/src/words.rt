@@ -54,6 +54,16 @@ pub fn text_at<'t>(tree: &'t Tree, name: &str) -> Option<&'t str> {
     }
 }
 
+/// Returns the kind and the name of a message, if it has them.
+pub fn head_of(message: &Tree) -> Option<(Kind, &str)> {
+    let kind = Kind::named(text_at(message, "type")?)?;
+    let name = match kind {
+        Kind::Request | Kind::Response => text_at(message, "command"),
+        Kind::Event => text_at(message, "event"),
+    };
+    Some((kind, name?))
+}
+
 /// Returns a value as JSON. An id is its number.
 pub fn json_of(alloc: Global, value: &Tree) -> Result<String, AllocError> {
     if !value.sound() {
