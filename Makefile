@@ -156,7 +156,7 @@ dist: need-commit need-python $(PROGRAM) $(PACK)
 
 real: need-python $(PROGRAM)
 	@echo "Installs by apt-get what is missing of debugpy, lldb, delve, Go, Ruby, Emacs and dap-mode, and removes nothing."
-	@echo "Then it runs each session ten times: about three minutes."
+	@echo "Then it runs each session ten times: about four minutes."
 	@python3 tests/real/run.py --install "$(PROGRAM)"
 
 clean:

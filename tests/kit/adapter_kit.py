@@ -509,7 +509,7 @@ def real_sessions(report, folder):
     said = subprocess.run(["make", "-n", "-C", TOP, "real", f"PROGRAM={sys.executable}"], capture_output=True, text=True, timeout=60).stdout
     report.check("make real runs the sessions", f'python3 tests/real/run.py --install "{sys.executable}"' in said, said)
     copy = os.path.join(folder, "copy")
-    for name in ("tests", "python", "examples"):
+    for name in ("tests", "python", "examples", "scripts"):
         shutil.copytree(os.path.join(TOP, name), os.path.join(copy, name), ignore=shutil.ignore_patterns("__pycache__"))
     words = [sys.executable, os.path.join(copy, "tests", "real", "run.py"), "/bin/true"]
     ran = subprocess.run([*words, "lldb", "delve", "rdbg"], env={**os.environ, "PATH": folder}, capture_output=True, text=True, timeout=60)

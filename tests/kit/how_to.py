@@ -10,11 +10,35 @@ from tests.kit.examples import EXAMPLES, with_program
 from tests.kit.golden_sessions import FAKE, TIMEOUT, SLACK, edit, python_with, write
 from tests.report import PROGRAM, TOP, Report
 
+import dapnorm
+
 CAPTURES = os.path.join(EXAMPLES, "captures")
 # Two runs of one session with delve.
 RUNS = [os.path.join(CAPTURES, f"dlv-l-stopentry.{it}.trace") for it in (3, 5)]
 CHILD = 'print(sum([3, 4, 5]))\n'
 PARENT = 'import subprocess\nimport sys\nsubprocess.run([sys.executable, "child.py"])\n'
+# A client that runs the session of a parent and two children over one port.
+CLIENT = """\
+import os
+import sys
+
+import dapnorm
+from children_test import HERE, child_session
+
+PORT = int(sys.argv[1])
+with dapnorm.Adapter.connect("127.0.0.1", PORT) as parent:
+    parent.request("initialize", adapterID="debugpy")
+    launch = parent.send("launch", program=os.path.join(HERE, "parent.py"), cwd=HERE, subProcess=True)
+    parent.wait_for("initialized")
+    parent.request("configurationDone")
+    parent.response(launch)
+    for _ in range(2):
+        arguments = parent.wait_for("debugpyAttach")
+        with dapnorm.Adapter.connect("127.0.0.1", PORT) as child:
+            child_session(child, arguments)
+    parent.wait_for("terminated")
+    parent.request("disconnect")
+"""
 
 
 def blocks(title):
@@ -69,7 +93,7 @@ def part(report, place):
 
 def children(report, place):
     """The child session with debugpy, and the handler for `startDebugging` with the fake adapter."""
-    test, rules = blocks("Record child sessions")
+    test, script = blocks("Record child sessions")
     handler = (
         "import dapnorm\ndef test_handler():\n    started = []\n"
         f"    with dapnorm.Adapter.start({FAKE + ' 7 sends=startDebugging'!r}) as parent:\n"
@@ -83,8 +107,7 @@ def children(report, place):
     if python is None:
         print("debugpy is not installed: child sessions are not tried", flush=True)
         return
-    with open(os.path.join(EXAMPLES, "rules", "debugpy.rules"), encoding="utf-8") as file:
-        write(place.path("children.rules"), file.read() + rules)
+    shutil.copy(os.path.join(EXAMPLES, "rules", "debugpy.rules"), place.folder)
     for name, text in (("children_test.py", test), ("parent.py", PARENT), ("child.py", CHILD)):
         write(place.path(name), text)
     for option, wanted in (("--update", "wrote "), ("", "same\n"), ("", "same\n")):
@@ -92,6 +115,28 @@ def children(report, place):
         report.check(f"child sessions are compared {option}", status == 0 and output.startswith(wanted), output)
     made = {it for it in os.listdir(place.folder) if ".golden" in it}
     report.check("each session has its golden file", made == {"parent.golden.yaml", "child.golden.yaml"}, repr(made))
+    recorded_children(report, place, python, script)
+
+
+def recorded_children(report, place, python, script):
+    """The script that records two children by the proxy, in the folder of their test, with ports that are free."""
+    write(place.path("parent.py"), PARENT + PARENT.splitlines()[-1] + "\n")
+    write(place.path("client.py"), CLIENT)
+    client = os.path.join(place.environment["PATH"].split(os.pathsep)[0], "my-client")
+    write(client, f'#!/bin/sh\nexec {sys.executable} client.py "$1"\n')
+    os.chmod(client, 0o755)
+    for text, here in (("4711", str(dapnorm.free_port())), ("4712", str(dapnorm.free_port())), ("python3 -m debugpy", f"{python} -m debugpy")):
+        script = script.replace(text, here)
+    write(place.path("compare.sh"), script)
+    place.run("rm *.golden.yaml; git init -q .")
+    status, output = place.run("sh compare.sh")
+    report.check("three sessions are recorded", (status, output.count("wrote ")) == (0, 3), output)
+    place.run("git add *.golden.yaml && git -c user.name=somebody -c user.email=somebody@example.org commit -qm golden")
+    status, output = place.run("sh compare.sh")
+    report.check("a further run is the same", (status, output.count("unchanged\n")) == (0, 3), output)
+    edit(place.path("child.py"), ("5]", "6]"))
+    status, output = place.run("sh compare.sh")
+    report.check("a changed child is a difference", status == 1 and "+" in output, output)
 
 
 def review(report, place):

@@ -2,10 +2,12 @@
 
     python3 tests/real/run.py [--install] [--update] [--times N] PROGRAM [NAME..]
 
-PROGRAM is dapnorm, and NAME a session: debugpy, debugpy-terminal, lldb, delve, rdbg, emacs. `--install` installs what they need by apt-get.
+PROGRAM is dapnorm, and NAME a session: debugpy, debugpy-terminal, debugpy-children, lldb, delve, rdbg, emacs. `--install` installs what they need by apt-get.
 It installs a package only if what it has is missing, and removes none. `--update` makes the golden files by the first run. What is not installed is named as skipped. The golden files have the version of the
 adapter in their names: another version needs its own. `make real` calls this. The traces of runs that are not the same are kept in
-bin/real. The last line is 'N passed, M failed': a session passes if each of its runs is the same.
+bin/real. The last line is 'N passed, M failed': a session passes if each of its runs is the same. The session debugpy-children has three
+connections, each with its trace and its golden file. In copies of its recordings an event names a wrong process: each has to differ from
+the golden file, and only by the labels of the rules.
 """
 import os
 import re
@@ -15,6 +17,7 @@ import sys
 import tempfile
 import time
 
+import children
 import sessions
 from sessions import PROGRAMS, REAL, TOP, dapnorm
 
@@ -28,13 +31,16 @@ BUILT = os.path.join(TOP, "bin", "real")
 
 
 class Session:
-    """A session: the files of its rules, what it lacks here, its version, and one run of it, which returns the path of the trace."""
+    """A session: the files of its rules, what it lacks here, its version, and one run of it, which returns the path of each trace by its part.
 
-    def __init__(self, name, rules, missing, version, run):
-        self.name, self.rules, self.missing, self.version, self.run = name, rules, missing, version, run
+    A session of one connection has one part, without a name. `wrong` makes recordings with an error from the traces.
+    """
 
-    def golden(self):
-        return os.path.join(GOLDEN, f"{self.name}-{self.version()}.golden")
+    def __init__(self, name, rules, missing, version, run, wrong=None):
+        self.name, self.rules, self.missing, self.version, self.run, self.wrong = name, rules, missing, version, run, wrong
+
+    def golden(self, part):
+        return os.path.join(GOLDEN, "-".join(filter(None, (self.name, self.version(), part))) + ".golden")
 
     def rules_file(self):
         """The rules in one file: those that are shipped, and for Emacs further ones."""
@@ -73,12 +79,12 @@ def without(*programs):
 
 
 def in_kit(start):
-    """A run by the client of the package. Returns the path of the trace."""
+    """A run by the client of the package."""
     def run():
         adapter, steps = start()
         with adapter:
             steps()
-        return adapter.trace
+        return {"": adapter.trace}
     return run
 
 
@@ -92,7 +98,7 @@ def emacs_run():
     ran = subprocess.run(words, env=environment, stdout=subprocess.PIPE, stderr=subprocess.STDOUT, text=True, timeout=120)
     if ran.returncode != 0:
         raise dapnorm.SessionError(f"emacs ends with status {ran.returncode}, the trace is {trace}\n{ran.stdout[-2000:]}")
-    return trace
+    return {"": trace}
 
 
 def has_dap_mode():
@@ -114,6 +120,7 @@ def shipped(name):
 SESSIONS = [
     Session("debugpy", [shipped("debugpy")], lacks_debugpy, debugpy_version, in_kit(sessions.debugpy)),
     Session("debugpy-terminal", [shipped("debugpy")], lacks_debugpy, debugpy_version, in_kit(sessions.debugpy_terminal)),
+    Session("debugpy-children", [shipped("debugpy")], lacks_debugpy, debugpy_version, children.debugpy_children, children.confused),
     Session(
         "lldb", [shipped("lldb")], lambda: without(("lldb-vscode or lldb-dap", sessions.lldb_command()), ("cc", shutil.which("cc"))),
         lldb_version, in_kit(sessions.lldb),
@@ -181,26 +188,74 @@ def build():
             subprocess.run(words, cwd=PROGRAMS, env=environment, check=True)
 
 
+def differs(recording, golden, rules, words):
+    """Whether a recording differs from a golden file."""
+    try:
+        dapnorm.golden(recording, golden, rules=rules, words=words)
+    except dapnorm.GoldenFailed as error:
+        if error.status != 1:
+            raise
+        return True
+    return False
+
+
+def without_labels(rules, folder):
+    """A copy of the rules that hides each id, and whether two ids are the same."""
+    path = os.path.join(folder, "without-labels.rules")
+    with open(rules, encoding="utf-8") as file, open(path, "w", encoding="utf-8") as copy:
+        copy.write(re.sub(r" +as [a-z]+$", "", file.read(), flags=re.MULTILINE))
+    return path
+
+
+def told_of_errors(session, traces, rules, words):
+    """What is wrong with the comparisons of copies with an error: one that is not seen, or that is seen without the labels too."""
+    told = []
+    with tempfile.TemporaryDirectory(dir=BUILT) as folder:
+        blind = without_labels(rules, folder)
+        for part, recording in session.wrong(traces).items():
+            path = os.path.join(folder, f"{part}.rec")
+            with open(path, "wb") as file:
+                file.write(recording)
+            if not differs(path, session.golden(part), rules, words):
+                told.append(f"{part}: the error is not seen")
+            own = os.path.join(folder, f"{part}.golden")
+            dapnorm.golden(traces[part], own, rules=blind, words=words, update=True)
+            if differs(path, own, blind, words):
+                told.append(f"{part}: the error is seen by rules without labels too")
+    return told
+
+
+def compared(session, rules, words, update):
+    """Runs a session once, and compares it with its golden files. Returns whether it is the same, and what is wrong with the copies."""
+    traces = session.run()
+    lines = [dapnorm.golden(trace, session.golden(part), rules=rules, words=words, update=update) for part, trace in traces.items()]
+    told = told_of_errors(session, traces, rules, words) if session.wrong else []
+    for trace in traces.values():
+        os.remove(trace)
+    return update or all(line == "same" for line in lines), told
+
+
 def tried(report, session, times, update):
-    """Runs a session and compares each run with the golden file."""
+    """Runs a session and compares each run with its golden files."""
     missing = session.missing()
     if missing:
         print(f"{session.name}: skipped: {missing}", flush=True)
         return
     words = {REAL: "REAL", BUILT: "BUILT", sessions.python_with_debugpy() or "python3": "PYTHON"}
-    golden, rules, same, begun, told = session.golden(), session.rules_file(), 0, time.monotonic(), []
-    print(f"{session.name}: runs {times} times, each compared with {os.path.basename(golden)}", flush=True)
+    name, rules, same, begun, told, unseen = f"{session.name}-{session.version()}", session.rules_file(), 0, time.monotonic(), [], []
+    print(f"{session.name}: runs {times} times, each compared with {name}", flush=True)
     for number in range(times):
         try:
-            trace = session.run()
-            line = dapnorm.golden(trace, golden, rules=rules, words=words, update=update and number == 0)
-            os.remove(trace)
-            same += line == "same" or (update and number == 0)
+            is_same, errors = compared(session, rules, words, update and number == 0)
+            same += is_same
+            unseen += [f"run {number + 1}: {it}" for it in errors]
         except (dapnorm.SessionError, dapnorm.GoldenFailed) as error:
             told.append(f"run {number + 1}: {error}")
     seconds = (time.monotonic() - begun) / times
-    print(f"{os.path.basename(golden)}: {same} of {times} the same, {seconds:.1f} seconds each", flush=True)
+    print(f"{name}: {same} of {times} the same, {seconds:.1f} seconds each", flush=True)
     report.check(f"each run of {session.name} is the same", same == times, "\n" + "\n".join(told[:3]))
+    if session.wrong:
+        report.check(f"each error in a copy of {session.name} is seen by the labels", same and not unseen, "\n" + "\n".join(unseen[:3]))
 
 
 def main():
