@@ -47,8 +47,8 @@ FEWER = {
     r"(?:^|[.:;] )Of [a-z`]": "the of-phrase after its noun",
 }
 CASED = ("That (", "Of [")
-# How many words a sentence of a document may have, and one in the cell of a table, which may list causes.
-LONGEST, LONGEST_OF_README, LONGEST_IN_CELL = 35, 30, 45
+# How many words a sentence of a document may have.
+LONGEST, LONGEST_OF_README = 35, 30
 
 
 def read(path):
@@ -105,7 +105,7 @@ def sentences(report):
     for path in documents():
         name = os.path.relpath(path, TOP)
         for line in re.sub(r"^(?:[-*]|\d+\.) ", "", prose(read(path)), flags=re.MULTILINE).splitlines():
-            most = LONGEST_OF_README if name == "README.md" else LONGEST_IN_CELL if line.startswith("|") else LONGEST
+            most = LONGEST_OF_README if name == "README.md" else LONGEST
             for sentence in re.split(r"(?<=[.?!:])\s|\|", line):
                 words = sentence.split()
                 report.check(f"{name}: at most {most} words: {' '.join(words[:8])}", len(words) <= most, f"{len(words)}: {sentence}")

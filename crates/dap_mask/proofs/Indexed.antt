@@ -160,7 +160,7 @@ told_true k d h = go (is_of_kind Request d) (is_of_kind Response d) (is_of_kind 
     go false false true p q t e = subst (λ j. is_of_kind j d ≡ true) (kind_from Event k e) t
     go false false false p q t e = cc
 
-told_none : (d : Doc) → told_kind d ≡ None → (k : Kind) → is_of_kind k d ≡ false
+pub told_none : (d : Doc) → told_kind d ≡ None → (k : Kind) → is_of_kind k d ≡ false
 told_none d h k = go (is_of_kind Request d) (is_of_kind Response d) (is_of_kind Event d) refl refl
     refl h k
   where
@@ -190,7 +190,7 @@ pub name_asked : (k : Kind) (m : Option (List ℕ)) (d : Doc)
 name_asked k None d = refl
 name_asked k (Some m) d = text_asked m (get (name_key k) d)
 
-head-may : (d : Doc) (k : Kind) (r : Rule) → told_kind d ≡ Some k
+pub head-may : (d : Doc) (k : Kind) (r : Rule) → told_kind d ≡ Some k
     → has_head r d ≡ may_speak k (told_name k d) r
 head-may d k r h = by_bool (is_of_kind r.kind d) is_kind is_other
   where
@@ -260,10 +260,28 @@ masked_by_index rs d k safe h =
 -- ---- changes by the rules that apply, which leave the category of the message
 
 -- the rule is for the category or for any
-category_asked : (c : Option (List ℕ)) (d : Doc)
+pub category_asked : (c : Option (List ℕ)) (d : Doc)
     → has_category c d ≡ asks_for c (told_category d)
 category_asked None d = refl
 category_asked (Some c) d = text_asked c (at category_path d)
+
+-- a rule applies to messages of a kind, a name and a category
+module _ (r : Rule) (k : Kind) (n c : Option (List ℕ)) (d : Doc) (kind : told_kind d ≡ Some k)
+    (name : told_name k d ≡ n) (category : told_category d ≡ c) where
+  applies_asked : (may_speak k n r && asks_for r.category c) ≡ rule_applies r d
+  applies_asked =
+      ap₂ (λ a b. a && b)
+      (ap (λ m. may_speak k m r) (sym name) ∙ sym (head-may d k r kind))
+      (ap (asks_for r.category) (sym category) ∙ sym (category_asked r.category d))
+
+  pub applies_if_asked : (a b : Bool) → a ≡ may_speak k n r → a ≡ true
+      → b ≡ asks_for r.category c → b ≡ rule_applies r d
+  applies_if_asked a b is asked same =
+      same ∙ ap (λ s. s && asks_for r.category c) (sym asked ∙ is) ∙ applies_asked
+
+  pub applies_not : (a : Bool) → a ≡ may_speak k n r → a ≡ false → a ≡ rule_applies r d
+  applies_not a is other =
+      other ∙ ap (λ s. s && asks_for r.category c) (sym other ∙ is) ∙ applies_asked
 
 -- a rule that passes the test is for the category t if and only if it is for that of the document
 abbrev IsAsked : (Rule → Bool) → Option (List ℕ) → Doc → Rule → Type 0

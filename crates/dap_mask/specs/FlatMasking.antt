@@ -9,10 +9,11 @@ use Rattle.dap_flat.specs.Pieces.{Piece, leaf, begin_list, end_list, begin_objec
 use Rattle.dap_flat.specs.{Pieces.{pieces, Represents}, Finding.Holds}
 use Rattle.dap_flat_message.specs.Marking.{Replaced}
 use Rattle.dap_message.specs.Envelope.{text_value}
+use Rattle.dap_profile.specs.declared.profile.Kind.{Kind}
 use Rattle.dap_words.specs.{Long.long, Uuids.uuid}
 use Rattle.dap_mask.specs.{Loose.IsLeftOf, Mask.Mask, Promises.IsContentMasked}
-use Rattle.dap_mask.specs.{Categories.CategoryRule, Index.asks_for}
-use Rattle.dap_mask.specs.Rules.{Rule, blank, category_path, change_text, of_verb}
+use Rattle.dap_mask.specs.{Categories.CategoryRule, Index.{asks_for, told_kind, told_name}}
+use Rattle.dap_mask.specs.Rules.{Rule, blank, category_path, change_text, of_verb, rule_applies}
 use Rattle.dap_mask.specs.{RuleSteps.change_at_place, Texts.{digits, hex}}
 use Rattle.dap_mask.specs.declared.rules.Verb.{Verb, TheVariants.{Blank, Digits, Hex, Long, Uuid}}
 
@@ -37,21 +38,28 @@ abbrev pub IsMaskedFlat : Mask → List ℕ → Vec Node Global → Type 0
 IsMaskedFlat mask bytes nodes =
     (d : Doc) × IsContentMasked mask bytes d × Represents nodes.items d
 
--- ---- for private clauses: the messages to which a rule applies
+-- ---- the messages to which a rule applies
 
 -- It is the value that the function has for the document that starts there.
 abbrev pub IsTold : {X : Type 0} → List Node → ℕ → (Doc → X) → X → Type 0
 IsTold ns at tell x = (d : Doc) → Holds ns at d → x ≡ tell d
+
+-- The category of a message; `None` for a message without one.
+abbrev pub told_category : Doc → Option (List ℕ)
+told_category d = text_value (at category_path d)
+
+-- It is true if and only if the rule applies to messages of this kind, name and category.
+abbrev pub AppliesTo : Rule → Kind → Option (List ℕ) → Option (List ℕ) → Bool → Type 0
+AppliesTo r k n c result = (d : Doc) → told_kind d ≡ Some k → told_name k d ≡ n
+    → told_category d ≡ c → result ≡ rule_applies r d
+
+-- ---- for private clauses: events that are dropped
 
 -- The rule drops the events of this name and category.
 abbrev pub asks_for_event : Option (List ℕ) → Option (List ℕ) → CategoryRule → Bool
 asks_for_event n t c = asks_for c.name n && asks_for (Some c.category) t
 
 -- ---- for private clauses: rules that apply to a document
-
--- The category of a message; `None` for a message without one.
-abbrev pub told_category : Doc → Option (List ℕ)
-told_category d = text_value (at category_path d)
 
 abbrev pub is_limited : Option Rule → Bool
 is_limited None = false

@@ -48,19 +48,17 @@ pub enum RulesCause {
     /// - Cause: two rules files put together.
     /// - Fix: leave it out.
     Repeated,
-    /// This rule and an earlier one are `uuid` and `digits` at the same place of messages that may
-    /// be the same, so masking twice could change a text again. Or one of the two changes
-    /// `body.category` of events that the other drops by their category. Or one of the two changes
-    /// `body` or `body.category` of events, and the other applies only to events of one category.
-    /// Or one of the two changes `body.category` of `output` events, and the other joins them by
-    /// their category. Or both may set the same member of one message, or one of them sets a member
-    /// of a value that the other blanks. Or both declare ids at the same place of messages that may
-    /// be the same. Or one of them declares ids there, and the other is `digits` or `long`, which
-    /// would change the numbers in their names.
+    /// This rule and an earlier one exclude each other. Both are for messages that may be the same,
+    /// and one of six reasons holds. They are `uuid` and `digits` at one place, so masking twice
+    /// could change a text again. Or one changes `body.category` of events that the other drops,
+    /// selects or joins by their category. Or one changes `body` of events, and the other applies
+    /// only to events of one category. Or both may set the same member, or one sets a member of a
+    /// value that the other blanks. Or both declare ids at one place. Or one declares ids there,
+    /// and the other is `digits` or `long`, which would change the numbers in their names.
     ///
-    /// - Cause: `uuid` and `digits` at one place, a change of a category by which events are
-    ///   dropped, selected or joined, a `blank` of a value that contains the place of a `fill`, or
-    ///   two rules for one place of which one ends in `as LABEL`.
+    /// - Cause: `uuid` and `digits` at one place, or two rules for one place of which one ends in
+    ///   `as LABEL`. Or a change of a category by which events are dropped, selected or joined. Or a
+    ///   `blank` of a value that contains the place of a `fill`.
     /// - Fix: leave one of the two out, or give two rules for events different categories.
     Clash,
     /// The text of a `word` line is empty, or a word of the file can overlap a text of the file:

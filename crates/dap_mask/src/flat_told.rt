@@ -6,16 +6,18 @@ ghost use Rattle.dap_message.specs.{Envelope.text_value, Rows.is_text};
 ghost use Rattle.dap_flat.specs.Pieces.{piece_of};
 ghost use Rattle.dap_flat_message.specs.{Heads.text_in, Judging.top_of};
 ghost use Rattle.dap_mask.specs.Categories.{category_of, is_dropped_by};
-ghost use Rattle.dap_mask.specs.FlatMasking.{asks_for_event, told_category, IsTold};
+ghost use Rattle.dap_mask.specs.FlatMasking.{AppliesTo, asks_for_event, told_category, IsTold};
 ghost use Rattle.dap_mask.specs.Index.{asks_for, told_kind, told_name};
 ghost use Rattle.dap_mask.specs.KeptRules.{categories_of_mask, dropped_of, mask_of};
 ghost use Rattle.dap_mask.specs.{Mask.leaves_out, RuleSteps.is_called, Rules.is_event_of};
+ghost use Rattle.dap_mask.specs.Rules.{rule_of};
 
 use crate::categories::CategoryRule;
-use crate::index::asks_for;
+use crate::index::{asks_for, may_speak};
 use crate::mask_rules::MaskRules;
 use crate::masking::name_key;
 use crate::meets::text_of;
+use crate::rules::MaskRule;
 use dap_flat::{Node, Unclear, child};
 use dap_message::Kind;
 
@@ -71,8 +73,12 @@ fn drops(rule: &CategoryRule, name: Option<&str>, category: Option<&str>) -> boo
     asks_for(text_of(&rule.name), name) && asks_for(Some(rule.category.as_str()), category)
 }
 
-/// Returns the category of a message, if it has one.
-pub(crate) fn told_category<'a>(nodes: &[Node<'a>]) -> Result<Option<&'a str>, Unclear>
+/// Returns the category of a flat message, if it has one: the string `body.category`.
+///
+/// # Errors
+///
+/// `Unclear`: the nodes are not those of a document.
+pub fn told_category<'a>(nodes: &[Node<'a>]) -> Result<Option<&'a str>, Unclear>
     ensures { IfOk result (λ s. IsTold nodes.now 0 told_category (text_in s)) }
 {
     match child(nodes, 0, "body")? {
@@ -81,8 +87,12 @@ pub(crate) fn told_category<'a>(nodes: &[Node<'a>]) -> Result<Option<&'a str>, U
     }
 }
 
-/// Returns the kind of a message, if it has one.
-pub(crate) fn told_kind(nodes: &[Node<'_>]) -> Result<Option<Kind>, Unclear>
+/// Returns the kind of a flat message, if it has one.
+///
+/// # Errors
+///
+/// `Unclear`: the nodes are not those of a document.
+pub fn told_kind(nodes: &[Node<'_>]) -> Result<Option<Kind>, Unclear>
     ensures { IfOk result (IsTold nodes.now 0 told_kind) }
 {
     match told_text(nodes, 0, "type")? {
@@ -91,11 +101,30 @@ pub(crate) fn told_kind(nodes: &[Node<'_>]) -> Result<Option<Kind>, Unclear>
     }
 }
 
-/// Returns the name of a message of a kind, if it has one.
-pub(crate) fn told_name<'a>(nodes: &[Node<'a>], kind: Kind) -> Result<Option<&'a str>, Unclear>
+/// Returns the name of a flat message of a kind, if it has one: its `command`, or the `event` of an
+/// event.
+///
+/// # Errors
+///
+/// `Unclear`: the nodes are not those of a document.
+pub fn told_name<'a>(nodes: &[Node<'a>], kind: Kind) -> Result<Option<&'a str>, Unclear>
     ensures { IfOk result (λ s. IsTold nodes.now 0 (told_name kind) (text_in s)) }
 {
     told_text(nodes, 0, name_key(kind))
+}
+
+/// Returns whether a rule applies to a message of this kind, name and category.
+pub fn applies_to(rule: &MaskRule, kind: Kind, name: Option<&str>, category: Option<&str>) -> bool
+    ensures { AppliesTo (rule_of rule.now) kind (text_in name.entry) (text_in category.entry)
+        result }
+{
+    may_speak(rule, kind, name) && asks_for_category(rule, category)
+}
+
+fn asks_for_category(rule: &MaskRule, category: Option<&str>) -> bool
+    ensures { result ≡ asks_for (rule_of rule.now).category (text_in category.entry) }
+{
+    asks_for(text_of(&rule.category), category)
 }
 
 /// Returns whether the value that starts at `at` has the name. Without a name, returns true.

@@ -114,7 +114,8 @@ fn positions(
     Ok(places)
 }
 
-fn may_speak(rule: &MaskRule, kind: Kind, name: Option<&str>) -> bool
+/// Returns whether a rule may apply to messages of this kind and name.
+pub(crate) fn may_speak(rule: &MaskRule, kind: Kind, name: Option<&str>) -> bool
     ensures { result ≡ may_speak kind (option_map (λ s. s.now) name.entry) (rule_of rule.now) }
 {
     same_kind(rule.kind, kind) && asks_for(text_of(&rule.name), name)

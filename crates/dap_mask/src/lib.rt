@@ -53,6 +53,7 @@ pub use fault::{RulesCause, RulesFault};
 pub use fill_lines::value_at;
 pub use fills::Scalar;
 pub use flat_masking::read_masked_flat;
+pub use flat_told::{applies_to, told_category, told_kind, told_name};
 pub use joining::Joining;
 pub use loose::{read_by_rules, read_loosely, read_masked};
 pub use mask_rules::MaskRules;
