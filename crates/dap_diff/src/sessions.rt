@@ -96,7 +96,11 @@ pub fn diff_all_sessions<T: NameTable + Drop>(
 ///
 /// Two values of one label at one place of a pair get one name, if neither has a name yet. The
 /// place is the path, and in a string also the position among the tokens of the rule. Any other
-/// value gets a name of its own. So a value that only one recording has changes no other name.
+/// value gets a name of its own.
+///
+/// A token or an array element that only one recording has moves the ones after it. So these can
+/// get other names: if A has `0x20 0x30` and B has `0x21 0x99 0x31`, then `0x30` and `0x99` get one
+/// name, and `0x31` gets a name of its own.
 ///
 /// # Errors
 ///

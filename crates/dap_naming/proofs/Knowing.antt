@@ -1,5 +1,5 @@
 -- The numbers of values after one more id.
-use Rattle.std.proofs.Common.{◌≡◌, ℕ, suc, ◌+◌, Bool, true, false, cond, ◌&&◌, List}
+use Rattle.std.proofs.Common.{◌≡◌, ℕ, suc, ◌+◌, ◌<◌, ◌≤◌, Bool, true, false, cond, ◌&&◌, List}
 use Rattle.std.proofs.Common.{[], ◌∷◌, ◌++◌, length, Option, Some, None, refl, ap, sym, ◌∙◌, arith}
 use Rattle.std.proofs.Common.{append_assoc, subst, true≢false}
 use Rattle.std.specs.List.{list_any, position_or_len}
@@ -8,7 +8,7 @@ use Rattle.std.proofs.lemmas.List.Folds.{list_any-append}
 use Rattle.dap_tokens.specs.Tokens.{is_label}
 use Rattle.dap_naming.specs.Numbers.{Id, values, add, distinct, number}
 use Rattle.dap_naming.specs.Known.{key, is_known, known_number, number_at, count_of, Knows, Names}
-use Rattle.dap_naming.specs.Known.{Keeps, HasRoom}
+use Rattle.dap_naming.specs.Known.{limit_of, Keeps, HasRoom, IsFull}
 use Rattle.dap_naming.specs.declared.value_numbers.ValueNumbers.{ValueNumbers}
 use Rattle.dap_naming.proofs.Lists.{by_bool}
 use Rattle.dap_naming.proofs.Additions.{same_bytes, bytes_same, itself, any-add, distinct-append}
@@ -84,6 +84,16 @@ pub is_new : (t : ValueNumbers) (is : List Id) (l v : List ℕ) → Knows t is �
     → None ≡ number_at t (key l v) → is_known is l v ≡ false
 is_new t is l v h label none =
     none_known (is_known is l v) (number is l v) (none ∙ h.value l v label)
+
+pub room_for_new : (t : ValueNumbers) (l v : List ℕ) → is_label l ≡ true
+    → count_of t l < limit_of t → HasRoom t (l, v)
+room_for_new t l v label room is h new =
+    subst (λ n. n < limit_of t) (h.count l label) room
+
+pub full_for_new : (t : ValueNumbers) (l v : List ℕ) → is_label l ≡ true
+    → None ≡ number_at t (key l v) → limit_of t ≤ count_of t l → IsFull t (l, v)
+full_for_new t l v label none full is h =
+    (is_new t is l v h label none, subst (λ n. limit_of t ≤ n) (h.count l label) full)
 
 length_more : (xs : List (List ℕ)) (v : List ℕ) → length (xs ++ v ∷ []) ≡ length xs + 1
 length_more [] v = refl

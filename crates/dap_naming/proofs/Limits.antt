@@ -1,5 +1,5 @@
--- The limit of the numbers of values: lists of ids that leave each label within the limit, and lists
--- with too many values.
+-- The limit of the numbers of values: lists of ids that leave each label within the limit, and
+-- lists with too many values.
 use Rattle.std.proofs.Common.{◌≡◌, ℕ, ◌+◌, ◌<◌, ◌≤◌, false, List, [], ◌∷◌}
 use Rattle.std.proofs.Common.{◌++◌, length, refl, ap, sym, ◌∙◌, subst, arith, append_assoc}
 use Rattle.std.proofs.Common.{append-nil, bytes_eq, Result, Err}

@@ -173,7 +173,7 @@ module _ (label : List ℕ) (form : Form) where
         subst (FitsLimit a) (sym (part_ids-append h.0 (literal b ∷ []) ∙ append-nil _)) h.3,
       )
 
-  read_part : (d : Bool) (rest part : List ℕ) (k : ℕ) (s : List ℕ) (n : ℕ) → rest ≡ k ∷ s
+  pub read_part : (d : Bool) (rest part : List ℕ) (k : ℕ) (s : List ℕ) (n : ℕ) → rest ≡ k ∷ s
       → n ≡ part_length label form d rest → (n ≡ 0 → ⊥) → part ≡ take n rest
       → parts_from label form 0 d rest ≡ token part ∷ parts_from label form 0 false (drop n rest)
   read_part d rest part k s n split length some first =

@@ -83,6 +83,16 @@ abbrev pub HasNumbers : ValueNumbers → List ℕ → (List ℕ → ℕ) → Typ
 HasNumbers numbers label f =
     (v : List ℕ) (n : ℕ) → number_at numbers (key label v) ≡ Some n → f v ≡ n
 
+-- Each number of `old` is a number of `new`, and the property holds of each numbering that has the
+-- numbers of `new`. The numbers can be any: they need not be those of a list of ids.
+abbrev pub ByTable : ValueNumbers → ValueNumbers → (Numbering → Type 0) → Type 0
+ByTable old new P = Keeps old new
+    × ((f : Numbering) → ((label : List ℕ) → HasNumbers new label (f label)) → P f)
+
+-- The document `e` is `d` with each declared id replaced by its name, by the numbers of `new`.
+abbrev pub NamesByTable : ValueNumbers → ValueNumbers → List Declared → Doc → Doc → Type 0
+NamesByTable old new rs d e = ByTable old new (λ f. e ≡ named_doc rs f d)
+
 -- The ids of the parts of a text.
 abbrev pub part_ids : List ℕ → Form → List Part → List Id
 part_ids label form ps = labelled label (ids_of_parts label form ps)

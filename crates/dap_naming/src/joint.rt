@@ -1,8 +1,13 @@
 //! The joint numbers of the declared ids of two recordings.
-ghost use Rattle.std.specs.Prelude.{◌≡◌, ℕ, ◌<◌, ◌^◌, List, [], cond, true, Some, OnOk, bytes_eq};
-ghost use Rattle.dap_tree.specs.View.{view};
+ghost use Rattle.std.specs.Prelude.{◌≡◌, ℕ, ◌<◌, ◌^◌, List, [], ◌∷◌, map, cond, true, Some, IfOk};
+ghost use Rattle.std.specs.Prelude.{OnOk, false, bytes_eq};
+ghost use Rattle.dap_tree.specs.View.{view, items_view, members_view};
 ghost use Rattle.dap_mask.specs.Declarations.{declarations_of, are_declared};
-ghost use Rattle.dap_naming.specs.Joint.{KeepsNumbers, limit_of_both};
+ghost use Rattle.dap_tokens.specs.{Tokens.{parts, parts_from}, Values.value};
+ghost use Rattle.dap_naming.specs.DeclaredRules.{rules_of, declared_as};
+ghost use Rattle.dap_naming.specs.Joint.{KeepsNumbers, limit_of_both, Joins, doc_pairs};
+ghost use Rattle.dap_naming.specs.Joint.{items_pairs, members_pairs, whole_pairs, text_pairs};
+ghost use Rattle.dap_naming.specs.Joint.{value_pairs, tokens_in};
 ghost use Rattle.dap_naming.specs.Sessions.{rules_for};
 
 use crate::choice::{below, here, inside};
@@ -30,7 +35,8 @@ pub struct JointNames {
 }
 
 impl JointNames {
-    ghost use Rattle.dap_naming.specs.Joint.{HasNone, JoinsValues, SameInA, SameInB, at_b};
+    ghost use Rattle.dap_naming.specs.Joint.{HasNone, NamesInA, NamesInB, SameInA, SameInB, at_b};
+    ghost use Rattle.dap_naming.specs.Joint.{AreNumbered, message_pairs};
 
     /// Returns the numbers of no value. Does not allocate.
     pub fn new(alloc: Global, limit: u64) -> JointNames
@@ -61,6 +67,10 @@ impl JointNames {
         a: &Tree,
         b: &Tree,
     ) -> Result<(), NamingFault>
+        ensures joined { OnOk result (Joins self.old self.new
+            (message_pairs (declarations_of declarations.now) (view a.now) (view b.now))) }
+        ensures numbered { OnOk result (AreNumbered self.new
+            (message_pairs (declarations_of declarations.now) (view a.now) (view b.now))) }
         ensures kept { OnOk result (KeepsNumbers self.old self.new) }
         ensures limit { limit_of_both self.new ≡ limit_of_both self.old }
     {
@@ -87,6 +97,9 @@ impl JointNames {
         requires { are_declared (declarations_of declarations.now) ≡ true }
         ensures none { rules_for (declarations_of declarations.now) (view tree.old) ≡ []
             → tree.new ≡ tree.old }
+        ensures names { OnOk result (NamesInA self.new (declarations_of declarations.now)
+            (view tree.old) (view tree.new)) }
+        ensures kept { OnOk result (KeepsNumbers self.old self.new) }
         ensures others { SameInB self.old self.new }
         ensures limit { limit_of_both self.new ≡ limit_of_both self.old }
     {
@@ -112,6 +125,9 @@ impl JointNames {
         requires { are_declared (declarations_of declarations.now) ≡ true }
         ensures none { rules_for (declarations_of declarations.now) (view tree.old) ≡ []
             → tree.new ≡ tree.old }
+        ensures names { OnOk result (NamesInB self.new (declarations_of declarations.now)
+            (view tree.old) (view tree.new)) }
+        ensures kept { OnOk result (KeepsNumbers self.old self.new) }
         ensures others { SameInA self.old self.new }
         ensures limit { limit_of_both self.new ≡ limit_of_both self.old }
     {
@@ -133,7 +149,8 @@ impl JointNames {
         a: &[u8],
         b: &[u8],
     ) -> Result<(), NamingFault>
-        ensures joined { OnOk result (JoinsValues self.old self.new label.now a.now b.now) }
+        ensures joined { OnOk result
+            (Joins self.old self.new ((label.now, a.now, b.now) ∷ [])) }
         ensures kept { OnOk result (KeepsNumbers self.old self.new) }
         ensures limit { limit_of_both self.new ≡ limit_of_both self.old }
     {
@@ -175,6 +192,8 @@ fn join_trees(
     b: &Tree,
     rules_b: &[Declared<'_>],
 ) -> Result<(), NamingFault>
+    ensures joined { OnOk result (Joins names.old names.new
+        (doc_pairs (rules_of rules_a.now) (view a.now) (rules_of rules_b.now) (view b.now))) }
     ensures kept { OnOk result (KeepsNumbers names.old names.new) }
     ensures limit { limit_of_both names.new ≡ limit_of_both names.old }
 {
@@ -207,6 +226,9 @@ fn join_items(
     others: &Vec<Tree>,
     rules_b: &[Declared<'_>],
 ) -> Result<(), NamingFault>
+    ensures joined { OnOk result (Joins names.old names.new
+        (items_pairs (rules_of rules_a.now) (items_view items.now.items) (rules_of rules_b.now)
+        (items_view others.now.items))) }
     ensures kept { OnOk result (KeepsNumbers names.old names.new) }
     ensures limit { limit_of_both names.new ≡ limit_of_both names.old }
 {
@@ -227,6 +249,9 @@ fn join_members(
     others: &BTreeMap<String, Tree>,
     rules_b: &[Declared<'_>],
 ) -> Result<(), NamingFault>
+    ensures joined { OnOk result (Joins names.old names.new
+        (members_pairs (rules_of rules_a.now) (members_view members.now.entries)
+        (rules_of rules_b.now) (members_view others.now.entries))) }
     ensures kept { OnOk result (KeepsNumbers names.old names.new) }
     ensures limit { limit_of_both names.new ≡ limit_of_both names.old }
 {
@@ -249,6 +274,8 @@ fn join_wholes(
     b: i128,
     rule_b: Option<(Form, &str)>,
 ) -> Result<(), NamingFault>
+    ensures joined { OnOk result (Joins names.old names.new
+        (whole_pairs (declared_as rule_a.entry) a (declared_as rule_b.entry) b)) }
     ensures kept { OnOk result (KeepsNumbers names.old names.new) }
     ensures limit { limit_of_both names.new ≡ limit_of_both names.old }
 {
@@ -273,6 +300,8 @@ fn join_texts(
     b: &str,
     rule_b: Option<(Form, &str)>,
 ) -> Result<(), NamingFault>
+    ensures joined { OnOk result (Joins names.old names.new
+        (text_pairs (declared_as rule_a.entry) a.now (declared_as rule_b.entry) b.now)) }
     ensures kept { OnOk result (KeepsNumbers names.old names.new) }
     ensures limit { limit_of_both names.new ≡ limit_of_both names.old }
 {
@@ -284,6 +313,25 @@ fn join_texts(
     }
     let tokens_a = tokens_of(alloc, label, form_a, a.as_bytes())?;
     let tokens_b = tokens_of(alloc, label, form_b, b.as_bytes())?;
+    join_tokens(alloc, names, label, form_a, &tokens_a, form_b, &tokens_b)
+}
+
+// Joins the ids at each position of two lists of tokens.
+fn join_tokens(
+    alloc: Global,
+    names: &mut JointNames,
+    label: &str,
+    form_a: Form,
+    tokens_a: &[&[u8]],
+    form_b: Form,
+    tokens_b: &[&[u8]],
+) -> Result<(), NamingFault>
+    ensures joined { OnOk result (Joins names.old names.new (value_pairs label.now
+        (map (λ t. value label.now form_a t.now) tokens_a.now)
+        (map (λ t. value label.now form_b t.now) tokens_b.now))) }
+    ensures kept { OnOk result (KeepsNumbers names.old names.new) }
+    ensures limit { limit_of_both names.new ≡ limit_of_both names.old }
+{
     for (token_a, token_b) in tokens_a.iter().zip(tokens_b.iter()) {
         let value_a = value(alloc, label, form_a, *token_a)?;
         let value_b = value(alloc, label, form_b, *token_b)?;
@@ -300,6 +348,8 @@ fn join_ids(
     a: &[u8],
     b: &[u8],
 ) -> Result<(), NamingFault>
+    ensures joined { OnOk result (Joins names.old names.new
+        (value_pairs label.now (a.now ∷ []) (b.now ∷ []))) }
     ensures kept { OnOk result (KeepsNumbers names.old names.new) }
     ensures limit { limit_of_both names.new ≡ limit_of_both names.old }
 {
@@ -315,14 +365,19 @@ fn tokens_of<'t>(
     label: &str,
     form: Form,
     text: &'t [u8],
-) -> Result<Vec<&'t [u8]>, AllocError> {
+) -> Result<Vec<&'t [u8]>, AllocError>
+    ensures { IfOk result
+        (λ v. map (λ t. t.now) v.items ≡ tokens_in (parts label.now form text.now)) }
+{
     match form {
         Form::Whole => only(alloc, text),
         _ => tokens_among(alloc, label, form, text),
     }
 }
 
-fn only<'t>(alloc: Global, text: &'t [u8]) -> Result<Vec<&'t [u8]>, AllocError> {
+fn only<'t>(alloc: Global, text: &'t [u8]) -> Result<Vec<&'t [u8]>, AllocError>
+    ensures { IfOk result (λ v. map (λ t. t.now) v.items ≡ text.now ∷ []) }
+{
     let mut tokens = Vec::new(alloc);
     tokens.push(text)?;
     Ok(tokens)
@@ -334,7 +389,10 @@ fn tokens_among<'t>(
     label: &str,
     form: Form,
     text: &'t [u8],
-) -> Result<Vec<&'t [u8]>, AllocError> {
+) -> Result<Vec<&'t [u8]>, AllocError>
+    ensures { IfOk result (λ v. map (λ t. t.now) v.items
+        ≡ tokens_in (parts_from label.now form 0 false text.now)) }
+{
     let mut tokens = Vec::new(alloc);
     let mut rest = text;
     let mut after_digit = false;

@@ -5,7 +5,7 @@ ghost use Rattle.dap_tokens.specs.Tokens.{is_label, token, parts, parts_from};
 ghost use Rattle.dap_tokens.specs.Naming.{ids, named};
 ghost use Rattle.dap_naming.specs.Documents.{labelled};
 ghost use Rattle.dap_naming.specs.Known.{Names, Writes, FitsLimit, ExceedsLimit, limit_of};
-ghost use Rattle.dap_naming.specs.Known.{part_ids};
+ghost use Rattle.dap_naming.specs.Known.{ByTable, part_ids};
 
 use crate::fault::NamingFault;
 use crate::value_numbers::ValueNumbers;
@@ -28,6 +28,8 @@ pub(crate) fn name_text(
     requires { is_label label.now ≡ true }
     ensures names { IfOk result (λ s. Names numbers.old numbers.new
         (labelled label.now (ids label.now form text.now))
+        (λ number. string_bytes s ≡ named label.now form (number label.now) text.now)) }
+    ensures table { IfOk result (λ s. ByTable numbers.old numbers.new
         (λ number. string_bytes s ≡ named label.now form (number label.now) text.now)) }
     ensures few { OnOk result
         (FitsLimit numbers.old (labelled label.now (ids label.now form text.now))) }

@@ -8,6 +8,7 @@ ghost use Rattle.dap_naming.specs.Documents.{ids_of, items_ids, members_ids};
 ghost use Rattle.dap_naming.specs.Documents.{named_items, named_members};
 ghost use Rattle.dap_naming.specs.Documents.{ids_of_text, named_text, ids_of_whole, named_whole};
 ghost use Rattle.dap_naming.specs.Known.{Names, NamesDoc, FitsLimit, ExceedsLimit, limit_of};
+ghost use Rattle.dap_naming.specs.Known.{ByTable, NamesByTable};
 ghost use Rattle.dap_naming.specs.DeclaredRules.{rules_of, have_labels, declared_as, HasLabel};
 
 use crate::choice::{below, here, inside};
@@ -40,6 +41,9 @@ pub fn name_tree(
     requires { have_labels (rules_of rules.now) ≡ true }
     ensures names { OnOk result
         (NamesDoc numbers.old numbers.new (rules_of rules.now) (view tree.old) (view tree.new)) }
+    ensures table { OnOk result
+        (NamesByTable numbers.old numbers.new (rules_of rules.now) (view tree.old)
+        (view tree.new)) }
     ensures few { OnOk result
         (FitsLimit numbers.old (ids_of (rules_of rules.now) (view tree.old))) }
     ensures full { result ≡ Err NamingFault.Full
@@ -61,6 +65,8 @@ fn named(
     requires { have_labels (rules_of rules.now) ≡ true }
     ensures names { IfOk result
         (λ t. NamesDoc numbers.old numbers.new (rules_of rules.now) (view tree) (view t)) }
+    ensures table { IfOk result
+        (λ t. NamesByTable numbers.old numbers.new (rules_of rules.now) (view tree) (view t)) }
     ensures few { OnOk result (FitsLimit numbers.old (ids_of (rules_of rules.now) (view tree))) }
     ensures full { result ≡ Err NamingFault.Full
         → ExceedsLimit numbers.old (ids_of (rules_of rules.now) (view tree)) }
@@ -92,6 +98,9 @@ fn named_items(
     ensures names { IfOk result (λ v. Names numbers.old numbers.new
         (items_ids (rules_of rules.now) (items_view items.items))
         (λ number. items_view v.items
+        ≡ named_items (rules_of rules.now) number (items_view items.items))) }
+    ensures table { IfOk result (λ v. ByTable numbers.old numbers.new (λ number.
+        items_view v.items
         ≡ named_items (rules_of rules.now) number (items_view items.items))) }
     ensures few { OnOk result
         (FitsLimit numbers.old (items_ids (rules_of rules.now) (items_view items.items))) }
@@ -127,6 +136,9 @@ fn named_members(
         (members_ids (rules_of rules.now) (members_view members.entries))
         (λ number. members_view m.entries
         ≡ named_members (rules_of rules.now) number (members_view members.entries))) }
+    ensures table { IfOk result (λ m. ByTable numbers.old numbers.new (λ number.
+        members_view m.entries
+        ≡ named_members (rules_of rules.now) number (members_view members.entries))) }
     ensures few { OnOk result
         (FitsLimit numbers.old (members_ids (rules_of rules.now) (members_view members.entries))) }
     ensures full { result ≡ Err NamingFault.Full → ExceedsLimit numbers.old
@@ -161,6 +173,8 @@ fn named_text(
         (ids_of_text (declared_as rule.entry) (string_bytes text))
         (λ number. string_bytes s
         ≡ named_text (declared_as rule.entry) number (string_bytes text))) }
+    ensures table { IfOk result (λ s. ByTable numbers.old numbers.new (λ number.
+        string_bytes s ≡ named_text (declared_as rule.entry) number (string_bytes text))) }
     ensures few { OnOk result
         (FitsLimit numbers.old (ids_of_text (declared_as rule.entry) (string_bytes text))) }
     ensures full { result ≡ Err NamingFault.Full
@@ -173,7 +187,7 @@ fn named_text(
     }
 }
 
-fn named_whole(
+pub(crate) fn named_whole(
     alloc: Global,
     numbers: &mut ValueNumbers,
     value: i128,
@@ -182,6 +196,8 @@ fn named_whole(
     requires { HasLabel (declared_as rule) }
     ensures names { IfOk result (λ z. Names numbers.old numbers.new
         (ids_of_whole (declared_as rule.entry) value)
+        (λ number. z ≡ named_whole (declared_as rule.entry) number value)) }
+    ensures table { IfOk result (λ z. ByTable numbers.old numbers.new
         (λ number. z ≡ named_whole (declared_as rule.entry) number value)) }
     ensures few { OnOk result
         (FitsLimit numbers.old (ids_of_whole (declared_as rule.entry) value)) }
@@ -206,6 +222,8 @@ fn number_whole(
     requires { is_label label.now ≡ true }
     ensures names { IfOk result (λ z. Names numbers.old numbers.new
         (ids_of_whole (Some (Form.Whole, label.now)) value)
+        (λ number. z ≡ named_whole (Some (Form.Whole, label.now)) number value)) }
+    ensures table { IfOk result (λ z. ByTable numbers.old numbers.new
         (λ number. z ≡ named_whole (Some (Form.Whole, label.now)) number value)) }
     ensures few { OnOk result
         (FitsLimit numbers.old (ids_of_whole (Some (Form.Whole, label.now)) value)) }

@@ -1,6 +1,6 @@
 //! The numbers of the values of each label.
-ghost use Rattle.std.specs.Prelude.{◌≡◌, ℕ, ◌+◌, ◌<◌, ◌^◌, true, cond, List, [], ◌∷◌, Some, IfOk};
-ghost use Rattle.std.specs.Prelude.{OnOk, bytes_eq, unwrap_or};
+ghost use Rattle.std.specs.Prelude.{◌≡◌, ℕ, ◌+◌, ◌<◌, ◌≤◌, ◌^◌, true, cond, List, [], ◌∷◌, Some};
+ghost use Rattle.std.specs.Prelude.{IfOk, OnOk, bytes_eq, unwrap_or};
 ghost use Rattle.dap_tokens.specs.Tokens.{is_label};
 
 use crate::fault::NamingFault;
@@ -61,12 +61,9 @@ impl ValueNumbers {
         if let Some(number) = self.at(&key) {
             return Ok(number);
         }
-        let count = self.count(label);
-        if count >= self.limit {
-            return Err(NamingFault::Full);
-        }
-        self.add(alloc, label, key, count + 1)?;
-        Ok(count + 1)
+        let number = self.next(label)?;
+        self.add(alloc, label, key, number)?;
+        Ok(number)
     }
 
     pub(crate) fn at(&self, key: &Vec<u8>) -> Option<u64>
@@ -83,7 +80,10 @@ impl ValueNumbers {
 
     // Returns the next number of a label.
     pub(crate) fn next(&self, label: &str) -> Result<u64, NamingFault>
-        ensures { IfOk result (λ n. n ≡ count_of self.now label.now + 1) }
+        ensures next { IfOk result (λ n. n ≡ count_of self.now label.now + 1) }
+        ensures room { OnOk result (count_of self.now label.now < limit_of self.now) }
+        ensures full { result ≡ Err NamingFault.Full
+            → limit_of self.now ≤ count_of self.now label.now }
     {
         let count = self.count(label);
         if count >= self.limit {

@@ -12,11 +12,17 @@ use Rattle.dap_naming.proofs.LimitsInTrees.{few_unruled, items_few, items_full, 
 use Rattle.dap_naming.proofs.LimitsInTrees.{members_full}
 use Rattle.dap_naming.proofs.MoreParts.{Entry}
 use Rattle.dap_naming.proofs.TreeNames.{doc_unruled, items_more, members_more}
+use Rattle.dap_naming.proofs.TableNames.{table_unruled, items_by_table, members_by_table}
 use Rattle.dap_naming.proofs.trees.+named.Goals as goal
 
 pub named-returns-then-is_empty-clause-names : goal.named-returns-then-is_empty-clause-names
 named-returns-then-is_empty-clause-names t c =
     doc_unruled c.args.numbers.now (rules_of c.args.rules.now) (view c.args.tree)
+    (no_rules c.args.rules.now (sym c.is_empty.ensures ∙ c.if-is_empty.true))
+
+pub named-returns-then-is_empty-clause-table : goal.named-returns-then-is_empty-clause-table
+named-returns-then-is_empty-clause-table t c =
+    table_unruled c.args.numbers.now (rules_of c.args.rules.now) (view c.args.tree)
     (no_rules c.args.rules.now (sym c.is_empty.ensures ∙ c.if-is_empty.true))
 
 pub named-returns-then-is_empty-clause-few : goal.named-returns-then-is_empty-clause-few
@@ -56,6 +62,11 @@ named_items-loop-item-preserved t c =
           (rules_of c.deref.result.now) l.yielded l.list.items c.push.new.list.items
           c.in-Some.item c.in_ok-named.field-0 l.invariant.done
           (ap rules_of c.deref.ensures.value ∙ c.in_ok-left.ensures) c.in_ok-named.ensures.names
+          c.in_ok-push.ensures;
+      table = items_by_table c.args.numbers.now l.numbers c.named.new.numbers
+          (rules_of c.args.rules.now) (rules_of c.deref.result.now) l.yielded l.list.items
+          c.push.new.list.items c.in-Some.item c.in_ok-named.field-0 l.invariant.table
+          (ap rules_of c.deref.ensures.value ∙ c.in_ok-left.ensures) c.in_ok-named.ensures.table
           c.in_ok-push.ensures;
       few = items_few c.args.numbers.now l.numbers (rules_of c.args.rules.now)
           (rules_of c.deref.result.now) l.yielded c.in-Some.item
@@ -109,6 +120,14 @@ named_members-loop-name-preserved t c =
           (ap rules_of c.deref-in-loop-name.ensures.value ∙ c.in_ok-left.ensures
           ∙ ap (λ n. below n (rules_of c.args.rules.now)) c.deref.ensures)
           c.in_ok-member.ensures.names c.in_ok-put.ensures;
+      table = members_by_table c.args.numbers.now l.numbers c.named.new.numbers
+          (rules_of c.args.rules.now) (rules_of c.deref-in-loop-name.result.now) l.yielded
+          c.next.new.self l.object.entries c.put.new.object.entries e c.in_ok-member.member
+          (subst (λ es. IsStrictlySortedBy string_cmp (keys_of es)) all l.invariant.ordered)
+          l.invariant.table
+          (ap rules_of c.deref-in-loop-name.ensures.value ∙ c.in_ok-left.ensures
+          ∙ ap (λ n. below n (rules_of c.args.rules.now)) c.deref.ensures)
+          c.in_ok-member.ensures.table c.in_ok-put.ensures;
       few = members_few c.args.numbers.now l.numbers (rules_of c.args.rules.now)
           (rules_of c.deref-in-loop-name.result.now) l.yielded e
           (λ n. members_view l.object.entries

@@ -4,7 +4,7 @@ use Rattle.std.specs.List.Sorted.{IsStrictlySortedBy}
 use Rattle.std.specs.Vec.Iter.{into_iter_items}
 use Rattle.dap_tree.specs.View.{items_view, members_view}
 use Rattle.dap_naming.specs.Documents.{items_ids, members_ids, named_items, named_members}
-use Rattle.dap_naming.specs.Known.{Names, FitsLimit, limit_of}
+use Rattle.dap_naming.specs.Known.{Names, ByTable, FitsLimit, limit_of}
 use Rattle.dap_naming.specs.DeclaredRules.{rules_of}
 use Rattle.dap_naming.proofs.Choosing.{weight}
 use Rattle.dap_naming.proofs.trees.+named.Given as goal
@@ -24,6 +24,8 @@ invariant-named_items-loop-item l = record {
   all : l.fn.items.items ≡ l.yielded ++ into_iter_items l.item-iterator;
   done : Names l.initial.numbers l.numbers (items_ids (rules_of l.rules) (items_view l.yielded))
       (λ n. items_view l.list.items ≡ named_items (rules_of l.rules) n (items_view l.yielded));
+  table : ByTable l.initial.numbers l.numbers
+      (λ n. items_view l.list.items ≡ named_items (rules_of l.rules) n (items_view l.yielded));
   few : FitsLimit l.initial.numbers (items_ids (rules_of l.rules) (items_view l.yielded));
   limit : limit_of l.numbers ≡ limit_of l.initial.numbers;
 }
@@ -36,6 +38,8 @@ invariant-named_members-loop-name l = record {
   done : Names l.initial.numbers l.numbers
       (members_ids (rules_of l.rules) (members_view l.yielded))
       (λ n. members_view l.object.entries
+      ≡ named_members (rules_of l.rules) n (members_view l.yielded));
+  table : ByTable l.initial.numbers l.numbers (λ n. members_view l.object.entries
       ≡ named_members (rules_of l.rules) n (members_view l.yielded));
   few : FitsLimit l.initial.numbers (members_ids (rules_of l.rules) (members_view l.yielded));
   limit : limit_of l.numbers ≡ limit_of l.initial.numbers;

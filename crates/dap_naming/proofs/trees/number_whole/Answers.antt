@@ -1,11 +1,12 @@
-use mir.Val.{SFits}
+use mir.Val.{SFits, to_z}
 use Rattle.std.specs.Int.{w128}
-use Rattle.std.proofs.Common.{rules, ◌∙◌, ap, sym, subst}
+use Rattle.std.proofs.Common.{◌≡◌, pos, rules, ◌∙◌, ap, sym, subst}
 use Rattle.std.proofs.lemmas.Int.{to_z-of_z}
 use Rattle.std.specs.Fmt.{signed_decimal}
 use Rattle.dap_naming.specs.Known.{FitsLimit, ExceedsLimit}
 use Rattle.dap_naming.proofs.Limits.{same_fault, fits_one, exceeds_one}
 use Rattle.dap_naming.proofs.RuledTexts.{text_of_integer, whole_ids}
+use Rattle.dap_naming.proofs.TableNames.{whole_by_table}
 use Rattle.dap_naming.proofs.trees.number_whole.Goals as goal
 
 pub returns-in_err-number-clause-full : goal.returns-in_err-number-clause-full
@@ -30,3 +31,14 @@ returns-clause-few c =
     (sym c.is_nothing.ensures ∙ c.if-is_nothing.false)))
     (fits_one c.args.numbers.now c.args.label.now c.as_bytes-text.result.now
     c.in_ok-number.ensures.room)
+
+pub returns-clause-table : goal.returns-clause-table
+returns-clause-table c =
+    let fits : SFits w128 c.args.value = search rules in
+    let same : to_z w128 c.in_ok-number.number ≡ pos c.in_ok-number.number = search rules in
+    whole_by_table c.args.numbers.now c.number.new.self c.args.label.now
+    c.as_bytes-text.result.now c.args.value _ c.in_ok-number.number
+    (c.as_bytes-text.ensures.value ∙ c.format.ensures.text
+    ∙ ap signed_decimal (to_z-of_z w128 c.args.value fits) ∙ text_of_integer c.args.value)
+    (sym c.is_nothing.ensures ∙ c.if-is_nothing.false) same c.in_ok-number.ensures.held
+    c.in_ok-number.ensures.keeps
