@@ -27,3 +27,9 @@ pub mod LimitsInTrees
 pub mod RuledTexts
 pub mod Occurring
 pub mod NoIds
+pub mod FlatNames
+pub mod FlatTexts
+pub mod FlatRules
+pub mod TableNames
+pub mod Joining
+pub mod JointNaming

@@ -3,6 +3,7 @@ pub mod Documents
 pub mod Messages
 pub mod Laws
 pub mod Known
+pub mod Flat
 pub mod DeclaredRules
 pub mod Sessions
 pub mod SessionLaws

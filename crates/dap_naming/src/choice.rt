@@ -55,7 +55,7 @@ pub(crate) fn inside<'r>(
 }
 
 // Appends the rule with this place, or nothing.
-fn add<'r>(
+pub(crate) fn add<'r>(
     left: &mut Vec<Declared<'r>>,
     rule: &Declared<'r>,
     place: Option<&'r [Step]>,

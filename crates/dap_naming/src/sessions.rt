@@ -66,7 +66,10 @@ pub(crate) fn rules_for<'d>(
     Ok(rules)
 }
 
-fn add<'d>(rules: &mut Vec<Declared<'d>>, declaration: &'d Declaration) -> Result<(), AllocError>
+pub(crate) fn add<'d>(
+    rules: &mut Vec<Declared<'d>>,
+    declaration: &'d Declaration,
+) -> Result<(), AllocError>
     ensures { OnOk result (rules_of rules.new.items
         ≡ rules_of rules.old.items ++ declared_by (declaration_of declaration.now) ∷ []) }
 {
