@@ -1,30 +1,30 @@
--- The result of masking bytes in memory by rules, and of putting them in order.
+-- The result of masking bytes in memory by rules, naming their ids, and putting them in order.
 use Rattle.std.proofs.Common.{◌≡◌, inl, inr, ℕ, List, [], ◌∷◌, length, nat_eq, false, true}
 use Rattle.std.proofs.Common.{◌∙◌, Err, arith, refl, sym, subst, true≢false}
-use Rattle.dap_mask.specs.{KeptRules.mask_of, Mask.Mask, declared.mask_rules.MaskRules.MaskRules}
+use Rattle.dap_mask.specs.{Declarations.Declaration, KeptRules.mask_of, Mask.Mask}
+use Rattle.dap_mask.specs.declared.mask_rules.MaskRules.{MaskRules}
 use Rattle.dap_message.specs.{Message.Sent, SwapRules.{SwapRule, swaps_of}}
 use Rattle.dap_message.specs.declared.swap_rule.SwapRule.{SwapRule as ReadSwapRule}
 use Rattle.dap_rename.specs.declared.mode.Mode.{Mode}
 use Rattle.dap_input.specs.{Limits.AreSound, declared.limits.Limits.Limits}
 use Rattle.dap_input.specs.declared.refused.Refused.{Refused}
 use Rattle.dap_input.specs.declared.refused.Refused.TheVariants.{Memory}
-use Rattle.dap_normalise.specs.{Accepting.{IsAccepted, Payload, text}, Normalising.RefusesBytes}
-use Rattle.dap_normalise.specs.RecordTexts.{FitRecords}
+use Rattle.dap_normalise.specs.{Accepting.{IsAccepted, text}, Normalising.RefusesBytes}
 use Rattle.dap_normalise.specs.declared.normal_session.NormalSession.{NormalSession}
 use Rattle.dap_recording.specs.Recording.{recording_text}
-use Rattle.dap_rules.specs.MaskedSessions.{Holds}
 use Rattle.dap_rules.specs.declared.masked_session.MaskedSession.{MaskedSession}
 use Rattle.dap_order.specs.MessageOrder.{ordered}
 use Rattle.dap_rules.specs.OrderingSteps.{Arranges, Measures}
 use Rattle.dap_rules.specs.Ordering.{IsNotOrdered, NormalisesInOrder, Orders, RefusesToOrder}
-use Rattle.dap_rules.specs.Applying.{IsMaskedByRules, IsNotOrderedBy, IsOrderedByRules}
-use Rattle.dap_rules.specs.Applying.{NormalisesBy, OrdersBy, RefusesNormalBy}
-use Rattle.dap_rules.specs.Applying.{RefusesToMaskByRules}
+use Rattle.dap_rules.specs.Applying.{IsMaskedByRules, IsNamedByRules, IsNotOrderedBy}
+use Rattle.dap_rules.specs.Applying.{IsOrderedByRules, NamesBy, NormalisesBy, OrdersBy}
+use Rattle.dap_rules.specs.Applying.{RefusesNormalBy, RefusesToMaskByRules}
 use Rattle.dap_rules.specs.ApplyingSteps.{IsMaskedSessionByRules, IsRefusedInOrder}
 use Rattle.dap_rules.specs.ApplyingSteps.{IsRejectedInOrder, MakesOrdered, MakesSessionBy}
 use Rattle.dap_rules.specs.ApplyingSteps.{mask_refusal, order_refusal}
 use Rattle.dap_rules.specs.declared.fault.ApplyRefused.{ApplyRefused, TheVariants.Order}
-use Rattle.dap_rules.proofs.{MaskedSessions.{fit, masks, records}, OneOrderOutcome.outcome}
+use Rattle.dap_rules.proofs.MaskedNames.{OfRecords, named_by_rules, of_own, own_records}
+use Rattle.dap_rules.proofs.{OneOrderOutcome.outcome}
 use Rattle.dap_rules.proofs.OrderAnswers.{arranged_text, not_written, recording_refused}
 
 -- Some of the rules are for the order.
@@ -94,90 +94,97 @@ module _ (limits : Limits) (mode : Mode) (recording : List ℕ) where
     not_masked Memory is = tt
     not_masked because is = is
 
-    module _ (masked : List ℕ) (masks : IsMaskedByRules limits mask recording masked) where
+    module _ (named : List ℕ) (named_by : IsNamedByRules limits mask recording named) where
       is_refused : (rules : List SwapRule) → (rules ≡ [] → ⊥) → (because : Refused)
-          → IsNotOrdered limits mode rules masked because
-          → IsNotOrderedBy limits mode rules masked because
+          → IsNotOrdered limits mode rules named because
+          → IsNotOrderedBy limits mode rules named because
       is_refused [] some because is = absurd (some refl)
       is_refused (rule ∷ rules) some because is = is
 
       pub cannot_order : (mask.swaps ≡ [] → ⊥) → (because : Refused)
-          → RefusesToOrder limits mode mask.swaps masked because
+          → RefusesToOrder limits mode mask.swaps named because
           → IsRefusedInOrder limits mode mask recording (order_refusal because)
       cannot_order some Memory is = tt
-      cannot_order some because is = (masked, masks, is_refused mask.swaps some because is)
+      cannot_order some because is = (named, named_by, is_refused mask.swaps some because is)
 
-      -- Without rules for the order, the masked recording is rejected; with them, it cannot be put
+      -- Without rules for the order, the named recording is rejected; with them, it cannot be put
       -- in order.
       by_swaps : (swaps : List SwapRule) → mask.swaps ≡ swaps → (because : Refused)
-          → RefusesNormalBy limits mode swaps masked because
+          → RefusesNormalBy limits mode swaps named because
           → IsRejectedInOrder limits mode mask recording (order_refusal because)
       by_swaps swaps same Memory is = tt
       by_swaps [] none because is = inr (
-        masked,
+        named,
         (
-          masked,
-          masks,
-          subst (λ rules. OrdersBy limits mode rules masked masked) (sym none) refl,
+          named,
+          named_by,
+          subst (λ rules. OrdersBy limits mode rules named named) (sym none) refl,
         ),
         is,
       )
       by_swaps (rule ∷ rules) same because is = inl (
-        masked,
-        masks,
-        subst (λ swaps. IsNotOrderedBy limits mode swaps masked because) (sym same) is,
+        named,
+        named_by,
+        subst (λ swaps. IsNotOrderedBy limits mode swaps named because) (sym same) is,
       )
 
       pub not_normalised : (because : Refused)
-          → RefusesNormalBy limits mode mask.swaps masked because
+          → RefusesNormalBy limits mode mask.swaps named because
           → IsRejectedInOrder limits mode mask recording (order_refusal because)
       not_normalised = by_swaps mask.swaps refl
+
+-- Without declarations the masked recording is unchanged. Without rules for the order it stays so.
+pub text_unordered : (limits : Limits) (mode : Mode) (mask : Mask) → mask.declared ≡ []
+    → mask.swaps ≡ [] → (recording masked : List ℕ)
+    → IsMaskedByRules limits mask recording masked
+    → IsOrderedByRules limits mode mask recording masked
+text_unordered limits mode mask none unordered recording masked masks = (
+  masked,
+  (
+    masked,
+    masks,
+    subst (λ (xs : List Declaration). NamesBy limits xs masked masked) (sym none) refl,
+  ),
+  unchanged limits mode masked mask.swaps unordered,
+)
 
 -- A masked session, and the rules for the order.
 module _ (limits : Limits) (sound : AreSound limits) (mode : Mode) (rules : MaskRules)
     (recording : List ℕ) (session : MaskedSession)
     (is : IsMaskedSessionByRules limits (mask_of rules) recording session) (swaps : List SwapRule)
     (same : swaps ≡ (mask_of rules).swaps) where
-  -- A fact about the text of any records that the session contains.
-  abbrev OfRecords : (List ℕ → Type 0) → Type 0
-  OfRecords fact = (all : List Payload) → FitRecords limits all → Holds session all
-      → fact (recording_text all)
+  -- The masked recording, with names.
+  abbrev named_recording : List ℕ
+  named_recording = recording_text (own_records limits sound rules recording session is)
 
-  -- The same fact about the masked recording.
-  of_masked : (fact : List ℕ → Type 0) → OfRecords fact
-      → (masked : List ℕ) × IsMaskedByRules limits (mask_of rules) recording masked × fact masked
-  of_masked fact made =
-      let all = records limits sound rules is.joined session is.is_masked in (
-        recording_text all,
-        (is.joined, is.numbers, is.joins, masks limits sound rules is.joined session is.is_masked),
-        made all (fit limits sound rules is.joined session is.is_masked) is.is_masked.holds,
-      )
+  by_rules : IsNamedByRules limits (mask_of rules) recording named_recording
+  by_rules = named_by_rules limits sound rules recording session is
 
-  pub session_applied : (fact : List ℕ → Type 0) → OfRecords (λ masked. (written : List ℕ)
-      × OrdersBy limits mode swaps masked written × fact written)
+  pub session_applied : (fact : List ℕ → Type 0)
+      → OfRecords limits session (λ named. (written : List ℕ)
+      × OrdersBy limits mode swaps named written × fact written)
       → MakesOrdered limits mode (mask_of rules) recording fact
   session_applied fact made =
-      let is_made = of_masked (λ masked. (written : List ℕ)
-      × OrdersBy limits mode swaps masked written × fact written) made in
-      let result = is_made.2 in (
+      let result = of_own limits sound rules recording session is (λ named. (written : List ℕ)
+      × OrdersBy limits mode swaps named written × fact written) made in (
         result.0,
         (
-          is_made.0,
-          is_made.1,
-          subst (λ (all : List SwapRule). OrdersBy limits mode all is_made.0 result.0) same
+          named_recording,
+          by_rules,
+          subst (λ (all : List SwapRule). OrdersBy limits mode all named_recording result.0) same
               result.1,
         ),
         result.2,
       )
 
   pub session_refused : (because : Refused)
-      → OfRecords (λ masked. RefusesNormalBy limits mode swaps masked because)
+      → OfRecords limits session (λ named. RefusesNormalBy limits mode swaps named because)
       → IsRejectedInOrder limits mode (mask_of rules) recording (order_refusal because)
   session_refused because refuses =
-      let is_made = of_masked (λ masked. RefusesNormalBy limits mode swaps masked because) refuses in
-      not_normalised limits mode recording (mask_of rules) is_made.0 is_made.1 because
-      (subst (λ (all : List SwapRule). RefusesNormalBy limits mode all is_made.0 because) same
-      is_made.2)
+      not_normalised limits mode recording (mask_of rules) named_recording by_rules because
+      (subst (λ (all : List SwapRule). RefusesNormalBy limits mode all named_recording because) same
+      (of_own limits sound rules recording session is
+      (λ named. RefusesNormalBy limits mode swaps named because) refuses))
 
 -- The rules have some for the order.
 module _ (limits : Limits) (mode : Mode) (mask : Mask) (some : mask.swaps ≡ [] → ⊥)
@@ -186,35 +193,35 @@ module _ (limits : Limits) (mode : Mode) (mask : Mask) (some : mask.swaps ≡ []
   pub not_made : (because : ApplyRefused) → IsRejectedInOrder limits mode mask recording because
       → IsRefusedInOrder limits mode mask recording because
   not_made (Order refused) (inl is) = is
-  not_made (Order refused) (inr (written, (masked, masks, made), is)) =
-      let in_order = ordered_by limits mode masked mask.swaps some written made in
+  not_made (Order refused) (inr (written, (named, named_by, made), is)) =
+      let in_order = ordered_by limits mode named mask.swaps some written made in
       absurd ((outcome limits mode).not_both written (ordered mask.swaps in_order.messages) refused
       in_order.accepted is)
   not_made because is = is
 
   module _ (messages : List Sent) (made : MakesOrdered limits mode mask recording
       (λ written. IsAccepted limits mode written messages)) where
-    abbrev masked_text : List ℕ
-    masked_text = made.1.0
+    abbrev named_text : List ℕ
+    named_text = made.1.0
 
-    arranges : Arranges limits mode mask.swaps masked_text messages
+    arranges : Arranges limits mode mask.swaps named_text messages
     arranges = (
       made.0,
-      ordered_by limits mode masked_text mask.swaps some made.0 made.1.2,
+      ordered_by limits mode named_text mask.swaps some made.0 made.1.2,
       made.2,
     )
 
     pub text_applied : (written : List ℕ) → written ≡ text messages
         → IsOrderedByRules limits mode mask recording written
     text_applied written same = (
-      masked_text,
+      named_text,
       made.1.1,
-      orders limits mode masked_text mask.swaps some written
-          (arranged_text limits mode mask.swaps masked_text messages arranges written same),
+      orders limits mode named_text mask.swaps some written
+          (arranged_text limits mode mask.swaps named_text messages arranges written same),
     )
 
     pub text_refused : (because : Refused) → Measures limits messages (Err because)
         → IsRefusedInOrder limits mode mask recording (order_refusal because)
     text_refused because long =
-        cannot_order limits mode recording mask masked_text made.1.1 some because
-        (not_written limits mode mask.swaps masked_text messages arranges because long)
+        cannot_order limits mode recording mask named_text made.1.1 some because
+        (not_written limits mode mask.swaps named_text messages arranges because long)

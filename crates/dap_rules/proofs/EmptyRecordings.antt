@@ -1,4 +1,4 @@
--- The recording without bytes is joined, masked and accepted, and its text is empty.
+-- The recording without bytes is joined, masked, named and accepted, and its text is empty.
 use Rattle.std.proofs.Common.{◌≡◌, ℕ, true, List, [], ◌∷◌, length, nat_eq, refl, sym, ap, subst}
 use Rattle.std.proofs.Common.{arith}
 use Rattle.std.specs.Prelude.{Option, Some, None}
@@ -102,7 +102,9 @@ module _ (limits : Limits) (sound : AreSound limits) where
       joins = none_joined limits (mask_of rules).joining;
       masked = [];
       masks = none_masked rules;
+      named = [];
+      names = none_named_by (mask_of rules).declared rules.list.labelled;
       ordered = [];
       orders = none_in_order_by (mask_of rules).swaps;
-      names = none_named_by (mask_of rules).declared rules.list.labelled;
+      renames = none_named_by (mask_of rules).declared rules.list.labelled;
     }

@@ -17,8 +17,8 @@ use Rattle.dap_input.specs.declared.refused.Refused.TheVariants.{WriteFault}
 use Rattle.dap_normalise.specs.{RecordTexts.FitRecords}
 use Rattle.dap_normalise.proofs.RecordTexts.{fit_front}
 use Rattle.dap_rename.specs.declared.mode.Mode.{Mode}
-use Rattle.dap_rules.specs.Applying.{AppliesRules, IsMaskedByRules, IsNotJoinedBy}
-use Rattle.dap_rules.specs.Applying.{IsNotMaskedByRules, JoinsBy, RefusesToMask}
+use Rattle.dap_rules.specs.Applying.{AppliesRules, IsMaskedByRules, IsNamedByRules}
+use Rattle.dap_rules.specs.Applying.{IsNotJoinedBy, IsNotMaskedByRules, JoinsBy, RefusesToMask}
 use Rattle.dap_rules.specs.Applying.{RefusesToMaskByRules}
 use Rattle.dap_rules.specs.{MaskedRecordings.IsMaskedTo, Masking.masking, Renumbering.renumbered}
 use Rattle.dap_rules.proofs.InputTexts.{IsBounded, Refuses}
@@ -206,3 +206,10 @@ pub masks_of : (limits : Limits) (mode : Mode) (mask : Mask) (recording written 
     (a : AppliesRules limits mode mask recording written)
     → IsMaskedByRules limits mask recording a.masked
 masks_of limits mode mask recording written a = (a.joined, a.numbers, a.joins, a.masks)
+
+-- It is masked by them, and its ids are named.
+pub names_of : (limits : Limits) (mode : Mode) (mask : Mask) (recording written : List ℕ)
+    (a : AppliesRules limits mode mask recording written)
+    → IsNamedByRules limits mask recording a.named
+names_of limits mode mask recording written a =
+    (a.masked, masks_of limits mode mask recording written a, a.names)

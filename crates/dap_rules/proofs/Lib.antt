@@ -39,10 +39,15 @@ pub mod NamedChain
 pub mod NamedEquality
 pub mod NamedRules
 pub mod NamedContents
-pub mod WithoutDeclared
 pub mod NamedMessages
 pub mod NamedPlaces
 pub mod TypedLengths
 pub mod RecordLengths
 pub mod NamedDirectly
 pub mod NamedByRules
+pub mod RuledIds
+pub mod NamedPushes
+pub mod MaskedNames
+pub mod NamedStay
+pub mod NamesInOrder
+pub mod Declared

@@ -7,6 +7,7 @@ use Rattle.dap_recording.proofs.Records.{readable}
 use Rattle.dap_recording.specs.RecordReading.{RecordReading}
 use Rattle.dap_recording.specs.declared.record.Record.{Record as WholeRecord}
 use Rattle.dap_mask.specs.Mask.{Mask}
+use Rattle.dap_naming.specs.Known.{Knows, limit_of}
 use Rattle.dap_input.specs.InputSteps.{RefusesOne}
 use Rattle.dap_input.specs.ItemReading.{RepresentsRecord, record_items}
 use Rattle.dap_input.specs.Limits.{AreSound}
@@ -25,6 +26,7 @@ use Rattle.dap_rules.specs.Applying.{RefusesToMask}
 use Rattle.dap_rules.specs.Masking.{IsAccepted, masking}
 use Rattle.dap_rules.specs.MaskedSessions.{IsMaskedSession, IsPushed, Pushes, RepresentsMasked}
 use Rattle.dap_rules.specs.declared.masked_session.MaskedSession.{MaskedSession}
+use Rattle.dap_rules.proofs.FewValues.{none_few}
 use Rattle.dap_rules.proofs.MaskingFacts.{accepted_facts, fits_none, reads_records, value_laws}
 use Rattle.dap_stored.specs.Sessions.{messages_of}
 
@@ -63,9 +65,10 @@ module _ (limits : Limits) (sound : AreSound limits) (mask : Mask) (bytes : List
   -- Nothing has been read.
   pub none_read : (reader : GivenBytes) (records : Records RecordReading) (session : MaskedSession)
       → reader ≡ start bytes → IsAtStart (RepresentsRecord limits.frame) limits.input records
-      → messages_of session.messages ≡ [] → session.fault ≡ None
-      → Going limits mask bytes reader records 0 session
-  none_read reader records session first at none whole = record {
+      → messages_of session.messages ≡ [] → session.ruled.items ≡ [] → session.fault ≡ None
+      → Knows session.numbers [] → limit_of session.numbers ≡ limits.ids
+      → session.named_bytes ≡ 0 → Going limits mask bytes reader records 0 session
+  none_read reader records session first at none unset whole knows limit empty = record {
     values = [];
     judged = subst (λ (r : GivenBytes). Judged (masking limits mask) (RepresentsRecord limits.frame)
         memory (start bytes) r records []) (sym first)
@@ -75,7 +78,11 @@ module _ (limits : Limits) (sound : AreSound limits) (mask : Mask) (bytes : List
     represents = record {
       fits = fits_none limits mask;
       count = refl;
+      numbered = record { knows = knows; few = none_few limits.ids; limit = limit };
+      named_fits = fits_none limits mask;
+      named_count = empty;
       holds = rw (whole, none) tt;
+      ruled = rw (none, unset) tt;
     };
   }
 
@@ -112,12 +119,16 @@ module _ (limits : Limits) (sound : AreSound limits) (mask : Mask) (bytes : List
           (reads_records limits mask) (RepresentsRecord limits.frame) memory (start bytes) reader
           records was.values was.judged new after read in
           let represents = was.represents in
+          let numbered = represents.numbered in
           record {
             messages = was.values;
             accepted = subst (λ (t : List ℕ). IsAccepted limits mask t was.values)
                 (all_came (start bytes) after limits.input all.whole
                 (whole_came memory all.came all.within)) all.accepted;
+            few = numbered.few;
+            fits = represents.named_fits;
             holds = represents.holds;
+            ruled = represents.ruled;
           }
 
       module _ (whole : WholeRecord) (read : Reads (Ok (Some whole))) where

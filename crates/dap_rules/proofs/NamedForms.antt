@@ -38,7 +38,7 @@ use Rattle.dap_rules.specs.{NamedRecordings.IsNamedTo, NamedSessions.AreSameDecl
 use Rattle.dap_rules.specs.Naming.{AreMessages, IsAccepted, Names, named_text}
 use Rattle.dap_rules.proofs.FewValues.{few_are_small}
 use Rattle.dap_rules.proofs.NamedSound.{AreSmall}
-use Rattle.dap_rules.proofs.NamedTexts.{named_is_read}
+use Rattle.dap_rules.proofs.{NamedTexts.named_is_read, NamesInOrder.names_in_order}
 use Rattle.dap_rules.proofs.NamingFacts.{message_once}
 
 -- ---- messages that were read
@@ -241,4 +241,5 @@ module _ (limits : Limits) (sound : AreSound limits) (declared : List Declaratio
         let law = equal bytes others ms b.messages accepted b.accepts in
         (λ same. law.0 (same ∙ b.text_is), λ same. law.1 same ∙ sym b.text_is);
     typed = typed bytes ms accepted;
+    in_order = λ rules ts. names_in_order declared are limits sound rules ms ts accepted.few;
   }

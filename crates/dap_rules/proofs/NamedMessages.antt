@@ -1,13 +1,12 @@
 -- A stored message that is read as a tree, named and typed is its named message.
 use Rattle.std.proofs.Common.{◌≡◌, ℕ, true, List, [], ◌∷◌, ◌++◌, refl, ap, ap₂, sym, ◌∙◌, subst}
-use Rattle.std.proofs.Common.{append-nil}
 use Rattle.dap_tree.specs.{Doc.{Doc, is_plain}, Json.{IsRead, text_of}}
 use Rattle.dap_tree.specs.declared.side.Side.{Side}
 use Rattle.dap_tree.proofs.Outcomes.{read_is_plain}
 use Rattle.dap_message.specs.Faults.{Fits, fault}
 use Rattle.dap_message.specs.Message.{Sent, message_of}
 use Rattle.dap_mask.specs.Declarations.{Declaration, are_declared}
-use Rattle.dap_naming.specs.Documents.{ids_of, named_doc}
+use Rattle.dap_naming.specs.Documents.{named_doc}
 use Rattle.dap_naming.specs.Known.{FitsLimit, Knows, NamesDoc, limit_of}
 use Rattle.dap_naming.specs.Numbers.{Numbering, number}
 use Rattle.dap_naming.specs.Sessions.{AreFew, declared_ids, name_sent, rules_for}
@@ -23,7 +22,6 @@ use Rattle.dap_rules.specs.RewritingSteps.{AreNumbered}
 use Rattle.dap_rules.proofs.FewValues.{few_are_small}
 use Rattle.dap_rules.proofs.NamedRecords.{few_on, ids_push, is_named, numbered_on, own_ids}
 use Rattle.dap_rules.proofs.NamedTexts.{named_is_read}
-use Rattle.dap_rules.proofs.WithoutDeclared.{sent_stays}
 
 -- Messages with the same ids are numbered alike.
 numbered_alike : (limits : Limits) (declared : List Declaration) (ms ns : List Sent)
@@ -37,21 +35,6 @@ numbered_alike limits declared ms ns numbers same was = record {
 
 module _ (limits : Limits) (sound : AreSound limits) (xs : List Declaration)
     (are : are_declared xs ≡ true) (before : List Sent) where
-  -- ---- a message without declared ids
-
-  module _ (m : Sent) (none : ids_of (rules_for xs m.doc) m.doc ≡ []) where
-    same_ids : declared_ids xs before ≡ declared_ids xs (before ++ m ∷ [])
-    same_ids =
-        sym (ids_push xs before m ∙ ap (λ is. declared_ids xs before ++ is) none
-        ∙ append-nil (declared_ids xs before))
-
-    pub unchanged : (numbers : ValueNumbers) → AreNumbered limits xs before numbers
-        → IsNamedAfter limits xs before m m numbers
-    unchanged numbers was = record {
-      is = sym (sent_stays xs (number (declared_ids xs (before ++ m ∷ []))) m none);
-      numbered = numbered_alike limits xs before (before ++ m ∷ []) numbers same_ids was;
-    }
-
   -- ---- a message that is read
 
   module _ (side : Side) (bytes : List ℕ) (d : Doc) (read : IsRead bytes d) (old new : ValueNumbers)

@@ -7,12 +7,12 @@ use Rattle.dap_input.proofs.ItemReaders.{shown_cause}
 use Rattle.dap_input.proofs.OneOutcome.{has_one_outcome}
 use Rattle.dap_mask.specs.{Declarations.Declaration, Mask.Mask}
 use Rattle.dap_rename.specs.declared.mode.Mode.{Mode}
-use Rattle.dap_rules.specs.Applying.{AppliesRules, IsMaskedByRules, IsNotNamedBy, IsNotOrderedBy}
-use Rattle.dap_rules.specs.Applying.{IsOrderedByRules, NamesBy, OrdersBy}
+use Rattle.dap_rules.specs.Applying.{AppliesRules, IsMaskedByRules, IsNamedByRules, IsNotNamedBy}
+use Rattle.dap_rules.specs.Applying.{IsNotOrderedBy, IsOrderedByRules, NamesBy, OrdersBy}
 use Rattle.dap_rules.specs.Laws.{AppliedHasNoError, OneTextByRules}
 use Rattle.dap_rules.specs.{MaskedRecordings.IsMaskedTo, Naming.naming}
 use Rattle.dap_rules.specs.declared.fault.ApplyRefused.TheVariants as because
-use Rattle.dap_rules.proofs.JoinOutcomes.{masked_by_not_refused, masks_of, one_joined_by}
+use Rattle.dap_rules.proofs.JoinOutcomes.{masked_by_not_refused, names_of, one_joined_by}
 use Rattle.dap_rules.proofs.MaskOutcomes.{one_masked, one_order, ordered_not_refused}
 use Rattle.dap_rules.proofs.NamingFacts.{accepted_facts, one_named_text, value_facts}
 
@@ -36,7 +36,7 @@ module _ (limits : Limits) where
 
   module _ (mode : Mode) (mask : Mask) (recording written : List ℕ)
       (a : AppliesRules limits mode mask recording written) where
-    -- The rules mask a recording to one text, and put it in one order.
+    -- The rules mask a recording to one text, name its ids in one way, and put it in one order.
     pub one_masked_by : (masked : List ℕ) → IsMaskedByRules limits mask recording masked
         → masked ≡ a.masked
     one_masked_by masked (joined, numbers, joins, masks) =
@@ -45,19 +45,26 @@ module _ (limits : Limits) where
         (one_joined_by limits mask.joining recording joined numbers a.joined a.numbers joins
         a.joins) masks) a.masks
 
+    pub one_named_by : (named : List ℕ) → IsNamedByRules limits mask recording named
+        → named ≡ a.named
+    one_named_by named (masked, masks, names) =
+        one_names mask.declared a.masked named a.named
+        (subst (λ bytes. NamesBy limits mask.declared bytes named) (one_masked_by masked masks)
+        names) a.names
+
     pub one_ordered_by : (ordered : List ℕ) → IsOrderedByRules limits mode mask recording ordered
         → ordered ≡ a.ordered
-    one_ordered_by ordered (masked, masks, orders) =
-        one_order limits mode mask.swaps a.masked ordered a.ordered
-        (subst (λ bytes. OrdersBy limits mode mask.swaps bytes ordered)
-        (one_masked_by masked masks) orders) a.orders
+    one_ordered_by ordered (named, names, orders) =
+        one_order limits mode mask.swaps a.named ordered a.ordered
+        (subst (λ bytes. OrdersBy limits mode mask.swaps bytes ordered) (one_named_by named names)
+        orders) a.orders
 
 pub one_text_by_rules : OneTextByRules
 one_text_by_rules limits mode mask recording written other a b =
-    one_names limits mask.declared a.ordered written other a.names
+    one_names limits mask.declared a.ordered written other a.renames
     (subst (λ ordered. NamesBy limits mask.declared ordered other)
     (one_ordered_by limits mode mask recording written a b.ordered
-    (b.masked, masks_of limits mode mask recording other b, b.orders)) b.names)
+    (b.named, names_of limits mode mask recording other b, b.orders)) b.renames)
 
 pub applied_has_no_error : AppliedHasNoError
 applied_has_no_error limits mode mask recording written (because.Mask refused) a is =
@@ -65,12 +72,17 @@ applied_has_no_error limits mode mask recording written (because.Mask refused) a
     a.masks is)
 applied_has_no_error limits mode mask recording written (because.Order refused) a
     (inl (masked, masks, is)) =
-    absurd (ordered_not_refused limits mode mask.swaps a.masked a.ordered refused a.orders
-    (subst (λ bytes. IsNotOrderedBy limits mode mask.swaps bytes refused)
+    absurd (named_not_refused limits mask.declared a.masked a.named refused a.names
+    (subst (λ bytes. IsNotNamedBy limits mask.declared bytes refused)
     (one_masked_by limits mode mask recording written a masked masks) is))
 applied_has_no_error limits mode mask recording written (because.Order refused) a
-    (inr (ordered, made, is)) =
-    absurd (named_not_refused limits mask.declared a.ordered written refused a.names
+    (inr (inl (named, names, is))) =
+    absurd (ordered_not_refused limits mode mask.swaps a.named a.ordered refused a.orders
+    (subst (λ bytes. IsNotOrderedBy limits mode mask.swaps bytes refused)
+    (one_named_by limits mode mask recording written a named names) is))
+applied_has_no_error limits mode mask recording written (because.Order refused) a
+    (inr (inr (ordered, made, is))) =
+    absurd (named_not_refused limits mask.declared a.ordered written refused a.renames
     (subst (λ bytes. IsNotNamedBy limits mask.declared bytes refused)
     (one_ordered_by limits mode mask recording written a ordered made) is))
 applied_has_no_error limits mode mask recording written because.ReadFault a is = absurd is

@@ -5,7 +5,6 @@ use Rattle.std.specs.List.{AllZip}
 use Rattle.dap_recording.proofs.Records.{readable}
 use Rattle.dap_message.specs.Message.{Sent}
 use Rattle.dap_message.specs.SwapRules.{SwapRule}
-use Rattle.dap_recording.specs.Recording.{IsRecording}
 use Rattle.dap_mask.specs.{Declarations.Declaration, Mask.Mask}
 use Rattle.dap_naming.specs.Sessions.{named_sents}
 use Rattle.dap_naming.proofs.SessionsNamed.{no_declarations}
@@ -33,11 +32,12 @@ use Rattle.dap_rules.specs.Laws.{SameNamedSessions, SameSessionsByRules, Session
 use Rattle.dap_rules.specs.MaskedMessages.{AreMaskedMessages, named_by, ordered_by}
 use Rattle.dap_rules.specs.MaskedRecordings.{IsTypedAs}
 use Rattle.dap_rules.specs.Masking.{IsAccepted as IsAcceptedMasked, left_of, masking}
-use Rattle.dap_rules.specs.{NamedRecordings.IsNamedTo, Naming.AreMessages, Ordering.Orders}
+use Rattle.dap_rules.specs.{NamedRecordings.IsNamedTo, Naming.{AreMessages, Names}}
+use Rattle.dap_rules.specs.Ordering.{Orders}
 use Rattle.dap_rules.proofs.JoinOutcomes.{masks_of, one_joined_by}
 use Rattle.dap_rules.proofs.MaskingFacts as mask_facts
 use Rattle.dap_rules.proofs.NamedForms.{one_reading, one_records, typed_from}
-use Rattle.dap_rules.proofs.OrderedTexts.{one_accepted}
+use Rattle.dap_rules.proofs.{NamingFacts.one_named_text, OrderedTexts.one_accepted}
 
 -- ---- one list of masked messages
 
@@ -80,7 +80,7 @@ unswapped ms ns unmoved = refl
 unswapped ms ns (swapped is one) =
     absurd (true≢false (sym one.are_free ∙ none_free one.x one.y))
 
--- The messages of a masked recording, which the rules put in this order.
+-- The messages of a masked recording without declared ids, which the rules put in this order.
 record FromMasked (limits : Limits) (mode : Mode) (swaps : List SwapRule) (masked : List ℕ)
     (session : List Sent) : Type 0 where
   messages : List Sent
@@ -120,6 +120,16 @@ module _ (limits : Limits) (mode : Mode) where
         (in_order (rule ∷ rules) orders.messages) accepted orders.accepted;
   }
 
+  -- Without declarations the named texts are those before them.
+  from_unnamed : (swaps : List SwapRule) (masked named ordered written : List ℕ)
+      (session : List Sent) → named ≡ masked → OrdersBy limits mode swaps named ordered
+      → written ≡ ordered → IsAccepted limits mode written session
+      → FromMasked limits mode swaps masked session
+  from_unnamed swaps masked named ordered written session same orders again accepted =
+      from_masked swaps masked ordered session
+      (subst (λ bytes. OrdersBy limits mode swaps bytes ordered) same orders)
+      (subst (λ bytes. IsAccepted limits mode bytes session) again accepted)
+
   -- ---- with names
 
   module _ (mask : Mask) (recording masked : List ℕ)
@@ -143,78 +153,104 @@ module _ (limits : Limits) (mode : Mode) where
       are : AreMaskedMessages limits mask recording messages
       named : session ≡ named_sents declared (in_order swaps messages)
 
-    module _ (declared : List Declaration) (ordered written : List ℕ)
-        (names : IsNamedTo limits declared ordered written) (session : List Sent)
-        (accepted : IsAccepted limits mode written session) where
+    module _ (declared : List Declaration) (named : List ℕ)
+        (names : IsNamedTo limits declared masked named) where
       abbrev plain : List Sent
       plain = names.names.messages
 
-      typed : (messages : List Sent) × AllZip IsTypedAs plain messages
-          × (session ≡ named_sents declared messages)
-      typed = names.typed mode (text (normal_of (stop_in mode) session))
-          (normalises_as written session accepted)
-
-      -- Without rules for the order.
-      left_typed : ordered ≡ masked
-          → AllZip IsTypedAs (left_of mask masks.3.masks.messages) typed.0
-      left_typed same =
+      -- The documents of the masked recording, typed, are its masked messages.
+      are_typed : (messages : List Sent) → AllZip IsTypedAs plain messages
+          → AreMaskedMessages limits mask recording messages
+      are_typed messages typed =
           let is = masks.3 in
           let accepts = names.names.accepts in
           let records : accepts.records ≡ is.records =
-          one_records limits ordered accepts.records is.records accepts.recording
-          (subst (λ bytes. IsRecording limits.frame bytes is.records) (sym same) is.recording) in
-          subst (λ ms. AllZip IsTypedAs ms typed.0)
-          (one_reading is.records plain (left_of mask is.masks.messages)
-          (subst (λ rs. AreMessages rs plain) records accepts.read) is.read) typed.1
+          one_records limits masked accepts.records is.records accepts.recording is.recording in
+          record {
+            joined = masks.0;
+            numbers = masks.1;
+            joins = masks.2;
+            read = is.masks.messages;
+            accepts = is.masks.accepts;
+            typed = subst (λ ms. AllZip IsTypedAs ms messages)
+                (one_reading is.records plain (left_of mask is.masks.messages)
+                (subst (λ rs. AreMessages rs plain) records accepts.read) is.read) typed;
+          }
 
-      -- With rules for the order.
-      typed_in_order : (rules : List SwapRule) (orders : Orders limits mode rules masked ordered)
-          → typed.0 ≡ in_order rules orders.messages
-      typed_in_order rules orders =
-          let all = in_order rules orders.messages in
-          let accepts = names.names.accepts in
-          let own = orders.accepted in
-          let records : own.records ≡ accepts.records =
-          one_records limits ordered own.records accepts.records own.recording accepts.recording in
-          all_typed plain typed.0 all typed.1
-          (typed_from accepts.records plain all accepts.read
-          (subst (λ rs. AreTypedMessages rs all) records own.typed))
+      -- The messages of the named recording.
+      from_names : (session : List Sent) → IsAccepted limits mode named session
+          → (messages : List Sent) × AllZip IsTypedAs plain messages
+          × (session ≡ named_sents declared messages)
+      from_names session accepted =
+          names.typed mode (text (normal_of (stop_in mode) session))
+          (normalises_as named session accepted)
 
-      from_named : (swaps : List SwapRule) → OrdersBy limits mode swaps masked ordered
-          → FromRules swaps declared session
-      from_named [] same = record {
-        messages = typed.0;
-        are = record {
-          joined = masks.0;
-          numbers = masks.1;
-          joins = masks.2;
-          read = masks.3.masks.messages;
-          accepts = masks.3.masks.accepts;
-          typed = left_typed same;
-        };
-        named = typed.2 ∙ ap (named_sents declared)
-            (unswapped typed.0 (in_order [] typed.0) (to_ordered [] typed.0));
-      }
-      from_named (rule ∷ rules) orders = record {
-        messages = orders.messages;
-        are = are_masked orders.messages orders.accepts;
-        named = typed.2 ∙ ap (named_sents declared) (typed_in_order (rule ∷ rules) orders);
-      }
+      module _ (ordered written : List ℕ) (renames : IsNamedTo limits declared ordered written)
+          (session : List Sent) (accepted : IsAccepted limits mode written session) where
+        abbrev docs : List Sent
+        docs = renames.names.messages
 
-    from_rules : (swaps : List SwapRule) (declared : List Declaration) (ordered written : List ℕ)
-        → OrdersBy limits mode swaps masked ordered → NamesBy limits declared ordered written
+        typed : (messages : List Sent) × AllZip IsTypedAs docs messages
+            × (session ≡ named_sents declared messages)
+        typed = renames.typed mode (text (normal_of (stop_in mode) session))
+            (normalises_as written session accepted)
+
+        -- Without rules for the order, naming again changes nothing.
+        stays : ordered ≡ named → written ≡ named
+        stays same =
+            one_named_text limits declared named written named
+            (subst (λ bytes. Names limits declared bytes written) same renames.names) names.again
+
+        -- With rules for the order.
+        typed_in_order : (rules : List SwapRule) (orders : Orders limits mode rules named ordered)
+            → typed.0 ≡ in_order rules orders.messages
+        typed_in_order rules orders =
+            let all = in_order rules orders.messages in
+            let accepts = renames.names.accepts in
+            let own = orders.accepted in
+            let records : own.records ≡ accepts.records =
+            one_records limits ordered own.records accepts.records own.recording accepts.recording
+            in
+            all_typed docs typed.0 all typed.1
+            (typed_from accepts.records docs all accepts.read
+            (subst (λ rs. AreTypedMessages rs all) records own.typed))
+
+        from_named : (swaps : List SwapRule) → OrdersBy limits mode swaps named ordered
+            → FromRules swaps declared session
+        from_named [] same =
+            let from = from_names session
+            (subst (λ bytes. IsAccepted limits mode bytes session) (stays same) accepted) in
+            record {
+              messages = from.0;
+              are = are_typed from.0 from.1;
+              named = from.2 ∙ ap (named_sents declared)
+                  (unswapped from.0 (in_order [] from.0) (to_ordered [] from.0));
+            }
+        from_named (rule ∷ rules) orders =
+            let from = from_names orders.messages orders.accepts in
+            record {
+              messages = from.0;
+              are = are_typed from.0 from.1;
+              named = typed.2 ∙ ap (named_sents declared) (typed_in_order (rule ∷ rules) orders)
+                  ∙ ap (λ (us : List Sent). named_sents declared (in_order (rule ∷ rules) us))
+                  from.2 ∙ names.in_order (rule ∷ rules) from.0 from.1;
+            }
+
+    from_rules : (swaps : List SwapRule) (declared : List Declaration)
+        (named ordered written : List ℕ) → NamesBy limits declared masked named
+        → OrdersBy limits mode swaps named ordered → NamesBy limits declared ordered written
         → (session : List Sent) → IsAccepted limits mode written session
         → FromRules swaps declared session
-    from_rules swaps [] ordered written orders same session accepted =
-        let from = from_masked swaps masked ordered session orders
-        (subst (λ bytes. IsAccepted limits mode bytes session) same accepted) in
+    from_rules swaps [] named ordered written same orders again session accepted =
+        let from =
+        from_unnamed swaps masked named ordered written session same orders again accepted in
         record {
           messages = from.messages;
           are = are_masked from.messages from.accepted;
           named = from.is_ordered ∙ sym (no_declarations (in_order swaps from.messages));
         }
-    from_rules swaps (d ∷ declared) ordered written orders names session accepted =
-        from_named (d ∷ declared) ordered written names session accepted swaps orders
+    from_rules swaps (d ∷ declared) named ordered written names orders renames session accepted =
+        from_named (d ∷ declared) named names ordered written renames session accepted swaps orders
 
   module _ (mask : Mask) (recording : List ℕ) (session : List Sent)
       (makes : MakesSession limits mode mask recording session) where
@@ -224,9 +260,9 @@ module _ (limits : Limits) (mode : Mode) where
     pub made_from : FromRules mask recording makes.applies.masked masked_by mask.swaps mask.declared
         session
     made_from =
-        from_rules mask recording makes.applies.masked masked_by mask.swaps mask.declared
-        makes.applies.ordered makes.written makes.applies.orders makes.applies.names session
-        makes.accepted
+        let is = makes.applies in
+        from_rules mask recording is.masked masked_by mask.swaps mask.declared is.named is.ordered
+        makes.written is.names is.orders is.renames session makes.accepted
 
     -- The session has the masked messages in order, with names.
     pub named_of : (ms : List Sent) → AreMaskedMessages limits mask recording ms
@@ -241,15 +277,14 @@ module _ (limits : Limits) (mode : Mode) where
         → AreMaskedMessages limits mask recording ms
         → (bytes : List ℕ) × IsAccepted limits mode bytes ms × (session ≡ ordered_by mask ms)
     accepted_of none ms are =
-        let masked = makes.applies.masked in
-        let from = from_masked mask.swaps masked makes.applies.ordered session makes.applies.orders
-        (subst (λ bytes. IsAccepted limits mode bytes session)
-        (unnamed mask.declared none makes.applies.ordered makes.written makes.applies.names)
-        makes.accepted) in
+        let is = makes.applies in
+        let from = from_unnamed mask.swaps is.masked is.named is.ordered makes.written session
+        (unnamed mask.declared none is.masked is.named is.names) is.orders
+        (unnamed mask.declared none is.ordered makes.written is.renames) makes.accepted in
         let same = one_masked_list limits mask recording from.messages ms
-        (are_masked mask recording masked masked_by from.messages from.accepted) are in (
-          masked,
-          subst (IsAccepted limits mode masked) same from.accepted,
+        (are_masked mask recording is.masked masked_by from.messages from.accepted) are in (
+          is.masked,
+          subst (IsAccepted limits mode is.masked) same from.accepted,
           from.is_ordered ∙ ap (ordered_by mask) same,
         )
 

@@ -34,27 +34,34 @@ IsMaskedByRules limits mask recording written = (joined : List ℕ) × (numbers 
     × JoinsBy limits mask.joining recording joined numbers
     × IsMaskedTo limits mask joined written
 
--- The rules for the order put the recording in order. Without such rules it is unchanged.
-abbrev pub OrdersBy : Limits → Mode → List SwapRule → List ℕ → List ℕ → Type 0
-OrdersBy limits mode [] recording written = written ≡ recording
-OrdersBy limits mode (rule ∷ rules) recording written =
-    Orders limits mode (rule ∷ rules) recording written
-
--- The output of the recording is joined if the rules say so, the joined recording is masked, and
--- the result is put in order.
-abbrev pub IsOrderedByRules : Limits → Mode → Mask → List ℕ → List ℕ → Type 0
-IsOrderedByRules limits mode mask recording ordered = (masked : List ℕ)
-    × IsMaskedByRules limits mask recording masked × OrdersBy limits mode mask.swaps masked ordered
-
 -- Names replace the ids that are declared. Without declarations the recording is unchanged.
 abbrev pub NamesBy : Limits → List Declaration → List ℕ → List ℕ → Type 0
 NamesBy limits [] recording written = written ≡ recording
 NamesBy limits (declared ∷ others) recording written =
     IsNamedTo limits (declared ∷ others) recording written
 
--- The output of the recording is joined if the rules say so, the joined recording is masked, the
--- masked recording is put in order, and its declared ids are replaced by names: `written` is the
--- text of the result.
+-- The output of the recording is joined if the rules say so, the result is masked, and its declared
+-- ids are replaced by names.
+abbrev pub IsNamedByRules : Limits → Mask → List ℕ → List ℕ → Type 0
+IsNamedByRules limits mask recording named = (masked : List ℕ)
+    × IsMaskedByRules limits mask recording masked × NamesBy limits mask.declared masked named
+
+-- The rules for the order put the recording in order. Without such rules it is unchanged.
+abbrev pub OrdersBy : Limits → Mode → List SwapRule → List ℕ → List ℕ → Type 0
+OrdersBy limits mode [] recording written = written ≡ recording
+OrdersBy limits mode (rule ∷ rules) recording written =
+    Orders limits mode (rule ∷ rules) recording written
+
+-- The output of the recording is joined if the rules say so, the joined recording is masked, its
+-- declared ids are replaced by names, and the result is put in order.
+abbrev pub IsOrderedByRules : Limits → Mode → Mask → List ℕ → List ℕ → Type 0
+IsOrderedByRules limits mode mask recording ordered = (named : List ℕ)
+    × IsNamedByRules limits mask recording named × OrdersBy limits mode mask.swaps named ordered
+
+-- The output of the recording is joined if the rules say so, the joined recording is masked, its
+-- declared ids are replaced by names, and the named recording is put in order. The order may change
+-- which id of a label appears first, so the ids of the ordered recording, which are names now, are
+-- replaced by names again: `written` is the text of the result.
 pub record AppliesRules (limits : Limits) (mode : Mode) (mask : Mask)
     (recording written : List ℕ) : Type 0 where
   pub joined : List ℕ
@@ -62,9 +69,11 @@ pub record AppliesRules (limits : Limits) (mode : Mode) (mask : Mask)
   pub joins : JoinsBy limits mask.joining recording joined numbers
   pub masked : List ℕ
   pub masks : IsMaskedTo limits mask joined masked
+  pub named : List ℕ
+  pub names : NamesBy limits mask.declared masked named
   pub ordered : List ℕ
-  pub orders : OrdersBy limits mode mask.swaps masked ordered
-  pub names : NamesBy limits mask.declared ordered written
+  pub orders : OrdersBy limits mode mask.swaps named ordered
+  pub renames : NamesBy limits mask.declared ordered written
 
 -- The rules turn the recording into a text, which is accepted, and these are its messages.
 pub record MakesSession (limits : Limits) (mode : Mode) (mask : Mask) (recording : List ℕ)
@@ -110,28 +119,36 @@ IsNotMaskedByRules limits mask recording refused =
     IsNotJoinedBy limits mask.joining recording refused
     ⊎ CannotMaskJoined limits mask recording refused
 
--- There are rules for the order, and they cannot put the recording in order for this reason.
-abbrev pub IsNotOrderedBy : Limits → Mode → List SwapRule → List ℕ → Refused → Type 0
-IsNotOrderedBy limits mode [] recording refused = ⊥
-IsNotOrderedBy limits mode (rule ∷ rules) recording refused =
-    IsNotOrdered limits mode (rule ∷ rules) recording refused
-
--- The rules mask the recording, and they cannot put the result in order, for this reason.
-abbrev pub IsNotOrderedByRules : Limits → Mode → Mask → List ℕ → Refused → Type 0
-IsNotOrderedByRules limits mode mask recording refused = (masked : List ℕ)
-    × IsMaskedByRules limits mask recording masked
-    × IsNotOrderedBy limits mode mask.swaps masked refused
-
 -- There are declarations, and the declared ids of the recording cannot be named for this reason.
 abbrev pub IsNotNamedBy : Limits → List Declaration → List ℕ → Refused → Type 0
 IsNotNamedBy limits [] recording refused = ⊥
 IsNotNamedBy limits (declared ∷ others) recording refused =
     IsRefused (naming limits (declared ∷ others)) recording refused
 
--- The rules mask the recording and put it in order, and the declared ids of the result cannot be
--- named, for this reason.
-abbrev pub IsNotNamedByRules : Limits → Mode → Mask → List ℕ → Refused → Type 0
-IsNotNamedByRules limits mode mask recording refused = (ordered : List ℕ)
+-- The rules mask the recording, and the declared ids of the result cannot be named, for this
+-- reason.
+abbrev pub IsNotNamedByRules : Limits → Mask → List ℕ → Refused → Type 0
+IsNotNamedByRules limits mask recording refused = (masked : List ℕ)
+    × IsMaskedByRules limits mask recording masked
+    × IsNotNamedBy limits mask.declared masked refused
+
+-- There are rules for the order, and they cannot put the recording in order for this reason.
+abbrev pub IsNotOrderedBy : Limits → Mode → List SwapRule → List ℕ → Refused → Type 0
+IsNotOrderedBy limits mode [] recording refused = ⊥
+IsNotOrderedBy limits mode (rule ∷ rules) recording refused =
+    IsNotOrdered limits mode (rule ∷ rules) recording refused
+
+-- The rules mask the recording and name its ids, and they cannot put the result in order, for this
+-- reason.
+abbrev pub IsNotOrderedByRules : Limits → Mode → Mask → List ℕ → Refused → Type 0
+IsNotOrderedByRules limits mode mask recording refused = (named : List ℕ)
+    × IsNamedByRules limits mask recording named
+    × IsNotOrderedBy limits mode mask.swaps named refused
+
+-- The rules mask the recording, name its ids and put it in order, and the declared ids of the
+-- result cannot be named again, for this reason.
+abbrev pub IsNotRenamedByRules : Limits → Mode → Mask → List ℕ → Refused → Type 0
+IsNotRenamedByRules limits mode mask recording refused = (ordered : List ℕ)
     × IsOrderedByRules limits mode mask recording ordered
     × IsNotNamedBy limits mask.declared ordered refused
 
@@ -141,8 +158,9 @@ abbrev pub IsRefusedByRules : Limits → Mode → Mask → List ℕ → ApplyRef
 IsRefusedByRules limits mode mask recording (because.Mask refused) =
     IsNotMaskedByRules limits mask recording refused
 IsRefusedByRules limits mode mask recording (because.Order refused) =
-    IsNotOrderedByRules limits mode mask recording refused
-    ⊎ IsNotNamedByRules limits mode mask recording refused
+    IsNotNamedByRules limits mask recording refused
+    ⊎ (IsNotOrderedByRules limits mode mask recording refused
+    ⊎ IsNotRenamedByRules limits mode mask recording refused)
 IsRefusedByRules limits mode mask recording because.ReadFault = ⊥
 IsRefusedByRules limits mode mask recording because.Memory = Unit {0}
 
@@ -164,7 +182,7 @@ RefusesToName limits declared recording refused =
     IsRefused (naming limits declared) recording refused
 
 -- The rules cannot be applied to the recording, or the text into which they turn it is rejected. A
--- text in order is never rejected before its ids are named.
+-- text in order is never rejected before its ids are named again.
 abbrev pub IsNotNormalised : Limits → Mode → Mask → List ℕ → ApplyRefused → Type 0
 IsNotNormalised limits mode mask recording (because.Order refused) =
     IsRefusedByRules limits mode mask recording (because.Order refused)

@@ -26,7 +26,7 @@ JoinsIf limits joining recording (Some joined) =
 JoinsIf limits joining recording None = JoinsBy limits joining recording recording []
 
 -- The output of the recording is joined if the rules say so, and the session has the masked
--- messages of the result.
+-- messages of the result, with names in the place of their declared ids.
 pub record IsMaskedSessionByRules (limits : Limits) (mask : Mask) (recording : List ℕ)
     (session : MaskedSession) : Type 0 where
   pub joined : List ℕ
@@ -39,7 +39,7 @@ abbrev pub mask_refusal : Refused → ApplyRefused
 mask_refusal Memory = because.Memory
 mask_refusal refused = because.Mask refused
 
--- The error of putting in order, with its step.
+-- The error of naming or of putting in order, with its step.
 abbrev pub order_refusal : Refused → ApplyRefused
 order_refusal Memory = because.Memory
 order_refusal refused = because.Order refused
@@ -50,14 +50,15 @@ abbrev pub MakesSessionBy : Limits → Mode → List SwapRule → List ℕ → L
 MakesSessionBy limits mode rules recording messages = (written : List ℕ)
     × OrdersBy limits mode rules recording written × IsAccepted limits mode written messages
 
--- ---- before ids are named
+-- ---- before ids are named again
 
--- The rules mask the recording and put it in order, and this holds for the result.
+-- The rules mask the recording, name its ids and put it in order, and this holds for the result.
 abbrev pub MakesOrdered : Limits → Mode → Mask → List ℕ → (List ℕ → Type 0) → Type 0
 MakesOrdered limits mode mask recording Holds = (ordered : List ℕ)
     × IsOrderedByRules limits mode mask recording ordered × Holds ordered
 
--- The rules cannot mask the recording or put it in order, for this reason.
+-- The rules cannot mask the recording, or cannot put it in order after they named its ids, for this
+-- reason. Without declarations these are the only reasons.
 abbrev pub IsRefusedInOrder : Limits → Mode → Mask → List ℕ → ApplyRefused → Type 0
 IsRefusedInOrder limits mode mask recording (because.Mask refused) =
     IsNotMaskedByRules limits mask recording refused
@@ -75,8 +76,8 @@ IsRejectedInOrder limits mode mask recording (because.Order refused) =
 IsRejectedInOrder limits mode mask recording refused =
     IsRefusedInOrder limits mode mask recording refused
 
--- The rules mask the recording and put it in order, and these are the named messages of the result,
--- which is accepted. No label has more values than the limit.
+-- The rules mask the recording, name its ids and put it in order. The result is accepted, no label
+-- has more values than the limit, and these are its messages, named again.
 pub record MakesNamed (limits : Limits) (mode : Mode) (mask : Mask) (recording : List ℕ)
     (messages : List Sent) : Type 0 where
   pub ordered : List ℕ

@@ -19,3 +19,4 @@ pub mod OrderingSteps
 pub mod OrderLaws
 pub mod NamedSessions
 pub mod NamingSteps
+pub mod RuledOrder

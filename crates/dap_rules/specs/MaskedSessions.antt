@@ -1,14 +1,19 @@
--- The messages of a masked recording, for private clauses. Source: own.
+-- The named messages of a masked recording, for private clauses. Source: own.
 use Rattle.std.specs.Prelude.{◌≡◌, ℕ, Bool, true, false, List, [], ◌∷◌, ◌++◌, length, Option, Some}
 use Rattle.std.specs.Prelude.{None, Result, Ok, Err}
+use Rattle.std.specs.List.{AllZip}
+use Rattle.dap_tree.specs.{Doc.Doc, Json.IsRead}
 use Rattle.dap_message.specs.Message.{Sent, HasRefusal, faulty}
 use Rattle.dap_message.specs.declared.fault.MessageFault.{MessageFault}
-use Rattle.dap_mask.specs.Mask.{Mask}
+use Rattle.dap_mask.specs.{Declarations.Declaration, Mask.Mask}
+use Rattle.dap_naming.specs.Sessions.{AreFew, declared_ids, named_sents, rules_for}
 use Rattle.dap_stored.specs.Sessions.{messages_of}
 use Rattle.dap_input.specs.{declared.limits.Limits.Limits, declared.refused.Refused.Refused}
 use Rattle.dap_input.specs.declared.refused.Refused.TheVariants.{Message}
 use Rattle.dap_input.specs.Refusals.{RejectsPayload}
-use Rattle.dap_normalise.specs.{Accepting.{Payload, AreMessages, Fits}, RecordTexts.contents_of}
+use Rattle.dap_normalise.specs.Accepting.{Payload, AreMessages, Fits, text}
+use Rattle.dap_normalise.specs.RecordTexts.{contents_of}
+use Rattle.dap_rules.specs.RewritingSteps.{AreNumbered}
 use Rattle.dap_rules.specs.Masking.{IsAccepted, IsNext, Rejects, left_of, masked_text}
 use Rattle.dap_rules.specs.declared.masked_session.MaskedSession.{MaskedSession}
 
@@ -36,23 +41,71 @@ Holds session records = HoldUpTo records (messages_of session.messages) session.
 abbrev pub Adds : Payload → MaskedSession → MaskedSession → Type 0
 Adds held old new = (records : List Payload) → Holds old records → Holds new (records ++ held ∷ [])
 
--- The same, or the session is unchanged.
-abbrev pub AddsIf : Payload → MaskedSession → MaskedSession → Bool → Type 0
-AddsIf held old new true = Adds held old new
-AddsIf held old new false = new ≡ old
-
 -- The result after the messages, which the record with this number follows.
 abbrev pub end_of : ℕ → Option MessageFault → Result (Unit {0}) Refused
 end_of number (Some fault) = Err (Message number fault)
 end_of number None = Ok tt
 
--- These messages of the recording are masked and in the session. Their masked text has `written`
--- bytes.
+-- The messages that the rules leave, with names in the place of their declared ids.
+abbrev pub named_left : Mask → List Sent → List Sent
+named_left mask messages = named_sents mask.declared (left_of mask messages)
+
+-- If a flag is not set, no declaration applies to its message.
+abbrev pub AreRuled : List Declaration → List Sent → List Bool → Type 0
+AreRuled declared = AllZip (λ m ruled. ruled ≡ false → rules_for declared m.doc ≡ [])
+
+-- If the flag is not set, no declaration applies to the document of the content.
+abbrev pub IsRuled : List Declaration → List ℕ → Bool → Type 0
+IsRuled declared content ruled =
+    (d : Doc) → IsRead content d → ruled ≡ false → rules_for declared d ≡ []
+
+-- The new session has one record more. If the record is stored as a message, so is this flag.
+pub record AddsRuled (held : Payload) (ruled : Bool) (old new : MaskedSession) : Type 0 where
+  pub adds : Adds held old new
+  pub flags : (declared : List Declaration) → IsRuled declared held.1 ruled
+      → AreRuled declared (messages_of old.messages) old.ruled.items
+      → AreRuled declared (messages_of new.messages) new.ruled.items
+  pub numbers : new.numbers ≡ old.numbers
+  pub named_bytes : new.named_bytes ≡ old.named_bytes
+
+-- The same, or the session is unchanged.
+abbrev pub AddsIf : Payload → Bool → MaskedSession → MaskedSession → Bool → Type 0
+AddsIf held ruled old new true = AddsRuled held ruled old new
+AddsIf held ruled old new false = new ≡ old
+
+-- These messages are named, and in the session.
+pub record RepresentsNamed (limits : Limits) (declared : List Declaration) (messages : List Sent)
+    (session : MaskedSession) : Type 0 where
+  pub numbered : AreNumbered limits declared messages session.numbers
+  pub fits : Fits limits (named_sents declared messages)
+  pub count : session.named_bytes ≡ length (text (named_sents declared messages))
+  pub holds : Holds session (contents_of (named_sents declared messages))
+  pub ruled : AreRuled declared (messages_of session.messages) session.ruled.items
+
+-- The message is named after those of the old session, and is in the new session.
+abbrev pub AddsNamed : Limits → List Declaration → Sent → MaskedSession → MaskedSession → Type 0
+AddsNamed limits declared m old new = (before : List Sent)
+    → RepresentsNamed limits declared before old
+    → RepresentsNamed limits declared (before ++ m ∷ []) new
+
+-- The same, or the new session represents the messages of the old one.
+abbrev pub AddsNamedIf : Limits → List Declaration → Sent → MaskedSession → MaskedSession → Bool
+    → Type 0
+AddsNamedIf limits declared m old new true = AddsNamed limits declared m old new
+AddsNamedIf limits declared m old new false = (before : List Sent)
+    → RepresentsNamed limits declared before old → RepresentsNamed limits declared before new
+
+-- These messages of the recording are masked and named, and in the session. Their masked text has
+-- `written` bytes.
 pub record RepresentsMasked (limits : Limits) (mask : Mask) (messages : List Sent) (written : ℕ)
     (session : MaskedSession) : Type 0 where
   pub fits : Fits limits (left_of mask messages)
   pub count : written ≡ length (masked_text mask messages)
-  pub holds : Holds session (contents_of (left_of mask messages))
+  pub numbered : AreNumbered limits mask.declared (left_of mask messages) session.numbers
+  pub named_fits : Fits limits (named_left mask messages)
+  pub named_count : session.named_bytes ≡ length (text (named_left mask messages))
+  pub holds : Holds session (contents_of (named_left mask messages))
+  pub ruled : AreRuled mask.declared (messages_of session.messages) session.ruled.items
 
 -- After these messages, the record is accepted, and is in the session.
 pub record IsPushed (limits : Limits) (mask : Mask) (messages : List Sent) (held : Payload)
@@ -69,7 +122,7 @@ Pushes limits mask messages held n session (Ok after) =
 Pushes limits mask messages held n session (Err because) =
     RejectsPayload (Rejects limits mask messages held) n because
 
--- The same, or the session is unchanged.
+-- The same, or the session represents the same messages.
 abbrev pub PushesIf : Limits → Mask → List Sent → Payload → ℕ → ℕ → MaskedSession
     → Result (Option ℕ) Refused → Type 0
 PushesIf limits mask messages held n written session (Ok (Some after)) =
@@ -79,9 +132,14 @@ PushesIf limits mask messages held n written session (Ok None) =
 PushesIf limits mask messages held n written session (Err because) =
     RejectsPayload (Rejects limits mask messages held) n because
 
--- The recording is accepted, and the session has its masked messages.
+-- The recording is accepted, and the session has its masked messages, with names in the place of
+-- their declared ids. The text of the named messages is within the limits, and no label has more
+-- values than the limit.
 pub record IsMaskedSession (limits : Limits) (mask : Mask) (recording : List ℕ)
     (session : MaskedSession) : Type 0 where
   pub messages : List Sent
   pub accepted : IsAccepted limits mask recording messages
-  pub holds : Holds session (contents_of (left_of mask messages))
+  pub few : AreFew limits.ids (declared_ids mask.declared (left_of mask messages))
+  pub fits : Fits limits (named_left mask messages)
+  pub holds : Holds session (contents_of (named_left mask messages))
+  pub ruled : AreRuled mask.declared (messages_of session.messages) session.ruled.items

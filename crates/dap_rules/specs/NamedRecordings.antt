@@ -1,12 +1,13 @@
 -- The result of replacing the declared ids of a recording by names, and all guarantees about it.
 -- Source: own.
 use Rattle.std.specs.{Prelude.{◌≡◌, ◌↔◌, ℕ, List}, List.AllZip}
-use Rattle.dap_message.specs.Message.{Sent}
+use Rattle.dap_message.specs.{Message.Sent, SwapRules.SwapRule}
 use Rattle.dap_mask.specs.Declarations.{Declaration}
 use Rattle.dap_naming.specs.Sessions.{named_sents}
 use Rattle.dap_rename.specs.declared.mode.Mode.{Mode}
 use Rattle.dap_input.specs.declared.limits.Limits.{Limits}
 use Rattle.dap_normalise.specs.Normalising.{Normalises}
+use Rattle.dap_order.specs.MessageOrder.{ordered}
 use Rattle.dap_rules.specs.{MaskedRecordings.IsTypedAs, NamedSessions.AreSameDeclared}
 use Rattle.dap_rules.specs.Naming.{Names}
 
@@ -26,3 +27,9 @@ pub record IsNamedTo (limits : Limits) (declared : List Declaration)
   pub typed : (mode : Mode) (normal : List ℕ) (n : Normalises limits mode written normal)
       → (messages : List Sent) × AllZip IsTypedAs names.messages messages
       × (n.messages ≡ named_sents declared messages)
+  -- Its messages, typed, may be named before rules put them in order. If they are named again after
+  -- it, the result is the same as if they are named only after it.
+  pub in_order : (rules : List SwapRule) (messages : List Sent)
+      → AllZip IsTypedAs names.messages messages
+      → named_sents declared (ordered rules (named_sents declared messages))
+      ≡ named_sents declared (ordered rules messages)

@@ -9,8 +9,9 @@ pub enum ApplyRefused {
     /// numbered from 1 in the recording.
     #[error("{0}")]
     Mask(Refused),
-    /// The masked recording, its text in order, or its text with names was rejected. The records of
-    /// the masked recording or of the text in order are numbered from 1. A text with names has the
+    /// The ids of the masked recording cannot be named, its text with names or its text in order
+    /// was rejected, or the ids of the text in order cannot be named again. The records of the
+    /// masked recording or of the text in order are numbered from 1. A text with names has the
     /// records of the text before it.
     #[error("{0}")]
     Order(Refused),

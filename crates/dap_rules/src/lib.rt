@@ -1,5 +1,5 @@
-//! Applies rules files to recordings: joins their output, masks their values, puts their messages
-//! in order, and names their ids.
+//! Applies rules files to recordings: joins their output, masks their values, names their ids, and
+//! puts their messages in order.
 //!
 //! [`mask`] removes from each message the values that change from run to run. [`join_and_mask`]
 //! joins the output of a recording first, if the rules say so: [`dap_join::join`] replaces the
@@ -7,11 +7,11 @@
 //! the order that [`dap_order::put_in_order`] defines for their messages. [`name`] and
 //! [`name_bytes`] replace the ids that the rules declare by names.
 //!
-//! [`apply_rules`] joins output if the rules say so, masks the result, puts it in order if some of
-//! the rules are for the order, and replaces the ids that the rules declare by names.
-//! [`session_by_rules`] returns the messages of the result, and [`read_session_by_rules`] does this
-//! for a complete input. [`mode_by`] is the mode in which ids are numbered then. `specs/` defines
-//! the terms, and the modules `laws` contain the theorems.
+//! [`apply_rules`] joins output if the rules say so, masks the result, and replaces the ids that
+//! the rules declare by names. If some of the rules are for the order, it puts the result in order,
+//! and names the ids again. [`session_by_rules`] returns the messages of the result, and
+//! [`read_session_by_rules`] does this for a complete input. [`mode_by`] is the mode in which ids
+//! are numbered then. `specs/` defines the terms, and the modules `laws` contain the theorems.
 #![tactic(auto)]
 
 mod applying;
@@ -37,6 +37,7 @@ mod passes;
 mod reading;
 mod renumbering;
 mod rewriting;
+mod ruled_order;
 pub mod session_laws;
 mod text_sink;
 mod writing;

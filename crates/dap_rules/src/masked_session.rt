@@ -1,9 +1,14 @@
-//! Masks recordings in memory, and reads the messages of the result.
-ghost use Rattle.std.specs.Prelude.{◌≡◌, ◌≤◌, ℕ, List, IfErr, IfOk, OnOk};
-ghost use Rattle.dap_tree.specs.{Json.IsRead, View.view};
-ghost use Rattle.dap_flat.specs.Reading.{ReadsDocument};
+//! Masks recordings in memory, and reads the messages of the result, with names in the place of
+//! their declared ids.
+ghost use Rattle.std.specs.Prelude.{◌≡◌, ◌≤◌, ℕ, false, List, length, Some, IfErr, IfOk, IfSome};
+ghost use Rattle.std.specs.Prelude.{OnOk, OnSome};
+ghost use Rattle.dap_tree.specs.{Doc.Doc, Json.{IsRead, text_of}, View.view};
+ghost use Rattle.dap_flat.specs.{Pieces.Represents, Reading.ReadsDocument};
 ghost use Rattle.dap_message.specs.Message.{Sent};
 ghost use Rattle.dap_mask.specs.KeptRules.{mask_of};
+ghost use Rattle.dap_naming.specs.Flat.{FitsNodes, NamesNodes, NoneApply};
+ghost use Rattle.dap_naming.specs.{Documents.ids_of, Known.{FitsLimit, NamesDoc, limit_of}};
+ghost use Rattle.dap_naming.specs.Sessions.{rules_for};
 ghost use Rattle.dap_stored.specs.Sessions.{messages_of};
 ghost use Rattle.dap_input.specs.Limits.{AreSound};
 ghost use Rattle.dap_normalise.specs.{Accepting.{IsAccepted, Payload}, JudgingSteps.payload_of};
@@ -11,16 +16,19 @@ ghost use Rattle.dap_normalise.specs.{NormalSession.IsNormalSession, Normalising
 ghost use Rattle.dap_normalise.specs.RecordTexts.{FitRecords};
 ghost use Rattle.dap_recording.specs.Recording.{recording_text};
 ghost use Rattle.dap_rules.specs.Applying.{RefusesToMask};
-ghost use Rattle.dap_rules.specs.MaskedSessions.{Adds, AddsIf, Holds, IsMaskedSession, Pushes};
-ghost use Rattle.dap_rules.specs.MaskedSessions.{PushesIf, RepresentsMasked, end_of};
+ghost use Rattle.dap_rules.specs.MaskedSessions.{AddsIf, AddsNamed, AddsNamedIf, AddsRuled, Holds};
+ghost use Rattle.dap_rules.specs.MaskedSessions.{IsMaskedSession, Pushes, PushesIf};
+ghost use Rattle.dap_rules.specs.MaskedSessions.{RepresentsMasked, RepresentsNamed, end_of};
+ghost use Rattle.dap_rules.specs.NamingSteps.{HaveNumbered};
 
 use bumpalo::Bump;
 use dap_device::MemorySource;
 use dap_flat::{Node, Unread, length_within};
 use dap_flat_message::{FlatFault, type_nodes};
 use dap_input::{Limits, Records, Refused};
-use dap_mask::{MaskRules, read_masked, read_masked_flat};
-use dap_message::{MessageFault, Side, typed};
+use dap_mask::{MaskRules, read_masked, read_masked_flat, told_name};
+use dap_message::{Kind, MessageFault, Side, typed};
+use dap_naming::{ValueNumbers, name_flat, name_message};
 use dap_normalise::{NormalSession, check_messages, count_record, normalise_messages};
 use dap_recording::{Record, RecordReader};
 use dap_rename::Mode;
@@ -32,32 +40,43 @@ use std::alloc::{AllocError, Global};
 /// affects how often the vector of nodes is reallocated.
 const BYTES_A_NODE: usize = 8;
 
-/// The messages of a masked recording, up to its first record that is not a message.
+/// The messages of a masked recording, with names in the place of their declared ids, up to its
+/// first record that is not a message.
 #[derive(Drop)]
 pub(crate) struct MaskedSession {
     pub(crate) messages: StoredSession,
+    /// For each message, `false` only if no declaration applies to it.
+    pub(crate) ruled: Vec<bool>,
     /// Why the next record is not a message, if there is one that is not.
     pub(crate) fault: Option<MessageFault>,
+    /// The numbers of the declared ids of all records so far.
+    pub(crate) numbers: ValueNumbers,
+    /// The number of bytes of the text of all records so far, with names.
+    pub(crate) named_bytes: u64,
 }
 
 impl MaskedSession {
-    /// Adds the record of a document that the nodes represent. Returns `false` if it has to be
-    /// typed as a tree.
+    /// Adds the record of a document that the nodes represent, with the flag `ruled`. Returns
+    /// `false` if it has to be typed as a tree.
     fn add_nodes(
         &mut self,
         alloc: Global,
         side: Side,
+        ruled: bool,
         nodes: Vec<Node<'_>>,
     ) -> Result<bool, AllocError>
         requires { (bytes : List ℕ) × ReadsDocument bytes nodes.items }
         ensures { (bytes : List ℕ) → ReadsDocument bytes nodes.entry.items
-            → IfOk result (AddsIf (side, bytes) self.old self.new) }
+            → IfOk result (AddsIf (side, bytes) ruled self.old self.new) }
     {
         if self.fault.is_some() {
             return Ok(true);
         }
         match type_nodes(side, nodes) {
-            Ok(message) => self.messages.push(alloc, &message)?,
+            Ok(message) => {
+                self.messages.push(alloc, &message)?;
+                self.ruled.push(ruled)?;
+            }
             Err(FlatFault::Message(fault)) => self.fault = Some(fault),
             Err(FlatFault::Unclear) => return Ok(false),
             Err(FlatFault::Memory) => return Err(AllocError),
@@ -65,21 +84,102 @@ impl MaskedSession {
         Ok(true)
     }
 
-    /// Adds the record of a document that the tree represents.
-    fn add_tree(&mut self, alloc: Global, side: Side, tree: Tree) -> Result<(), AllocError>
+    /// Adds the record of a document that the tree represents, with the flag `ruled`.
+    fn add_tree(
+        &mut self,
+        alloc: Global,
+        side: Side,
+        ruled: bool,
+        tree: Tree,
+    ) -> Result<(), AllocError>
         requires { (bytes : List ℕ) × IsRead bytes (view tree) }
         ensures { (bytes : List ℕ) → IsRead bytes (view tree)
-            → OnOk result (Adds (side, bytes) self.old self.new) }
+            → OnOk result (AddsRuled (side, bytes) ruled self.old self.new) }
     {
         if self.fault.is_some() {
             return Ok(());
         }
         match typed(alloc, side, tree) {
-            Ok(message) => self.messages.push_message(alloc, &message)?,
+            Ok(message) => {
+                self.messages.push_message(alloc, &message)?;
+                self.ruled.push(ruled)?;
+            }
             Err(MessageFault::Memory) => return Err(AllocError),
             Err(fault) => self.fault = Some(fault),
         }
         Ok(())
+    }
+
+    /// Replaces the declared ids of the masked record that the nodes represent by names, and adds
+    /// the record. Its text has `content_len` bytes before this. Returns `false` if it has to be
+    /// typed as a tree. The record is then not added.
+    ///
+    /// Returns `None` if an allocation failed, or if the declared ids cannot be named here.
+    fn add_named_nodes<'a>(
+        &mut self,
+        alloc: Global,
+        rules: &MaskRules,
+        number: u64,
+        side: Side,
+        nodes: Vec<Node<'a>>,
+        arena: &'a Bump,
+        content_len: usize,
+        limits: Limits,
+    ) -> Option<bool>
+        requires sound { AreSound limits }
+        requires read { (bytes : List ℕ) × ReadsDocument bytes nodes.items }
+        requires len { (d : Doc) → Represents nodes.items d → length (text_of d) ≡ content_len }
+        requires named { (before : List Sent)
+            × RepresentsNamed limits (mask_of rules.now).declared before self.old }
+        ensures { (bytes : List ℕ) (d : Doc) → IsRead bytes d → Represents nodes.entry.items d
+            → IfSome result (AddsNamedIf limits (mask_of rules.now).declared
+            (record { side = side; doc = d }) self.old self.new) }
+    {
+        let mut nodes = nodes;
+        let ruled = name_nodes(alloc, rules, &mut self.numbers, &mut nodes, arena)?;
+        let named_len = named_length(&nodes, ruled, content_len, limits)?;
+        let Ok(named_bytes) = count_record(number, named_len, self.named_bytes, limits) else {
+            return None;
+        };
+        match self.add_nodes(alloc, side, ruled, nodes) {
+            Ok(true) => self.named_bytes = named_bytes,
+            Ok(false) if ruled => return None,
+            Ok(false) => return Some(false),
+            Err(_) => return None,
+        }
+        Some(true)
+    }
+
+    /// Does the same for the masked record that the tree represents, which it types as a tree.
+    fn add_named_tree(
+        &mut self,
+        alloc: Global,
+        rules: &MaskRules,
+        number: u64,
+        side: Side,
+        tree: Tree,
+        content_len: usize,
+        limits: Limits,
+    ) -> Option<()>
+        requires sound { AreSound limits }
+        requires read { (bytes : List ℕ) × IsRead bytes (view tree) }
+        requires len { length (text_of (view tree)) ≡ content_len }
+        requires named { (before : List Sent)
+            × RepresentsNamed limits (mask_of rules.now).declared before self.old }
+        ensures { OnSome result (AddsNamed limits (mask_of rules.now).declared
+            (record { side = side; doc = view tree }) self.old self.new) }
+    {
+        let mut tree = tree;
+        let named_len = name_tree(alloc, rules, &mut self.numbers, &mut tree, content_len)?;
+        let Ok(named_bytes) = count_record(number, named_len, self.named_bytes, limits) else {
+            return None;
+        };
+        let ruled = !rules.declared().is_empty();
+        let Ok(()) = self.add_tree(alloc, side, ruled, tree) else {
+            return None;
+        };
+        self.named_bytes = named_bytes;
+        Some(())
     }
 
     /// Returns the error of the record with this number, which comes after the messages.
@@ -93,9 +193,105 @@ impl MaskedSession {
     }
 }
 
-/// Masks the record with this number, and adds what the rules make of it to a session whose text
-/// has `written` bytes. Returns the new length of the text, or `None` for a record that has to be
-/// masked and typed as a tree.
+/// Replaces the declared ids of masked nodes by names. Returns whether a declaration applies to the
+/// nodes.
+///
+/// Returns `None` if an allocation failed, or if the declared ids cannot be named here.
+fn name_nodes<'a>(
+    alloc: Global,
+    rules: &MaskRules,
+    numbers: &mut ValueNumbers,
+    nodes: &mut [Node<'a>],
+    arena: &'a Bump,
+) -> Option<bool>
+    ensures names { OnSome result
+        (NamesNodes numbers.old numbers.new (mask_of rules.now).declared nodes.old nodes.new) }
+    ensures few { OnSome result
+        (FitsNodes numbers.old (mask_of rules.now).declared nodes.old) }
+    ensures limit { limit_of numbers.new ≡ limit_of numbers.old }
+    ensures applies { result ≡ Some false → NoneApply (mask_of rules.now).declared nodes.old }
+{
+    let declared = rules.declared();
+    if declared.is_empty() {
+        return Some(false);
+    }
+    match name_flat(alloc, numbers, declared, nodes, arena) {
+        Ok(ruled) => Some(ruled),
+        Err(_) => None,
+    }
+}
+
+/// Returns the length of the text of named nodes, or `None` if it is above the limit. Without
+/// declarations that apply it is `content_len`.
+fn named_length(
+    nodes: &[Node<'_>],
+    ruled: bool,
+    content_len: usize,
+    limits: Limits,
+) -> Option<usize>
+    ensures { (d : Doc) → Represents nodes.now d
+        → (ruled ≡ false → length (text_of d) ≡ content_len)
+        → IfSome result (λ len. length (text_of d) ≡ len) }
+{
+    if !ruled {
+        return Some(content_len);
+    }
+    length_within(nodes, &[], limits.frame.content)
+}
+
+/// Replaces the declared ids of a masked tree by names. Its text has `content_len` bytes before
+/// this. Returns the new length of its text.
+///
+/// Returns `None` if an allocation failed, or if the declared ids cannot be named here.
+fn name_tree(
+    alloc: Global,
+    rules: &MaskRules,
+    numbers: &mut ValueNumbers,
+    tree: &mut Tree,
+    content_len: usize,
+) -> Option<usize>
+    requires numbered { HaveNumbered (mask_of rules.now).declared numbers.old }
+    requires read { (bytes : List ℕ) × IsRead bytes (view tree.old) }
+    requires len { length (text_of (view tree.old)) ≡ content_len }
+    ensures names { OnSome result (NamesDoc numbers.old numbers.new
+        (rules_for (mask_of rules.now).declared (view tree.old)) (view tree.old)
+        (view tree.new)) }
+    ensures few { OnSome result (FitsLimit numbers.old
+        (ids_of (rules_for (mask_of rules.now).declared (view tree.old)) (view tree.old))) }
+    ensures limit { limit_of numbers.new ≡ limit_of numbers.old }
+    ensures len { IfSome result (λ len. length (text_of (view tree.new)) ≡ len) }
+{
+    let declared = rules.declared();
+    if declared.is_empty() {
+        return Some(content_len);
+    }
+    let Ok(()) = name_message(alloc, numbers, declared, tree) else {
+        return None;
+    };
+    let mut text = Vec::new(alloc);
+    let Ok(()) = write_tree_to(alloc, tree, &mut text) else {
+        return None;
+    };
+    Some(text.len())
+}
+
+/// Returns whether the nodes may be the response to `initialize`, whose absent capabilities are
+/// filled in. So it has to be typed as a tree, and its ids must not be named in its nodes before.
+fn may_be_filled_in(nodes: &[Node<'_>]) -> bool {
+    match told_name(nodes, Kind::Response) {
+        Ok(Some(name)) => name == "initialize",
+        _ => false,
+    }
+}
+
+/// Masks the record with this number, replaces its declared ids by names, and adds it to a session.
+/// The masked text has `written` bytes before this. Returns its new length, or `None` for a record
+/// that has to be masked and typed as a tree.
+///
+/// # Errors
+///
+/// - The error of masking the record.
+/// - `Memory`: an allocation failed, or the declared ids cannot be named here.
 fn push_flat(
     alloc: Global,
     rules: &MaskRules,
@@ -108,6 +304,8 @@ fn push_flat(
 ) -> Result<Option<u64>, Refused>
     requires sound { AreSound limits }
     requires short { written ≤ limits.input }
+    requires represents { (messages : List Sent)
+        × RepresentsMasked limits (mask_of rules.now) messages written session.old }
     ensures { (messages : List Sent)
         → RepresentsMasked limits (mask_of rules.now) messages written session.old
         → PushesIf limits (mask_of rules.now) messages (payload_of whole.now) number written
@@ -128,14 +326,26 @@ fn push_flat(
         return Err(Refused::Grew(number));
     };
     let after = count_record(number, content_len, written, limits)?;
-    match session.add_nodes(alloc, whole.side, nodes) {
-        Ok(true) => Ok(Some(after)),
-        Ok(false) => Ok(None),
-        Err(_) => Err(Refused::Memory),
+    if !rules.declared().is_empty() && may_be_filled_in(&nodes) {
+        return Ok(None);
+    }
+    match session.add_named_nodes(
+        alloc,
+        rules,
+        number,
+        whole.side,
+        nodes,
+        &arena,
+        content_len,
+        limits,
+    ) {
+        Some(true) => Ok(Some(after)),
+        Some(false) => Ok(None),
+        None => Err(Refused::Memory),
     }
 }
 
-/// Does the same for any record.
+/// Does the same for any record, with the same errors.
 fn push_tree(
     alloc: Global,
     rules: &MaskRules,
@@ -148,6 +358,8 @@ fn push_tree(
 ) -> Result<u64, Refused>
     requires sound { AreSound limits }
     requires short { written ≤ limits.input }
+    requires represents { (messages : List Sent)
+        × RepresentsMasked limits (mask_of rules.now) messages written session.old }
     ensures { (messages : List Sent)
         → RepresentsMasked limits (mask_of rules.now) messages written session.old
         → Pushes limits (mask_of rules.now) messages (payload_of whole.now) number session.new
@@ -164,18 +376,20 @@ fn push_tree(
     let Ok(()) = write_tree_to(alloc, &tree, &mut text) else {
         return Err(Refused::Memory);
     };
-    let after = count_record(number, text.len(), written, limits)?;
-    match session.add_tree(alloc, whole.side, tree) {
-        Ok(()) => Ok(after),
-        Err(_) => Err(Refused::Memory),
+    let content_len = text.len();
+    let after = count_record(number, content_len, written, limits)?;
+    match session.add_named_tree(alloc, rules, number, whole.side, tree, content_len, limits) {
+        Some(()) => Ok(after),
+        None => Err(Refused::Memory),
     }
 }
 
-/// Returns the messages of a masked recording.
+/// Returns the messages of a masked recording, with names in the place of their declared ids.
 ///
 /// # Errors
 ///
-/// The first error of the recording, or `Memory`. Records are numbered from 1 in the recording.
+/// The first error of the recording, or `Memory`: an allocation failed, or the declared ids cannot
+/// be named here. Records are numbered from 1 in the recording.
 pub(crate) fn read_masked_session(
     alloc: Global,
     rules: &MaskRules,
@@ -194,7 +408,10 @@ pub(crate) fn read_masked_session(
     let mut scratch = Scratch::new(alloc);
     let mut session = MaskedSession {
         messages: StoredSession::new(alloc),
+        ruled: Vec::new(alloc),
         fault: None,
+        numbers: ValueNumbers::new(alloc, limits.ids as u64),
+        named_bytes: 0,
     };
     let mut written = 0;
     loop {
@@ -216,7 +433,7 @@ pub(crate) fn read_masked_session(
     }
 }
 
-/// Masks a record and adds what the rules make of it, as [`push_flat`] does.
+/// Masks a record, names its ids and adds it, as [`push_flat`] does.
 fn push_masked(
     alloc: Global,
     rules: &MaskRules,
@@ -229,6 +446,8 @@ fn push_masked(
 ) -> Result<u64, Refused>
     requires sound { AreSound limits }
     requires short { written ≤ limits.input }
+    requires represents { (messages : List Sent)
+        × RepresentsMasked limits (mask_of rules.now) messages written session.old }
     ensures { (messages : List Sent)
         → RepresentsMasked limits (mask_of rules.now) messages written session.old
         → Pushes limits (mask_of rules.now) messages (payload_of whole.now) number session.new

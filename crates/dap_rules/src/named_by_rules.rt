@@ -1,16 +1,23 @@
 //! Applies rules that declare ids to a recording in memory, without creating its text with names.
-ghost use Rattle.std.specs.Prelude.{◌≡◌, ◌≢◌, [], IfSome};
+ghost use Rattle.std.specs.Prelude.{◌≡◌, ◌≢◌, ℕ, true, List, [], IfSome};
 ghost use Rattle.dap_input.specs.Limits.{AreSound};
-ghost use Rattle.dap_mask.specs.KeptRules.{mask_of};
+ghost use Rattle.dap_mask.specs.{Declarations.Declaration, KeptRules.mask_of};
+ghost use Rattle.dap_message.specs.SwapRules.{swaps_of};
+ghost use Rattle.dap_naming.specs.Sessions.{declared_ids};
+ghost use Rattle.dap_normalise.specs.Accepting.{IsAccepted};
 ghost use Rattle.dap_rules.specs.Applying.{MakesSession, NormalisesByRules};
 ghost use Rattle.dap_rules.specs.ApplyingSteps.{MakesNamed};
+ghost use Rattle.dap_rules.specs.{MaskedSessions.AreRuled, OrderingSteps.Arranges};
 ghost use Rattle.dap_stored.specs.Sessions.{messages_of};
 
+use crate::joined_session::read_session_of;
+use crate::masked_session::{MaskedSession, check_masked};
 use crate::named_session::named_session;
-use crate::ordered_by_rules::session_in_order_by;
-use crate::ordering::views_within;
+use crate::ordering::{places_in_order, views_within};
+use crate::ruled_order::keeps_ruled;
 use dap_input::Limits;
 use dap_mask::MaskRules;
+use dap_message::SwapRule;
 use dap_normalise::{NormalSession, check_messages, normalise_messages};
 use dap_rename::Mode;
 use dap_stored::StoredSession;
@@ -19,8 +26,7 @@ use std::alloc::Global;
 /// Returns the normal form of the text that [`apply_rules`](crate::apply_rules) returns, and its
 /// counts, for rules that declare ids. Creates no text but that of the joined recording.
 ///
-/// Returns `None` if some step fails. The text may still have a normal form, because the recording
-/// is also checked before its ids are named.
+/// Returns `None` if some step fails.
 pub(crate) fn normalise_named(
     alloc: Global,
     rules: &MaskRules,
@@ -46,8 +52,7 @@ pub(crate) fn normalise_named(
 /// that declare ids. The text is checked in the same way as by [`check`](dap_normalise::check) in
 /// this mode. Creates no text but that of the joined recording.
 ///
-/// Returns `None` if some step fails. The text may still be accepted, because the recording is also
-/// checked before its ids are named.
+/// Returns `None` if some step fails.
 pub(crate) fn check_named(
     alloc: Global,
     rules: &MaskRules,
@@ -71,7 +76,7 @@ pub(crate) fn check_named(
 }
 
 /// Returns the messages of a masked recording in order, with names in the place of their declared
-/// ids. The recording is checked before they are named.
+/// ids. The text with names is checked before and after it is put in order.
 fn named_in_order(
     alloc: Global,
     rules: &MaskRules,
@@ -83,8 +88,56 @@ fn named_in_order(
     ensures { IfSome result (λ session. MakesNamed limits mode (mask_of rules.now) recording.now
         (messages_of session)) }
 {
-    let Ok(session) = session_in_order_by(alloc, rules, recording, limits, mode) else {
+    let Ok(masked) = read_session_of(alloc, rules, recording, limits) else {
         return None;
     };
-    named_session(alloc, rules, session, limits)
+    let Ok(()) = check_masked(alloc, &masked, limits, mode) else {
+        return None;
+    };
+    if rules.swaps().is_empty() {
+        return Some(masked.messages);
+    }
+    let (session, stays) = ids_in_order(alloc, rules.swaps(), masked, limits, mode)?;
+    if stays {
+        Some(session)
+    } else {
+        named_session(alloc, rules, session, limits)
+    }
+}
+
+/// Returns the messages of a masked session in order. The flag is `true` only if the messages to
+/// which a declaration applies stay in their order, so that their names do not change.
+///
+/// Returns `None` if the text in order is rejected, or if an allocation failed.
+fn ids_in_order(
+    alloc: Global,
+    swaps: &[SwapRule],
+    masked: MaskedSession,
+    limits: Limits,
+    mode: Mode,
+) -> Option<(StoredSession, bool)>
+    requires { AreSound limits }
+    ensures order { (bytes : List ℕ) → IsAccepted limits mode bytes (messages_of masked.messages)
+        → IfSome result (λ made. Arranges limits mode (swaps_of swaps.now) bytes
+        (messages_of made.0)) }
+    ensures ids { IfSome result (λ made. made.1 ≡ true → (declared : List Declaration)
+        → AreRuled declared (messages_of masked.messages) masked.ruled.items
+        → declared_ids declared (messages_of made.0)
+        ≡ declared_ids declared (messages_of masked.messages)) }
+{
+    let Ok(places) = places_in_order(alloc, swaps, &masked.messages) else {
+        return None;
+    };
+    let stays = keeps_ruled(masked.ruled.as_slice(), places.as_slice());
+    let mut session = masked.messages;
+    let Ok(()) = session.arrange(alloc, places.as_slice()) else {
+        return None;
+    };
+    let Ok(views) = views_within(alloc, &session, limits) else {
+        return None;
+    };
+    let Ok(()) = check_messages(alloc, views, limits, mode) else {
+        return None;
+    };
+    Some((session, stays))
 }

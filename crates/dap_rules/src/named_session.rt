@@ -11,13 +11,12 @@ ghost use Rattle.dap_stored.specs.Sessions.{messages_of, stored_sent};
 use dap_input::Limits;
 use dap_mask::{Declaration, MaskRules};
 use dap_message::{AnyMessage, Message, typed};
-use dap_naming::{ValueNumbers, may_have_ids, name_message};
+use dap_naming::{ValueNumbers, name_message};
 use dap_stored::{StoredMessage, StoredSession};
 use dap_tree::{Scratch, read_tree_with};
 use std::alloc::Global;
 
-/// Returns the session with names in the place of its declared ids. Reads only the messages that
-/// may have declared ids.
+/// Returns the session with names in the place of its declared ids. Reads each message.
 ///
 /// Returns `None` if a label has more than `limits.ids` values, or if an allocation failed.
 pub(crate) fn named_session(
@@ -40,8 +39,7 @@ pub(crate) fn named_session(
     Some(session)
 }
 
-/// Adds the named messages of a session to it. Returns their places, in order. A message that
-/// naming does not change may keep its place.
+/// Adds the named messages of a session to it. Returns their places, in order.
 fn named_places(
     alloc: Global,
     declarations: &[Declaration],
@@ -75,8 +73,7 @@ fn named_places(
     Some(places)
 }
 
-/// Returns the place of the named message of the message at a place. Adds the named message to the
-/// session if the message may have declared ids.
+/// Adds the named message of the message at a place to the session. Returns its place.
 fn named_place(
     alloc: Global,
     declarations: &[Declaration],
@@ -91,9 +88,6 @@ fn named_place(
         numbers.new (messages_of session.old) (messages_of session.new) place at) }
 {
     let message = session.message(place)?;
-    if !may_have_ids(declarations, &message, message.content()) {
-        return Some(place);
-    }
     let named = named_message(alloc, declarations, &message, numbers, scratch)?;
     let at = session.len();
     let Ok(()) = session.push_message(alloc, &named) else {

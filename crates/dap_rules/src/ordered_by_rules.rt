@@ -1,5 +1,5 @@
-//! Applies the rules of a file to a recording in memory, except for names.
-ghost use Rattle.std.specs.Prelude.{◌≡◌, IfErr, IfOk, List};
+//! Applies the rules of a file to a recording in memory, up to the order of its messages.
+ghost use Rattle.std.specs.Prelude.{◌≡◌, [], IfErr, IfOk, List};
 ghost use Rattle.dap_message.specs.SwapRules.{swaps_of};
 ghost use Rattle.dap_input.specs.Limits.{AreSound};
 ghost use Rattle.dap_mask.specs.KeptRules.{mask_of};
@@ -80,7 +80,7 @@ fn session_by(
 }
 
 /// Returns the error of the step that masks a recording.
-fn mask_refusal(refused: Refused) -> ApplyRefused
+pub(crate) fn mask_refusal(refused: Refused) -> ApplyRefused
     ensures { result ≡ mask_refusal refused }
 {
     match refused {
@@ -100,11 +100,11 @@ pub(crate) fn order_refusal(refused: Refused) -> ApplyRefused
 }
 
 /// Returns the masked text of a recording, or its text in order if some of the rules are for the
-/// order.
+/// order. The rules declare no ids.
 ///
 /// # Errors
 ///
-/// Those of [`apply_rules`](crate::apply_rules) that do not concern names.
+/// Those of [`apply_rules`](crate::apply_rules).
 pub(crate) fn text_in_order_by(
     alloc: Global,
     rules: &MaskRules,
@@ -113,6 +113,7 @@ pub(crate) fn text_in_order_by(
     mode: Mode,
 ) -> Result<Vec<u8>, ApplyRefused>
     requires limits { AreSound limits }
+    requires none { (mask_of rules.now).declared ≡ [] }
     ensures ok { IfOk result
         (λ text. IsOrderedByRules limits mode (mask_of rules.now) recording.now text.items) }
     ensures err { IfErr result (IsRefusedInOrder limits mode (mask_of rules.now) recording.now) }
@@ -130,14 +131,15 @@ pub(crate) fn text_in_order_by(
     }
 }
 
-/// Returns the normal form of the text that [`text_in_order_by`] returns, and its counts. Creates
-/// neither this text nor the masked text. Drops the recording once its output is joined, and the
-/// joined recording once its messages are read.
+/// Returns the normal form of the masked text of a recording, with names in the place of its
+/// declared ids, in order if some of the rules are for the order. Also returns its counts. Creates
+/// none of these texts. Drops the recording once its output is joined, and the joined recording
+/// once its messages are read.
 ///
 /// # Errors
 ///
-/// Those of [`text_in_order_by`]. `Order` also if no rules are for the order and the masked
-/// recording was rejected.
+/// Those of [`apply_rules`](crate::apply_rules) before ids are named again. `Order` also if no
+/// rules are for the order and the text with names was rejected.
 pub(crate) fn normalise_in_order_by(
     alloc: Global,
     rules: &MaskRules,
@@ -160,9 +162,9 @@ pub(crate) fn normalise_in_order_by(
     }
 }
 
-/// Returns the messages of the text that [`text_in_order_by`] returns, which is checked in the same
-/// way as by [`check`](dap_normalise::check) in this mode. Creates no text but that of the joined
-/// recording.
+/// Returns the messages of the text whose normal form [`normalise_in_order_by`] returns. The text
+/// is checked in the same way as by [`check`](dap_normalise::check) in this mode. Creates no text
+/// but that of the joined recording.
 ///
 /// # Errors
 ///

@@ -201,7 +201,7 @@ fn in_order(
 }
 
 /// Returns the places of the messages of a session in order.
-fn places_in_order(
+pub(crate) fn places_in_order(
     alloc: Global,
     rules: &[SwapRule],
     session: &StoredSession,

@@ -16,6 +16,15 @@ returns-in-Some c messages was =
     (payload_of c.args.whole.now) c.args.number c.args.written c.push_flat.new.session (Ok o))
     c.in-Some.is (c.in_ok-after.ensures messages was)
 
+pub push_tree-requires-clause-represents : goal.push_tree-requires-clause-represents
+push_tree-requires-clause-represents c =
+    let was = c.requires.represents in (
+      was.0,
+      subst (λ o. PushesIf c.args.limits (mask_of c.args.rules.now) was.0
+          (payload_of c.args.whole.now) c.args.number c.args.written c.push_flat.new.session (Ok o))
+          c.in-None.is (c.in_ok-after.ensures was.0 was.1),
+    )
+
 pub returns-in-None : goal.returns-in-None
 returns-in-None c messages was =
     c.push_tree.ensures messages

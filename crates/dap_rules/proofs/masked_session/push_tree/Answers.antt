@@ -4,8 +4,9 @@ use Rattle.dap_tree.specs.{Json.text_of, View.view}
 use Rattle.dap_mask.specs.{KeptRules.mask_of, Loose.{IsLeftOf, LeavesFraction}}
 use Rattle.dap_message.specs.Message.{Sent}
 use Rattle.dap_normalise.specs.JudgingSteps.{payload_of, record_of}
+use Rattle.dap_rules.specs.Masking.{left_of}
 use Rattle.dap_rules.proofs.MaskedRecords.{fraction_left, not_written}
-use Rattle.dap_rules.proofs.MaskedSessions.{dropped, left_read, pushed}
+use Rattle.dap_rules.proofs.MaskedSessions.{dropped, left_read, names_of, pushed}
 use Rattle.dap_rules.proofs.masked_session.push_tree.Goals as goal
 
 pub returns-in-Ok-None : goal.returns-in-Ok-None
@@ -38,18 +39,34 @@ returns-in_err-after c messages was =
     rw (because.1, because.2)
     (not_written c.args.limits mask messages (payload_of c.args.whole.now) c.args.number
     c.args.written was.fits was.count (view tree) is _ [] (record_of one)
-    (c.in_err-after.ensures.counts one (sym (c.len.ensures ∙ len ∙ ap length text))))
+    (c.in_err-after.ensures.counts one (sym (c.len-content_len.ensures ∙ len ∙ ap length text))))
 
-pub add_tree-requires : goal.add_tree-requires
-add_tree-requires c =
+pub add_named_tree-requires-clause-read : goal.add_named_tree-requires-clause-read
+add_named_tree-requires-clause-read c =
     let mask = mask_of c.args.rules.now in
     let tree = c.in-Ok-Some.tree in
     let is : IsLeftOf mask c.args.whole.now.content (Some (view tree)) =
     rw (c.as_slice.ensures, c.in-Ok-Some.field-0-is) at c.in-Ok-Some.ensures.ok in
     (text_of (view tree), left_read c.args.rules.now c.args.whole.now.content (view tree) is)
 
-pub returns-in-Ok-add_tree : goal.returns-in-Ok-add_tree
-returns-in-Ok-add_tree c messages was =
+pub add_named_tree-requires-clause-len : goal.add_named_tree-requires-clause-len
+add_named_tree-requires-clause-len c =
+    let tree = c.in-Ok-Some.tree in
+    let len : vec_len c.write_tree_to.new.out ≡ length c.write_tree_to.new.out.items = search in
+    let text : c.write_tree_to.new.out.items ≡ text_of (view tree) =
+    c.in-Ok.ensures.text ∙ ap (λ t. t ++ text_of (view tree)) c.new-text.ensures.items in
+    sym (c.len-content_len.ensures ∙ len ∙ ap length text)
+
+pub add_named_tree-requires-clause-named : goal.add_named_tree-requires-clause-named
+add_named_tree-requires-clause-named c =
+    let mask = mask_of c.args.rules.now in
+    let was = c.requires.represents in (
+      left_of mask was.0,
+      names_of c.args.limits mask was.0 c.args.written c.args.session.now was.1,
+    )
+
+pub returns-in-Some : goal.returns-in-Some
+returns-in-Some c messages was =
     let mask = mask_of c.args.rules.now in
     let tree = c.in-Ok-Some.tree in
     let is : IsLeftOf mask c.args.whole.now.content (Some (view tree)) =
@@ -60,7 +77,5 @@ returns-in-Ok-add_tree c messages was =
     c.in-Ok.ensures.text ∙ ap (λ t. t ++ text_of (view tree)) c.new-text.ensures.items in
     pushed c.args.limits mask messages (payload_of c.args.whole.now) c.args.number c.args.written
     c.args.session.now was (view tree) is [] (record_of one) c.in_ok-after.after
-    (c.in_ok-after.ensures.counts one (sym (c.len.ensures ∙ len ∙ ap length text)))
-    c.add_tree.new.self
-    (c.in-Ok-add_tree.ensures (text_of (view tree))
-    (left_read c.args.rules.now c.args.whole.now.content (view tree) is))
+    (c.in_ok-after.ensures.counts one (sym (c.len-content_len.ensures ∙ len ∙ ap length text)))
+    c.add_named_tree.new.self c.in-Some.ensures

@@ -11,7 +11,8 @@ pub loop-session-init : goal.loop-session-init
 loop-session-init c =
     none_read c.args.limits c.requires.limits (mask_of c.args.rules.now) c.args.recording.now
     c.new-reader.result c.in-Ok.records _ c.new-reader.ensures
-    (c.in-Ok.ensures c.args.limits.frame search) c.new-2.ensures refl
+    (c.in-Ok.ensures c.args.limits.frame search) c.new-2.ensures c.new-3.ensures.items refl
+    c.new-4.ensures.empty c.new-4.ensures.limit refl
 
 pub next-requires-clause-number : goal.next-requires-clause-number
 next-requires-clause-number c =
@@ -27,6 +28,10 @@ next-requires-clause-given c =
 
 pub push_masked-requires-clause-short : goal.push_masked-requires-clause-short
 push_masked-requires-clause-short c = within c.loop-session.invariant
+
+pub push_masked-requires-clause-represents : goal.push_masked-requires-clause-represents
+push_masked-requires-clause-represents c =
+    let was = c.loop-session.invariant in (was.values, was.represents)
 
 pub returns-in_err-whole-clause-err : goal.returns-in_err-whole-clause-err
 returns-in_err-whole-clause-err c =

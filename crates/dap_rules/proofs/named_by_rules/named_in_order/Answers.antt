@@ -1,6 +1,10 @@
-use Rattle.std.proofs.Common.{Option, Some, None}
+use Rattle.std.proofs.Common.{◌∙◌, Option, Some, None, sym}
 use Rattle.std.specs.Prelude.{IfSome}
+use Rattle.dap_mask.specs.KeptRules.{mask_of}
+use Rattle.dap_message.specs.SwapRules.{swaps_of}
 use Rattle.dap_stored.specs.Sessions.{messages_of}
+use Rattle.dap_rules.proofs.Applied.{is_empty, some_are}
+use Rattle.dap_rules.proofs.NamedByRules.{made_again, made_once, made_unordered}
 use Rattle.dap_rules.proofs.named_by_rules.named_in_order.Goals as goal
 
 -- Two facts about the value, if there is one.
@@ -9,14 +13,31 @@ both : {T : Type 0} (o : Option T) {P Q R : T → Type 0} → ((x : T) → P x �
 both None f p q = p
 both (Some x) f p q = f x p q
 
-pub returns : goal.returns
-returns c =
+pub returns-then-is_empty : goal.returns-then-is_empty
+returns-then-is_empty c =
+    made_unordered c.args.limits c.requires c.args.mode c.args.rules.now c.args.recording.now
+    c.in-Ok.masked c.in-Ok.ensures.ok c.in-Ok-check_masked.ensures.ok
+    (sym c.swaps.ensures
+    ∙ is_empty c.swaps.result.now (sym c.is_empty.ensures ∙ c.if-is_empty.true))
+
+pub returns-then-stays : goal.returns-then-stays
+returns-then-stays c =
+    let mask = mask_of c.args.rules.now in
+    made_once c.args.limits c.requires c.args.mode c.args.rules.now c.args.recording.now
+    c.in-Ok.masked c.in-Ok.ensures.ok c.in-Ok-check_masked.ensures.ok
+    (some_are c.swaps.result.now mask.swaps c.swaps.ensures
+    (sym c.is_empty.ensures ∙ c.if-is_empty.false))
+    (swaps_of c.swaps-2.result.now) c.swaps-2.ensures (messages_of c.in_ok-session.session)
+    c.in_ok-session.ensures.order (c.in_ok-session.ensures.ids c.if-stays.true)
+
+pub returns-else-stays : goal.returns-else-stays
+returns-else-stays c =
+    let mask = mask_of c.args.rules.now in
     both c.named_session.result
-    (λ session names few. record {
-      ordered = c.in-Ok.ensures.ok.0;
-      made = c.in-Ok.ensures.ok.1;
-      unnamed = messages_of c.in-Ok.session;
-      accepted = c.in-Ok.ensures.ok.2;
-      few = few;
-      named = names;
-    }) c.named_session.ensures.names c.named_session.ensures.few
+    (λ session. made_again c.args.limits c.requires c.args.mode c.args.rules.now
+    c.args.recording.now c.in-Ok.masked c.in-Ok.ensures.ok c.in-Ok-check_masked.ensures.ok
+    (some_are c.swaps.result.now mask.swaps c.swaps.ensures
+    (sym c.is_empty.ensures ∙ c.if-is_empty.false))
+    (swaps_of c.swaps-2.result.now) c.swaps-2.ensures (messages_of c.in_ok-session.session)
+    c.in_ok-session.ensures.order (messages_of session))
+    c.named_session.ensures.names c.named_session.ensures.few

@@ -1,11 +1,9 @@
-use Rattle.std.proofs.Common.{◌≡◌, ◌∙◌, ◌++◌, ◌∷◌, [], Some, List, ℕ, append-nil, slice_get}
+use Rattle.std.proofs.Common.{◌≡◌, ◌∙◌, ◌++◌, ◌∷◌, [], Some, List, ℕ, slice_get}
 use Rattle.std.proofs.Common.{sym, subst}
 use Rattle.dap_mask.specs.Declarations.{declarations_of}
 use Rattle.dap_message.specs.Message.{Sent, sent}
 use Rattle.dap_stored.specs.Sessions.{messages_of}
-use Rattle.dap_naming.specs.{Documents.ids_of, Sessions.rules_for}
 use Rattle.dap_rules.specs.NamingSteps.{IsNamedAfter}
-use Rattle.dap_rules.proofs.NamedMessages.{unchanged}
 use Rattle.dap_rules.proofs.NamedPlaces.{get_last}
 use Rattle.dap_rules.proofs.named_session.named_place.Goals as goal
 
@@ -13,22 +11,6 @@ use Rattle.dap_rules.proofs.named_session.named_place.Goals as goal
 same_message : {m n : Sent} (ms : List Sent) (place : ℕ) → Some n ≡ slice_get ms place
     → slice_get ms place ≡ Some m → n ≡ m
 same_message ms place one two = let e = one ∙ two in cc
-
-pub returns-then-not-may_have_ids : goal.returns-then-not-may_have_ids
-returns-then-not-may_have_ids c limits before m sound was there =
-    let xs = declarations_of c.args.declarations.now in
-    let ms = messages_of c.args.session.now in
-    let same = same_message ms c.args.place c.in_ok-message.ensures there in
-    record {
-      more = [];
-      longer = sym (append-nil ms);
-      named = m;
-      there = there;
-      after = unchanged limits sound xs c.requires.declared before m
-          (subst (λ (k : Sent). ids_of (rules_for xs k.doc) k.doc ≡ []) same
-          (c.may_have_ids.ensures (let off = c.if-not-may_have_ids.true in cc)))
-          c.args.numbers.now was;
-    }
 
 pub returns : goal.returns
 returns c limits before m sound was there =

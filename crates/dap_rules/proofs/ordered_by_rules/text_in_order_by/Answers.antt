@@ -3,8 +3,8 @@ use Rattle.std.proofs.lemmas.Result.{err_from_is_err_and}
 use Rattle.dap_mask.specs.KeptRules.{mask_of}
 use Rattle.dap_stored.specs.Sessions.{messages_of}
 use Rattle.dap_rules.specs.ApplyingSteps.{IsRefusedInOrder}
-use Rattle.dap_rules.proofs.Applied.{not_made, some_are, text_applied}
-use Rattle.dap_rules.proofs.Applied.{text_refused}
+use Rattle.dap_rules.proofs.Applied.{is_empty, not_made, some_are, text_applied, text_refused}
+use Rattle.dap_rules.proofs.Applied.{text_unordered}
 use Rattle.dap_rules.proofs.ordered_by_rules.text_in_order_by.Goals as goal
 
 pub returns-in_err-session-clause-err : goal.returns-in_err-session-clause-err
@@ -35,3 +35,11 @@ returns-clause-err c =
     (sym c.is_empty.ensures ∙ c.if-is_empty.false)) c.args.recording.now
     (messages_of c.in_ok-session.session) c.in_ok-session.ensures.ok _
     c.in-Err-text_of_session.ensures.err)
+
+pub returns-in-Ok-clause-ok : goal.returns-in-Ok-clause-ok
+returns-in-Ok-clause-ok c =
+    let mask = mask_of c.args.rules.now in
+    text_unordered c.args.limits c.args.mode mask c.requires.none
+    (sym c.swaps.ensures
+    ∙ is_empty c.swaps.result.now (sym c.is_empty.ensures ∙ c.if-is_empty.true))
+    c.args.recording.now _ c.in-Ok.ensures.ok
