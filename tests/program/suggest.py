@@ -416,8 +416,8 @@ def elements(report):
     check("hex for one, if others have an address", [("n", "0x1f"), ("a", "0x1")], [("n", "0x2"), ("a", "0x1")], ("0x1f", "0x2", f'hex   {place}["n"].y  as address'))
     names = [f"n{number:02}" for number in range(17)]
     check("16 elements", [(it, 1) for it in names[:16]], [(it, 2) for it in names[:16]], *((1, 2, f'blank {place}["{it}"].y') for it in names[:16]))
-    check("17 elements", [(it, 1) for it in names], [(it, 2) for it in names], (1, 2, f"blank {place}[].y"))
-    check("an element without one name", [("a", 1), (7, 1)], [("a", 2), (7, 2)], (1, 2, f"blank {place}[].y"))
+    check("17 elements", [(it, 1) for it in names], [(it, 2) for it in names], (1, 2, f"blank {place}[].y  as value"))
+    check("an element without one name", [("a", 1), (7, 1)], [("a", 2), (7, 2)], (1, 2, f"blank {place}[].y  as value"))
     check(
         "other names", [("a1", 1), ("b", 1)], [("a22", 2), ("b", 1)],
         ("a1", "a22", f"digits{place}[].name"), (1, 2, f'blank {place}["a0"].y'),
@@ -435,7 +435,7 @@ def elements(report):
     one, other = ([{"name": it, **{field: value for field in fields}} for it in names[:8]] for value in (1, 2))
     with Folder(**{it: recording([*BEGUN, message("<", "event", "process", 2, {"x": x})]) for it, x in (("a", one), ("b", other))}) as folder:
         answer = folder.run("suggest", "a", "b")
-    wanted = "".join(f"# A record 3: 1\n# B record 3: 2\nblank {place}[].{field}\n\n" for field in fields) + "# with these rules: same\n"
+    wanted = "".join(f"# A record 3: 1\n# B record 3: 2\nblank {place}[].{field}  as value\n\n" for field in fields) + "# with these rules: same\n"
     report.check("a thousand rules for elements", answer == (0, wanted.encode(), b""), repr(answer)[-300:])
 
 
@@ -570,6 +570,9 @@ def labels(report):
     def sent(*bodies):
         return recording([*BEGUN, *(message("<", "event", f"x{seq}", seq, body) for seq, body in enumerate(bodies, 2))])
 
+    def named(*events):
+        return recording([*BEGUN, *(message("<", "event", name, seq, body) for seq, (name, body) in enumerate(events, 2))])
+
     def rules(printed):
         return [line for line in printed.decode().splitlines() if line and not line.startswith("#")]
 
@@ -615,6 +618,29 @@ def labels(report):
         wanted = (f"hex    event    x{number} body.{name}" + ("  as address" if is_kept and name == "x" else "")
                   for number in sorted(range(2, count + 2), key=str) for name in "xy")
         check(f"{count} messages that differ", a, b, *wanted)
+
+    value = "blank  event    x body.y"
+    for name, one, other, label in (
+        ("a text that occurs twice", ("red", "red", "green"), ("blue", "blue", "grey"), "  as value"), ("a number that occurs twice", (17, 17), (4, 4), "  as value"),
+        ("another value that is equal", ("red", "red", "green"), ("blue", "blue", "green"), "  as value"),
+        ("values that occur once", ("red", "green", 17), ("blue", "grey", 4), ""), ("other values that are equal", ("red", "red", "green"), ("blue", "grey", "grey"), ""),
+        ("a value that becomes another one", ("red", "red", "green"), ("blue", "blue", "red"), "  as value"), ("one value for two", ("red", "red", "green"), ("blue",) * 3, ""),
+        ("an object", ("red", "red", {"a": 1}), ("blue", "blue", {"b": 1}), ""), ("booleans", (True, True), (False, False), ""),
+        ("a number that is 0", (0, 0), (5, 5), ""), ("a text that is empty", ("", ""), ("red", "red"), ""),
+    ):
+        check(name, *(named(*(("x", {"y": it}) for it in values)) for values in (one, other)), value + label)
+    check("null", *(named(*(("x", {"y": it}) for it in values)) for values in (("red", "red", None), ("blue", "blue", "blue"))), "blank  event    x body")
+    a, b = (named(*(("x", {"y": it}) for it in values)) for values in (("red", "red", "green"), ("blue", "blue", "grey")))
+    printed = check("values with an alias", a, b, f"{value}  as value")
+    with Folder(a=a, rules=printed, broken=named(*(("x", {"y": it}) for it in ("p", "q", "r"))), other=named(*(("x", {"y": "p"}),) * 3)) as folder:
+        for name, line in (("broken", b"differ 4\n"), ("other", b"differ 5\n")):
+            answer = folder.run("compare", "--rules", "rules", "a", name)
+            report.check(f"labels: an error of values differs, {name}", answer == (1, line, b""), repr(answer))
+    for count, is_kept in ((16, True), (17, False)):
+        places = range(10, count + 10)
+        a, b = (named(*((f"x{it}", {"y": text or chr(87 + it)}) for it in places for _ in range(2)), ("z", {"y": at})) for text, at in (("red", "0x1f"), ("", "0x2e")))
+        wanted = (f"blank  event    x{it} body.y" + ("  as value" if is_kept and it == 10 else "") for it in places)
+        check(f"{count} places whose values contradict each other", a, b, *wanted, "hex    event    z body.y  as address")
 
     a, b = COMPARED["a stale frame"][:2]
     ended = [record(message("<", "event", "x", 99, {"y": f"at {it}"})) for it in ("0x1f", "0x2e")]

@@ -125,8 +125,8 @@ fn compare_by(
     Err(Unsolved::Differs(first_mismatch(alloc, one, other)?))
 }
 
-/// Compares two recordings by these rules, as `compare --rules` does. Returns the mode in which they
-/// are the same.
+/// Compares two recordings by these rules, as `compare --rules` does. Returns the mode in which
+/// they are the same.
 ///
 /// # Errors
 ///

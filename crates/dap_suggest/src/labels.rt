@@ -6,6 +6,7 @@ ghost use Rattle.dap_suggest.specs.Suggested.{IsSuggestion};
 use crate::confirming::{confirm, confirm_in};
 use crate::joined_rules::{are_refused, joined, missing_end};
 use crate::obstacle::{Mismatch, Unsolved};
+use crate::searching::FoundRules;
 use crate::suggestion::{Inputs, Suggestion};
 use crate::words::{head_of, push_parts, text_at};
 use dap_difference::{Difference, Step as PathStep, differences};
@@ -14,9 +15,13 @@ use dap_message::Kind;
 use dap_rename::Mode;
 use dap_tree::{Scratch, Tree, read_tree_with};
 use std::alloc::{AllocError, Global};
+use std::collections::BTreeSet;
 
 /// How often the recordings are compared at most. After each comparison, labels are removed.
 const MAX_ROUNDS: usize = 16;
+
+/// The label of whole values that may be ids.
+const VALUE: &str = "value";
 
 /// The ids of the protocol that the profile does not rename, by the last member of their place, and
 /// their labels. Some are ids only in this member, or in the elements of this list.
@@ -84,6 +89,8 @@ struct Line<'f> {
     rules: Option<MaskRules>,
     /// The label of the ids that the line declares.
     label: Option<&'static str>,
+    /// The label that is tried. If it is `None`, the line keeps the label that it has.
+    tried: Option<&'static str>,
 }
 
 impl<'f> Line<'f> {
@@ -94,13 +101,29 @@ impl<'f> Line<'f> {
             Err(fault) if fault.cause == RulesCause::Memory => return Err(AllocError),
             Err(_) => None,
         };
-        let label = None;
-        Ok(Line { text, rules, label })
+        Ok(Line {
+            text,
+            rules,
+            label: None,
+            tried: None,
+        })
     }
 
     /// Returns the rule of the line, if it changes values.
     fn rule(&self) -> Option<&MaskRule> {
         self.rules.as_ref()?.changes().first()
+    }
+
+    /// Returns whether the line has a label that is tried.
+    fn has_tried(&self) -> bool {
+        self.label.is_some() && self.tried.is_some()
+    }
+
+    /// Labels the line with the label that is tried.
+    fn try_label(&mut self) {
+        if self.tried.is_some() {
+            self.label = self.tried;
+        }
     }
 
     /// Returns whether the line changes values of messages of this kind and name.
@@ -171,8 +194,8 @@ fn read_lines(alloc: Global, text: &[u8]) -> Result<Vec<Line<'_>>, AllocError> {
     Ok(lines)
 }
 
-/// Returns whether a file cannot have the lines that are for the same messages as one of them, after
-/// the rules `given` before them.
+/// Returns whether a file cannot have the lines that are for the same messages as one of them,
+/// after the rules `given` before them.
 fn is_refused(
     alloc: Global,
     given: &[u8],
@@ -200,14 +223,34 @@ fn is_refused(
     are_refused(alloc, given, rules.as_slice())
 }
 
-/// Labels the lines that find ids.
-fn label_all(lines: &mut Vec<Line<'_>>) {
+/// Tries the labels of ids that are known by their rule or their place.
+fn try_known(lines: &mut Vec<Line<'_>>) {
     for line in lines.iter_mut() {
-        line.label = line.rule().and_then(|rule| label_of(rule));
+        line.tried = line.rule().and_then(|rule| label_of(rule));
     }
 }
 
-/// Labels the lines that find ids, except for those with which a file cannot have the label.
+/// Tries a label for the other lines that blank ids of which some occur twice. All other lines keep
+/// the labels that they have. Returns whether one is tried.
+fn try_values(lines: &mut Vec<Line<'_>>, blanked_ids: &BTreeSet<Vec<u8>>) -> bool {
+    let mut is_any_tried = false;
+    for line in lines.iter_mut() {
+        let is_tried = line.tried.is_none() && blanked_ids.contains(line.text);
+        line.tried = is_tried.then_some(VALUE);
+        is_any_tried |= is_tried;
+    }
+    is_any_tried
+}
+
+/// Labels all lines with the labels that are tried.
+fn label_all(lines: &mut Vec<Line<'_>>) {
+    for line in lines.iter_mut() {
+        line.try_label();
+    }
+}
+
+/// Labels the lines with the labels that are tried, except for those with which a file cannot have
+/// the label.
 fn label_lines(alloc: Global, given: &[u8], lines: &mut Vec<Line<'_>>) -> Result<(), AllocError> {
     let given = joined(alloc, given, missing_end(given))?;
     label_all(lines);
@@ -218,9 +261,9 @@ fn label_lines(alloc: Global, given: &[u8], lines: &mut Vec<Line<'_>>) -> Result
     clear_labels(lines);
     for index in 0..lines.len() {
         if let Some(line) = lines.get_mut(index) {
-            line.label = line.rule().and_then(|rule| label_of(rule));
+            line.try_label();
         }
-        if lines.get(index).is_some_and(|line| line.label.is_some())
+        if lines.get(index).is_some_and(|line| line.has_tried())
             && is_refused(alloc, given.as_slice(), lines.as_slice(), index)?
             && let Some(line) = lines.get_mut(index)
         {
@@ -260,7 +303,7 @@ fn text_of(alloc: Global, lines: &[Line<'_>]) -> Result<Vec<u8>, AllocError> {
     Ok(text)
 }
 
-/// Removes the labels of the rules for a message at the places of some differences, or at all
+/// Removes the tried labels of the rules for a message at the places of some differences, or at all
 /// places. Returns whether it removed one.
 fn unlabel_at(lines: &mut Vec<Line<'_>>, message: &Tree, found: Option<&[Difference<'_>]>) -> bool {
     let Some((kind, name)) = head_of(message) else {
@@ -268,7 +311,7 @@ fn unlabel_at(lines: &mut Vec<Line<'_>>, message: &Tree, found: Option<&[Differe
     };
     let mut is_removed = false;
     for line in lines.iter_mut() {
-        if line.label.is_some()
+        if line.has_tried()
             && line.is_for(kind, name)
             && found.is_none_or(|found| line.is_at(message, found))
         {
@@ -279,20 +322,22 @@ fn unlabel_at(lines: &mut Vec<Line<'_>>, message: &Tree, found: Option<&[Differe
     is_removed
 }
 
-/// Returns whether a line declares ids.
+/// Returns whether a line has a label that is tried.
 fn have_labels(lines: &[Line<'_>]) -> bool {
-    lines.iter().any(|line| line.label.is_some())
+    lines.iter().any(|line| line.has_tried())
 }
 
-/// Removes all labels.
+/// Removes all labels that are tried.
 fn clear_labels(lines: &mut Vec<Line<'_>>) {
     for line in lines.iter_mut() {
-        line.label = None;
+        if line.tried.is_some() {
+            line.label = None;
+        }
     }
 }
 
-/// Removes the labels of the rules for the messages that differ: those at the places at which they
-/// differ; or all if none is there; or those of all rules if these have none.
+/// Removes the tried labels of the rules for the messages that differ: those at the places at which
+/// they differ; or all if none is there; or those of all rules if these have none.
 fn unlabel(
     alloc: Global,
     lines: &mut Vec<Line<'_>>,
@@ -309,13 +354,14 @@ fn unlabel(
     Ok(())
 }
 
-/// Returns the rules that were found in lines, with labels for the ids that they find.
+/// Returns the rules that were found in lines, with labels for the known ids that they find.
 fn labelled_lines<'f>(
     alloc: Global,
     given: &[u8],
     found: &'f [u8],
 ) -> Result<Vec<Line<'f>>, AllocError> {
     let mut lines = read_lines(alloc, found)?;
+    try_known(&mut lines);
     label_lines(alloc, given, &mut lines)?;
     Ok(lines)
 }
@@ -360,8 +406,8 @@ fn confirm_fewer(
     Ok(None)
 }
 
-/// Confirms the rules that were found, and labels them. With all labels, the recordings differ first
-/// in `mismatch`.
+/// Confirms the rules that were found, and labels them. With all labels, the recordings differ
+/// first in `mismatch`.
 fn confirm_after(
     alloc: Global,
     inputs: &Inputs<'_>,
@@ -379,12 +425,42 @@ fn confirm_after(
     }
     match confirm_fewer(alloc, inputs, lines, plain.mode)? {
         Some(suggestion) => Ok(suggestion),
-        None => Ok(plain),
+        None => {
+            clear_labels(lines);
+            Ok(plain)
+        }
     }
 }
 
-/// Suggests the rules that were found with labels for the ids that they find, except for labels with
-/// which the recordings differ.
+/// Suggests the rules that were found, with the labels of lines, except for labels with which the
+/// recordings differ. Removes these from the lines.
+fn confirm_known(
+    alloc: Global,
+    inputs: &Inputs<'_>,
+    found: &[u8],
+    lines: &mut Vec<Line<'_>>,
+) -> Result<Suggestion, Unsolved>
+    requires { AreSound inputs.now.limits }
+    ensures { IfOk result (IsSuggestion inputs.now) }
+{
+    if !have_labels(lines.as_slice()) {
+        return confirm(alloc, inputs, found);
+    }
+    match confirm_lines(alloc, inputs, lines.as_slice(), inputs.mode) {
+        Err(Unsolved::Differs(mismatch)) => {
+            confirm_after(alloc, inputs, found, lines, &mismatch)
+        }
+        Err(Unsolved::NoRules(_)) => {
+            clear_labels(lines);
+            confirm(alloc, inputs, found)
+        }
+        confirmed => confirmed,
+    }
+}
+
+/// Suggests the rules that were found with labels for the ids that they find, except for labels
+/// with which the recordings differ. The labels of known ids come first, so that no others remove
+/// them.
 ///
 /// # Errors
 ///
@@ -392,20 +468,20 @@ fn confirm_after(
 pub fn confirm_labelled(
     alloc: Global,
     inputs: &Inputs<'_>,
-    found: &[u8],
+    found: &FoundRules,
 ) -> Result<Suggestion, Unsolved>
     requires { AreSound inputs.now.limits }
     ensures { IfOk result (IsSuggestion inputs.now) }
 {
-    let mut lines = labelled_lines(alloc, inputs.given, found)?;
-    if !have_labels(lines.as_slice()) {
-        return confirm(alloc, inputs, found);
+    let text = found.text.as_slice();
+    let mut lines = labelled_lines(alloc, inputs.given, text)?;
+    let confirmed = confirm_known(alloc, inputs, text, &mut lines)?;
+    if !try_values(&mut lines, &found.blanked_ids) {
+        return Ok(confirmed);
     }
-    match confirm_lines(alloc, inputs, lines.as_slice(), inputs.mode) {
-        Err(Unsolved::Differs(mismatch)) => {
-            confirm_after(alloc, inputs, found, &mut lines, &mismatch)
-        }
-        Err(Unsolved::NoRules(_)) => confirm(alloc, inputs, found),
-        confirmed => confirmed,
+    label_lines(alloc, inputs.given, &mut lines)?;
+    match confirm_fewer(alloc, inputs, &mut lines, confirmed.mode)? {
+        Some(suggestion) => Ok(suggestion),
+        None => Ok(confirmed),
     }
 }

@@ -19,6 +19,7 @@ mod matched;
 mod obstacle;
 mod pairs;
 mod pieces;
+mod repeats;
 mod searching;
 mod sessions;
 mod spot;

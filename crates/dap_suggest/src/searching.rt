@@ -10,7 +10,7 @@ use crate::sessions::Sessions;
 use crate::spots::Spots;
 use crate::suggestion::Inputs;
 use crate::swapping::Order;
-use crate::value_rules::{Chooser, push_spots};
+use crate::value_rules::{Chooser, add_blanked_ids, push_spots};
 use crate::walking::{Pass, walk_pairs};
 use dap_compare::Which;
 use dap_diff::StoredEntry;
@@ -18,10 +18,18 @@ use dap_input::Limits;
 use std::alloc::{AllocError, Global};
 use std::collections::BTreeSet;
 
+/// The rules that a search finds.
+#[derive(Drop)]
+pub struct FoundRules {
+    pub text: Vec<u8>,
+    /// The lines of it that blank ids of which some occur twice.
+    pub blanked_ids: BTreeSet<Vec<u8>>,
+}
+
 /// The rules that a search finds, and the records for which it finds none.
 #[derive(Drop)]
 struct Found {
-    rules: Vec<u8>,
+    rules: FoundRules,
     remaining: Remaining,
 }
 
@@ -114,7 +122,12 @@ impl Search<'_> {
         self.pairs.number(sessions)?;
         self.order.search(&mut self.pairs)?;
         self.choose()?;
-        self.write(&mut found.rules)?;
+        self.write(&mut found.rules.text)?;
+        add_blanked_ids(
+            self.chooser.alloc,
+            &self.spots,
+            &mut found.rules.blanked_ids,
+        )?;
         self.add_failed(&mut found.remaining)
     }
 }
@@ -153,9 +166,9 @@ fn search_sessions(
     requires { AreSound inputs.now.limits }
 {
     for (name, counted) in events.iter() {
-        counted.push_drops(alloc, name.as_str(), &mut found.rules)?;
+        counted.push_drops(alloc, name.as_str(), &mut found.rules.text)?;
     }
-    let before = joined(alloc, inputs.given, found.rules.as_slice())?;
+    let before = joined(alloc, inputs.given, found.rules.text.as_slice())?;
     let chooser = Chooser {
         alloc,
         before: before.as_slice(),
@@ -181,11 +194,14 @@ pub fn rules_for(
     before: &[u8],
     sessions: Sessions,
     events: &EventsByName,
-) -> Result<Vec<u8>, Unsolved>
+) -> Result<FoundRules, Unsolved>
     requires { AreSound inputs.now.limits }
 {
     let mut found = Found {
-        rules: Vec::from_slice(alloc, before)?,
+        rules: FoundRules {
+            text: Vec::from_slice(alloc, before)?,
+            blanked_ids: BTreeSet::new(alloc),
+        },
         remaining: Remaining::new(alloc),
     };
     search_sessions(alloc, inputs, &sessions, events, &mut found)?;

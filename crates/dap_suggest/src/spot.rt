@@ -1,6 +1,7 @@
 //! A place at which pairs differ, what the candidates do there, and the rules that are chosen.
 use crate::candidates::{Actions, BLANK, only};
 use crate::guarded::hidden_at;
+use crate::repeats::Repeats;
 use crate::tallies::{Different, Tally};
 use std::alloc::{AllocError, Global};
 use std::collections::BTreeMap;
@@ -176,6 +177,18 @@ impl Spot {
     /// Returns whether the values of all elements are blanked.
     pub fn is_blanked(&self) -> bool {
         self.actions() & BLANK != 0
+    }
+
+    /// Returns whether all different values to which a rule applies can be ids, and some occur
+    /// twice.
+    pub fn have_ids(&self, alloc: Global, rule: &Rule) -> Result<bool, AllocError> {
+        let mut all = Repeats::new(alloc);
+        for (scope, tally) in self.tallies.iter().enumerate() {
+            if rule.applies(scope) {
+                all.add_all(&tally.repeats)?;
+            }
+        }
+        Ok(all.have_ids())
     }
 
     /// Returns the comment that shows the first pair that a rule makes equal.

@@ -39,7 +39,7 @@ fn find_by(
     ensures { IfOk result (IsSuggestion inputs.now) }
 {
     let rules = rules_for(alloc, inputs, before, sessions, events)?;
-    confirm_labelled(alloc, inputs, rules.as_slice())
+    confirm_labelled(alloc, inputs, &rules)
 }
 
 /// Searches and confirms rules by events of one category, or by all events of a name, if no rules
@@ -250,8 +250,8 @@ fn suggest_by(
 /// except for labels with which the recordings differ.
 ///
 /// Each rule follows a comment with the two values and their records, and with the number of equal
-/// values that it also hides. If it has a label, the comment says that it keeps which ids are equal.
-/// The last line says in which mode the recordings are the same:
+/// values that it also hides. If it has a label, the comment says that it keeps which ids are
+/// equal. The last line says in which mode the recordings are the same:
 /// `# with these rules: same`, or `# with these rules and per-stop: same`. It also counts the rules
 /// that hide what a test looks at, each of which follows a comment that starts with `# CHECK`.
 ///

@@ -1,5 +1,6 @@
 //! Counts what the candidates do to the pairs of values at one place.
 use crate::candidates::{Actions, Candidates};
+use crate::repeats::Repeats;
 use std::alloc::{AllocError, Global};
 use std::collections::BTreeMap;
 
@@ -20,6 +21,8 @@ pub struct Tally {
     equal: BTreeMap<Actions, u64>,
     /// The pairs that differ, by the candidates that make them equal.
     different: BTreeMap<Candidates, Different>,
+    /// Those pairs again, to find ids among them.
+    pub repeats: Repeats,
 }
 
 impl Tally {
@@ -27,6 +30,7 @@ impl Tally {
         Tally {
             equal: BTreeMap::new(alloc),
             different: BTreeMap::new(alloc),
+            repeats: Repeats::new(alloc),
         }
     }
 

@@ -7,6 +7,7 @@ use crate::spot::{ALL, Rule, Spot, actions_in};
 use crate::spots::Spots;
 use crate::words::{json_of_text, parts_of, push_parts};
 use std::alloc::{AllocError, Global};
+use std::collections::BTreeSet;
 
 /// Appends the line of each action.
 fn push_lines(actions: Actions, target: &[u8], out: &mut Vec<u8>) -> Result<(), AllocError> {
@@ -62,6 +63,23 @@ pub fn push_spots(alloc: Global, spots: &Spots, out: &mut Vec<u8>) -> Result<(),
         if !spots.is_hidden(target.as_slice()) {
             for index in 0..spot.rules.len() {
                 push_rule(alloc, target.as_slice(), spot, index, out)?;
+            }
+        }
+    }
+    Ok(())
+}
+
+/// Adds the lines that blank ids of which some occur twice.
+pub fn add_blanked_ids(
+    alloc: Global,
+    spots: &Spots,
+    lines: &mut BTreeSet<Vec<u8>>,
+) -> Result<(), AllocError> {
+    for (target, spot) in spots.by_target.iter() {
+        for rule in spot.rules.iter() {
+            if rule.actions == BLANK && spot.have_ids(alloc, rule)? {
+                let target = target_in(alloc, target.as_slice(), spot, rule.scope)?;
+                let _ = lines.insert(parts_of(alloc, &[b"blank  ", target.as_slice()])?)?;
             }
         }
     }

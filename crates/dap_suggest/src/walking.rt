@@ -98,6 +98,7 @@ impl Walker<'_> {
         let Some(tally) = spot.tallies.get_mut(scope) else {
             return Ok(());
         };
+        tally.repeats.add(self.alloc, a, b)?;
         let mut comment = Vec::new(self.alloc);
         if !tally.has(candidates) {
             push_values(self.alloc, &self.pair, a, b, &mut comment)?;
