@@ -32,8 +32,8 @@ module _ (limits : Limits) (mask : Option Mask) (request : GoldenRequest) (input
     pub is_written : IsWrittenAs limits (mode_given mask request.mode) request.form
         text.bytes.items bytes
 
-  -- The input does not have a golden file, for this reason: it has no golden text, or the file would
-  -- be too long. Or an allocation failed.
+  -- The input does not have a golden file, for this reason: it has no golden text, or the file
+  -- would be too long. Or an allocation failed.
   abbrev pub HasNoFile : GoldenStop → Type 0
   HasNoFile (stop.Input refused) =
       IsRefusedGolden limits (mode_given mask request.mode) mask request.allow_open input refused

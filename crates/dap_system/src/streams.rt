@@ -28,8 +28,8 @@ impl Read for InputStream {
 }
 
 /// A stream of which the first bytes were read, to see whether it is a transcript. It gives these
-/// bytes, and then the rest. If the next read reported an error or the end, it gives that first: the
-/// end of a terminal is not read again.
+/// bytes, and then the rest. If the next read reported an error or the end, it gives that first:
+/// the end of a terminal is not read again.
 #[derive(Drop)]
 pub(crate) struct Begun<R> {
     head: ArrayVec<u8, HEAD>,

@@ -78,8 +78,8 @@ impl<'a> System<'a> {
         Ok((file, is_file))
     }
 
-    /// Reads an input that starts like a transcript, and returns its recording as an input. It stores
-    /// the bytes of the recording that are read, if `is_kept`.
+    /// Reads an input that starts like a transcript, and returns its recording as an input. It
+    /// stores the bytes of the recording that are read, if `is_kept`.
     fn transcript<R: Read + Drop>(
         &self,
         input: R,

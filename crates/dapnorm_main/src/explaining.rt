@@ -241,8 +241,8 @@ fn place_of_difference(rt: &HostRuntime, run: &SystemRun<'_>) -> Option<String> 
 }
 
 /// Explains why a command did not finish, and reports the reasons of files that failed. If rejected
-/// inputs are explained, that says if one is a trace. If the command finished, reports at which line
-/// of a golden transcript the session differs.
+/// inputs are explained, that says if one is a trace. If the command finished, reports at which
+/// line of a golden transcript the session differs.
 pub fn explain_run(rt: &HostRuntime, request: &Request<'_>, run: &SystemRun<'_>, explains: bool) {
     let Err(why) = &run.outcome else {
         print(rt, place_of_difference(rt, run));
