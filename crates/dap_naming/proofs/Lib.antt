@@ -33,3 +33,4 @@ pub mod FlatRules
 pub mod TableNames
 pub mod Joining
 pub mod JointNaming
+pub mod Literals

@@ -66,7 +66,7 @@ module _ (label : List ℕ) (form : Form) where
       ∙ by_nothing (is_nothing (value label form t)) (value label form t)
       (ids_of_parts label form ps) (ids_of_parts label form qs)
 
-  part_ids-append : (ps qs : List Part)
+  pub part_ids-append : (ps qs : List Part)
       → part_ids label form (ps ++ qs) ≡ part_ids label form ps ++ part_ids label form qs
   part_ids-append ps qs =
       ap (labelled label) (ids-append ps qs)

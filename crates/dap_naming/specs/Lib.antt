@@ -9,3 +9,4 @@ pub mod Sessions
 pub mod SessionLaws
 pub mod Absence
 pub mod Joint
+pub mod Literals

@@ -1,11 +1,12 @@
 //! Names in the place of the ids of a string.
 ghost use Rattle.std.specs.Prelude.{◌≡◌, ◌∷◌, ◌++◌, [], true, false, IfOk, OnOk, string_bytes};
-ghost use Rattle.std.specs.Prelude.{take, drop};
+ghost use Rattle.std.specs.Prelude.{length, take, drop};
 ghost use Rattle.dap_tokens.specs.Tokens.{is_label, token, parts, parts_from};
 ghost use Rattle.dap_tokens.specs.Naming.{ids, named};
 ghost use Rattle.dap_naming.specs.Documents.{labelled};
 ghost use Rattle.dap_naming.specs.Known.{Names, Writes, FitsLimit, ExceedsLimit, limit_of};
 ghost use Rattle.dap_naming.specs.Known.{ByTable, part_ids};
+ghost use Rattle.dap_naming.specs.Literals.{literal_run, may_begin};
 
 use crate::fault::NamingFault;
 use crate::value_numbers::ValueNumbers;
@@ -57,7 +58,7 @@ fn name_bytes(
         → ExceedsLimit numbers.old (part_ids label.now form (parts label.now form text.now)) }
     ensures limit { limit_of numbers.new ≡ limit_of numbers.old }
 {
-    let mut named = Vec::new(alloc);
+    let mut named = Vec::with_capacity(alloc, text.len())?;
     match form {
         Form::Whole => {
             name_token(alloc, numbers, label, form, text, &mut named)?;
@@ -91,6 +92,14 @@ fn name_parts(
     let mut rest = text;
     let mut after_digit = false;
     'parts: while let Some((first, others)) = rest.split_first() {
+        let run = literal_run(form, rest);
+        if run > 0 {
+            let (literal, others) = split_part(rest, run);
+            named.extend_from_slice(literal)?;
+            after_digit = false;
+            rest = others;
+            continue 'parts;
+        }
         let length = part_length(label, form, after_digit, rest);
         if length == 0 {
             push(*first, named)?;
@@ -104,6 +113,27 @@ fn name_parts(
         }
     }
     Ok(())
+}
+
+// Returns the number of bytes at the start with which no name and no token of the form starts.
+fn literal_run(form: Form, text: &[u8]) -> usize
+    ensures { result ≡ length (literal_run form text.now) }
+{
+    text.iter()
+        .take_while(|byte| !may_begin(form, **byte))
+        .count()
+}
+
+// Returns whether a name or a token of the form can start with the byte.
+fn may_begin(form: Form, byte: u8) -> bool
+    ensures { result ≡ may_begin form byte }
+{
+    match form {
+        Form::Whole => true,
+        Form::Digits => byte == b'<' || byte.is_ascii_digit(),
+        Form::Hex => byte == b'<' || byte == b'0',
+        Form::Long | Form::Uuid => byte == b'<' || byte.is_ascii_hexdigit(),
+    }
 }
 
 // Returns the first `length` bytes, and the bytes after them.

@@ -7,8 +7,8 @@ pub returns-in_ok-name_token-in-Whole-clause-writes :
     goal.returns-in_ok-name_token-in-Whole-clause-writes
 returns-in_ok-name_token-in-Whole-clause-writes c =
     write_whole c.args.label.now c.args.form c.args.numbers.now c.name_token.new.numbers
-    c.args.text.now c.new-named.result.items c.name_token.new.named.items c.in-Whole.is
-    c.new-named.ensures.items c.in_ok-name_token-in-Whole.ensures.writes
+    c.args.text.now c.in_ok-named.named.items c.name_token.new.named.items c.in-Whole.is
+    c.in_ok-named.ensures.items c.in_ok-name_token-in-Whole.ensures.writes
 
 pub returns-in_ok-name_token-in-Whole-clause-few :
     goal.returns-in_ok-name_token-in-Whole-clause-few
@@ -21,8 +21,8 @@ pub returns-in_ok-name_parts-in_default-clause-writes :
     goal.returns-in_ok-name_parts-in_default-clause-writes
 returns-in_ok-name_parts-in_default-clause-writes c =
     write_parts c.args.label.now c.args.form c.args.numbers.now c.name_parts.new.numbers
-    c.args.text.now c.new-named.result.items c.name_parts.new.named.items c.in_default.not-Whole
-    c.new-named.ensures.items c.in_ok-name_parts-in_default.ensures.writes
+    c.args.text.now c.in_ok-named.named.items c.name_parts.new.named.items c.in_default.not-Whole
+    c.in_ok-named.ensures.items c.in_ok-name_parts-in_default.ensures.writes
 
 pub returns-in_ok-name_parts-in_default-clause-few :
     goal.returns-in_ok-name_parts-in_default-clause-few
