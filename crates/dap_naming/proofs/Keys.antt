@@ -4,7 +4,8 @@ use Rattle.std.proofs.Common.{◌∷◌, Option, refl, ap, sym, ◌∙◌, arith
 use Rattle.std.specs.Str.{bytes_eq}
 use Rattle.std.specs.declared.alloc.Global.{Global}
 use Rattle.std.specs.declared.vec.Vec.{Vec}
-use Rattle.std.proofs.Common.{subst, true≢false}
+use Rattle.std.proofs.Common.{subst, true≢false, ◌++◌, reverse}
+use Rattle.std.proofs.lemmas.List.{reverse-reverse}
 use Rattle.std.specs.BTreeMap.{BTreeMap, Updates, get_by}
 use Rattle.std.specs.Map.{KeepsOthers, IsKeyTest, AreApart, lookup}
 use Rattle.std.proofs.lemmas.Cmp.{eq_by_cmp_equiv, nat_list_cmp_total}
@@ -28,8 +29,12 @@ and_assoc : (a b c : Bool) → ((a && b) && c) ≡ (a && (b && c))
 and_assoc true b c = refl
 and_assoc false b c = refl
 
+-- a key before it is reversed
+abbrev forward : List ℕ → List ℕ → List ℕ
+forward l v = l ++ 32 ∷ v
+
 same_keys : (l m v w : List ℕ) → all_of is_of_label l ≡ true → all_of is_of_label m ≡ true
-    → bytes_eq (key l v) (key m w) ≡ (bytes_eq l m && bytes_eq v w)
+    → bytes_eq (forward l v) (forward m w) ≡ (bytes_eq l m && bytes_eq v w)
 same_keys [] [] v w h k = refl
 same_keys [] (b ∷ m) v w h k = rw (not_blank b (first_of_both _ _ k)) refl
 same_keys (a ∷ l) [] v w h k = rw (not_blank_too a (first_of_both _ _ h)) refl
@@ -37,13 +42,26 @@ same_keys (a ∷ l) (b ∷ m) v w h k =
     ap (λ t. eqb a b && t) (same_keys l m v w (second_of_both _ _ h) (second_of_both _ _ k))
     ∙ sym (and_assoc (eqb a b) (bytes_eq l m) (bytes_eq v w))
 
+back : (xs ys : List ℕ) → reverse xs ≡ reverse ys → xs ≡ ys
+back xs ys e = sym (reverse-reverse xs) ∙ ap reverse e ∙ reverse-reverse ys
+
+both_reversed : (xs ys : List ℕ) → bytes_eq (reverse xs) (reverse ys) ≡ bytes_eq xs ys
+both_reversed xs ys =
+    by_bool (bytes_eq xs ys)
+    (λ e. bytes_same (reverse xs) (reverse ys) (ap reverse (same_bytes xs ys e)) ∙ sym e)
+    (λ e. by_bool (bytes_eq (reverse xs) (reverse ys))
+    (λ f. absurd (true≢false
+    (sym (bytes_same xs ys (back xs ys (same_bytes (reverse xs) (reverse ys) f))) ∙ e)))
+    (λ f. f ∙ sym e))
+
 pub of_label : (l : List ℕ) → is_label l ≡ true → all_of is_of_label l ≡ true
 of_label [] h = refl
 of_label (b ∷ l) h = second_of_both _ _ h
 
 pub bytes_eq-key : (l m v w : List ℕ) → is_label l ≡ true → is_label m ≡ true
     → bytes_eq (key l v) (key m w) ≡ (bytes_eq l m && bytes_eq v w)
-bytes_eq-key l m v w h k = same_keys l m v w (of_label l h) (of_label m k)
+bytes_eq-key l m v w h k =
+    both_reversed (forward l v) (forward m w) ∙ same_keys l m v w (of_label l h) (of_label m k)
 
 other_entries : {K X : Type 0} (eq : K → K → Bool) (test : K → Bool) (old new : List (K × X))
     → KeepsOthers eq test old new → (other : K → Bool) → IsKeyTest eq other → AreApart test other

@@ -1,6 +1,6 @@
 -- The numbers of values as `ValueNumbers` holds them.
 use Rattle.std.specs.Prelude.{◌≡◌, ℕ, ◌<◌, ◌≤◌, Bool, true, false, cond, List, ◌∷◌, ◌++◌, length}
-use Rattle.std.specs.Prelude.{Option, Some, None, unwrap_or, bytes_eq}
+use Rattle.std.specs.Prelude.{Option, Some, None, unwrap_or, bytes_eq, reverse}
 use Rattle.std.specs.List.{list_any}
 use Rattle.std.specs.BTreeMap.{get_by, get_by_text}
 use Rattle.std.specs.Cmp.Lexicographic.{slice_cmp}
@@ -13,9 +13,9 @@ use Rattle.dap_naming.specs.Numbers.{Id, Numbering, distinct, number}
 use Rattle.dap_naming.specs.Sessions.{AreFew, HasTooMany}
 use Rattle.dap_naming.specs.declared.value_numbers.ValueNumbers.{ValueNumbers}
 
--- The key of a value: its label, a blank, and the value. A label contains no blank.
+-- The key of a value: its label, a blank, and the value, in reverse. A label contains no blank.
 abbrev pub key : List ℕ → List ℕ → List ℕ
-key label v = label ++ 32 ∷ v
+key label v = reverse (label ++ 32 ∷ v)
 
 -- The number at a key.
 abbrev pub number_at : ValueNumbers → List ℕ → Option ℕ

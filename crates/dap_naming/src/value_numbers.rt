@@ -12,7 +12,8 @@ use std::mem;
 /// limit, which is at most 2,147,483,647.
 #[derive(Drop)]
 pub struct ValueNumbers {
-    // The number at each key: the label, a blank, and the value.
+    // The number at each key: the label, a blank, and the value, in reverse. Most values differ in
+    // their last digits, so two keys are compared by few bytes.
     numbers: BTreeMap<Vec<u8>, u64>,
     // The count of the values of each label.
     counts: BTreeMap<String, u64>,
@@ -125,9 +126,11 @@ impl ValueNumbers {
     pub(crate) fn key(alloc: Global, label: &str, value: &[u8]) -> Result<Vec<u8>, AllocError>
         ensures { IfOk result (λ k. k.items ≡ key label.now value.now) }
     {
-        let mut key = Vec::from_slice(alloc, label.as_bytes())?;
+        let mut key = Vec::with_capacity(alloc, label.len() + 1 + value.len())?;
+        key.extend_from_slice(label.as_bytes())?;
         key.push(b' ')?;
         key.extend_from_slice(value)?;
+        key.reverse();
         Ok(key)
     }
 }
