@@ -1,8 +1,8 @@
 -- The rules for the parts of a value.
 use Rattle.std.proofs.Common.{◌≡◌, ℕ, suc, ◌+◌, ◌<◌, ◌≤◌, Bool, true, false, cond}
-use Rattle.std.proofs.Common.{List, [], ◌∷◌, ◌++◌, length, Some, refl, ap, sym}
+use Rattle.std.proofs.Common.{List, [], ◌∷◌, ◌++◌, length, Option, Some, None, refl, ap, sym}
 use Rattle.std.proofs.Common.{◌∙◌, arith, append_assoc, drop, get_or, add-one, drop-cons, ◌==◌}
-use Rattle.std.proofs.Common.{◌*◌, true≢false}
+use Rattle.std.proofs.Common.{◌*◌, ◌&&◌, true≢false}
 use Rattle.std.proofs.lemmas.List.{length-map}
 use Rattle.std.proofs.lemmas.Bool.Decides.{nat_tests}
 use Rattle.dap_mask.specs.Rules.{place_of}
@@ -14,7 +14,7 @@ use Rattle.dap_naming.specs.declared.rules.Declared.{Declared as ReadDeclared}
 use Rattle.dap_naming.specs.Documents.{Declared, after_first, after_step, is_here, here, below}
 use Rattle.dap_naming.specs.Documents.{inside, is_to_member, is_to_element}
 use Rattle.dap_naming.specs.DeclaredRules.{have_labels, with_place, after_if, HasLabel}
-use Rattle.dap_naming.specs.DeclaredRules.{declared_of, rules_of}
+use Rattle.dap_naming.specs.DeclaredRules.{declared_of, is_only_member, rules_of}
 use Rattle.dap_naming.proofs.Lists.{by_bool, first_of_both, second_of_both}
 
 -- ---- one more rule
@@ -136,6 +136,51 @@ pub here_step : (rs : List ReadDeclared) (i : ℕ) (r : ReadDeclared)
 here_step rs i r e h =
     sym (ap (λ ts. here (rules_of ts)) e
     ∙ ap (λ b. cond b (Some (r.form, r.label.now)) (here (rules_of (drop (i + 1) rs)))) h)
+
+-- the step to a member is the last
+abbrev pub is_last : Option (List RuleStep) → Bool
+is_last None = false
+is_last (Some steps) = is_here steps
+
+pub only_member : (k : List ℕ) (steps : List RuleStep) (left : Option (List RuleStep))
+    → left ≡ after_if (is_to_member k steps) steps → is_last left ≡ is_only_member k steps
+only_member k steps left e =
+    by_bool (is_to_member k steps)
+    (λ to. ap is_last (e ∙ ap (λ b. after_if b steps) to)
+    ∙ sym (ap (λ b. b && is_here (after_first steps)) to))
+    (λ to. ap is_last (e ∙ ap (λ b. after_if b steps) to)
+    ∙ sym (ap (λ b. b && is_here (after_first steps)) to))
+
+-- the rules for a member, after a rule that is not for its value
+module _ (k : List ℕ) (rs : List ReadDeclared) (i : ℕ) (r : ReadDeclared)
+    (is : drop i rs ≡ r ∷ drop (i + 1) rs) where
+  abbrev rest : List Declared
+  rest = below k (rules_of (drop (i + 1) rs))
+
+  abbrev first : Declared
+  first = declared_of r
+
+  next_below : below k (rules_of (drop i rs))
+      ≡ cond (is_to_member k first.place) (after_step first ∷ rest) rest
+  next_below = ap (λ ts. below k (rules_of ts)) is
+
+  pub first_below : is_only_member k (place_of r.place.now) ≡ true
+      → here (below k (rules_of (drop i rs))) ≡ Some (r.form, r.label.now)
+  first_below only =
+      let to : is_to_member k first.place ≡ true = first_of_both _ _ only in
+      let last : is_here (after_first first.place) ≡ true = second_of_both _ _ only in
+      ap here (next_below ∙ ap (λ b. cond b (after_step first ∷ rest) rest) to)
+      ∙ ap (λ b. cond b (Some (r.form, r.label.now)) (here rest)) last
+
+  pub not_below : is_only_member k (place_of r.place.now) ≡ false
+      → here rest ≡ here (below k (rules_of (drop i rs)))
+  not_below other =
+      sym (ap here next_below
+      ∙ by_bool (is_to_member k first.place)
+      (λ to. ap (λ b. here (cond b (after_step first ∷ rest) rest)) to
+      ∙ ap (λ b. cond b (Some (r.form, r.label.now)) (here rest))
+      (sym (ap (λ b. b && is_here (after_first first.place)) to) ∙ other))
+      (λ to. ap (λ b. here (cond b (after_step first ∷ rest) rest)) to))
 
 pub place_here : (steps : List ReadStep) → is_here (place_of steps) ≡ (length steps == 0)
 place_here [] = refl

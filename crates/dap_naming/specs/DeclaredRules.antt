@@ -5,7 +5,7 @@ use denote.Ref.{Bor}
 use Rattle.dap_tokens.specs.declared.form.Form.{Form}
 use Rattle.dap_mask.specs.{Rules.place_of, RuleSteps.RuleStep}
 use Rattle.dap_tokens.specs.Tokens.{is_label}
-use Rattle.dap_naming.specs.Documents.{Declared, after_first}
+use Rattle.dap_naming.specs.Documents.{Declared, after_first, is_here, is_to_member}
 use Rattle.dap_naming.specs.declared.rules.Declared.{Declared as ReadDeclared}
 
 abbrev pub declared_of : ReadDeclared → Declared
@@ -39,3 +39,7 @@ with_place r (Some steps) = record { place = steps; form = r.form; label = r.lab
 -- The steps after the first one, if the test holds.
 abbrev pub after_if : Bool → List RuleStep → Option (List RuleStep)
 after_if b steps = cond b (Some (after_first steps)) None
+
+-- The place is the value of the member of this name.
+abbrev pub is_only_member : List ℕ → List RuleStep → Bool
+is_only_member k steps = is_to_member k steps && is_here (after_first steps)

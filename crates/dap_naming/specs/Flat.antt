@@ -10,7 +10,7 @@ use Rattle.dap_flat.specs.Pieces.{members_pieces, Represents}
 use Rattle.dap_flat_message.specs.Marking.{Replaced}
 use Rattle.dap_mask.specs.{Declarations.Declaration, Index.asks_for}
 use Rattle.dap_mask.specs.RuleSteps.{RuleStep, named as to_member, elements}
-use Rattle.dap_naming.specs.Documents.{Declared, after_step, ids_of, items_ids, members_ids}
+use Rattle.dap_naming.specs.Documents.{Declared, after_step, here, ids_of, items_ids, members_ids}
 use Rattle.dap_naming.specs.Documents.{ids_of_whole, named_doc, named_items, named_members}
 use Rattle.dap_naming.specs.Documents.{named_whole}
 use Rattle.dap_naming.specs.Known.{FitsLimit, Names}
@@ -132,7 +132,12 @@ abbrev pub NamesLeaf : List Declared → ValueNumbers → ValueNumbers → Piece
 NamesLeaf rs old new p q = (d : Doc) × (p ≡ leaf d) × (e : Doc) × (q ≡ leaf e)
     × NamesWithin old new (ids_of rs d) (λ number. e ≡ named_doc rs number d)
 
--- The byte is the first of a name, `<`, or the second of a hexadecimal number, `x` or `X` after `0`.
+-- The property holds for all lists of rules that declare a value itself like this.
+abbrev pub WithRule : Option (Form × List ℕ) → (List Declared → Type 0) → Type 0
+WithRule rule P = (rs : List Declared) → rule ≡ here rs → P rs
+
+-- The byte is the first of a name, `<`, or the second of a hexadecimal number, `x` or `X` after
+-- `0`.
 abbrev pub is_sign : Bool → ℕ → Bool
 is_sign after_zero b = (b == 60) || (after_zero && ((b == 120) || (b == 88)))
 

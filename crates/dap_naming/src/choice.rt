@@ -4,7 +4,7 @@ ghost use Rattle.dap_tree.specs.View.{view};
 ghost use Rattle.dap_mask.specs.{Rules.place_of, RuleSteps.is_called};
 ghost use Rattle.dap_naming.specs.Documents.{here, below, inside, is_to_member, is_to_element};
 ghost use Rattle.dap_naming.specs.DeclaredRules.{declared_of, rules_of, declared_as, with_place};
-ghost use Rattle.dap_naming.specs.DeclaredRules.{after_if};
+ghost use Rattle.dap_naming.specs.DeclaredRules.{after_if, is_only_member};
 
 use crate::rules::Declared;
 use dap_mask::Step;
@@ -22,6 +22,28 @@ pub(crate) fn here<'r>(rules: &[Declared<'r>]) -> Option<(Form, &'r str)>
         }
     }
     None
+}
+
+/// Returns what the value of the member of this name is declared as, by the first rule for it.
+pub(crate) fn here_below<'r>(rules: &[Declared<'r>], name: &str) -> Option<(Form, &'r str)>
+    ensures { declared_as result ≡ here (below name.now (rules_of rules.now)) }
+{
+    for rule in rules {
+        if is_only_member(rule.place, name) {
+            return Some((rule.form, rule.label));
+        }
+    }
+    None
+}
+
+// Returns whether the place is the value of the member of this name.
+fn is_only_member(place: &[Step], name: &str) -> bool
+    ensures { result ≡ is_only_member name.now (place_of place.now) }
+{
+    match after_member(place, name) {
+        Some(rest) => rest.is_empty(),
+        None => false,
+    }
 }
 
 /// Returns the rules for the member of this name.

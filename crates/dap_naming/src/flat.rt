@@ -6,15 +6,15 @@ ghost use Rattle.dap_tree.specs.Doc.{whole};
 ghost use Rattle.dap_flat.specs.Pieces.{piece_of, end_list, leaf};
 ghost use Rattle.dap_mask.specs.Declarations.{are_declared, declarations_of};
 ghost use Rattle.dap_naming.specs.DeclaredRules.{declared_as, have_labels, rules_of, HasLabel};
-ghost use Rattle.dap_naming.specs.Documents.{ids_of_text, labelled, named_text};
+ghost use Rattle.dap_naming.specs.Documents.{below, ids_of_text, labelled, named_text};
 ghost use Rattle.dap_naming.specs.Flat.{FitsNodes, NamesNodes, NoneApply, NamesValue, NamesItems};
-ghost use Rattle.dap_naming.specs.Flat.{NamesMembers, NamesLeaf, NamesWhole, NamesWithin};
+ghost use Rattle.dap_naming.specs.Flat.{NamesMembers, NamesLeaf, NamesWhole, NamesWithin, WithRule};
 ghost use Rattle.dap_naming.specs.Flat.{is_sign, may_have_hex, may_have_tokens};
 ghost use Rattle.dap_naming.specs.Known.{limit_of};
 
-use crate::choice::{below, here};
+use crate::choice::{below, here, here_below};
 use crate::fault::NamingFault;
-use crate::flat_rules::{asked_name, flat_rules, inside_named};
+use crate::flat_rules::{element_name, flat_rules, inside_named, name_elements};
 use crate::rules::Declared;
 use crate::texts::name_text;
 use crate::trees::named_whole;
@@ -94,7 +94,7 @@ fn name_value<'a>(
     match nodes[at] {
         Node::List(_) => name_items(numbers, nodes, at + 1, rules, memory),
         Node::Object(_) => name_members(numbers, nodes, at + 1, rules, memory),
-        _ => name_leaf(numbers, nodes, at, rules, memory),
+        _ => name_leaf(numbers, nodes, at, here(rules), memory),
     }
 }
 
@@ -113,15 +113,20 @@ fn name_items<'a>(
         (NamesItems (rules_of rules.now) numbers.old numbers.new nodes.old nodes.new from) }
     ensures limit { limit_of numbers.new ≡ limit_of numbers.old }
 {
+    let named = name_elements(rules);
+    let each = inside_named(memory.alloc, rules, None)?;
     let mut p = from;
     while p < nodes.len() {
         if is_end(nodes[p]) {
             return Ok(());
         }
         let end = value_end(nodes, p).ok_or(Unclear)?;
-        let name = asked_name(nodes, p, rules)?;
-        let left = inside_named(memory.alloc, rules, name)?;
-        name_value(numbers, nodes, p, &left, memory)?;
+        if named {
+            let left = inside_named(memory.alloc, rules, element_name(nodes, p)?)?;
+            name_value(numbers, nodes, p, &left, memory)?;
+        } else {
+            name_value(numbers, nodes, p, &each, memory)?;
+        }
         p = end;
     }
     Err(Unread::Unclear)
@@ -157,8 +162,7 @@ fn name_members<'a>(
         match nodes[p] {
             Node::Name(name) => {
                 let end = value_end(nodes, p + 1).ok_or(Unclear)?;
-                let left = below(memory.alloc, rules, name)?;
-                name_value(numbers, nodes, p + 1, &left, memory)?;
+                name_member(numbers, nodes, p + 1, name, rules, memory)?;
                 p = end;
             }
             Node::EndObject => return Ok(()),
@@ -168,20 +172,47 @@ fn name_members<'a>(
     Err(Unread::Unclear)
 }
 
-fn name_leaf<'a>(
+// Names the value of a member of this name, which starts at `at`.
+#[cycle(name_value)]
+fn name_member<'a>(
     numbers: &mut ValueNumbers,
     nodes: &mut [Node<'a>],
     at: usize,
+    name: &str,
     rules: &[Declared<'_>],
     memory: Memory<'a>,
 ) -> Result<(), Unread>
     requires labels { have_labels (rules_of rules.now) ≡ true }
+    requires some { 0 < length rules.now }
     requires within { at < length nodes.old }
-    ensures names { OnOk result
-        (NamesValue (rules_of rules.now) numbers.old numbers.new nodes.old nodes.new at) }
+    ensures names { OnOk result (NamesValue (below name.now (rules_of rules.now))
+        numbers.old numbers.new nodes.old nodes.new at) }
     ensures limit { limit_of numbers.new ≡ limit_of numbers.old }
 {
-    let node = named_node(numbers, nodes[at], rules, memory)?;
+    match nodes[at] {
+        Node::List(_) | Node::Object(_) => {
+            let left = below(memory.alloc, rules, name)?;
+            name_value(numbers, nodes, at, &left, memory)
+        }
+        _ => name_leaf(numbers, nodes, at, here_below(rules, name), memory),
+    }
+}
+
+// Names the value without parts at `at` by this rule.
+fn name_leaf<'a>(
+    numbers: &mut ValueNumbers,
+    nodes: &mut [Node<'a>],
+    at: usize,
+    rule: Option<(Form, &str)>,
+    memory: Memory<'a>,
+) -> Result<(), Unread>
+    requires label { HasLabel (declared_as rule) }
+    requires within { at < length nodes.old }
+    ensures names { OnOk result (WithRule (declared_as rule.entry)
+        (λ rs. NamesValue rs numbers.old numbers.new nodes.old nodes.new at)) }
+    ensures limit { limit_of numbers.new ≡ limit_of numbers.old }
+{
+    let node = named_node(numbers, nodes[at], rule, memory)?;
     nodes[at] = node;
     Ok(())
 }
@@ -191,18 +222,18 @@ fn name_leaf<'a>(
 fn named_node<'a>(
     numbers: &mut ValueNumbers,
     node: Node<'a>,
-    rules: &[Declared<'_>],
+    rule: Option<(Form, &str)>,
     memory: Memory<'a>,
 ) -> Result<Node<'a>, Unread>
-    requires { have_labels (rules_of rules.now) ≡ true }
-    ensures names { IfOk result (λ n. NamesLeaf (rules_of rules.now) numbers.old numbers.new
-        (piece_of node.entry) (piece_of n)) }
+    requires { HasLabel (declared_as rule) }
+    ensures names { IfOk result (λ n. WithRule (declared_as rule.entry)
+        (λ rs. NamesLeaf rs numbers.old numbers.new (piece_of node.entry) (piece_of n))) }
     ensures limit { limit_of numbers.new ≡ limit_of numbers.old }
 {
     match node {
-        Node::Text(text) => Ok(Node::Text(named_text(numbers, text, here(rules), memory)?)),
-        Node::Unsigned(value) => named_integer(numbers, i128::from(value), here(rules), memory),
-        Node::Negative(value) => named_integer(numbers, i128::from(value), here(rules), memory),
+        Node::Text(text) => Ok(Node::Text(named_text(numbers, text, rule, memory)?)),
+        Node::Unsigned(value) => named_integer(numbers, i128::from(value), rule, memory),
+        Node::Negative(value) => named_integer(numbers, i128::from(value), rule, memory),
         Node::Null => Ok(Node::Null),
         Node::Bool(value) => Ok(Node::Bool(value)),
         Node::Id(_, _) => Ok(node),

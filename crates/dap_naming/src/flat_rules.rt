@@ -9,7 +9,6 @@ ghost use Rattle.dap_mask.specs.Declarations.{are_declared, declarations_of};
 ghost use Rattle.dap_mask.specs.FlatMasking.{IsTold, told_category};
 ghost use Rattle.dap_mask.specs.{Index.{asks_for, told_kind, told_name}, Rules.place_of};
 ghost use Rattle.dap_naming.specs.DeclaredRules.{after_if, declared_of, have_labels, rules_of};
-ghost use Rattle.dap_naming.specs.Documents.{inside};
 ghost use Rattle.dap_naming.specs.Flat.{inside_named, is_to_named, names_element};
 ghost use Rattle.dap_naming.specs.Sessions.{rules_for};
 
@@ -120,23 +119,8 @@ fn is_name(asked: &str, name: Option<&str>) -> bool
     }
 }
 
-/// Returns the name of the element that starts at `at`, if it has one and a rule names elements.
-pub(crate) fn asked_name<'a>(
-    nodes: &[Node<'a>],
-    at: usize,
-    rules: &[Declared<'_>],
-) -> Result<Option<&'a str>, Unclear>
-    ensures { IfOk result (λ s. IsTold nodes.now at (λ d. inside d (rules_of rules.now))
-        (inside_named (text_in s) (rules_of rules.now))) }
-{
-    if name_elements(rules) {
-        element_name(nodes, at)
-    } else {
-        Ok(None)
-    }
-}
-
-fn name_elements(rules: &[Declared<'_>]) -> bool
+/// Returns whether some rule is only for the elements with one name.
+pub(crate) fn name_elements(rules: &[Declared<'_>]) -> bool
     ensures { result ≡ list_any (λ r. names_element (declared_of r).place) rules.now }
 {
     rules.iter().any(|rule| names_element(rule))
@@ -149,7 +133,8 @@ fn names_element(rule: &Declared<'_>) -> bool
     matches!(rule.place, [Step::Element(_), ..])
 }
 
-fn element_name<'a>(nodes: &[Node<'a>], at: usize) -> Result<Option<&'a str>, Unclear>
+/// Returns the name of the element that starts at `at`, if it has one.
+pub(crate) fn element_name<'a>(nodes: &[Node<'a>], at: usize) -> Result<Option<&'a str>, Unclear>
     ensures { IfOk result
         (λ s. IsTold nodes.now at (λ d. text_value (get (codes "name") d)) (text_in s)) }
 {

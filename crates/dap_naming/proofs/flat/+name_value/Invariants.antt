@@ -6,13 +6,16 @@ use Rattle.dap_naming.proofs.Choosing.{weight}
 use Rattle.dap_naming.proofs.flat.+name_value.Given as goal
 
 abbrev pub decreases-name_value : goal.decreases-name_value
-decreases-name_value l = 2 * weight (rules_of l.rules.now) + 1
+decreases-name_value l = 3 * weight (rules_of l.rules.now) + 2
 
 abbrev pub decreases-name_items : goal.decreases-name_items
-decreases-name_items l = 2 * weight (rules_of l.rules.now)
+decreases-name_items l = 3 * weight (rules_of l.rules.now) + 1
 
 abbrev pub decreases-name_members : goal.decreases-name_members
-decreases-name_members l = 2 * weight (rules_of l.rules.now)
+decreases-name_members l = 3 * weight (rules_of l.rules.now) + 1
+
+abbrev pub decreases-name_member : goal.decreases-name_member
+decreases-name_member l = 3 * weight (rules_of l.rules.now)
 
 -- the items so far are named
 abbrev pub invariant-name_items-loop-p : goal.invariant-name_items-loop-p
