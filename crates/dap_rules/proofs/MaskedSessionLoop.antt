@@ -80,7 +80,8 @@ module _ (limits : Limits) (sound : AreSound limits) (mask : Mask) (bytes : List
       count = refl;
       numbered = record { knows = knows; few = none_few limits.ids; limit = limit };
       named_fits = fits_none limits mask;
-      named_count = empty;
+      named_count = omega arith;
+      named_within = omega (arith, empty);
       holds = rw (whole, none) tt;
       ruled = rw (none, unset) tt;
     };

@@ -52,7 +52,7 @@ passed (Some fault) records messages held some is = record {
   refused = is.refused;
 }
 
-no_fault : (fault : Option MessageFault) → is_some fault ≡ false → fault ≡ None
+pub no_fault : (fault : Option MessageFault) → is_some fault ≡ false → fault ≡ None
 no_fault None none = refl
 no_fault (Some fault) none = absurd (true≢false none)
 
@@ -83,6 +83,9 @@ module _ (old new : MaskedSession) (held : Payload) (ruled : Bool) where
     adds = λ records holds.
         subst (λ (s : MaskedSession). Holds s (records ++ held ∷ [])) (sym same)
         (passed old.fault records (messages_of old.messages) held some holds);
+    last = λ none.
+        let unset = ap is_some (ap (λ (s : MaskedSession). s.fault) (sym same) ∙ none) in
+        absurd (true≢false (sym some ∙ unset));
     flags = λ declared none are.
         subst (λ (s : MaskedSession). AreRuled declared (messages_of s.messages) s.ruled.items)
         (sym same) are;
@@ -109,6 +112,12 @@ module _ (old new : MaskedSession) (held : Payload) (ruled : Bool) where
           (subst (AreMessages (records ++ held ∷ [])) (sym longer)
           (messages_push records (messages_of old.messages) held m (read_before records holds)
           is));
+      last = λ unset. record {
+        before = messages_of old.messages;
+        last = m;
+        split = longer;
+        is_message = is;
+      };
       flags = λ declared known are.
           subst (λ (ms : List Sent). AreRuled declared ms new.ruled.items) (sym longer)
           (subst (AreRuled declared (messages_of old.messages ++ m ∷ [])) (sym flags)
@@ -133,6 +142,7 @@ module _ (old new : MaskedSession) (held : Payload) (ruled : Bool) where
             read = subst (AreMessages records) (sym same) (read_before records holds);
             refused = refused;
           });
+      last = λ unset. absurd (true≢false (ap is_some (sym is ∙ unset)));
       flags = λ declared known are.
           subst (λ (ms : List Sent). AreRuled declared ms new.ruled.items) (sym same)
           (subst (AreRuled declared (messages_of old.messages)) (sym flags) are);
@@ -157,6 +167,7 @@ names_of limits mask messages written session was = record {
   numbered = was.numbered;
   fits = was.named_fits;
   count = was.named_count;
+  within = was.named_within;
   holds = was.holds;
   ruled = was.ruled;
 }
@@ -172,6 +183,7 @@ with_names limits mask messages written session fits count names = record {
   numbered = names.numbered;
   named_fits = names.fits;
   named_count = names.count;
+  named_within = names.within;
   holds = names.holds;
   ruled = names.ruled;
 }

@@ -19,11 +19,11 @@ use Rattle.dap_naming.proofs.MoreParts.{no_ids, same_doc}
 use Rattle.dap_naming.proofs.SessionsPlaces.{names_keep_rules, sound_for}
 use Rattle.dap_rename.proofs.Lists.{each-append}
 use Rattle.dap_input.specs.{Limits.AreSound, declared.limits.Limits.Limits}
-use Rattle.dap_normalise.specs.{Accepting.Fits, JudgingSteps.record_of}
+use Rattle.dap_normalise.specs.{Accepting.{Fits, Payload}, JudgingSteps.record_of}
 use Rattle.dap_normalise.specs.JudgingSteps.{Writes as WritesRecord}
 use Rattle.dap_normalise.specs.RecordTexts.{contents_of}
-use Rattle.dap_rules.specs.MaskedSessions.{AddsNamed, AddsNamedIf, AddsRuled, Holds, IsRuled}
-use Rattle.dap_rules.specs.MaskedSessions.{RepresentsNamed}
+use Rattle.dap_rules.specs.MaskedSessions.{AddsNamed, AddsNamedIf, AddsRuled, Holds, IsBoundOf}
+use Rattle.dap_rules.specs.MaskedSessions.{IsLast, IsRuled, RepresentsNamed}
 use Rattle.dap_rules.specs.Naming.{named_text}
 use Rattle.dap_rules.specs.RewritingSteps.{AreNumbered}
 use Rattle.dap_rules.specs.declared.masked_session.MaskedSession.{MaskedSession}
@@ -31,6 +31,7 @@ use Rattle.dap_rules.proofs.FewValues.{few_are_small}
 use Rattle.dap_rules.proofs.NamedRecords.{ids_push, named_next, named_push, named_text_push}
 use Rattle.dap_rules.proofs.NamedRecords.{own_ids}
 use Rattle.dap_rules.proofs.NamedTexts.{named_is_read}
+use Rattle.dap_rules.proofs.RecordLengths.{record_longer}
 
 -- ---- without declarations
 
@@ -101,6 +102,34 @@ module _ (limits : Limits) (declared : List Declaration) (before : List Sent) (m
       named_is_read (rules_for declared m.doc) (number ids) bytes m.doc
       (sound_for declared m.doc are) (few_are_small limits sound ids few_now) read
 
+-- ---- the number of bytes after one more message
+
+-- The content of the message is within the limit. So is `after`, a number of bytes that is at least
+-- the number `before` plus the length of the message's record.
+pub record Counts (limits : Limits) (m : Sent) (before after : ℕ) : Type 0 where
+  pub content : length (text_of m.doc) ≤ limits.frame.content
+  pub more : before + length (record_of m) ≤ after
+  pub within : after ≤ limits.input
+
+-- The length of a written record counts any record whose content is not longer.
+pub longer_counts : (limits : Limits) → AreSound limits → (m : Sent) (e : Doc)
+    → length (text_of m.doc) ≤ length (text_of e) → (k before : ℕ) (old new : List ℕ) (after : ℕ)
+    → WritesRecord limits (record { side = m.side; doc = e }) k before old new (Ok after)
+    → Counts limits m before after
+longer_counts limits sound m e less k before old new after writes =
+    let most : limits.frame.content ≤ 2147483647 = sound.frame.content_high in
+    let short = writes.0 in
+    let long = writes.2 in
+    record {
+      content = omega (arith, less, short);
+      more = omega (
+        arith,
+        long,
+        record_longer m.side (text_of m.doc) (text_of e) less (omega (arith, most, short)),
+      );
+      within = writes.3;
+    }
+
 -- ---- the session after one more message
 
 abbrev pub with_numbers : MaskedSession → ValueNumbers → MaskedSession
@@ -112,14 +141,6 @@ with_bytes session named_bytes = record session { named_bytes = named_bytes }
 module _ (limits : Limits) (declared : List Declaration) (before : List Sent) (m : Sent)
     (session : MaskedSession) (numbers : ValueNumbers)
     (was : RepresentsNamed limits declared before session) where
-  -- The next record can be counted.
-  pub few_bytes : session.named_bytes ≤ limits.input
-  few_bytes =
-      let fits = was.fits in
-      let count = was.count in
-      let whole = fits.whole in
-      omega (arith, count, whole)
-
   -- No declaration applies to the message, which is not added.
   pub unchanged : (P : Numbering → Type 0)
       → Names session.numbers numbers (own_ids declared m.doc) P
@@ -137,6 +158,7 @@ module _ (limits : Limits) (declared : List Declaration) (before : List Sent) (m
         };
         fits = was.fits;
         count = was.count;
+        within = was.within;
         holds = was.holds;
         ruled = was.ruled;
       }
@@ -150,15 +172,15 @@ module _ (limits : Limits) (declared : List Declaration) (before : List Sent) (m
       ∙ map-append (λ (n : Sent). (n.side, text_of n.doc)) (named_sents declared before)
       (named ∷ [])
 
-  module _ (k : ℕ) (old new : List ℕ) (after : ℕ)
-      (writes : WritesRecord limits named k session.named_bytes old new (Ok after)) where
-    next_length : length (named_text declared (before ++ m ∷ []))
-        ≡ session.named_bytes + length (record_of named)
+  module _ (after : ℕ) (counts : Counts limits named session.named_bytes after) where
+    next_length : length (named_text declared (before ++ m ∷ [])) ≤ after
     next_length =
         let count = was.count in
+        let more = counts.more in
         omega (
           arith,
           count,
+          more,
           ap length (named_text_push declared before m),
           length-append (named_text declared before) (record_of named),
         )
@@ -166,14 +188,13 @@ module _ (limits : Limits) (declared : List Declaration) (before : List Sent) (m
     fits_on : Fits limits (named_sents declared (before ++ m ∷ []))
     fits_on =
         let fits = was.fits in
-        let long = writes.2 in
-        let most = writes.3 in
+        let most = counts.within in
         record {
           each = subst (AllByRecursion (λ (n : Sent). length (text_of n.doc)
               ≤ limits.frame.content)) (sym (named_push declared before m))
               (each-append (λ (n : Sent). length (text_of n.doc) ≤ limits.frame.content)
-              (named_sents declared before) (named ∷ []) fits.each (writes.0, tt));
-          whole = omega (arith, next_length, long, most);
+              (named_sents declared before) (named ∷ []) fits.each (counts.content, tt));
+          whole = omega (arith, next_length, most);
         }
 
     module _ (are : are_declared declared ≡ true)
@@ -194,7 +215,8 @@ module _ (limits : Limits) (declared : List Declaration) (before : List Sent) (m
         numbered = subst (AreNumbered limits declared (before ++ m ∷ [])) (sym adds.numbers)
             numbered;
         fits = fits_on;
-        count = writes.2 ∙ sym next_length;
+        count = next_length;
+        within = counts.within;
         holds = subst (Holds longer) (sym contents_push)
             (adds.adds (contents_of (named_sents declared before)) was.holds);
         ruled = adds.flags declared is_ruled was.ruled;
@@ -220,16 +242,15 @@ module _ (limits : Limits) (sound : AreSound limits) (declared : List Declaratio
         are bytes read
 
   pub is_added : limit_of numbers ≡ limit_of session.numbers → (ruled : Bool)
-      → (ruled ≡ false → rules_for declared m.doc ≡ []) → (k after : ℕ) (longer : MaskedSession)
+      → (ruled ≡ false → rules_for declared m.doc ≡ []) → (after : ℕ) (longer : MaskedSession)
       → ((before : List Sent) → RepresentsNamed limits declared before session
       → let n = named_next declared before m in
-      WritesRecord limits n k session.named_bytes [] (record_of n) (Ok after)
+      Counts limits n session.named_bytes after
       × AddsRuled (m.side, text_of n.doc) ruled (with_numbers session numbers) longer)
       → AddsNamed limits declared m session (with_bytes longer after)
-  is_added same ruled off k after longer each before was =
-      let n = named_next declared before m in
+  is_added same ruled off after longer each before was =
       let one = each before was in
-      represents_on limits declared before m session numbers was k [] (record_of n) after one.0 are
+      represents_on limits declared before m session numbers was after one.0 are
       (is_read before was) ruled off
       (numbered_now limits declared before m session.numbers numbers P was.numbered names fit same)
       longer one.1
@@ -257,12 +278,17 @@ module _ (limits : Limits) (sound : AreSound limits) (declared : List Declaratio
       is_named limits sound declared are m bytes read session numbers Show (names m.doc shown)
       (fit m.doc shown)
 
+  content_read : (before : List Sent) → RepresentsNamed limits declared before session
+      → IsRead (text_of (named_next declared before m).doc) (named_next declared before m).doc
+  content_read =
+      is_read limits sound declared are m bytes read session numbers Show (names m.doc shown)
+      (fit m.doc shown)
+
   pub nodes_read : (before : List Sent) → RepresentsNamed limits declared before session
       → ReadsDocument (text_of (named_next declared before m).doc) after
   nodes_read before was = (
     (named_next declared before m).doc,
-    is_read limits sound declared are m bytes read session numbers Show (names m.doc shown)
-        (fit m.doc shown) before was,
+    content_read before was,
     nodes_named before was,
   )
 
@@ -278,24 +304,46 @@ module _ (limits : Limits) (sound : AreSound limits) (declared : List Declaratio
         (off unset m.doc shown))
         ∙ len m.doc shown
 
-    pub nodes_added : (k content_len named_len bytes_after : ℕ)
-        → ((d : Doc) → Represents nodes d → length (text_of d) ≡ content_len)
-        → ((d : Doc) → Represents after d → (ruled ≡ false → length (text_of d) ≡ content_len)
-        → length (text_of d) ≡ named_len)
-        → ((n : Sent) → length (text_of n.doc) ≡ named_len
-        → WritesRecord limits n k session.named_bytes [] (record_of n) (Ok bytes_after))
-        → (longer : MaskedSession)
-        → ((content : List ℕ) → ReadsDocument content after
-        → AddsRuled (m.side, content) ruled (with_numbers session numbers) longer)
-        → AddsNamed limits declared m session (with_bytes longer bytes_after)
-    nodes_added k content_len named_len bytes_after len counted writes longer adds =
-        is_added limits sound declared are m bytes read session numbers Show (names m.doc shown)
-        (fit m.doc shown) same ruled (λ unset. off unset m.doc shown) k bytes_after longer
-        (λ before was.
-        let n = named_next declared before m in (
-          writes n (counted n.doc (nodes_named before was) (nodes_stay before content_len len)),
-          adds (text_of n.doc) (nodes_read before was),
-        ))
+    module _ (longer : MaskedSession)
+        (adds : (content : List ℕ) → ReadsDocument content after
+        → AddsRuled (m.side, content) ruled (with_numbers session numbers) longer) where
+      one_added : (before : List Sent) → RepresentsNamed limits declared before session
+          → AddsRuled (m.side, text_of (named_next declared before m).doc) ruled
+          (with_numbers session numbers) longer
+      one_added before was =
+          adds (text_of (named_next declared before m).doc) (nodes_read before was)
+
+      -- The next record can be counted.
+      pub few_bytes : (before : List Sent) → RepresentsNamed limits declared before session
+          → longer.named_bytes ≤ limits.input
+      few_bytes before was =
+          let one = one_added before was in
+          subst (λ (b : ℕ). b ≤ limits.input) (sym one.named_bytes) was.within
+
+      pub nodes_added : (k content_len counted_len bytes_after : ℕ)
+          → ((d : Doc) → Represents nodes d → length (text_of d) ≡ content_len)
+          → ((held : Payload) (d : Doc) → IsLast held longer → IsRead held.1 d
+          → (ruled ≡ false → length (text_of d) ≡ content_len) → IsBoundOf d counted_len)
+          → ((n : Sent) → length (text_of n.doc) ≡ counted_len
+          → WritesRecord limits n k longer.named_bytes [] (record_of n) (Ok bytes_after))
+          → AddsNamed limits declared m session (with_bytes longer bytes_after)
+      nodes_added k content_len counted_len bytes_after len bounds writes =
+          is_added limits sound declared are m bytes read session numbers Show (names m.doc shown)
+          (fit m.doc shown) same ruled (λ unset. off unset m.doc shown) bytes_after longer
+          (λ before was.
+          let n = named_next declared before m in
+          let one = one_added before was in
+          let is =
+          bounds (m.side, text_of n.doc) n.doc one.last (content_read before was)
+          (nodes_stay before content_len len) in
+          let e = is.longer in
+          let other : Sent = record { side = m.side; doc = e } in
+          let less = subst (λ (b : ℕ). length (text_of n.doc) ≤ b) (sym is.len) is.bound in (
+            subst (λ (b : ℕ). Counts limits n b bytes_after) one.named_bytes
+                (longer_counts limits sound n e less k longer.named_bytes [] (record_of other)
+                bytes_after (writes other is.len)),
+            one,
+          ))
 
     pub nodes_not_added : ruled ≡ false
         → AddsNamedIf limits declared m session (with_numbers session numbers) false
@@ -333,11 +381,12 @@ module _ (limits : Limits) (sound : AreSound limits) (declared : List Declaratio
       → AddsNamed limits declared m session (with_bytes longer bytes_after)
   tree_added ruled off same k bytes_after writes longer adds =
       is_added limits sound declared are m bytes read session numbers Is names fit same ruled
-      (λ unset. ap (λ xs. rules_for xs m.doc) (off unset)) k bytes_after longer
+      (λ unset. ap (λ xs. rules_for xs m.doc) (off unset)) bytes_after longer
       (λ before was.
       let n = named_next declared before m in
       let is = tree_is before was in (
-        writes n (ap (λ d. length (text_of d)) (sym is)),
+        longer_counts limits sound n n.doc (omega arith) k session.named_bytes [] (record_of n)
+            bytes_after (writes n (ap (λ d. length (text_of d)) (sym is))),
         subst (λ d. AddsRuled (m.side, text_of d) ruled (with_numbers session numbers) longer) is
             (adds (text_of e) (tree_read before was)),
       ))

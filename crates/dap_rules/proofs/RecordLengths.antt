@@ -43,7 +43,7 @@ length-record side content =
     let three = length-append (decimal (length content)) (codes "\r\n\r\n") in
     omega (arith, one, two, three)
 
-record_longer : (side : Side) (content other : List ℕ) → length content ≤ length other
+pub record_longer : (side : Side) (content other : List ℕ) → length content ≤ length other
     → length other < 2 ^ 64
     → length (record_text side content) ≤ length (record_text side other)
 record_longer side content other less fits =

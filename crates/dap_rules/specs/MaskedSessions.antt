@@ -1,8 +1,8 @@
 -- The named messages of a masked recording, for private clauses. Source: own.
-use Rattle.std.specs.Prelude.{◌≡◌, ℕ, Bool, true, false, List, [], ◌∷◌, ◌++◌, length, Option, Some}
-use Rattle.std.specs.Prelude.{None, Result, Ok, Err}
+use Rattle.std.specs.Prelude.{◌≡◌, ℕ, ◌≤◌, Bool, true, false, List, [], ◌∷◌, ◌++◌, length, Option}
+use Rattle.std.specs.Prelude.{Some, None, Result, Ok, Err}
 use Rattle.std.specs.List.{AllZip}
-use Rattle.dap_tree.specs.{Doc.Doc, Json.IsRead}
+use Rattle.dap_tree.specs.{Doc.Doc, Json.{IsRead, text_of}}
 use Rattle.dap_message.specs.Message.{Sent, HasRefusal, faulty}
 use Rattle.dap_message.specs.declared.fault.MessageFault.{MessageFault}
 use Rattle.dap_mask.specs.{Declarations.Declaration, Mask.Mask}
@@ -11,7 +11,7 @@ use Rattle.dap_stored.specs.Sessions.{messages_of}
 use Rattle.dap_input.specs.{declared.limits.Limits.Limits, declared.refused.Refused.Refused}
 use Rattle.dap_input.specs.declared.refused.Refused.TheVariants.{Message}
 use Rattle.dap_input.specs.Refusals.{RejectsPayload}
-use Rattle.dap_normalise.specs.Accepting.{Payload, AreMessages, Fits, text}
+use Rattle.dap_normalise.specs.Accepting.{Payload, AreMessages, Fits, IsMessage, text}
 use Rattle.dap_normalise.specs.RecordTexts.{contents_of}
 use Rattle.dap_rules.specs.RewritingSteps.{AreNumbered}
 use Rattle.dap_rules.specs.Masking.{IsAccepted, IsNext, Rejects, left_of, masked_text}
@@ -59,9 +59,29 @@ abbrev pub IsRuled : List Declaration → List ℕ → Bool → Type 0
 IsRuled declared content ruled =
     (d : Doc) → IsRead content d → ruled ≡ false → rules_for declared d ≡ []
 
--- The new session has one record more. If the record is stored as a message, so is this flag.
+-- The record contains the last one of the messages.
+pub record ContainsLast (held : Payload) (messages : List Sent) : Type 0 where
+  pub before : List Sent
+  pub last : Sent
+  pub split : messages ≡ before ++ last ∷ []
+  pub is_message : IsMessage held last
+
+-- Without a fault, the record contains the last message of the session.
+abbrev pub IsLast : Payload → MaskedSession → Type 0
+IsLast held session = session.fault ≡ None → ContainsLast held (messages_of session.messages)
+
+-- The text of the document has at most this number of bytes, and the text of some document has
+-- exactly this number.
+pub record IsBoundOf (d : Doc) (most : ℕ) : Type 0 where
+  pub longer : Doc
+  pub len : length (text_of longer) ≡ most
+  pub bound : length (text_of d) ≤ most
+
+-- The new session has one record more, which is the last one. If the record is stored as a message,
+-- so is this flag.
 pub record AddsRuled (held : Payload) (ruled : Bool) (old new : MaskedSession) : Type 0 where
   pub adds : Adds held old new
+  pub last : IsLast held new
   pub flags : (declared : List Declaration) → IsRuled declared held.1 ruled
       → AreRuled declared (messages_of old.messages) old.ruled.items
       → AreRuled declared (messages_of new.messages) new.ruled.items
@@ -73,12 +93,14 @@ abbrev pub AddsIf : Payload → Bool → MaskedSession → MaskedSession → Boo
 AddsIf held ruled old new true = AddsRuled held ruled old new
 AddsIf held ruled old new false = new ≡ old
 
--- These messages are named, and in the session.
+-- These messages are named, and in the session. Its `named_bytes` is an upper bound on the length
+-- of their text, and within the limit.
 pub record RepresentsNamed (limits : Limits) (declared : List Declaration) (messages : List Sent)
     (session : MaskedSession) : Type 0 where
   pub numbered : AreNumbered limits declared messages session.numbers
   pub fits : Fits limits (named_sents declared messages)
-  pub count : session.named_bytes ≡ length (text (named_sents declared messages))
+  pub count : length (text (named_sents declared messages)) ≤ session.named_bytes
+  pub within : session.named_bytes ≤ limits.input
   pub holds : Holds session (contents_of (named_sents declared messages))
   pub ruled : AreRuled declared (messages_of session.messages) session.ruled.items
 
@@ -96,14 +118,16 @@ AddsNamedIf limits declared m old new false = (before : List Sent)
     → RepresentsNamed limits declared before old → RepresentsNamed limits declared before new
 
 -- These messages of the recording are masked and named, and in the session. Their masked text has
--- `written` bytes.
+-- `written` bytes. The session's `named_bytes` is an upper bound on the length of their text with
+-- names, and within the limit.
 pub record RepresentsMasked (limits : Limits) (mask : Mask) (messages : List Sent) (written : ℕ)
     (session : MaskedSession) : Type 0 where
   pub fits : Fits limits (left_of mask messages)
   pub count : written ≡ length (masked_text mask messages)
   pub numbered : AreNumbered limits mask.declared (left_of mask messages) session.numbers
   pub named_fits : Fits limits (named_left mask messages)
-  pub named_count : session.named_bytes ≡ length (text (named_left mask messages))
+  pub named_count : length (text (named_left mask messages)) ≤ session.named_bytes
+  pub named_within : session.named_bytes ≤ limits.input
   pub holds : Holds session (contents_of (named_left mask messages))
   pub ruled : AreRuled mask.declared (messages_of session.messages) session.ruled.items
 

@@ -17,7 +17,8 @@ ghost use Rattle.dap_normalise.specs.RecordTexts.{FitRecords};
 ghost use Rattle.dap_recording.specs.Recording.{recording_text};
 ghost use Rattle.dap_rules.specs.Applying.{RefusesToMask};
 ghost use Rattle.dap_rules.specs.MaskedSessions.{AddsIf, AddsNamed, AddsNamedIf, AddsRuled, Holds};
-ghost use Rattle.dap_rules.specs.MaskedSessions.{IsMaskedSession, Pushes, PushesIf};
+ghost use Rattle.dap_rules.specs.MaskedSessions.{IsBoundOf, IsLast, IsMaskedSession};
+ghost use Rattle.dap_rules.specs.MaskedSessions.{Pushes, PushesIf};
 ghost use Rattle.dap_rules.specs.MaskedSessions.{RepresentsMasked, RepresentsNamed, end_of};
 ghost use Rattle.dap_rules.specs.NamingSteps.{HaveNumbered};
 
@@ -51,7 +52,7 @@ pub(crate) struct MaskedSession {
     pub(crate) fault: Option<MessageFault>,
     /// The numbers of the declared ids of all records so far.
     pub(crate) numbers: ValueNumbers,
-    /// The number of bytes of the text of all records so far, with names.
+    /// An upper bound on the number of bytes of the text of all records so far, with names.
     pub(crate) named_bytes: u64,
 }
 
@@ -114,7 +115,8 @@ impl MaskedSession {
     /// the record. Its text has `content_len` bytes before this. Returns `false` if it has to be
     /// typed as a tree. The record is then not added.
     ///
-    /// Returns `None` if an allocation failed, or if the declared ids cannot be named here.
+    /// Returns `None` if an allocation failed, or if the declared ids cannot be named here: for
+    /// example, if a declaration applies and some record so far is not a message.
     fn add_named_nodes<'a>(
         &mut self,
         alloc: Global,
@@ -137,17 +139,37 @@ impl MaskedSession {
     {
         let mut nodes = nodes;
         let ruled = name_nodes(alloc, rules, &mut self.numbers, &mut nodes, arena)?;
-        let named_len = named_length(&nodes, ruled, content_len, limits)?;
-        let Ok(named_bytes) = count_record(number, named_len, self.named_bytes, limits) else {
-            return None;
-        };
         match self.add_nodes(alloc, side, ruled, nodes) {
-            Ok(true) => self.named_bytes = named_bytes,
+            Ok(true) => {}
             Ok(false) if ruled => return None,
             Ok(false) => return Some(false),
             Err(_) => return None,
         }
+        let counted_len = self.counted_length(ruled, content_len)?;
+        let Ok(named_bytes) = count_record(number, counted_len, self.named_bytes, limits) else {
+            return None;
+        };
+        self.named_bytes = named_bytes;
         Some(true)
+    }
+
+    /// Returns an upper bound on the length of the text, with names, of the record that was added
+    /// last. If no declaration applies, the bound is `content_len`. Otherwise it is the length of
+    /// the stored content, or `None` if some record is not a message. Does not allocate.
+    fn counted_length(&self, ruled: bool, content_len: usize) -> Option<usize>
+        ensures { (held : Payload) (d : Doc) → IsLast held self.now → IsRead held.1 d
+            → (ruled ≡ false → length (text_of d) ≡ content_len)
+            → IfSome result (IsBoundOf d) }
+    {
+        if !ruled {
+            return Some(content_len);
+        }
+        if self.fault.is_some() {
+            return None;
+        }
+        let place = self.messages.len().checked_sub(1)?;
+        let last = self.messages.message(place)?;
+        Some(last.content().len())
     }
 
     /// Does the same for the masked record that the tree represents, which it types as a tree.
@@ -219,24 +241,6 @@ fn name_nodes<'a>(
         Ok(ruled) => Some(ruled),
         Err(_) => None,
     }
-}
-
-/// Returns the length of the text of named nodes, or `None` if it is above the limit. Without
-/// declarations that apply it is `content_len`.
-fn named_length(
-    nodes: &[Node<'_>],
-    ruled: bool,
-    content_len: usize,
-    limits: Limits,
-) -> Option<usize>
-    ensures { (d : Doc) → Represents nodes.now d
-        → (ruled ≡ false → length (text_of d) ≡ content_len)
-        → IfSome result (λ len. length (text_of d) ≡ len) }
-{
-    if !ruled {
-        return Some(content_len);
-    }
-    length_within(nodes, &[], limits.frame.content)
 }
 
 /// Replaces the declared ids of a masked tree by names. Its text has `content_len` bytes before

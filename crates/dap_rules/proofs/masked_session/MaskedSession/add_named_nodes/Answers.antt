@@ -23,9 +23,24 @@ replaced len new old same =
 pub count_record-requires-clause-short : goal.count_record-requires-clause-short
 count_record-requires-clause-short c =
     let xs = (mask_of c.args.rules.now).declared in
+    let read = c.requires.read in
     let named = c.requires.named in
-    few_bytes c.args.limits xs named.0 (record { side = c.args.side; doc = c.requires.read.1.0 })
-    c.args.self.now c.name_nodes.new.numbers named.1
+    let d = read.1.0 in
+    let m : Sent = record { side = c.args.side; doc = d } in
+    let was = c.deref_mut.result.now in
+    let new = c.name_nodes.new.nodes in
+    let shown : Represents was d =
+    subst (λ ns. Represents ns d) (sym c.deref_mut.ensures.value) read.1.2 in
+    let whole =
+    replaced c.args.nodes.len new c.args.nodes.items
+    (c.name_nodes.auto.nodes ∙ c.deref_mut.ensures.len) in
+    few_bytes c.args.limits c.requires.sound xs c.args.rules.now.list.labelled m read.0 read.1.1
+    c.args.self.now c.name_nodes.new.numbers was new shown c.in_ok-ruled.ensures.names
+    c.in_ok-ruled.ensures.few c.in_ok-ruled.ruled
+    (λ unset. c.in_ok-ruled.ensures.applies (ap Some unset)) c.name_nodes.ensures.limit
+    c.add_nodes.new.self
+    (λ content reads. rw c.in-Ok-true.field-0-test at c.in-Ok-true.ensures content
+    (subst (ReadsDocument content) (sym whole) reads)) named.0 named.1
 
 pub add_nodes-requires : goal.add_nodes-requires
 add_nodes-requires c =
@@ -93,11 +108,11 @@ returns c bytes d read shown =
     c.args.self.now c.name_nodes.new.numbers was new shown_too c.in_ok-ruled.ensures.names
     c.in_ok-ruled.ensures.few c.in_ok-ruled.ruled
     (λ unset. c.in_ok-ruled.ensures.applies (ap Some unset)) c.name_nodes.ensures.limit
-    c.args.number c.args.content_len c.in_ok-named_len.named_len c.in-Ok.named_bytes
-    (λ e shows. c.requires.len e
-    (subst (λ ns. Represents ns e) c.deref_mut.ensures.value shows))
-    (λ e shows stays. c.in_ok-named_len.ensures e
-    (subst (λ ns. Represents ns e) (sym whole ∙ sym c.deref.ensures.value) shows) stays)
-    (λ n is. c.in-Ok.ensures.counts n is) c.add_nodes.new.self
+    c.add_nodes.new.self
     (λ content reads. rw c.in-Ok-true.field-0-test at c.in-Ok-true.ensures content
     (subst (ReadsDocument content) (sym whole) reads))
+    c.args.number c.args.content_len c.in_ok-counted_len.counted_len c.in-Ok.named_bytes
+    (λ e shows. c.requires.len e
+    (subst (λ ns. Represents ns e) c.deref_mut.ensures.value shows))
+    (λ held e last reads stays. c.in_ok-counted_len.ensures held e last reads stays)
+    (λ n is. c.in-Ok.ensures.counts n is)

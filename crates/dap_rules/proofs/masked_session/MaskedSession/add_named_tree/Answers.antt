@@ -3,7 +3,7 @@ use Rattle.dap_mask.specs.Declarations.{Declaration}
 use Rattle.dap_tree.specs.{Json.text_of, View.view}
 use Rattle.dap_mask.specs.KeptRules.{mask_of}
 use Rattle.dap_message.specs.Message.{Sent}
-use Rattle.dap_rules.proofs.{Declared.none_are, NamedPushes.{few_bytes, tree_added, tree_read}}
+use Rattle.dap_rules.proofs.{Declared.none_are, NamedPushes.{tree_added, tree_read}}
 use Rattle.dap_rules.proofs.masked_session.MaskedSession.add_named_tree.Goals as goal
 
 pub name_tree-requires-clause-numbered : goal.name_tree-requires-clause-numbered
@@ -14,10 +14,9 @@ name_tree-requires-clause-numbered c =
 
 pub count_record-requires-clause-short : goal.count_record-requires-clause-short
 count_record-requires-clause-short c =
-    let xs = (mask_of c.args.rules.now).declared in
     let named = c.requires.named in
-    few_bytes c.args.limits xs named.0 (record { side = c.args.side; doc = view c.args.tree })
-    c.args.self.now c.name_tree.new.numbers named.1
+    let was = named.1 in
+    was.within
 
 pub add_tree-requires : goal.add_tree-requires
 add_tree-requires c =
