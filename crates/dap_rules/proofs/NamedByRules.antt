@@ -1,5 +1,5 @@
 -- The named messages of a masked recording in order are those of the text that the rules make.
-use Rattle.std.proofs.Common.{◌≡◌, ℕ, true, List, [], sym, ◌∙◌, ap, subst}
+use Rattle.std.proofs.Common.{◌≡◌, ℕ, true, List, [], None, sym, ◌∙◌, ap, subst}
 use Rattle.dap_mask.specs.{Declarations.{Declaration, are_declared}, KeptRules.mask_of, Mask.Mask}
 use Rattle.dap_mask.specs.declared.mask_rules.MaskRules.{MaskRules}
 use Rattle.dap_message.specs.{Message.Sent, SwapRules.SwapRule}
@@ -9,25 +9,32 @@ use Rattle.dap_recording.specs.Recording.{recording_text}
 use Rattle.dap_rename.specs.declared.mode.Mode.{Mode}
 use Rattle.dap_input.specs.{Limits.AreSound, declared.limits.Limits.Limits}
 use Rattle.dap_normalise.specs.Accepting.{Fits, IsAccepted, Payload}
-use Rattle.dap_normalise.specs.{NormalSession.IsNormalSession, RecordTexts.Contain}
+use Rattle.dap_normalise.specs.NormalSession.{IsNormalSession}
+use Rattle.dap_normalise.specs.RecordTexts.{Contain, contents_of}
 use Rattle.dap_normalise.specs.declared.normal_session.NormalSession.{NormalSession}
 use Rattle.dap_stored.specs.Sessions.{messages_of}
 use Rattle.dap_rules.specs.Applying.{AppliesRules, IsNamedByRules, MakesSession, NormalisesByRules}
-use Rattle.dap_rules.specs.ApplyingSteps.{IsMaskedSessionByRules, MakesNamed}
-use Rattle.dap_rules.specs.{MaskedSessions.AreRuled, NamedRecordings.IsNamedTo}
-use Rattle.dap_rules.specs.{OrderingSteps.Arranges}
+use Rattle.dap_rules.specs.ApplyingSteps.{IsMaskedSessionByRules, MakesNamed, MakesNamedIf}
+use Rattle.dap_rules.specs.ApplyingSteps.{RecordsAreAccepted}
+use Rattle.dap_rules.specs.MaskedSessions.{AreRuled, HoldUpTo}
+use Rattle.dap_rules.specs.{NamedRecordings.IsNamedTo, OrderingSteps.{Arranges, AreWithin}}
 use Rattle.dap_rules.specs.declared.masked_session.MaskedSession.{MaskedSession}
 use Rattle.dap_rules.proofs.Applied.{orders, unchanged}
 use Rattle.dap_rules.proofs.MaskedNames.{OfRecords, masked_recording, named_by_rules, named_to}
 use Rattle.dap_rules.proofs.MaskedNames.{of_own, own_records}
 use Rattle.dap_rules.proofs.NamedDirectly.{HasNamedText, named_text_of}
 use Rattle.dap_rules.proofs.NamedStay.{few_named, named_stay, order_stays}
-use Rattle.dap_rules.proofs.{NamesApplied.applies_named, OrderedTexts.one_accepted}
+use Rattle.dap_rules.proofs.NamesApplied.{applies_named}
+use Rattle.dap_rules.proofs.OrderAnswers.{orders as orders_own, own_records as own_contain}
 
+-- The messages are checked.
 module _ (limits : Limits) (sound : AreSound limits) (mode : Mode) (mask : Mask)
     (are : are_declared mask.declared ≡ true) (some : mask.declared ≡ [] → ⊥) (recording : List ℕ)
-    (messages : List Sent) (made : MakesNamed limits mode mask recording messages)
-    (fits : Fits limits messages) where
+    (messages : List Sent) (made_if : MakesNamedIf limits mode mask recording messages)
+    (fits : Fits limits messages) (accepts : RecordsAreAccepted limits mode messages) where
+  made : MakesNamed limits mode mask recording messages
+  made = made_if fits accepts
+
   has_text : HasNamedText limits mask.declared made.ordered messages
   has_text =
       subst (HasNamedText limits mask.declared made.ordered) (sym made.named)
@@ -39,11 +46,8 @@ module _ (limits : Limits) (sound : AreSound limits) (mode : Mode) (mask : Mask)
       applies_named limits mode mask recording some made.ordered made.made has_text.written
       has_text.is_named
 
-  -- Each list of records that contain the messages is accepted as these messages.
-  pub session_made : ((records : List Payload) → Contain limits messages records
-      → IsAccepted limits mode (recording_text records) messages)
-      → MakesSession limits mode mask recording messages
-  session_made accepts = record {
+  pub session_made : MakesSession limits mode mask recording messages
+  session_made = record {
     written = has_text.written;
     applies = applied;
     accepted = subst (λ text. IsAccepted limits mode text messages) has_text.text_is
@@ -106,8 +110,8 @@ module _ (limits : Limits) (sound : AreSound limits) (mode : Mode) (rules : Mask
       few_named declared rules.list.labelled limits sound mode plain named is_named
       messages accepted
 
-  pub made_unordered : swaps ≡ [] → MakesNamed limits mode (mask_of rules) recording messages
-  made_unordered none = record {
+  unordered : swaps ≡ [] → MakesNamed limits mode (mask_of rules) recording messages
+  unordered none = record {
     ordered = named;
     made = (named, by_rules, unchanged limits mode named swaps none);
     unnamed = messages;
@@ -116,21 +120,27 @@ module _ (limits : Limits) (sound : AreSound limits) (mode : Mode) (rules : Mask
     named = sym stay;
   }
 
-  -- The messages in order.
+  -- The messages in order, which are checked.
   module _ (some : swaps ≡ [] → ⊥) (by : List SwapRule) (same : by ≡ swaps) (session : List Sent)
-      (order : (bytes : List ℕ) → IsAccepted limits mode bytes messages
-      → Arranges limits mode by bytes session) where
-    arranges : Arranges limits mode swaps named session
-    arranges =
-        subst (λ (all : List SwapRule). Arranges limits mode all named session) same
-        (order named accepted)
-
+      (order : session ≡ ordered by messages) (fits : Fits limits session)
+      (accepts : RecordsAreAccepted limits mode session) where
     in_order : session ≡ ordered swaps messages
-    in_order =
-        one_accepted limits mode arranges.0 session (ordered swaps arranges.1.messages) arranges.2
-        arranges.1.accepted
-        ∙ ap (ordered swaps) (one_accepted limits mode named arranges.1.messages messages
-        arranges.1.accepts accepted)
+    in_order = order ∙ ap (λ (all : List SwapRule). ordered all messages) same
+
+    within : AreWithin limits (ordered swaps messages) session
+    within = record { same = in_order; fits = subst (Fits limits) in_order fits }
+
+    own : IsAccepted limits mode (recording_text (contents_of session)) session
+    own =
+        accepts (contents_of session)
+        (own_contain limits mode swaps named messages accepted sound session within)
+
+    arranges : Arranges limits mode swaps named session
+    arranges = (
+      recording_text (contents_of session),
+      orders_own limits mode swaps named messages accepted sound session within own,
+      own,
+    )
 
     -- They are named again.
     pub made_again : (again : List Sent) → again ≡ named_sents declared session
@@ -154,3 +164,16 @@ module _ (limits : Limits) (sound : AreSound limits) (mode : Mode) (rules : Mask
         made_again session
         (order_stays declared rules.list.labelled swaps messages session stay in_order ids)
         (subst (AreFew limits.ids) (sym ids) few)
+
+-- Without rules for the order, the records of the session are not checked yet. Each is a message.
+pub made_unordered : (limits : Limits) → AreSound limits → (mode : Mode) (rules : MaskRules)
+    (recording : List ℕ) (masked : MaskedSession)
+    → IsMaskedSessionByRules limits (mask_of rules) recording masked → masked.fault ≡ None
+    → (mask_of rules).swaps ≡ []
+    → MakesNamedIf limits mode (mask_of rules) recording (messages_of masked.messages)
+made_unordered limits sound mode rules recording masked is read none fits accepts =
+    unordered limits sound mode rules recording masked is
+    (λ records fit holds. accepts records (record {
+      read = subst (HoldUpTo records (messages_of masked.messages)) read holds;
+      fits = fit;
+    })) none

@@ -10,7 +10,9 @@ use Rattle.dap_rename.specs.declared.mode.Mode.{Mode}
 use Rattle.dap_input.specs.{declared.limits.Limits.Limits, declared.refused.Refused.Refused}
 use Rattle.dap_input.specs.declared.refused.Refused.TheVariants.{Memory, Record}
 use Rattle.dap_input.specs.Refusals.{IsRefused}
-use Rattle.dap_normalise.specs.Accepting.{IsAccepted, accepting}
+use Rattle.dap_normalise.specs.Accepting.{Fits, IsAccepted, Payload, accepting}
+use Rattle.dap_normalise.specs.RecordTexts.{Contain}
+use Rattle.dap_recording.specs.Recording.{recording_text}
 use Rattle.dap_recording.specs.declared.record_fault.RecordCause.TheVariants.{Cut}
 use Rattle.dap_rules.specs.Applying.{IsNotMaskedByRules, IsNotOrderedByRules, IsOrderedByRules}
 use Rattle.dap_rules.specs.Applying.{JoinsBy, OrdersBy}
@@ -86,6 +88,17 @@ pub record MakesNamed (limits : Limits) (mode : Mode) (mask : Mask) (recording :
   pub accepted : IsAccepted limits mode ordered unnamed
   pub few : AreFew limits.ids (declared_ids mask.declared unnamed)
   pub named : messages ≡ named_sents mask.declared unnamed
+
+-- Each list of records that contain these messages is accepted as these messages.
+abbrev pub RecordsAreAccepted : Limits → Mode → List Sent → Type 0
+RecordsAreAccepted limits mode messages = (records : List Payload) → Contain limits messages records
+    → IsAccepted limits mode (recording_text records) messages
+
+-- The messages are not checked yet: if their text is within the limits and is accepted, they are
+-- those that `MakesNamed` describes.
+abbrev pub MakesNamedIf : Limits → Mode → Mask → List ℕ → List Sent → Type 0
+MakesNamedIf limits mode mask recording messages = Fits limits messages
+    → RecordsAreAccepted limits mode messages → MakesNamed limits mode mask recording messages
 
 -- The result of `read_session_by_rules` for an input whose reader stopped for this reason, given
 -- the result for the bytes read.

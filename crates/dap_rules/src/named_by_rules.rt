@@ -1,13 +1,12 @@
 //! Applies rules that declare ids to a recording in memory, without creating its text with names.
-ghost use Rattle.std.specs.Prelude.{◌≡◌, ◌≢◌, ℕ, true, List, [], IfSome};
+ghost use Rattle.std.specs.Prelude.{◌≡◌, ◌≢◌, true, List, [], IfSome};
 ghost use Rattle.dap_input.specs.Limits.{AreSound};
 ghost use Rattle.dap_mask.specs.{Declarations.Declaration, KeptRules.mask_of};
 ghost use Rattle.dap_message.specs.SwapRules.{swaps_of};
 ghost use Rattle.dap_naming.specs.Sessions.{declared_ids};
-ghost use Rattle.dap_normalise.specs.Accepting.{IsAccepted};
+ghost use Rattle.dap_order.specs.MessageOrder.{ordered};
 ghost use Rattle.dap_rules.specs.Applying.{MakesSession, NormalisesByRules};
-ghost use Rattle.dap_rules.specs.ApplyingSteps.{MakesNamed};
-ghost use Rattle.dap_rules.specs.{MaskedSessions.AreRuled, OrderingSteps.Arranges};
+ghost use Rattle.dap_rules.specs.{ApplyingSteps.MakesNamedIf, MaskedSessions.AreRuled};
 ghost use Rattle.dap_stored.specs.Sessions.{messages_of};
 
 use crate::joined_session::read_session_of;
@@ -76,7 +75,11 @@ pub(crate) fn check_named(
 }
 
 /// Returns the messages of a masked recording in order, with names in the place of their declared
-/// ids. The text with names is checked before and after it is put in order.
+/// ids. Their text is not checked yet: each caller checks it. If some rules are for the order, the
+/// text with names is checked before it is put in order. If the order may change the names, the
+/// text in order is also checked before its ids are named again.
+///
+/// Returns `None` if some step fails.
 fn named_in_order(
     alloc: Global,
     rules: &MaskRules,
@@ -85,41 +88,45 @@ fn named_in_order(
     mode: Mode,
 ) -> Option<StoredSession>
     requires { AreSound limits }
-    ensures { IfSome result (λ session. MakesNamed limits mode (mask_of rules.now) recording.now
+    ensures { IfSome result (λ session. MakesNamedIf limits mode (mask_of rules.now) recording.now
         (messages_of session)) }
 {
     let Ok(masked) = read_session_of(alloc, rules, recording, limits) else {
         return None;
     };
+    if rules.swaps().is_empty() {
+        return match masked.fault {
+            Some(_) => None,
+            None => Some(masked.messages),
+        };
+    }
     let Ok(()) = check_masked(alloc, &masked, limits, mode) else {
         return None;
     };
-    if rules.swaps().is_empty() {
-        return Some(masked.messages);
-    }
-    let (session, stays) = ids_in_order(alloc, rules.swaps(), masked, limits, mode)?;
+    let (session, stays) = ids_in_order(alloc, rules.swaps(), masked)?;
     if stays {
-        Some(session)
-    } else {
-        named_session(alloc, rules, session, limits)
+        return Some(session);
     }
+    let Ok(views) = views_within(alloc, &session, limits) else {
+        return None;
+    };
+    let Ok(()) = check_messages(alloc, views, limits, mode) else {
+        return None;
+    };
+    named_session(alloc, rules, session, limits)
 }
 
 /// Returns the messages of a masked session in order. The flag is `true` only if the messages to
 /// which a declaration applies stay in their order, so that their names do not change.
 ///
-/// Returns `None` if the text in order is rejected, or if an allocation failed.
+/// Returns `None` if an allocation failed.
 fn ids_in_order(
     alloc: Global,
     swaps: &[SwapRule],
     masked: MaskedSession,
-    limits: Limits,
-    mode: Mode,
 ) -> Option<(StoredSession, bool)>
-    requires { AreSound limits }
-    ensures order { (bytes : List ℕ) → IsAccepted limits mode bytes (messages_of masked.messages)
-        → IfSome result (λ made. Arranges limits mode (swaps_of swaps.now) bytes
-        (messages_of made.0)) }
+    ensures order { IfSome result (λ made. messages_of made.0
+        ≡ ordered (swaps_of swaps.now) (messages_of masked.messages)) }
     ensures ids { IfSome result (λ made. made.1 ≡ true → (declared : List Declaration)
         → AreRuled declared (messages_of masked.messages) masked.ruled.items
         → declared_ids declared (messages_of made.0)
@@ -131,12 +138,6 @@ fn ids_in_order(
     let stays = keeps_ruled(masked.ruled.as_slice(), places.as_slice());
     let mut session = masked.messages;
     let Ok(()) = session.arrange(alloc, places.as_slice()) else {
-        return None;
-    };
-    let Ok(views) = views_within(alloc, &session, limits) else {
-        return None;
-    };
-    let Ok(()) = check_messages(alloc, views, limits, mode) else {
         return None;
     };
     Some((session, stays))

@@ -1,8 +1,7 @@
-use Rattle.std.proofs.Common.{sym, subst}
+use Rattle.std.proofs.Common.{subst}
 use Rattle.dap_mask.specs.KeptRules.{mask_of}
-use Rattle.dap_normalise.specs.{Accepting.IsAccepted, RecordTexts.Contain}
-use Rattle.dap_recording.specs.Recording.{recording_text}
 use Rattle.dap_stored.specs.Sessions.{messages_of}
+use Rattle.dap_rules.specs.ApplyingSteps.{RecordsAreAccepted}
 use Rattle.dap_rules.proofs.NamedByRules.{session_made}
 use Rattle.dap_rules.proofs.named_by_rules.check_named.Goals as goal
 
@@ -13,7 +12,4 @@ returns c =
     session_made limits c.requires.limits c.args.mode (mask_of c.args.rules.now)
     c.args.rules.now.list.labelled c.requires.declared c.args.recording.now
     (messages_of c.in_ok-session.session) c.in_ok-session.ensures within.fits
-    (λ records contain.
-    subst (IsAccepted limits c.args.mode (recording_text records)) within.same
-    (c.in-Ok-check_messages.ensures.ok records
-    (subst (λ ms. Contain limits ms records) (sym within.same) contain)))
+    (subst (RecordsAreAccepted limits c.args.mode) within.same c.in-Ok-check_messages.ensures.ok)
