@@ -91,7 +91,7 @@ proofs: $(PACK)
 
 test: need-rt need-python
 	@command -v git > /dev/null || { echo "git is not found: the gate asks it which files there are"; exit 1; }
-	@echo "Proves every crate, tries the must-fail edits, and runs the tests: about 40 minutes on 4 cores. With rattle-kit-13f, a later run proves and tries only what changed."
+	@echo "Proves every crate, tries the must-fail edits, and runs the tests: about 50 minutes on 4 cores. With rattle-kit-13f, a later run proves and tries only what changed."
 	@python3 -m tests.all
 
 # The crates that the command line names, none if it names none.
