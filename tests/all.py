@@ -1,9 +1,10 @@
-"""The tests: the gate `rt ci`, and then the runs around it. The last line is the sum, 'N passed, M failed'."""
+"""The tests: the gate `rt ci`, and then the runs around it, one for each processor at a time. The last line is the sum, 'N passed, M failed'."""
 import os
 import re
 import subprocess
 import sys
 import time
+from concurrent.futures import ThreadPoolExecutor
 
 from tests.report import TOP, toolchain
 
@@ -111,36 +112,56 @@ def provers():
     return max(1, min(len(os.sched_getaffinity(0)), free // MOST))
 
 
-def counted(name, arguments, **variables):
-    """Runs a command, prints its output, and returns the counts of its last line."""
+def counts(last, status):
+    """The counts of the last line of a run that ended with this status."""
+    found = COUNT.match(last)
+    passed, failed = (int(found[1]), int(found[2])) if found else (0, 0)
+    if found is None or (status != 0 and failed == 0):
+        failed = max(failed, 1)
+    return passed, failed
+
+
+def end_of(name, begun, status):
+    return f"== {name}: {(time.monotonic() - begun) / 60:.1f} minutes, status {status}"
+
+
+def gate():
+    """Runs the gate, prints its output as it comes, and returns the counts of its last line."""
+    name = "the gate, rt ci"
     print(f"== {name}", flush=True)
     begun = time.monotonic()
     last = ""
-    environment = {**variables, **os.environ}
-    with subprocess.Popen(arguments, cwd=TOP, stdout=subprocess.PIPE, text=True, errors="replace", env=environment) as process:
+    environment = {"RT_JOBS": str(provers()), **os.environ}
+    with subprocess.Popen(["rt", "ci"], cwd=TOP, stdout=subprocess.PIPE, text=True, errors="replace", env=environment) as process:
         for line in process.stdout:
             print(line, end="", flush=True)
             last = line.strip() or last
-    print(f"== {name}: {(time.monotonic() - begun) / 60:.1f} minutes, status {process.returncode}", flush=True)
-    found = COUNT.match(last)
-    passed, failed = (int(found[1]), int(found[2])) if found else (0, 0)
-    if process.returncode != 0 and failed == 0:
-        failed = 1
-    if found is None:
-        failed = max(failed, 1)
-    return passed, failed
+    print(end_of(name, begun, process.returncode), flush=True)
+    return counts(last, process.returncode)
+
+
+def run_script(script):
+    """Runs a script, and returns its output with its name and the counts of its last line."""
+    module, name = script
+    begun = time.monotonic()
+    arguments = [sys.executable, "-m", module]
+    done = subprocess.run(arguments, cwd=TOP, stdout=subprocess.PIPE, text=True, errors="replace", check=False)
+    lines = [it.strip() for it in done.stdout.splitlines() if it.strip()]
+    passed, failed = counts(lines[-1] if lines else "", done.returncode)
+    return f"== {name}\n{done.stdout}{end_of(name, begun, done.returncode)}", passed, failed
 
 
 def main():
     toolchain()
     cost = Cost(os.getpid())
-    passed, failed = counted("the gate, rt ci", ["rt", "ci"], RT_JOBS=str(provers()))
+    passed, failed = gate()
     cost.close()
     print("\n".join(cost.table() + cost.dearest(20) + mutation_record.table(TOP)), flush=True)
     if failed == 0:
-        for folder, scripts in SCRIPTS.items():
-            for script, name in scripts.items():
-                more_passed, more_failed = counted(name, [sys.executable, "-m", f"tests.{folder}.{script}"])
+        scripts = [(f"tests.{folder}.{script}", name) for folder, names in SCRIPTS.items() for script, name in names.items()]
+        with ThreadPoolExecutor(len(os.sched_getaffinity(0))) as pool:
+            for output, more_passed, more_failed in pool.map(run_script, scripts):
+                print(output, flush=True)
                 passed, failed = passed + more_passed, failed + more_failed
     print(f"{passed} passed, {failed} failed", flush=True)
     return 1 if failed else 0
