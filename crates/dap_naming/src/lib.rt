@@ -20,8 +20,6 @@ mod sessions;
 mod texts;
 mod trees;
 mod value_numbers;
-#[cfg(test)]
-mod worked_names;
 
 pub use absence::may_have_ids;
 pub use fault::NamingFault;
