@@ -7,6 +7,7 @@ use Rattle.dap_input.specs.declared.limits.Limits.{Limits}
 use Rattle.dap_compare.specs.declared.verdict.Which.{Which}
 use Rattle.dap_rules.specs.declared.fault.ApplyRefused.{ApplyRefused}
 use Rattle.dap_rules.specs.declared.fault.ApplyRefused.TheVariants.{Memory}
+use Rattle.dap_rules.specs.declared.fault.ApplyRefused.TheVariants as step
 use Rattle.dap_suggest.specs.{Suggested.IsOneRejected, declared.suggestion.Inputs.Inputs}
 use Rattle.dap_suggest.specs.declared.suggestion.SuggestRefused.{SuggestRefused}
 use Rattle.dap_suggest.specs.declared.suggestion.SuggestRefused.TheVariants as because
@@ -36,6 +37,11 @@ HasNoSuggestion inputs =
     IsNotSuggested inputs.limits inputs.given.now inputs.a.now inputs.b.now
 
 -- ---- the steps
+
+-- The rules that were given cannot mask a recording.
+abbrev pub IsNotMaskable : SuggestRefused → Type 0
+IsNotMaskable (because.Input which (step.Mask refused)) = Unit {0}
+IsNotMaskable _ = ⊥
 
 -- the error for an input that is rejected
 abbrev pub input_refusal : Which → ApplyRefused → SuggestRefused

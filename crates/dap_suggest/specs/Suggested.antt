@@ -1,7 +1,8 @@
 -- Rules that make two recordings the same, and why there are none. Source: own, over masks, the
 -- order of messages and normal forms.
 use Rattle.std.specs.Prelude.{◌≡◌, ◌++◌, ℕ, ◌+◌, ◌==◌, true, if◌then◌else◌, List, [], ◌∷◌, Ok}
-use Rattle.std.specs.Prelude.{codes, decimal}
+use Rattle.std.specs.Prelude.{codes, decimal, eqb}
+use Rattle.std.specs.List.{ends_with}
 use Rattle.dap_mask.specs.{Mask.Mask, RulesFile.rules_said}
 use Rattle.dap_message.specs.Message.{Sent}
 use Rattle.dap_rename.specs.declared.mode.Mode.{Mode, TheVariants.{PerStop, Whole}}
@@ -41,6 +42,11 @@ pub record AreSameBy (limits : Limits) (mode : Mode) (rules a b : List ℕ) : Ty
   pub said : rules_said rules ≡ Ok mask
   pub mode_is : mode ≡ mode_by mask Whole
   pub one : HaveOneNormal limits mode mask a b
+
+-- The rules that were given make the two recordings the same.
+abbrev pub AreAlreadySame : Inputs → Mask → Type 0
+AreAlreadySame inputs mask =
+    HaveOneNormal inputs.limits (mode_by mask Whole) mask inputs.a.now inputs.b.now
 
 -- If the file of rules is accepted, it has these numbers of broad rules.
 abbrev pub HasBroad : List ℕ → Broad → Type 0
@@ -82,6 +88,15 @@ last_line mode added = verdict mode ++ (check_note added ++ 10 ∷ [])
 
 abbrev pub EndsWith : List ℕ → List ℕ → Type 0
 EndsWith line rules = (before : List ℕ) × (rules ≡ before ++ line)
+
+-- The LF that has to follow a file of rules before more rules do, if its last line lacks it.
+abbrev pub missing_end : List ℕ → List ℕ
+missing_end [] = []
+missing_end (b ∷ given) = if ends_with eqb (b ∷ given) (codes "\n") then [] else codes "\n"
+
+-- No rule is suggested after the rules that were given, but only the last line.
+abbrev pub SuggestsNothing : List ℕ → Mode → Suggestion → Type 0
+SuggestsNothing given mode s = s.rules.items ≡ missing_end given ++ last_line mode 0
 
 -- The rules end with that line, and it is true of the rules that were given and these.
 abbrev pub SaysWhatToCheck : List ℕ → Mode → List ℕ → Type 0

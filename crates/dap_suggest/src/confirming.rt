@@ -1,5 +1,5 @@
 //! Confirms that rules make two recordings the same.
-ghost use Rattle.std.specs.Prelude.{◌≡◌, true, IfOk, OnOk, string_bytes};
+ghost use Rattle.std.specs.Prelude.{◌≡◌, ◌++◌, true, IfOk, OnOk, string_bytes};
 ghost use Rattle.dap_input.specs.Limits.{AreSound};
 ghost use Rattle.dap_mask.specs.KeptRules.{mask_of};
 ghost use Rattle.dap_rules.specs.Applying.{NormalisesByRules};
@@ -170,7 +170,7 @@ fn same_by(
 }
 
 /// Suggests these rules, if two recordings are the same by them in this mode.
-fn suggested(
+pub fn suggested(
     alloc: Global,
     inputs: &Inputs<'_>,
     found: &[u8],
@@ -179,7 +179,9 @@ fn suggested(
 ) -> Result<Suggestion, Unsolved>
     requires limits { AreSound inputs.now.limits }
     requires strict { inputs.now.strict ≡ true → to_check ≡ 0 }
-    ensures { IfOk result (IsSuggestion inputs.now) }
+    ensures confirmed { IfOk result (IsSuggestion inputs.now) }
+    ensures text { IfOk result
+        (λ s. s.rules.items ≡ found.now ++ last_line mode to_check) }
 {
     let end = last_line(alloc, mode, to_check)?;
     let rules = joined(alloc, found, end.as_slice())?;

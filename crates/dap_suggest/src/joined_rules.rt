@@ -1,5 +1,6 @@
 //! Rules that follow the rules that were given.
 ghost use Rattle.std.specs.Prelude.{◌≡◌, ◌++◌, IfOk};
+ghost use Rattle.dap_suggest.specs.Suggested.{missing_end};
 
 use crate::obstacle::Unsolved;
 use dap_mask::{MaskRules, RulesCause, RulesFault};
@@ -15,11 +16,13 @@ pub fn joined(alloc: Global, given: &[u8], rules: &[u8]) -> Result<Vec<u8>, Allo
 }
 
 /// Returns the LF that has to follow the rules that were given, if their last line lacks it.
-pub fn missing_end(given: &[u8]) -> &'static [u8] {
-    if given.is_empty() || given.ends_with(b"\n") {
-        b""
-    } else {
-        b"\n"
+pub fn missing_end(given: &[u8]) -> &'static [u8]
+    ensures { result.now ≡ missing_end given.now }
+{
+    match given {
+        [] => b"",
+        _ if given.ends_with(b"\n") => b"",
+        _ => b"\n",
     }
 }
 

@@ -1,13 +1,14 @@
 //! The sessions that the rules make of two recordings.
-ghost use Rattle.std.specs.Prelude.{IfErr, IfOk};
+ghost use Rattle.std.specs.Prelude.{◌≡◌, IfErr, IfOk, true};
 ghost use Rattle.dap_input.specs.Limits.{AreSound};
 ghost use Rattle.dap_mask.specs.KeptRules.{mask_of};
-ghost use Rattle.dap_suggest.specs.Suggested.{AreMade, IsOneRejected};
+ghost use Rattle.dap_suggest.specs.Suggested.{AreAlreadySame, AreMade, IsOneRejected};
 
+use crate::obstacle::Unsolved;
 use crate::suggestion::Inputs;
-use dap_compare::Which;
+use dap_compare::{Verdict, Which, compare_sessions};
 use dap_mask::MaskRules;
-use dap_rename::Mode;
+use dap_rename::{Mode, index_tables};
 use dap_rules::{ApplyRefused, mode_by, session_by_rules};
 use dap_stored::StoredSession;
 use std::alloc::Global;
@@ -40,4 +41,39 @@ pub fn sessions_by(
     let made = session_by_rules(alloc, rules, inputs.b, inputs.limits, mode);
     let b = made.map_err(|refused| (Which::B, refused))?;
     Ok(Sessions { a, b })
+}
+
+/// Returns whether the sessions that the rules make of two recordings are the same.
+///
+/// # Errors
+///
+/// - `Memory`: an allocation failed.
+pub fn are_same(
+    alloc: Global,
+    rules: &MaskRules,
+    inputs: &Inputs<'_>,
+    sessions: &Sessions,
+) -> Result<bool, Unsolved>
+    requires limits { AreSound inputs.now.limits }
+    requires made { AreMade inputs.now (mask_of rules.now) sessions.now }
+    ensures { AreAlreadySame inputs.now (mask_of rules.now)
+        → IfOk result (λ same. same ≡ true) }
+{
+    let mode = mode_by(rules, Mode::Whole);
+    let (Sessions { a, b }, limits) = (sessions, inputs.limits);
+    let tables_a = index_tables(alloc, limits.ids);
+    let tables_b = index_tables(alloc, limits.ids);
+    let (mut text_a, mut text_b) = (Vec::new(alloc), Vec::new(alloc));
+    let verdict = compare_sessions(
+        alloc,
+        a,
+        b,
+        limits,
+        tables_a,
+        tables_b,
+        mode,
+        &mut text_a,
+        &mut text_b,
+    )?;
+    Ok(matches!(verdict, Verdict::Same(_)))
 }

@@ -1,13 +1,15 @@
 //! Suggests rules that make two recordings the same.
-ghost use Rattle.std.specs.Prelude.{◌≡◌, ◌++◌, true, IfErr, IfOk, IfSome};
+ghost use Rattle.std.specs.Prelude.{◌≡◌, ◌++◌, true, IfErr, IfOk, IfSome, IsTrue};
 ghost use Rattle.dap_input.specs.Limits.{AreSound};
 ghost use Rattle.dap_mask.specs.{KeptRules.mask_of, RulesFile.rules_said};
-ghost use Rattle.dap_suggest.specs.NotSuggested.{HasNoSuggestion, IsNotSuggested};
+ghost use Rattle.dap_suggest.specs.NotSuggested.{HasNoSuggestion, IsNotMaskable, IsNotSuggested};
 ghost use Rattle.dap_suggest.specs.{Broad.{AddsNoBroadRule, broad_of}, Guarded.AddsGuarded};
 ghost use Rattle.dap_suggest.specs.Guarded.{guarded_count};
-ghost use Rattle.dap_suggest.specs.Suggested.{AreSameBy, IsSuggestion, SaysWhatToCheck};
+ghost use Rattle.dap_suggest.specs.Suggested.{AreAlreadySame, AreSameBy, IsSuggestion};
+ghost use Rattle.dap_suggest.specs.Suggested.{SaysWhatToCheck, SuggestsNothing};
 
 use crate::broad::broad_of;
+use crate::confirming::suggested;
 use crate::counting::{EventsByName, add_differing, forget_categories, have_categories};
 use crate::fractions::fraction_rules;
 use crate::guarded::guarded_count;
@@ -16,7 +18,7 @@ use crate::labels::confirm_labelled;
 use crate::obstacle::Unsolved;
 use crate::pieces::{JOINS, comment_on_join};
 use crate::searching::rules_for;
-use crate::sessions::{Sessions, sessions_by};
+use crate::sessions::{Sessions, are_same, sessions_by};
 use crate::suggestion::{Inputs, SuggestRefused, Suggestion};
 use dap_input::{Limits, Refused};
 use dap_mask::MaskRules;
@@ -186,7 +188,9 @@ fn find_after_fractions(
 }
 
 /// Returns whether a recording is rejected for a number that is not an integer of 64 bits.
-fn has_fraction(refused: &SuggestRefused) -> bool {
+fn has_fraction(refused: &SuggestRefused) -> bool
+    ensures { IsTrue result → IsNotMaskable refused.now }
+{
     matches!(
         refused,
         SuggestRefused::Input(_, ApplyRefused::Mask(Refused::Fraction(_)))
@@ -204,6 +208,7 @@ fn suggest_after(
     requires read { rules_said inputs.now.given.now ≡ Ok (mask_of rules.now) }
     requires rejected { HasNoSuggestion inputs.now refused }
     ensures ok { IfOk result (IsSuggestion inputs.now) }
+    ensures other { IfOk result (λ s. AreAlreadySame inputs.now (mask_of rules.now) → ⊥) }
     ensures err { IfErr result (HasNoSuggestion inputs.now) }
 {
     if !has_fraction(&refused) {
@@ -224,6 +229,8 @@ fn suggest_by(
     requires limits { AreSound inputs.now.limits }
     requires read { rules_said inputs.now.given.now ≡ Ok (mask_of rules.now) }
     ensures ok { IfOk result (IsSuggestion inputs.now) }
+    ensures nothing { AreAlreadySame inputs.now (mask_of rules.now)
+        → IfOk result (SuggestsNothing inputs.now.given.now inputs.now.mode) }
     ensures err { IfErr result (HasNoSuggestion inputs.now) }
 {
     let sessions = match sessions_by(alloc, rules, inputs) {
@@ -233,6 +240,10 @@ fn suggest_by(
         }
     };
     let before = missing_end(inputs.given);
+    if are_same(alloc, rules, inputs, &sessions)? {
+        let nothing = suggested(alloc, inputs, before, inputs.mode, 0)?;
+        return Ok(nothing);
+    }
     let found = find_joined_first(alloc, rules, inputs, before, sessions)?;
     Ok(found)
 }
@@ -275,6 +286,10 @@ pub fn suggest(
     // By them both recordings are accepted, and have one normal text in the mode of the suggestion.
     ensures ok { IfOk result
         (λ s. AreSameBy limits s.mode (given.now ++ s.rules.items) a.now b.now) }
+
+    // If the rules that were given make the recordings the same, no rule is suggested.
+    ensures nothing { (mode : Mode) → AreSameBy limits mode given.now a.now b.now
+        → IfOk result (SuggestsNothing given.now mode) }
 
     // Each rule that is suggested names the messages that it is for, and none drops events that a
     // session needs.

@@ -1,9 +1,26 @@
-use Rattle.std.proofs.Common.{ℕ, ◌≤◌, List, length, subst}
+use Rattle.std.proofs.Common.{ℕ, List, ◌++◌, subst}
+use Rattle.dap_host.specs.declared.limits.TheConstants.{LIMITS}
+use Rattle.dap_rename.specs.declared.mode.Mode.{Mode}
+use Rattle.dap_suggest.specs.NotSuggested.{AreAccepted, IsNotSuggested}
+use Rattle.dap_suggest.specs.Suggested.{AreSameBy}
 use Rattle.dap_suggest.proofs.Refusals.{accepted_are_short}
+use Rattle.dapnorm.specs.Suggestions.{AddNarrowRules}
 use Rattle.dapnorm.proofs.suggest.suggestion.Goals as goal
+
+pub returns-in-Ok : goal.returns-in-Ok
+returns-in-Ok c =
+    let found = c.in-Ok.found.rules.items in
+    let Makes : List ℕ → Type 0 = λ given. ((mode : Mode)
+    × AreSameBy LIMITS mode (given ++ found) c.args.a.now c.args.b.now)
+    × AddNarrowRules c.args.strict given found in
+    let is = c.in-Ok.ensures in
+    let made : Makes c.as_slice.result.now =
+    ((c.in-Ok.found.mode, is.ok), (is.narrow, is.strict)) in
+    subst Makes c.as_slice.ensures.value made
 
 pub returns-in-Err-NoRules : goal.returns-in-Err-NoRules
 returns-in-Err-NoRules c =
-    let accepted = rw (c.in-Err-NoRules.field-0-is) at c.in-Err-NoRules.ensures.err in
-    subst (λ (text : List ℕ). length text ≤ 65536) c.as_slice.ensures.value
-    (accepted_are_short _ accepted.0 accepted.1)
+    let Explains = IsNotSuggested LIMITS c.as_slice.result.now c.args.a.now c.args.b.now in
+    let accepted = subst AreAccepted c.as_slice.ensures.value
+    (subst Explains c.in-Err-NoRules.field-0-is c.in-Err-NoRules.ensures.err) in
+    accepted_are_short c.args.given.items accepted.0 accepted.1
