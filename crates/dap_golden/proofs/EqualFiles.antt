@@ -1,33 +1,11 @@
 -- Golden files of the same form are equal if and only if their normal texts are.
-use Rattle.std.proofs.Common.{◌≡◌, ◌↔◌, ◌∙◌, ◌<◌, ℕ, zero, suc, List, [], ◌∷◌, ap, sym, subst, arith}
-use Rattle.std.proofs.Common.{length}
-use Rattle.dap_message.specs.Message.{IsTypedContent, Sent}
-use Rattle.dap_tree.specs.declared.side.Side.{Side}
-use Rattle.dap_input.specs.{Limits.AreSound, declared.limits.Limits.Limits}
-use Rattle.dap_rename.specs.declared.mode.Mode.{Mode}
-use Rattle.dap_normalise.specs.Accepting.{AreMessages, IsAccepted, Payload, text}
+use Rattle.std.proofs.Common.{◌≡◌, ◌∙◌, ℕ, List, ap, sym, subst}
+use Rattle.dap_normalise.specs.Accepting.{IsAccepted, text}
 use Rattle.dap_rules.proofs.OrderedTexts.{one_accepted}
-use Rattle.dap_transcript.specs.{Laws.{AreOfContents, EqualTranscripts}, Transcript.transcript}
-use Rattle.dap_golden.proofs.WrittenFiles.{text_of_messages}
-use Rattle.dap_golden.specs.{GoldenFiles.IsNormalText, Laws.EqualGoldenFiles}
-use Rattle.dap_golden.specs.declared.forms.GoldenForm.{GoldenForm}
+use Rattle.dap_transcript.specs.{Laws.EqualTranscripts, Transcript.transcript}
+use Rattle.dap_golden.proofs.WrittenFiles.{accepted_contents, text_of_messages}
+use Rattle.dap_golden.specs.{Laws.EqualGoldenFiles}
 use Rattle.dap_golden.specs.declared.forms.GoldenForm.TheVariants.{Frames, Transcript}
-
--- Each message of records is that of a content.
-of_contents : (records : List Payload) (messages : List Sent) → AreMessages records messages
-    → AreOfContents messages
-of_contents [] [] are k d low = absurd (omega (arith, low))
-of_contents [] (m ∷ ms) are k d low = absurd are
-of_contents (held ∷ more) [] are k d low = absurd are
-of_contents (held ∷ more) (m ∷ ms) are zero d low =
-    (held.1, subst (λ (side : Side). IsTypedContent side held.1 m.doc) (sym are.0.0) are.0.1)
-of_contents (held ∷ more) (m ∷ ms) are (suc k) d low =
-    of_contents more ms are.1 k d (omega (arith, low))
-
-accepted_contents : (limits : Limits) (mode : Mode) (bytes : List ℕ) (messages : List Sent)
-    → IsAccepted limits mode bytes messages → AreOfContents messages
-accepted_contents limits mode bytes messages accepted =
-    of_contents accepted.records messages accepted.typed
 
 pub equal_golden_files : EqualTranscripts → EqualGoldenFiles
 equal_golden_files law limits mode Frames normal other a b sound is are one two =

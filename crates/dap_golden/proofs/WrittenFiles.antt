@@ -1,24 +1,28 @@
 -- How a golden file is written in its form, and what its comparison states.
 use Rattle.std.proofs.Common.{◌≡◌, ◌≢◌, ◌↔◌, ◌∙◌, ◌∷◌, ℕ, true, List, [], Result, Ok, Err, ap, refl}
-use Rattle.std.proofs.Common.{sym, subst, inl, inr, arith, ◌++◌, Bool, false, slice_index_or}
-use Rattle.std.specs.Prelude.{IfErr, IfOk, IsTrue}
+use Rattle.std.proofs.Common.{sym, subst, inl, inr, arith, ◌++◌, ◌<◌, Bool, false, slice_index_or}
+use Rattle.std.proofs.Common.{zero, suc, length}
+use Rattle.std.specs.Prelude.{All, IfErr, IfOk, IfSome, IsTrue, Option, Some, Vec}
+use Rattle.std.specs.declared.alloc.Global.{Global}
 use Rattle.dap_frame.specs.Frame.{frame_text}
 use Rattle.dap_tree.specs.Json.{text_of}
-use Rattle.dap_message.specs.Message.{Sent}
+use Rattle.dap_message.specs.Message.{IsTypedContent, Sent}
 use Rattle.dap_recording.specs.Marker.{marker}
 use Rattle.dap_tree.specs.declared.side.Side.{Side}
 use Rattle.dap_tree.specs.declared.side.Side.TheVariants.{Client, Adapter}
 use Rattle.dap_rename.specs.declared.mode.Mode.{Mode}
 use Rattle.dap_input.specs.declared.limits.Limits.{Limits}
 use Rattle.dap_input.specs.Limits.{AreSound}
-use Rattle.dap_normalise.specs.Accepting.{IsAccepted, text}
+use Rattle.dap_normalise.specs.Accepting.{AreMessages, IsAccepted, Payload, text}
 use Rattle.dap_normalise.specs.Normalising.{Normalises}
 use Rattle.dap_normalise.proofs.NormalFormLaws.{normal_accepted}
 use Rattle.dap_rules.proofs.OrderedTexts.{one_accepted}
+use Rattle.dap_stored.specs.Contents.{IsOfContent}
+use Rattle.dap_transcript.specs.{Laws.AreOfContents, Recordings.frames}
 use Rattle.dap_transcript.specs.Transcript.{starts_with_head, transcript}
 use Rattle.dap_golden.specs.GoldenFiles.{IsGoldenFault, IsGoldenVerdict, IsNormalText}
 use Rattle.dap_golden.specs.GoldenForms.{ComparesFile, IsReadAsTranscript}
-use Rattle.dap_golden.specs.GoldenForms.{IsRecordingOfFile, IsWrittenAs, of_frames, of_transcript}
+use Rattle.dap_golden.specs.GoldenForms.{IsRecordingOfFile, of_frames, of_transcript}
 use Rattle.dap_golden.specs.GoldenSteps.{IsNotRead, IsNotWritten, IsTooLong, file_outcome}
 use Rattle.dap_golden.specs.Laws.{GoldenFileIsRead, OneGoldenFile}
 use Rattle.dap_golden.specs.TraceHead.{IsRecordingHead}
@@ -72,15 +76,49 @@ transcript_has_no_marker (m ∷ ms) is =
     ((let first : 45 ≡ is.byte = ap (λ (bytes : List ℕ). slice_index_or bytes 0 0) is.split in
     first) ∙ is.is_marker.1)
 
+-- Each message of records is that of a content.
+of_contents : (records : List Payload) (messages : List Sent) → AreMessages records messages
+    → AreOfContents messages
+of_contents [] [] are k d low = absurd (omega (arith, low))
+of_contents [] (m ∷ ms) are k d low = absurd are
+of_contents (held ∷ more) [] are k d low = absurd are
+of_contents (held ∷ more) (m ∷ ms) are zero d low =
+    (held.1, subst (λ (side : Side). IsTypedContent side held.1 m.doc) (sym are.0.0) are.0.1)
+of_contents (held ∷ more) (m ∷ ms) are (suc k) d low =
+    of_contents more ms are.1 k d (omega (arith, low))
+
+pub accepted_contents : (limits : Limits) (mode : Mode) (bytes : List ℕ) (messages : List Sent)
+    → IsAccepted limits mode bytes messages → AreOfContents messages
+accepted_contents limits mode bytes messages accepted =
+    of_contents accepted.records messages accepted.typed
+
+-- The text is the transcript of all messages whose frames the recording consists of.
+abbrev pub IsTranscriptOf : List ℕ → Vec ℕ Global → Type 0
+IsTranscriptOf recording made = (messages : List Sent) → recording ≡ frames messages
+    → All IsOfContent messages → made.items ≡ transcript messages
+
 module _ (limits : Limits) (mode : Mode) (sound : AreSound limits) (normal : List ℕ)
     (is : IsNormalText limits mode normal) where
+  -- A normal text is accepted, and is the text of its messages.
+  pub own_accepted : IsAccepted limits mode normal is.normal
+  own_accepted =
+      subst (λ (bytes : List ℕ). IsAccepted limits mode bytes is.normal) (sym is.text_is)
+      (normal_accepted limits mode sound normal is.messages is.normal is.accepts is.is_normal).0
+
+  -- What was written of its frames is the transcript of its messages.
+  pub own_transcript : (found : Option (Vec ℕ Global)) (written : Vec ℕ Global)
+      → found ≡ Some written → IfSome found (IsTranscriptOf normal)
+      → written.items ≡ transcript is.normal
+  own_transcript found written same is_written =
+      subst (λ (o : Option (Vec ℕ Global)). IfSome o (IsTranscriptOf normal)) same is_written
+      is.normal is.text_is (accepted_contents limits mode normal is.normal own_accepted)
+
   -- The messages of a normal text are those whose text it is.
   pub text_of_messages : (messages : List Sent) → IsAccepted limits mode normal messages
       → normal ≡ text messages
   text_of_messages messages accepted =
-      let own = subst (λ (bytes : List ℕ). IsAccepted limits mode bytes is.normal) (sym is.text_is)
-      (normal_accepted limits mode sound normal is.messages is.normal is.accepts is.is_normal).0 in
-      is.text_is ∙ ap text (one_accepted limits mode normal is.normal messages own accepted)
+      is.text_is
+      ∙ ap text (one_accepted limits mode normal is.normal messages own_accepted accepted)
 
 pub golden_file_is_read : GoldenFileIsRead
 golden_file_is_read limits mode Frames normal bytes sound is written =

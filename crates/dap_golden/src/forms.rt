@@ -18,7 +18,9 @@ use dap_input::Limits;
 use dap_normalise::read_session;
 use dap_rename::Mode;
 use dap_stored::StoredSession;
-use dap_transcript::{TranscriptCause, is_transcript, recording_of_transcript, write_transcript};
+use dap_transcript::{
+    TranscriptCause, is_transcript, recording_of_transcript, transcript_of_frames, write_transcript,
+};
 use std::alloc::Global;
 
 /// The form of a golden file.
@@ -64,6 +66,18 @@ impl GoldenBytes {
     }
 }
 
+/// Returns a transcript that is not longer than the input limit.
+fn within_limit(text: Vec<u8>, limits: Limits) -> Result<Vec<u8>, GoldenStop>
+    ensures ok { IfOk result (λ same. same.items ≡ text.items) }
+    ensures short { IfOk result (λ same. length same.items ≤ limits.input) }
+    ensures err { IfErr result (IsTooLong limits.input text.items) }
+{
+    if limits.input < text.len() as u64 {
+        return Err(GoldenStop::TranscriptTooLong);
+    }
+    Ok(text)
+}
+
 /// Returns the transcript of the messages of a session.
 fn transcript_of(
     alloc: Global,
@@ -77,16 +91,34 @@ fn transcript_of(
     let Ok(messages) = session.views(alloc) else {
         return Err(GoldenStop::Memory);
     };
-    let Ok(text) = write_transcript(alloc, messages.as_slice()) else {
-        return Err(GoldenStop::Memory);
-    };
-    if limits.input < text.len() as u64 {
-        return Err(GoldenStop::TranscriptTooLong);
+    match write_transcript(alloc, messages.as_slice()) {
+        Ok(written) => within_limit(written, limits),
+        Err(_) => Err(GoldenStop::Memory),
     }
-    Ok(text)
 }
 
-/// Returns the transcript of a normal text.
+/// Returns the transcript of the session that a normal text is read as.
+fn transcript_of_session(
+    alloc: Global,
+    text: &[u8],
+    limits: Limits,
+    mode: Mode,
+) -> Result<Vec<u8>, GoldenStop>
+    requires { AreSound limits }
+    ensures ok { IfOk result
+        (λ bytes. IsWrittenAs limits mode GoldenForm.Transcript text.now bytes.items) }
+    ensures short { IfOk result (λ bytes. length bytes.items ≤ limits.input) }
+    ensures err { IfErr result (IsNotWritten limits mode GoldenForm.Transcript text.now) }
+{
+    match read_session(alloc, text, limits, mode) {
+        Ok(session) => transcript_of(alloc, &session, limits),
+        // A normal text is accepted, so only an allocation can have failed.
+        Err(_) => Err(GoldenStop::Memory),
+    }
+}
+
+/// Returns the transcript of a normal text. Reads the text as a session only if its records cannot
+/// be written as they are.
 fn transcript_of_text(
     alloc: Global,
     text: &[u8],
@@ -100,9 +132,9 @@ fn transcript_of_text(
     ensures short { IfOk result (λ bytes. length bytes.items ≤ limits.input) }
     ensures err { IfErr result (IsNotWritten limits mode GoldenForm.Transcript text.now) }
 {
-    match read_session(alloc, text, limits, mode) {
-        Ok(session) => transcript_of(alloc, &session, limits),
-        // A normal text is accepted, so only an allocation can have failed.
+    match transcript_of_frames(alloc, text) {
+        Ok(Some(written)) => within_limit(written, limits),
+        Ok(None) => transcript_of_session(alloc, text, limits, mode),
         Err(_) => Err(GoldenStop::Memory),
     }
 }

@@ -1,7 +1,6 @@
 mod PlainNames
-pub mod NodeLines
+pub mod TextLines
 mod WrittenMembers
-mod ScalarNodes
 mod NextNumbers
 mod Places
 mod OpenRequests
@@ -14,7 +13,15 @@ mod RecordLists
 mod FoundMembers
 mod FoundWritten
 mod SameStrings
-mod SimpleStrings
+mod LowBytes
+mod Escapes
+mod StringRests
+mod WordTexts
+mod Nests
+mod ValueEnds
+mod SimpleRuns
+mod SimpleVectors
+mod CanonicalNames
 mod SameTokens
 mod SameLines
 mod SameHeads
@@ -22,5 +29,8 @@ mod MessageHeads
 mod OmittedMembers
 mod SameRecords
 mod SameTranscripts
-mod Frames
+mod MoreFrames
 mod TooLong
+mod HeadMembers
+mod HeadValues
+mod RecordTexts

@@ -195,6 +195,7 @@ pub record HasHead (m : Sent) : Type 0 where
   pub seq_is : found m (codes "seq") ≡ Some (whole (seq_of m))
   pub request_is : is_response m ≡ true
       → IsInteger (found m (codes "request_seq")) (request_seq_of m)
+  pub no_request : is_response m ≡ false → request_seq_of m ≡ None
   pub success_is : is_response m ≡ true → IsFlag (found m (codes "success")) (success_of m)
   pub no_success : is_response m ≡ false → success_of m ≡ None
 
@@ -221,6 +222,8 @@ has_head m h =
         ap (λ b. cond b (id_number (get (codes "request_seq") d)) None) (answers ∙ yes) ∙ r.1,
         found_is m (codes "request_seq") ∙ r.2,
       );
+      no_request = λ no.
+          ap (λ b. cond b (id_number (get (codes "request_seq") d)) None) (answers ∙ no);
       success_is = λ yes. let r = flag_there (get (codes "success") d) (has.succeeded yes) in (
         r.0,
         ap (λ b. cond b (boolean_value (get (codes "success") d)) None) (answers ∙ yes) ∙ r.1,

@@ -1,50 +1,24 @@
 -- Records, one after another.
-use Rattle.std.proofs.Common.{◌≡◌, ℕ, suc, ◌≤◌, ℤ, Bool, true, false, ◌&&◌, ◌||◌, List, []}
-use Rattle.std.proofs.Common.{◌∷◌, ◌++◌, map, take, drop, length, Option, Some, refl, sym}
-use Rattle.std.proofs.Common.{ap, ap₂, ◌∙◌, subst, append_assoc, append-nil, codes, bytes_eq}
-use Rattle.std.specs.Prelude.{slice_get, unwrap_or}
+use Rattle.std.proofs.Common.{◌≡◌, ℕ, ◌<◌, arith, ℤ, Bool, true, false, ◌&&◌, ◌||◌, List, []}
+use Rattle.std.proofs.Common.{◌∷◌, ◌++◌, length, Option, refl}
+use Rattle.std.proofs.Common.{ap, ap₂, ◌∙◌, append_assoc, codes, bytes_eq}
 use Rattle.std.specs.Ordering.{int_eq}
-use Rattle.std.proofs.Math.Logic.{∥∥₁_elim}
-use Rattle.std.proofs.Props.{props}
-use Rattle.std.proofs.lemmas.List.{drop_all}
-use Rattle.dap_tree.specs.Doc.{Doc, as_object, no_members}
-use Rattle.dap_tree.specs.{Json.{IsRead, text_of}}
 use Rattle.dap_profile.specs.declared.profile.Kind.{Kind}
-use Rattle.dap_flat.specs.Marks.{IsMarkedText}
-use Rattle.dap_flat.specs.Pieces.{Appends, Represents, piece_of, pieces}
-use Rattle.dap_flat.specs.declared.node.Node.{Node}
 use Rattle.dap_message.specs.{Message.Sent, Rows.name_key}
 use Rattle.dap_session.specs.Messages.{is_response, is_yes, kind_of}
 use Rattle.dap_session.specs.Messages.{request_seq_of, seq_of, side_of, success_of}
-use Rattle.dap_stored.specs.{Contents.doc_in, Sessions.stored_sent}
-use Rattle.dap_stored.specs.declared.message.StoredMessage.{StoredMessage}
+use Rattle.dap_tree.specs.declared.side.Side.{Side}
+use Rattle.dap_tree.specs.Side.{side_text}
+use Rattle.dap_profile.specs.Profile.{kind_name}
 use Rattle.dap_transcript.specs.declared.members.Omitted.{Omitted}
+use Rattle.dap_transcript.specs.declared.tokens.Numbered.{Numbered}
+use Rattle.dap_transcript.specs.{Recordings.frames, Records.title_line, Requests.IsNumbered}
+use Rattle.dap_transcript.specs.Transcript.{title}
 use Rattle.dap_transcript.specs.{Lines.member_lines, Members.omits}
 use Rattle.dap_transcript.specs.Expected.{expected_request, expected_seq}
 use Rattle.dap_transcript.specs.Transcript.{has_expected_seq, head_line}
-use Rattle.dap_transcript.specs.Transcript.{is_omitted, members_in, record_text, records_after}
-use Rattle.dap_transcript.specs.Transcript.{same_number, transcript, written}
-use Rattle.dap_transcript.proofs.Places.{drop-0, open_there, taken_there}
-use Rattle.dap_transcript.proofs.StoredDocs.{stored_doc}
-
--- ---- the members of a stored message
-
-pub members_read : (m : StoredMessage) (content : List ℕ) (d : Doc)
-    → ∥ IsMarkedText m.content.now m.marks.now (doc_in m.side m.content.now) ∥₁
-    → content ≡ text_of (stored_sent m).doc → IsRead content d
-    → members_in (stored_sent m) ≡ unwrap_or (as_object d) no_members
-members_read m content d marked is reads =
-    let own : m.content.now ≡ text_of (doc_in m.side m.content.now) =
-    ∥∥₁_elim marked (hlevel props) (λ t. t.text_is) in
-    ap (λ e. unwrap_or (as_object e) no_members)
-    (stored_doc m.side m.content.now d
-    (subst (λ t. IsRead t d) (is ∙ sym own) reads) own)
-
--- The nodes of a document that were appended to none represent it.
-pub all_appended : (old new : List Node) (d : Doc) → old ≡ [] → Appends old new (pieces d)
-    → Represents new d
-all_appended old new d none a =
-    ap (map piece_of) (a.added ∙ ap (λ ns. ns ++ a.more) none) ∙ a.shows
+use Rattle.dap_transcript.specs.Transcript.{is_omitted, members_in, record_text}
+use Rattle.dap_transcript.specs.Transcript.{same_number, written}
 
 -- ---- one record
 
@@ -86,26 +60,25 @@ record_pushed o before m old mid new same head members =
     ∙ append_assoc old (head_line m)
     (member_lines 2 2 (written (is_omitted before m) (members_in m)))
 
+-- The first line of the record of a message, by its title.
+pub title_line_is : (m : Sent) (x : Numbered) → IsNumbered m x → title_line x.title ≡ head_line m
+title_line_is m x n =
+    let line : Side → Kind → List ℕ → List ℕ =
+    λ side kind name. codes "- " ++ side_text side ++ codes ": " ++ title (kind_name kind) name
+    ++ codes "\n" in
+    ap (λ s. line s x.title.kind x.title.name.now) n.side
+    ∙ ap (λ k. line (side_of m) k x.title.name.now) n.kind
+    ∙ ap (line (side_of m) (kind_of m)) n.name
+
 -- ---- all records
 
-pub first_records : (all : List Sent) → transcript all ≡ [] ++ records_after [] (drop 0 all)
-first_records all = ap (records_after []) (sym (drop-0 all))
+-- The records that are left follow those that were written.
+pub frames_next : (left : List Sent) (text : List ℕ) → text ≡ frames left → 0 < length text
+    → (m : Sent) × (rest : List Sent) × (left ≡ m ∷ rest)
+frames_next [] text is some = absurd (omega (arith, ap length is))
+frames_next (m ∷ ms) text is some = (m, ms, refl)
 
-pub next_record : (all : List Sent) (place : ℕ) (m : Sent) (old new : List ℕ)
-    → slice_get all place ≡ Some m
-    → transcript all ≡ old ++ records_after (take place all) (drop place all)
-    → new ≡ old ++ record_text (take place all) m
-    → transcript all ≡ new ++ records_after (take (suc place) all) (drop (suc place) all)
-next_record all place m old new is so_far pushed =
-    let before = take place all in
-    let later = drop (suc place) all in
-    so_far ∙ ap (λ l. old ++ records_after before l) (open_there all place m is)
-    ∙ sym (append_assoc old (record_text before m) (records_after (before ++ m ∷ []) later))
-    ∙ ap₂ (λ t l. t ++ records_after l later) (sym pushed) (sym (taken_there all place m is))
-
-pub last_records : (all : List Sent) (place : ℕ) (out : List ℕ) → length all ≤ place
-    → transcript all ≡ out ++ records_after (take place all) (drop place all)
-    → out ≡ transcript all
-last_records all place out past so_far =
-    sym (so_far ∙ ap (λ l. out ++ records_after (take place all) l) (drop_all place all past)
-    ∙ append-nil out)
+pub no_frames : (left : List Sent) (text : List ℕ) → text ≡ frames left → length text ≡ 0
+    → left ≡ []
+no_frames [] text is none = refl
+no_frames (m ∷ ms) text is none = absurd (omega (arith, ap length is))

@@ -13,3 +13,5 @@ pub mod ReadErrors
 pub mod SameText
 pub mod Laws
 pub mod TranscriptCauseText
+pub mod Canonical
+pub mod Heads

@@ -1,25 +1,11 @@
--- The lines of a document among the nodes of a flat document. Source: own. For private clauses.
-use Rattle.std.specs.Prelude.{◌≡◌, ℕ, ◌+◌, Bool, true, false, List, [], ◌∷◌, ◌++◌, length, codes}
-use Rattle.dap_tree.specs.Doc.{Doc, Items, Members}
-use Rattle.dap_flat.specs.{Finding.{Holds, HoldsMembers, Stand}, declared.node.Node.Node}
-use Rattle.dap_flat.specs.Pieces.{end_list, items_pieces, leaf, members_pieces, piece_of}
-use Rattle.dap_flat.specs.Pieces.{pieces}
-use Rattle.dap_transcript.specs.{Names.name_text, Scalars.scalar}
+-- The lines of the values of canonical texts. Source: own. For private clauses.
+use Rattle.std.specs.Prelude.{◌≡◌, ℕ, Bool, true, false, List, ◌∷◌, ◌++◌, codes}
+use Rattle.serde_json.specs.Written.{items_text, members_text}
+use Rattle.dap_tree.specs.Doc.{Doc, text, list, object, Items, item, Members, member}
+use Rattle.dap_tree.specs.Json.{items_data, members_data, text_of}
+use Rattle.dap_transcript.specs.Canonical.{ends_value}
+use Rattle.dap_transcript.specs.{Names.name_text, Scalars.{string_text}}
 use Rattle.dap_transcript.specs.Lines.{item_lines, margin, member_lines, part_text, scalar_line}
-
--- These elements, and the end of their list, start there.
-abbrev pub AreElements : List Node → ℕ → Items → Type 0
-AreElements ns from ds = Stand ns from (items_pieces ds ++ end_list ∷ [])
-
--- The text of the scalar that the node is was appended.
-abbrev pub PushesScalar : Node → List ℕ → List ℕ → Type 0
-PushesScalar n old new = (d : Doc) → piece_of n ≡ leaf d → pieces d ≡ leaf d ∷ []
-    → new ≡ old ++ scalar d
-
--- The same for the line of the scalar.
-abbrev pub PushesLine : Node → List ℕ → List ℕ → Type 0
-PushesLine n old new = (d : Doc) → piece_of n ≡ leaf d → pieces d ≡ leaf d ∷ []
-    → new ≡ old ++ scalar_line (scalar d)
 
 -- A line of an element, and of a member, up to their values.
 abbrev pub item_text : ℕ → Doc → List ℕ
@@ -28,48 +14,88 @@ item_text n d = margin n ++ codes "-" ++ part_text false n d
 abbrev pub member_text : ℕ → ℕ → List ℕ → Doc → List ℕ
 member_text first n k d = margin first ++ name_text k ++ codes ":" ++ part_text true n d
 
-module _ (ns : List Node) where
-  -- The text of the document that starts at `at` was appended, and `end` is the place after it.
-  abbrev pub PushesPart : Bool → ℕ → ℕ → List ℕ → List ℕ → ℕ → Type 0
-  PushesPart named n at old new end = (d : Doc) → Holds ns at d
-      → (new ≡ old ++ part_text named n d) × (end ≡ at + length (pieces d))
+-- The canonical texts of elements and of members, up to the bracket that closes them. They start
+-- with a comma if one came before.
+abbrev pub elements_text : Bool → Items → List ℕ
+elements_text later ds = items_text later (items_data ds)
 
-  abbrev pub PushesItem : ℕ → ℕ → List ℕ → List ℕ → ℕ → Type 0
-  PushesItem n at old new end = (d : Doc) → Holds ns at d
-      → (new ≡ old ++ item_text n d) × (end ≡ at + length (pieces d))
+abbrev pub entries_text : Bool → Members → List ℕ
+entries_text later ms = members_text later (members_data ms)
 
-  abbrev pub PushesMember : ℕ → ℕ → List ℕ → ℕ → List ℕ → List ℕ → ℕ → Type 0
-  PushesMember first n k at old new end = (d : Doc) → Holds ns at d
-      → (new ≡ old ++ member_text first n k d) × (end ≡ at + length (pieces d))
+-- The text starts with this value, which is inside a list or an object, and this follows it.
+abbrev pub StartsWith : List ℕ → Doc → List ℕ → Type 0
+StartsWith s d more = (s ≡ text_of d ++ more) × (ends_value more ≡ true)
 
-  -- The same for items and the end of their list, and for members and the end of their object.
-  abbrev pub PushesItems : ℕ → ℕ → List ℕ → List ℕ → ℕ → Type 0
-  PushesItems n from old new end = (ds : Items) → AreElements ns from ds
-      → (new ≡ old ++ item_lines n ds) × (end ≡ from + length (items_pieces ds) + 1)
+-- The text starts with this name and its colon, and this follows them.
+abbrev pub StartsWithName : List ℕ → List ℕ → List ℕ → Type 0
+StartsWithName s k more = s ≡ text_of (text k) ++ 58 ∷ more
 
-  abbrev pub PushesMembers : ℕ → ℕ → ℕ → List ℕ → List ℕ → ℕ → Type 0
-  PushesMembers first n from old new end = (ms : Members) → HoldsMembers ns from ms
-      → (new ≡ old ++ member_lines first n ms) × (end ≡ from + length (members_pieces ms) + 1)
+-- If the text starts with a name and its colon, then this is the name as it is written, and this
+-- follows the colon.
+abbrev pub StartsWithPlain : List ℕ → List ℕ → List ℕ → Type 0
+StartsWithPlain s name value = (k more : List ℕ) → StartsWithName s k more
+    → (name ≡ name_text k) × (value ≡ more)
 
-  -- For a loop: the lines of the items before `at` were appended.
-  pub record ItemsLeft (n from at : ℕ) (old now : List ℕ) (ds : Items) : Type 0 where
-    pub left : Items
-    pub holds : AreElements ns at left
-    pub lines : old ++ item_lines n ds ≡ now ++ item_lines n left
-    pub count : from + length (items_pieces ds) ≡ at + length (items_pieces left)
+-- The line of the string or other scalar that the text starts with was appended, and `rest` follows
+-- it in the text.
+abbrev pub PushesString : List ℕ → List ℕ → List ℕ → List ℕ → Type 0
+PushesString s rest old new = (t more : List ℕ) → s ≡ text_of (text t) ++ more
+    → (new ≡ old ++ scalar_line (string_text t)) × (rest ≡ more)
 
-  abbrev pub AreItemsLeft : ℕ → ℕ → ℕ → List ℕ → List ℕ → Type 0
-  AreItemsLeft n from at old now =
-      (ds : Items) → AreElements ns from ds → ItemsLeft n from at old now ds
+abbrev pub PushesPlain : List ℕ → List ℕ → List ℕ → List ℕ → Type 0
+PushesPlain s rest old new = (d : Doc) (more : List ℕ) → StartsWith s d more
+    → (new ≡ old ++ scalar_line (text_of d)) × (rest ≡ more)
 
-  -- The same for members. `first` is the indentation of the first one, `next` that of the next one.
-  pub record MembersLeft (first next n from at : ℕ) (old now : List ℕ) (ms : Members) : Type 0
-    where
-      pub left : Members
-      pub holds : HoldsMembers ns at left
-      pub lines : old ++ member_lines first n ms ≡ now ++ member_lines next n left
-      pub count : from + length (members_pieces ms) ≡ at + length (members_pieces left)
+-- The same for the lines of a value.
+abbrev pub PushesPart : Bool → ℕ → List ℕ → List ℕ → List ℕ → List ℕ → Type 0
+PushesPart named n s rest old new = (d : Doc) (more : List ℕ) → StartsWith s d more
+    → (new ≡ old ++ part_text named n d) × (rest ≡ more)
 
-  abbrev pub AreMembersLeft : ℕ → ℕ → ℕ → ℕ → ℕ → List ℕ → List ℕ → Type 0
-  AreMembersLeft first next n from at old now =
-      (ms : Members) → HoldsMembers ns from ms → MembersLeft first next n from at old now ms
+-- The same for a list and an object after their opening brackets.
+abbrev pub PushesList : Bool → ℕ → List ℕ → List ℕ → List ℕ → List ℕ → Type 0
+PushesList named n s rest old new = (ds : Items) (more : List ℕ)
+    → s ≡ elements_text false ds ++ more
+    → (new ≡ old ++ part_text named n (list ds)) × (rest ≡ more)
+
+abbrev pub PushesObject : Bool → ℕ → List ℕ → List ℕ → List ℕ → List ℕ → Type 0
+PushesObject named n s rest old new = (ms : Members) (more : List ℕ)
+    → s ≡ entries_text false ms ++ more
+    → (new ≡ old ++ part_text named n (object ms)) × (rest ≡ more)
+
+-- The same for an element.
+abbrev pub PushesItem : ℕ → List ℕ → List ℕ → List ℕ → List ℕ → Type 0
+PushesItem n s rest old new = (d : Doc) (more : List ℕ) → StartsWith s d more
+    → (new ≡ old ++ item_text n d) × (rest ≡ more)
+
+-- The same for one or more elements and the end of their list.
+abbrev pub PushesItems : ℕ → List ℕ → List ℕ → List ℕ → List ℕ → Type 0
+PushesItems n s rest old new = (d : Doc) (ds : Items) (more : List ℕ)
+    → s ≡ elements_text false (item d ds) ++ more
+    → (new ≡ old ++ item_lines n (item d ds)) × (rest ≡ more)
+
+-- The same for a member: its name and its value are these texts.
+abbrev pub PushesNamed : ℕ → ℕ → List ℕ → List ℕ → List ℕ → List ℕ → List ℕ → Type 0
+PushesNamed first n name value rest old new = (k : List ℕ) (d : Doc) (more : List ℕ)
+    → name ≡ text_of (text k) → StartsWith value d more
+    → (new ≡ old ++ member_text first n k d) × (rest ≡ more)
+
+abbrev pub PushesMember : ℕ → ℕ → List ℕ → List ℕ → List ℕ → List ℕ → Type 0
+PushesMember first n s rest old new = (k : List ℕ) (d : Doc) (more : List ℕ)
+    → StartsWithName s k (text_of d ++ more) → ends_value more ≡ true
+    → (new ≡ old ++ member_text first n k d) × (rest ≡ more)
+
+-- The same for one or more members and the end of their object.
+abbrev pub PushesMembers : ℕ → ℕ → List ℕ → List ℕ → List ℕ → List ℕ → Type 0
+PushesMembers first n s rest old new = (k : List ℕ) (d : Doc) (ms : Members) (more : List ℕ)
+    → s ≡ entries_text false (member k d ms) ++ more
+    → (new ≡ old ++ member_lines first n (member k d ms)) × (rest ≡ more)
+
+-- For loops: if what is left is appended, then all of the text is.
+abbrev pub CompletesItems : ℕ → List ℕ → List ℕ → List ℕ → List ℕ → Type 0
+CompletesItems n s old left now = (rest new : List ℕ) → PushesItems n left rest now new
+    → PushesItems n s rest old new
+
+-- `first` is the indentation of the first member, `next` that of the next one.
+abbrev pub CompletesMembers : ℕ → ℕ → ℕ → List ℕ → List ℕ → List ℕ → List ℕ → Type 0
+CompletesMembers first n next s old left now = (rest new : List ℕ)
+    → PushesMembers next n left rest now new → PushesMembers first n s rest old new

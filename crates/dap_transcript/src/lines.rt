@@ -1,19 +1,30 @@
-//! Writes the lines of documents.
-ghost use Rattle.std.specs.Prelude.{◌≡◌, ◌+◌, ◌<◌, ◌≤◌, ◌++◌, cond, codes, length, IfOk, OnOk};
-ghost use Rattle.dap_transcript.specs.Lines.{first_margin, list_margin, margin, scalar_line};
-ghost use Rattle.dap_transcript.specs.Walk.{PushesItem, PushesItems, PushesMember, PushesMembers};
-ghost use Rattle.dap_transcript.specs.Walk.{PushesLine, PushesPart};
+//! Writes the lines of the values of canonical texts.
+ghost use Rattle.std.specs.Prelude.{◌≡◌, ℕ, ◌+◌, ◌<◌, ◌∷◌, ◌++◌, List, cond, codes, length};
+ghost use Rattle.std.specs.Prelude.{IfOk, IfSome, MatchOption, OnOk};
+ghost use Rattle.dap_tree.specs.Doc as doc;
+ghost use Rattle.dap_tree.specs.{Json.text_of};
+ghost use Rattle.dap_transcript.specs.Canonical.{Splits};
+ghost use Rattle.dap_transcript.specs.Lines.{list_margin, margin};
+ghost use Rattle.dap_transcript.specs.Walk.{PushesItem, PushesItems, PushesList, PushesMember};
+ghost use Rattle.dap_transcript.specs.Walk.{PushesMembers, PushesNamed, PushesObject, PushesPart};
+ghost use Rattle.dap_transcript.specs.Walk.{PushesPlain, PushesString, StartsWithName};
 
-use crate::names::push_name;
-use crate::scalars::push_scalar;
-use dap_flat::Node;
-use std::alloc::{AllocError, Global};
+use crate::canonical::{split_string, split_value};
+use crate::names::{push_name, split_plain_name};
+use crate::scalars::push_escaped;
+use std::alloc::AllocError;
+
+/// The indentation that most lines have at most.
+const BLANKS: &[u8] = b"                                ";
 
 /// Appends the indentation of a line.
-#[tactic(auto, using(crate::proofs::NodeLines::blanks_added))]
+#[tactic(auto, using(crate::proofs::TextLines::blanks_added))]
 pub(crate) fn push_margin(len: usize, out: &mut Vec<u8>) -> Result<(), AllocError>
     ensures { OnOk result (out.new.items ≡ out.old.items ++ margin len) }
 {
+    if let Some(blanks) = BLANKS.get(..len) {
+        return out.extend_from_slice(blanks);
+    }
     let end = out.len().checked_add(len).ok_or(AllocError)?;
     out.resize(end, b' ')
 }
@@ -39,25 +50,6 @@ fn first_margin(named: bool, inside: usize) -> usize
     if named { inside } else { 0 }
 }
 
-/// Appends what comes before the parts of a list or an object that has this many nodes inside.
-fn push_start(
-    empty: &[u8],
-    separator: &[u8],
-    inside: usize,
-    out: &mut Vec<u8>,
-) -> Result<(), AllocError>
-    ensures none { inside ≡ 0
-        → OnOk result (out.new.items ≡ out.old.items ++ scalar_line empty.now) }
-    ensures some { 0 < inside → OnOk result (out.new.items ≡ out.old.items ++ separator.now) }
-{
-    if inside > 0 {
-        return out.extend_from_slice(separator);
-    }
-    out.extend_from_slice(b" ")?;
-    out.extend_from_slice(empty)?;
-    out.extend_from_slice(b"\n")
-}
-
 /// Returns what separates the head of an object from its first member.
 fn separator(named: bool) -> &'static [u8]
     ensures { result.now ≡ cond named (codes "\n") (codes " ") }
@@ -65,151 +57,224 @@ fn separator(named: bool) -> &'static [u8]
     if named { b"\n" } else { b" " }
 }
 
-/// Appends a blank, the scalar that a node is, and a line end.
-fn push_line(
-    alloc: Global,
-    node: &Node<'_>,
-    quoted: &mut Vec<u8>,
-    out: &mut Vec<u8>,
-) -> Result<(), AllocError>
-    ensures { OnOk result (PushesLine node.now out.old.items out.new.items) }
+/// Returns what follows this byte if the text starts with it.
+pub(crate) fn after_byte(text: &[u8], byte: u8) -> Option<&[u8]>
+    ensures { MatchOption result ((rest : List ℕ) → text.now ≡ byte ∷ rest → ⊥)
+        (λ rest. text.now ≡ byte ∷ rest.now) }
 {
-    out.extend_from_slice(b" ")?;
-    push_scalar(alloc, node, quoted, out)?;
-    out.extend_from_slice(b"\n")
+    let (first, rest) = text.split_first()?;
+    if *first == byte { Some(rest) } else { None }
+}
+
+/// Returns the name that a member starts with, with its quotes, and what follows its colon.
+pub(crate) fn split_name(text: &[u8]) -> Option<(&[u8], &[u8])>
+    ensures name { (k more : List ℕ) → StartsWithName text.now k more
+        → Splits result (text_of (doc.text k)) more }
+    ensures shorter { IfSome result (λ parts. length parts.1.now < length text.now) }
+{
+    let (name, rest) = split_string(text)?;
+    let value = after_byte(rest, b':')?;
+    Some((name, value))
+}
+
+/// Appends a blank, the string that the text starts with, and a line end. Returns what follows the
+/// string.
+fn push_string_line<'t>(text: &'t [u8], out: &mut Vec<u8>) -> Result<&'t [u8], AllocError>
+    ensures lines { IfOk result
+        (λ rest. PushesString text.now rest.now out.old.items out.new.items) }
+    ensures shorter { IfOk result (λ rest. length rest.now < length text.now) }
+{
+    let Some((string, rest)) = split_string(text) else {
+        return Err(AllocError);
+    };
+    out.push(b' ')?;
+    push_escaped(string, out)?;
+    out.push(b'\n')?;
+    Ok(rest)
+}
+
+/// Does the same for a scalar that is not a string.
+fn push_plain_line<'t>(text: &'t [u8], out: &mut Vec<u8>) -> Result<&'t [u8], AllocError>
+    ensures lines { IfOk result
+        (λ rest. PushesPlain text.now rest.now out.old.items out.new.items) }
+    ensures shorter { IfOk result (λ rest. length rest.now < length text.now) }
+{
+    let Some((scalar, rest)) = split_value(text) else {
+        return Err(AllocError);
+    };
+    out.push(b' ')?;
+    out.extend_from_slice(scalar)?;
+    out.push(b'\n')?;
+    Ok(rest)
 }
 
 /// Appends what follows a name and its colon, or the `-` of an element, at this indentation, if the
-/// document that starts at `at` is the value. Returns the place after the document.
+/// canonical text starts with the value. Returns what follows the value.
 #[cycle(push_part)]
-pub(crate) fn push_part(
-    alloc: Global,
-    nodes: &[Node<'_>],
+pub(crate) fn push_part<'t>(
+    text: &'t [u8],
     named: bool,
     margin: usize,
-    at: usize,
-    quoted: &mut Vec<u8>,
     out: &mut Vec<u8>,
-) -> Result<usize, AllocError>
-    requires { at < length nodes.now }
+) -> Result<&'t [u8], AllocError>
     ensures lines { IfOk result
-        (PushesPart nodes.now named margin at out.old.items out.new.items) }
-    ensures end { IfOk result (λ end. at < end) }
+        (λ rest. PushesPart named margin text.now rest.now out.old.items out.new.items) }
+    ensures shorter { IfOk result (λ rest. length rest.now < length text.now) }
 {
-    match nodes[at] {
-        Node::List(inside) => {
-            push_start(b"[]", b"\n", inside, out)?;
-            let len = list_margin(named, margin)?;
-            push_items(alloc, nodes, len, at + 1, quoted, out)
+    if let Some(inside) = after_byte(text, b'{') {
+        return push_object(inside, named, margin, out);
+    }
+    if let Some(inside) = after_byte(text, b'[') {
+        return push_list(inside, named, margin, out);
+    }
+    if after_byte(text, b'"').is_some() {
+        return push_string_line(text, out);
+    }
+    push_plain_line(text, out)
+}
+
+/// Does this for a list, after its opening bracket.
+#[cycle(push_part)]
+fn push_list<'t>(
+    text: &'t [u8],
+    named: bool,
+    margin: usize,
+    out: &mut Vec<u8>,
+) -> Result<&'t [u8], AllocError>
+    ensures lines { IfOk result
+        (λ rest. PushesList named margin text.now rest.now out.old.items out.new.items) }
+    ensures shorter { IfOk result (λ rest. length rest.now < length text.now) }
+{
+    if let Some(rest) = after_byte(text, b']') {
+        out.extend_from_slice(b" []\n")?;
+        return Ok(rest);
+    }
+    out.push(b'\n')?;
+    let len = list_margin(named, margin)?;
+    push_items(text, len, out)
+}
+
+/// Does this for an object, after its opening brace.
+#[cycle(push_part)]
+fn push_object<'t>(
+    text: &'t [u8],
+    named: bool,
+    margin: usize,
+    out: &mut Vec<u8>,
+) -> Result<&'t [u8], AllocError>
+    ensures lines { IfOk result
+        (λ rest. PushesObject named margin text.now rest.now out.old.items out.new.items) }
+    ensures shorter { IfOk result (λ rest. length rest.now < length text.now) }
+{
+    if let Some(rest) = after_byte(text, b'}') {
+        out.extend_from_slice(b" {}\n")?;
+        return Ok(rest);
+    }
+    out.extend_from_slice(separator(named))?;
+    let len = inner(margin)?;
+    push_members(text, first_margin(named, len), len, out)
+}
+
+/// Appends the lines of the items that the text starts with, and returns what follows their list.
+#[cycle(push_part)]
+fn push_items<'t>(text: &'t [u8], margin: usize, out: &mut Vec<u8>) -> Result<&'t [u8], AllocError>
+    ensures lines { IfOk result
+        (λ rest. PushesItems margin text.now rest.now out.old.items out.new.items) }
+    ensures shorter { IfOk result (λ rest. length rest.now < length text.now) }
+{
+    let mut left = text;
+    loop {
+        let after = push_item(left, margin, out)?;
+        if let Some(rest) = after_byte(after, b']') {
+            return Ok(rest);
         }
-        Node::Object(inside) => {
-            push_start(b"{}", separator(named), inside, out)?;
-            let len = inner(margin)?;
-            let first = first_margin(named, len);
-            push_members(alloc, nodes, first, len, at + 1, quoted, out)
-        }
-        _ => {
-            push_line(alloc, &nodes[at], quoted, out)?;
-            Ok(at + 1)
-        }
+        let Some(next) = after_byte(after, b',') else {
+            return Err(AllocError);
+        };
+        left = next;
     }
 }
 
-/// Appends the lines of the items that start at `from`, and returns the place after the end of
-/// their list.
+/// Appends the lines of the item that the text starts with.
 #[cycle(push_part)]
-fn push_items(
-    alloc: Global,
-    nodes: &[Node<'_>],
-    margin: usize,
-    from: usize,
-    quoted: &mut Vec<u8>,
-    out: &mut Vec<u8>,
-) -> Result<usize, AllocError>
-    ensures lines { IfOk result (PushesItems nodes.now margin from out.old.items out.new.items) }
-    ensures end { IfOk result (λ end. from ≤ end) }
-{
-    let mut p = from;
-    while p < nodes.len() {
-        if let Node::EndList = nodes[p] {
-            return Ok(p + 1);
-        }
-        let end = push_item(alloc, nodes, margin, p, quoted, out)?;
-        p = end;
-    }
-    Ok(p)
-}
-
-/// Appends the lines of the item that starts at `at`.
-#[cycle(push_part)]
-fn push_item(
-    alloc: Global,
-    nodes: &[Node<'_>],
-    margin: usize,
-    at: usize,
-    quoted: &mut Vec<u8>,
-    out: &mut Vec<u8>,
-) -> Result<usize, AllocError>
-    requires { at < length nodes.now }
-    ensures lines { IfOk result (PushesItem nodes.now margin at out.old.items out.new.items) }
-    ensures end { IfOk result (λ end. at < end) }
+fn push_item<'t>(text: &'t [u8], margin: usize, out: &mut Vec<u8>) -> Result<&'t [u8], AllocError>
+    ensures lines { IfOk result
+        (λ rest. PushesItem margin text.now rest.now out.old.items out.new.items) }
+    ensures shorter { IfOk result (λ rest. length rest.now < length text.now) }
 {
     push_margin(margin, out)?;
-    out.extend_from_slice(b"-")?;
-    push_part(alloc, nodes, false, margin, at, quoted, out)
+    out.push(b'-')?;
+    push_part(text, false, margin, out)
 }
 
-/// Appends the lines of the members that start at `from`, and returns the place after the end of
-/// their object.
+/// Appends the lines of the members that the text starts with, and returns what follows their
+/// object.
 #[cycle(push_part)]
-fn push_members(
-    alloc: Global,
-    nodes: &[Node<'_>],
+fn push_members<'t>(
+    text: &'t [u8],
     first: usize,
     margin: usize,
-    from: usize,
-    quoted: &mut Vec<u8>,
     out: &mut Vec<u8>,
-) -> Result<usize, AllocError>
+) -> Result<&'t [u8], AllocError>
     ensures lines { IfOk result
-        (PushesMembers nodes.now first margin from out.old.items out.new.items) }
-    ensures end { IfOk result (λ end. from ≤ end) }
+        (λ rest. PushesMembers first margin text.now rest.now out.old.items out.new.items) }
+    ensures shorter { IfOk result (λ rest. length rest.now < length text.now) }
 {
-    let mut p = from;
+    let mut left = text;
     let mut next = first;
-    while p < nodes.len() {
-        let Node::Name(name) = nodes[p] else {
-            return Ok(p + 1);
-        };
-        if p + 1 >= nodes.len() {
-            return Ok(p + 1);
+    loop {
+        let after = push_member(left, next, margin, out)?;
+        if let Some(rest) = after_byte(after, b'}') {
+            return Ok(rest);
         }
-        let end = push_member(alloc, nodes, next, margin, name, p + 1, quoted, out)?;
+        let Some(more) = after_byte(after, b',') else {
+            return Err(AllocError);
+        };
+        left = more;
         next = margin;
-        p = end;
     }
-    Ok(p)
 }
 
-/// Appends the lines of a member, whose value starts at `at`.
+/// Appends the lines of the member that the text starts with.
 #[cycle(push_part)]
-pub(crate) fn push_member(
-    alloc: Global,
-    nodes: &[Node<'_>],
+fn push_member<'t>(
+    text: &'t [u8],
     first: usize,
     margin: usize,
-    name: &str,
-    at: usize,
-    quoted: &mut Vec<u8>,
     out: &mut Vec<u8>,
-) -> Result<usize, AllocError>
-    requires { at < length nodes.now }
+) -> Result<&'t [u8], AllocError>
     ensures lines { IfOk result
-        (PushesMember nodes.now first margin name.now at out.old.items out.new.items) }
-    ensures end { IfOk result (λ end. at < end) }
+        (λ rest. PushesMember first margin text.now rest.now out.old.items out.new.items) }
+    ensures shorter { IfOk result (λ rest. length rest.now < length text.now) }
+{
+    if let Some((name, value)) = split_plain_name(text) {
+        push_margin(first, out)?;
+        out.extend_from_slice(name)?;
+        out.push(b':')?;
+        return push_part(value, true, margin, out);
+    }
+    let Some((name, value)) = split_name(text) else {
+        return Err(AllocError);
+    };
+    push_named(name, value, first, margin, out)
+}
+
+/// Appends the lines of a member: its name, with quotes, and the value that a text starts with.
+/// Returns what follows the value.
+#[cycle(push_part)]
+pub(crate) fn push_named<'t>(
+    name: &[u8],
+    value: &'t [u8],
+    first: usize,
+    margin: usize,
+    out: &mut Vec<u8>,
+) -> Result<&'t [u8], AllocError>
+    ensures lines { IfOk result
+        (λ rest. PushesNamed first margin name.now value.now rest.now out.old.items out.new.items) }
+    ensures shorter { IfOk result (λ rest. length rest.now < length value.now) }
 {
     push_margin(first, out)?;
-    push_name(alloc, name, quoted, out)?;
-    out.extend_from_slice(b":")?;
-    push_part(alloc, nodes, true, margin, at, quoted, out)
+    push_name(name, out)?;
+    out.push(b':')?;
+    push_part(value, true, margin, out)
 }

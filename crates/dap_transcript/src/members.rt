@@ -1,19 +1,18 @@
 //! Writes the members of a message.
-ghost use Rattle.std.specs.Prelude.{◌≡◌, ◌<◌, ◌++◌, true, IfOk, OnOk, codes, length, unwrap_or};
-ghost use Rattle.std.specs.Prelude.{string_bytes};
+ghost use Rattle.std.specs.Prelude.{◌≡◌, ◌<◌, ◌++◌, true, codes, unwrap_or};
+ghost use Rattle.std.specs.Prelude.{false, length, None, IfOk, OnOk};
 ghost use Rattle.std.specs.{Cmp.Lexicographic.slice_cmp, Ordering.{is_gt, nat_cmp}};
-ghost use Rattle.dap_tree.specs.Doc.{Doc, Members, as_object, is_ordered, members_ordered};
-ghost use Rattle.dap_tree.specs.Doc.{no_members, object};
-ghost use Rattle.dap_flat.specs.{Finding.Holds, Pieces.Represents};
+ghost use Rattle.dap_tree.specs.{Doc.{Doc, as_object, is_ordered, no_members}, Json.text_of};
 ghost use Rattle.dap_message.specs.Rows.{name_key};
-ghost use Rattle.dap_transcript.specs.Members.{omits, Finishes, PushesOne, Settles};
+ghost use Rattle.dap_transcript.specs.Members.{omits, Finishes, IsWaiting, Passes, PushesWritten};
+ghost use Rattle.dap_transcript.specs.Members.{Renamed, Settles};
 ghost use Rattle.dap_transcript.specs.{Lines.member_lines, Transcript.written, Walk.member_text};
 
-use crate::lines::push_member;
+use crate::canonical::{split_value, without_quotes};
+use crate::lines::{after_byte, push_margin, push_named, push_part, split_name};
 use crate::names::names_head;
-use dap_flat::{Node, same_text, value_end};
 use dap_profile::Kind;
-use std::alloc::{AllocError, Global};
+use std::alloc::AllocError;
 
 /// The indentation of the members of a message.
 const MARGIN: usize = 2;
@@ -28,206 +27,181 @@ pub(crate) struct Omitted {
 }
 
 impl Omitted {
-    fn has(self, name: &str) -> bool
+    /// Returns whether the member of this name, without its quotes, is omitted.
+    fn has(self, name: &[u8]) -> bool
         ensures { result ≡ omits self name.now }
     {
-        same_text(name, "type")
-            || (same_text(name, name_key(self.kind))
-                || ((same_text(name, "seq") && self.seq)
-                    || ((same_text(name, "request_seq") && self.request_seq)
-                        || (same_text(name, "success") && self.success))))
+        name == b"type".as_slice()
+            || (name == name_key(self.kind)
+                || ((name == b"seq".as_slice() && self.seq)
+                    || ((name == b"request_seq".as_slice() && self.request_seq)
+                        || (name == b"success".as_slice() && self.success))))
     }
 }
 
-fn name_key(kind: Kind) -> &'static str
+fn name_key(kind: Kind) -> &'static [u8]
     ensures { result.now ≡ name_key kind }
 {
     match kind {
-        Kind::Request | Kind::Response => "command",
-        Kind::Event => "event",
+        Kind::Request | Kind::Response => b"command",
+        Kind::Event => b"event",
     }
 }
 
-/// Buffers that are reused for each record.
-#[derive(Drop)]
-pub(crate) struct Buffers {
-    /// The JSON text of one string.
-    pub(crate) quoted: Vec<u8>,
-    /// The name under which the waiting member is written.
-    pub(crate) renamed: String,
+/// A member that is written under its name with `_` appended, and so maybe after other members.
+#[derive(Clone, Copy, Drop)]
+pub(crate) struct Waiting<'t> {
+    /// The name, without quotes.
+    pub(crate) name: &'t [u8],
+    /// The canonical text from the value on.
+    pub(crate) value: &'t [u8],
 }
 
-impl Buffers {
-    /// Creates empty buffers. Does not allocate.
-    pub(crate) fn new(alloc: Global) -> Buffers {
-        Buffers {
-            quoted: Vec::new(alloc),
-            renamed: String::new(alloc),
-        }
-    }
-
-    /// Stores a name with one `_` more.
-    fn rename(&mut self, name: &str) -> Result<(), AllocError>
-        ensures { OnOk result (string_bytes self.new.renamed ≡ name.now ++ codes "_") }
-    {
-        self.renamed.clear();
-        self.renamed.push_str(name)?;
-        self.renamed.push_str("_")
-    }
-}
-
-fn comes_after(name: &str, other: &str) -> bool
-    ensures { result ≡ is_gt (slice_cmp nat_cmp name.now other.now) }
+/// Returns whether the name with `_` appended comes after the other name.
+fn comes_after(name: &[u8], other: &[u8]) -> bool
+    ensures { result ≡ is_gt (slice_cmp nat_cmp (name.now ++ codes "_") other.now) }
 {
-    name.cmp(other).is_gt()
+    match other.strip_prefix(name) {
+        Some(rest) => b"_".as_slice().cmp(rest).is_gt(),
+        None => name.cmp(other).is_gt(),
+    }
 }
 
-/// Writes the renamed member, whose value starts at `at`.
-fn write_renamed(
-    alloc: Global,
-    nodes: &[Node<'_>],
-    at: usize,
-    buffers: &mut Buffers,
-    out: &mut Vec<u8>,
-) -> Result<(), AllocError>
-    ensures text { OnOk result ((d : Doc) → Holds nodes.now at d → out.new.items
-        ≡ out.old.items ++ member_text 2 2 (string_bytes buffers.old.renamed) d) }
-    ensures renamed { string_bytes buffers.new.renamed ≡ string_bytes buffers.old.renamed }
+/// Writes a waiting member.
+fn write_waiting(waiting: Waiting<'_>, out: &mut Vec<u8>) -> Result<(), AllocError>
+    ensures { OnOk result ((r : Renamed) → IsWaiting waiting.entry r
+        → out.new.items ≡ out.old.items ++ member_text 2 2 r.0 r.1) }
 {
-    if at >= nodes.len() {
-        return Err(AllocError);
-    }
-    let quoted = &mut buffers.quoted;
-    push_member(
-        alloc,
-        nodes,
-        MARGIN,
-        MARGIN,
-        buffers.renamed.as_str(),
-        at,
-        quoted,
-        out,
-    )?;
+    push_margin(MARGIN, out)?;
+    out.extend_from_slice(waiting.name)?;
+    out.extend_from_slice(b"_:")?;
+    push_part(waiting.value, true, MARGIN, out)?;
     Ok(())
 }
 
-/// Writes the waiting member, unless its written name comes after this name. Returns the place of
-/// the value of the member that is still waiting.
-fn settle(
-    alloc: Global,
-    nodes: &[Node<'_>],
-    name: &str,
-    waiting: Option<usize>,
-    buffers: &mut Buffers,
+/// Writes the waiting member, unless its written name comes after this name, without its quotes.
+/// Returns the member that is still waiting.
+fn settle<'t>(
+    name: &[u8],
+    waiting: Option<Waiting<'t>>,
     out: &mut Vec<u8>,
-) -> Result<Option<usize>, AllocError>
-    ensures settled { IfOk result (Settles nodes.now name.now waiting
-        (string_bytes buffers.old.renamed) out.old.items out.new.items) }
-    ensures renamed { string_bytes buffers.new.renamed ≡ string_bytes buffers.old.renamed }
+) -> Result<Option<Waiting<'t>>, AllocError>
+    ensures { IfOk result (Settles name.now waiting.entry out.old.items out.new.items) }
 {
-    let Some(at) = waiting else {
+    let Some(member) = waiting else {
         return Ok(None);
     };
-    if comes_after(buffers.renamed.as_str(), name) {
-        return Ok(Some(at));
+    if comes_after(member.name, name) {
+        return Ok(Some(member));
     }
-    write_renamed(alloc, nodes, at, buffers, out)?;
+    write_waiting(member, out)?;
     Ok(None)
 }
 
-/// Writes the member of this name, whose value starts at `at`, or makes it wait if it is renamed.
-/// Returns the place of the value of the waiting member.
+/// Writes the member of this name, which has its quotes, or makes it wait if it is renamed. The
+/// other text starts with the value. Returns what follows the value, and the waiting member.
 ///
 /// Two members never wait at once: the name of a head with `_` appended comes before, or is, the
 /// next name of a head.
-fn push_one(
-    alloc: Global,
-    nodes: &[Node<'_>],
-    name: &str,
-    at: usize,
-    waiting: Option<usize>,
-    buffers: &mut Buffers,
+fn push_one<'t>(
+    name: &'t [u8],
+    value: &'t [u8],
+    waiting: Option<Waiting<'t>>,
     out: &mut Vec<u8>,
-) -> Result<Option<usize>, AllocError>
-    requires { at < length nodes.now }
-    ensures { IfOk result (PushesOne nodes.now name.now at waiting
-        (string_bytes buffers.old.renamed) (string_bytes buffers.new.renamed)
-        out.old.items out.new.items) }
+) -> Result<(&'t [u8], Option<Waiting<'t>>), AllocError>
+    ensures passes { IfOk result (λ passed. Passes (λ _. false) name.now value.now waiting.entry
+        out.old.items out.new.items passed.0.now passed.1) }
+    ensures shorter { IfOk result (λ passed. length passed.0.now < length value.now) }
 {
-    let still = settle(alloc, nodes, name, waiting, buffers, out)?;
-    if !names_head(name.as_bytes()) {
-        let quoted = &mut buffers.quoted;
-        push_member(alloc, nodes, MARGIN, MARGIN, name, at, quoted, out)?;
-        return Ok(still);
+    let inside = without_quotes(name);
+    let still = settle(inside, waiting, out)?;
+    if !names_head(inside) {
+        let rest = push_named(name, value, MARGIN, MARGIN, out)?;
+        return Ok((rest, still));
     }
     if still.is_some() {
         return Err(AllocError);
     }
-    buffers.rename(name)?;
-    Ok(Some(at))
+    let Some((_, rest)) = split_value(value) else {
+        return Err(AllocError);
+    };
+    let own = Waiting {
+        name: inside,
+        value,
+    };
+    Ok((rest, Some(own)))
 }
 
-/// Appends the lines of the members of an object that are written, in the order of the names under
-/// which they are written.
-fn push_written(
-    alloc: Global,
-    nodes: &[Node<'_>],
+/// Does the same for a member that may be omitted.
+fn pass_one<'t>(
     omitted: Omitted,
-    buffers: &mut Buffers,
+    name: &'t [u8],
+    value: &'t [u8],
+    waiting: Option<Waiting<'t>>,
     out: &mut Vec<u8>,
-) -> Result<(), AllocError>
-    ensures { OnOk result ((ms : Members) → Represents nodes.now (object ms)
-        → members_ordered ms ≡ true → out.new.items
-        ≡ out.old.items ++ member_lines 2 2 (written (omits omitted) ms)) }
+) -> Result<(&'t [u8], Option<Waiting<'t>>), AllocError>
+    ensures passes { IfOk result (λ passed. Passes (omits omitted) name.now value.now waiting.entry
+        out.old.items out.new.items passed.0.now passed.1) }
+    ensures shorter { IfOk result (λ passed. length passed.0.now < length value.now) }
+{
+    if !omitted.has(without_quotes(name)) {
+        return push_one(name, value, waiting, out);
+    }
+    let Some((_, rest)) = split_value(value) else {
+        return Err(AllocError);
+    };
+    Ok((rest, waiting))
+}
+
+/// Appends the lines of the members that the text starts with and that are written, in the order of
+/// the names under which they are written.
+fn push_written(text: &[u8], omitted: Omitted, out: &mut Vec<u8>) -> Result<(), AllocError>
+    ensures { OnOk result
+        (PushesWritten (omits omitted) None text.now out.old.items out.new.items) }
 {
     let mut waiting = None;
-    let mut p = 1;
-    while p < nodes.len() {
-        let Node::Name(name) = nodes[p] else {
-            return finish(alloc, nodes, waiting, buffers, out);
-        };
-        let Some(end) = value_end(nodes, p + 1) else {
+    let mut left = text;
+    loop {
+        let Some((name, value)) = split_name(left) else {
             return Err(AllocError);
         };
-        if !omitted.has(name) {
-            waiting = push_one(alloc, nodes, name, p + 1, waiting, buffers, out)?;
+        let (after, still) = pass_one(omitted, name, value, waiting, out)?;
+        if after_byte(after, b'}').is_some() {
+            return finish(still, out);
         }
-        p = end;
+        let Some(next) = after_byte(after, b',') else {
+            return Err(AllocError);
+        };
+        waiting = still;
+        left = next;
     }
-    Ok(())
 }
 
-/// Appends the lines of the members that are written of a message, which is an object.
-pub(crate) fn push_document(
-    alloc: Global,
-    nodes: &[Node<'_>],
+/// Appends the lines of the members that are written of a message with this canonical content.
+pub(crate) fn push_content(
+    content: &[u8],
     omitted: Omitted,
-    buffers: &mut Buffers,
     out: &mut Vec<u8>,
 ) -> Result<(), AllocError>
-    ensures { OnOk result ((d : Doc) → Represents nodes.now d → is_ordered d ≡ true
+    ensures { OnOk result ((d : Doc) → content.now ≡ text_of d → is_ordered d ≡ true
         → out.new.items ≡ out.old.items
         ++ member_lines 2 2 (written (omits omitted) (unwrap_or (as_object d) no_members))) }
 {
-    match nodes {
-        [Node::Object(_), ..] => push_written(alloc, nodes, omitted, buffers, out),
-        _ => Err(AllocError),
+    let Some(inside) = after_byte(content, b'{') else {
+        return Err(AllocError);
+    };
+    if after_byte(inside, b'}').is_some() {
+        return Ok(());
     }
+    push_written(inside, omitted, out)
 }
 
 /// Writes the waiting member, if there is one, as the last one.
-fn finish(
-    alloc: Global,
-    nodes: &[Node<'_>],
-    waiting: Option<usize>,
-    buffers: &mut Buffers,
-    out: &mut Vec<u8>,
-) -> Result<(), AllocError>
-    ensures { OnOk result (Finishes nodes.now waiting (string_bytes buffers.old.renamed)
-        out.old.items out.new.items) }
+fn finish(waiting: Option<Waiting<'_>>, out: &mut Vec<u8>) -> Result<(), AllocError>
+    ensures { OnOk result (Finishes waiting.entry out.old.items out.new.items) }
 {
     match waiting {
-        Some(at) => write_renamed(alloc, nodes, at, buffers, out),
+        Some(member) => write_waiting(member, out),
         None => Ok(()),
     }
 }

@@ -1,46 +1,51 @@
 //! Writes the records of messages.
-ghost use Rattle.std.specs.Prelude.{◌≡◌, ◌&&◌, ◌++◌, cond, IfOk, OnOk};
+ghost use Rattle.std.specs.Prelude.{◌≡◌, ◌&&◌, ◌++◌, OnOk, true};
 ghost use Rattle.std.specs.Ordering.{int_eq};
-ghost use Rattle.dap_tree.specs.Side.{side_text};
-ghost use Rattle.dap_session.specs.EnvelopeView.{message_of};
-ghost use Rattle.dap_session.specs.Messages as words;
-ghost use Rattle.dap_transcript.specs.{Lines.member_lines, Members.omits};
-ghost use Rattle.dap_transcript.specs.Records.{PushesRecord};
-ghost use Rattle.dap_transcript.specs.Transcript.{head_line, members_in, same_number, title};
-ghost use Rattle.dap_transcript.specs.Transcript.{written};
+ghost use Rattle.dap_tree.specs.{Doc.is_ordered, Ids.without_ids, Side.side_text};
+ghost use Rattle.dap_profile.specs.declared.profile.Kind.TheVariants.{Response};
+ghost use Rattle.dap_message.specs.Message.{Sent};
+ghost use Rattle.dap_session.specs.Messages.{same_kind};
+ghost use Rattle.dap_transcript.specs.Heads.{IsHead};
+ghost use Rattle.dap_transcript.specs.Records.{PushesRecord, title_line};
+ghost use Rattle.dap_transcript.specs.Transcript.{same_number, title};
 
-use crate::members::{Buffers, Omitted, push_document};
+use crate::members::{Omitted, push_content};
 use crate::names::is_plain;
 use crate::scalars::push_string;
-use dap_flat::{Unread, nodes_of, read_flat};
-use dap_session::envelope::Envelope;
-use dap_session::message::{is_response, kind_of, name_of, request_seq_of, seq_of, side_of};
-use dap_stored::StoredMessage;
-use dap_tree::{Scratch, Side, read_tree_with};
+use crate::tokens::{Numbered, Title};
+use dap_profile::Kind;
+use dap_tree::Side;
 use std::alloc::{AllocError, Global};
+use std::str;
 
 /// What is read of a message.
-pub(crate) type Head<'m> = Envelope<'m, StoredMessage<'m>>;
+#[derive(Clone, Copy, Drop)]
+pub(crate) struct Head<'m> {
+    pub(crate) numbered: Numbered<'m>,
+    /// Whether the message is a response that reports success.
+    pub(crate) success: bool,
+    pub(crate) content: &'m [u8],
+}
 
-/// The number of bytes per node of a document that most contents have at least. It is an estimate,
-/// which only affects how often the vector of nodes is reallocated.
-const BYTES_A_NODE: usize = 8;
-
-/// Appends the kind and the name of a message.
+/// Appends the kind and the name of a message. The name is UTF-8, so a failed allocation is the
+/// only possible error.
 fn push_title(
     alloc: Global,
     kind: &str,
-    name: &str,
+    name: &[u8],
     quoted: &mut Vec<u8>,
     out: &mut Vec<u8>,
 ) -> Result<(), AllocError>
     ensures { OnOk result (out.new.items ≡ out.old.items ++ title kind.now name.now) }
 {
-    if is_plain(name.as_bytes()) {
+    if is_plain(name) {
         out.extend_from_slice(kind.as_bytes())?;
         out.extend_from_slice(b" ")?;
-        return out.extend_from_slice(name.as_bytes());
+        return out.extend_from_slice(name);
     }
+    let Ok(name) = str::from_utf8(name) else {
+        return Err(AllocError);
+    };
     let mut both = String::from_str(alloc, kind)?;
     both.push_str(" ")?;
     both.push_str(name)?;
@@ -59,17 +64,16 @@ fn side_word(side: Side) -> &'static str
 /// Appends the first line of a record.
 fn push_head(
     alloc: Global,
-    head: &Head<'_>,
+    head: Title<'_>,
     quoted: &mut Vec<u8>,
     out: &mut Vec<u8>,
 ) -> Result<(), AllocError>
-    ensures { OnOk result
-        (out.new.items ≡ out.old.items ++ head_line (message_of head.now)) }
+    ensures { OnOk result (out.new.items ≡ out.old.items ++ title_line head.entry) }
 {
     out.extend_from_slice(b"- ")?;
-    out.extend_from_slice(side_word(side_of(head)).as_bytes())?;
+    out.extend_from_slice(side_word(head.side).as_bytes())?;
     out.extend_from_slice(b": ")?;
-    push_title(alloc, kind_of(head).word(), name_of(head), quoted, out)?;
+    push_title(alloc, head.kind.word(), head.name, quoted, out)?;
     out.extend_from_slice(b"\n")
 }
 
@@ -83,101 +87,35 @@ fn same_number(number: Option<i64>, other: Option<i64>) -> bool
 }
 
 /// Returns the members that are not written of a message for which these numbers are expected.
-fn omitted_of(head: &Head<'_>, seq: i64, request: Option<i64>) -> Omitted
-    ensures kind { result.kind ≡ words.kind_of (message_of head.now) }
-    ensures seq { result.seq ≡ int_eq (words.seq_of (message_of head.now)) seq }
-    ensures request_seq { result.request_seq ≡ (words.is_response (message_of head.now)
-        && same_number (words.request_seq_of (message_of head.now)) request) }
-    ensures success { result.success ≡ words.is_yes (words.success_of (message_of head.now)) }
+fn omitted_of(head: Head<'_>, seq: i64, request: Option<i64>) -> Omitted
+    ensures kind { result.kind ≡ head.entry.numbered.title.kind }
+    ensures seq { result.seq ≡ int_eq head.entry.numbered.seq seq }
+    ensures request_seq { result.request_seq ≡ (same_kind Response head.entry.numbered.title.kind
+        && same_number head.entry.numbered.request request) }
+    ensures success { result.success ≡ head.entry.success }
 {
+    let own = head.numbered;
     Omitted {
-        kind: kind_of(head),
-        seq: seq_of(head) == seq,
-        request_seq: is_response(head) && same_number(request_seq_of(head), request),
-        success: head.success.unwrap_or(false),
+        kind: own.title.kind,
+        seq: own.seq == seq,
+        request_seq: own.title.kind == Kind::Response && same_number(own.request, request),
+        success: head.success,
     }
-}
-
-/// Appends the lines of the members of a message.
-///
-/// The content was read as a message before, so a failed allocation is the only possible error.
-fn push_members(
-    alloc: Global,
-    head: &Head<'_>,
-    omitted: Omitted,
-    scratch: &mut Scratch,
-    buffers: &mut Buffers,
-    out: &mut Vec<u8>,
-) -> Result<(), AllocError>
-    ensures { OnOk result (out.new.items ≡ out.old.items
-        ++ member_lines 2 2 (written (omits omitted) (members_in (message_of head.now)))) }
-{
-    if push_flat(alloc, head, omitted, scratch, buffers, out)? {
-        return Ok(());
-    }
-    push_tree(alloc, head, omitted, scratch, buffers, out)
-}
-
-/// Does this if the content can be read as a flat document, and otherwise appends nothing. Returns
-/// whether it can.
-fn push_flat(
-    alloc: Global,
-    head: &Head<'_>,
-    omitted: Omitted,
-    scratch: &mut Scratch,
-    buffers: &mut Buffers,
-    out: &mut Vec<u8>,
-) -> Result<bool, AllocError>
-    ensures { IfOk result (λ flat. out.new.items ≡ cond flat (out.old.items
-        ++ member_lines 2 2 (written (omits omitted) (members_in (message_of head.now))))
-        out.old.items) }
-{
-    let content = head.message.content();
-    let empty = Vec::with_capacity(alloc, content.len() / BYTES_A_NODE + 8)?;
-    match read_flat(content, scratch, empty) {
-        Ok(nodes) => {
-            push_document(alloc, &nodes, omitted, buffers, out)?;
-            Ok(true)
-        }
-        Err(Unread::Memory) => Err(AllocError),
-        Err(Unread::Unclear) => Ok(false),
-    }
-}
-
-/// Does the same for a content that is read as a tree.
-fn push_tree(
-    alloc: Global,
-    head: &Head<'_>,
-    omitted: Omitted,
-    scratch: &mut Scratch,
-    buffers: &mut Buffers,
-    out: &mut Vec<u8>,
-) -> Result<(), AllocError>
-    ensures { OnOk result (out.new.items ≡ out.old.items
-        ++ member_lines 2 2 (written (omits omitted) (members_in (message_of head.now)))) }
-{
-    let Ok(tree) = read_tree_with(alloc, head.message.content(), scratch) else {
-        return Err(AllocError);
-    };
-    let mut nodes = Vec::new(alloc);
-    nodes_of(&tree, &mut nodes)?;
-    push_document(alloc, &nodes, omitted, buffers, out)
 }
 
 /// Appends the record of a message for which these numbers are expected.
 pub(crate) fn push_record(
     alloc: Global,
-    head: &Head<'_>,
+    head: Head<'_>,
     seq: i64,
     request: Option<i64>,
-    scratch: &mut Scratch,
-    buffers: &mut Buffers,
+    quoted: &mut Vec<u8>,
     out: &mut Vec<u8>,
 ) -> Result<(), AllocError>
-    ensures { OnOk result (PushesRecord (message_of head.now) seq request out.old.items
-        out.new.items) }
+    ensures { OnOk result ((m : Sent) → IsHead head.entry m
+        → is_ordered (without_ids m.doc) ≡ true
+        → PushesRecord m seq request out.old.items out.new.items) }
 {
-    push_head(alloc, head, &mut buffers.quoted, out)?;
-    let omitted = omitted_of(head, seq, request);
-    push_members(alloc, head, omitted, scratch, buffers, out)
+    push_head(alloc, head.numbered.title, quoted, out)?;
+    push_content(head.content, omitted_of(head, seq, request), out)
 }

@@ -1,9 +1,8 @@
 //! Writes scalars.
-ghost use Rattle.std.specs.Prelude.{◌≡◌, ◌++◌, ◌∷◌, [], ◌/◌, ◌%◌, ◌<◌, true, OnOk};
+ghost use Rattle.std.specs.Prelude.{◌≡◌, ◌++◌, ◌∷◌, [], ◌/◌, ◌%◌, ◌<◌, nat_lt, OnOk};
 ghost use Rattle.std.specs.{Char.digit_char, List.list_all};
-ghost use Rattle.dap_transcript.specs.Scalars.{char_text, escape, escaped, is_escaped, is_simple};
+ghost use Rattle.dap_transcript.specs.Scalars.{char_text, escape, escaped, is_escaped};
 ghost use Rattle.dap_transcript.specs.Scalars.{string_text};
-ghost use Rattle.dap_transcript.specs.Walk.{PushesScalar};
 
 use dap_flat::{Node, write_flat};
 use std::alloc::{AllocError, Global};
@@ -55,13 +54,30 @@ fn push_char(c: char, out: &mut Vec<u8>) -> Result<(), AllocError>
 }
 
 /// Appends a text with the characters escaped that YAML does not allow.
-fn push_escaped(text: &[u8], out: &mut Vec<u8>) -> Result<(), AllocError>
+pub(crate) fn push_escaped(text: &[u8], out: &mut Vec<u8>) -> Result<(), AllocError>
     ensures { OnOk result (out.new.items ≡ out.old.items ++ escaped text.now) }
 {
+    if are_low(text) {
+        return out.extend_from_slice(text);
+    }
     match str::from_utf8(text) {
         Ok(text) => push_chars(text, out),
         Err(_) => Err(AllocError),
     }
+}
+
+/// Returns whether each byte is an ASCII character that is not escaped. Looks at all bytes: this is
+/// faster than to stop early.
+fn are_low(bytes: &[u8]) -> bool
+    ensures { result ≡ list_all (λ b. nat_lt b 0x7f) bytes.now }
+{
+    let mut greatest = 0;
+    for byte in bytes {
+        if *byte > greatest {
+            greatest = *byte;
+        }
+    }
+    greatest < 0x7f
 }
 
 fn push_chars(text: &str, out: &mut Vec<u8>) -> Result<(), AllocError>
@@ -71,29 +87,6 @@ fn push_chars(text: &str, out: &mut Vec<u8>) -> Result<(), AllocError>
         push_char(c, out)?;
     }
     Ok(())
-}
-
-/// Returns whether a byte is a printable ASCII character other than a quote and a backslash.
-fn is_simple(byte: u8) -> bool
-    ensures { result ≡ is_simple byte }
-{
-    matches!(byte, 0x20..=0x21 | 0x23..=0x5b | 0x5d..=0x7e)
-}
-
-fn are_simple(bytes: &[u8]) -> bool
-    ensures { result ≡ list_all is_simple bytes.now }
-{
-    bytes.iter().all(|byte| is_simple(*byte))
-}
-
-/// Appends a string of simple characters.
-fn push_simple(text: &str, out: &mut Vec<u8>) -> Result<(), AllocError>
-    requires { list_all is_simple text.now ≡ true }
-    ensures { OnOk result (out.new.items ≡ out.old.items ++ string_text text.now) }
-{
-    out.extend_from_slice(b"\"")?;
-    out.extend_from_slice(text.as_bytes())?;
-    out.extend_from_slice(b"\"")
 }
 
 /// Appends a string. `quoted` is a buffer: the writer of JSON initializes a part of its buffer that
@@ -106,28 +99,7 @@ pub(crate) fn push_string(
 ) -> Result<(), AllocError>
     ensures { OnOk result (out.new.items ≡ out.old.items ++ string_text text.now) }
 {
-    if are_simple(text.as_bytes()) {
-        return push_simple(text, out);
-    }
     quoted.clear();
     write_flat(alloc, &[Node::Text(text)], quoted)?;
     push_escaped(quoted.as_slice(), out)
-}
-
-/// Appends the scalar that a node is.
-pub(crate) fn push_scalar(
-    alloc: Global,
-    node: &Node<'_>,
-    quoted: &mut Vec<u8>,
-    out: &mut Vec<u8>,
-) -> Result<(), AllocError>
-    ensures { OnOk result (PushesScalar node.now out.old.items out.new.items) }
-{
-    if let Node::Text(text) = *node {
-        return push_string(alloc, text, quoted, out);
-    }
-    quoted.clear();
-    write_flat(alloc, &[*node], quoted)?;
-    out.extend_from_slice(quoted.as_slice())?;
-    Ok(())
 }

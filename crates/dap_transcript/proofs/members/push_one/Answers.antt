@@ -1,36 +1,27 @@
-use Rattle.std.proofs.Common.{◌∙◌, ap, sym, subst}
-use Rattle.std.specs.Prelude.{string_bytes}
-use Rattle.dap_transcript.specs.Members.{Pushed, Settled}
-use Rattle.dap_transcript.specs.Names.{names_head}
+use Rattle.std.proofs.Common.{◌∙◌, sym}
 use Rattle.dap_transcript.proofs.WrittenMembers.{head_waits, nothing_left, one_written}
 use Rattle.dap_transcript.proofs.members.push_one.Goals as goal
 
-pub returns-then-not-names_head : goal.returns-then-not-names_head
-returns-then-not-names_head c before e w h =
-    let ns = c.args.nodes.now in
-    let k = c.args.name.now in
-    let r = string_bytes c.args.buffers.now.renamed in
-    let old = c.args.out.now.items in
-    let new = c.push_member.new.out.items in
-    let left = c.in_ok-still.still in
-    let other = ap names_head (sym c.as_bytes.ensures.value) ∙ sym c.names_head.ensures
-    ∙ c.if-not-names_head.true in
-    subst (λ next. Pushed ns k r next old new before e left) (sym c.settle.ensures.renamed)
-    (one_written ns k r old c.settle.new.out.items new before e left
-    (c.in_ok-still.ensures.settled before w) other
-    (c.in_ok-push_member.ensures.lines e h).0)
+pub returns-then-not-names_head-clause-passes : goal.returns-then-not-names_head-clause-passes
+returns-then-not-names_head-clause-passes c k e more before own starts waits =
+    let inside = c.without_quotes-inside.ensures k own in
+    let part = c.in_ok-rest.ensures.lines k e more own starts in (
+      one_written k c.without_quotes-inside.result.now c.args.out.now.items
+          c.settle.new.out.items c.push_named.new.out.items before e c.in_ok-still.still
+          (c.in_ok-still.ensures k before inside waits) inside
+          (sym c.names_head.ensures ∙ c.if-not-names_head.true) part.0,
+      part.1,
+    )
 
-pub returns : goal.returns
-returns c before e w h =
-    let ns = c.args.nodes.now in
-    let k = c.args.name.now in
-    let r = string_bytes c.args.buffers.now.renamed in
-    let old = c.args.out.now.items in
-    let new = c.settle.new.out.items in
-    let head = ap names_head (sym c.as_bytes.ensures.value) ∙ sym c.names_head.ensures
-    ∙ c.if-not-names_head.false in
-    let none = nothing_left c.in_ok-still.still c.is_some.result c.is_some.ensures
-    c.if-is_some.false in
-    head_waits ns k r (string_bytes c.rename.new.self.renamed) old new c.args.at before e
-    (subst (Settled ns k r old new before) none (c.in_ok-still.ensures.settled before w)) h head
-    c.in_ok-rename.ensures
+pub returns-clause-passes : goal.returns-clause-passes
+returns-clause-passes c k e more before own starts waits =
+    let inside = c.without_quotes-inside.ensures k own in
+    let parts = c.in-Some.ensures.value e more starts.0 starts.1 in (
+      head_waits
+          (record { name = c.without_quotes-inside.result; value = c.args.value })
+          k c.args.out.now.items c.settle.new.out.items before e c.in_ok-still.still
+          (nothing_left c.in_ok-still.still c.is_some.result c.is_some.ensures c.if-is_some.false)
+          (c.in_ok-still.ensures k before inside waits) inside
+          (sym c.names_head.ensures ∙ c.if-not-names_head.false) (more, starts),
+      parts.1,
+    )

@@ -5,7 +5,7 @@ use Rattle.dap_tree.specs.Json.{text_of}
 use Rattle.dap_recording.specs.Recording.{record_text}
 use Rattle.dap_stored.specs.Sessions.{stored_sent}
 use Rattle.dap_transcript.specs.Recordings.{frames}
-use Rattle.dap_transcript.proofs.Frames.{frames_push}
+use Rattle.dap_transcript.proofs.MoreFrames.{frames_push}
 use Rattle.dap_transcript.proofs.Places.{map_there}
 use Rattle.dap_transcript.proofs.TooLong.{Fit, at_most, first_too_long, none_too_long}
 use Rattle.dap_transcript.proofs.TooLong.{one_fits}
