@@ -93,6 +93,10 @@ WORKED = {
         [INITIALIZE, BEGUN[1], *(EVENT % (name, number) for number, name in enumerate(('"on"', '"E1"', '"a b"', '""', '"y_"', '"null"'), 2))],
         BEGUN_TEXT + '- adapter: "event on"\n- adapter: "event E1"\n- adapter: "event a b"\n- adapter: "event "\n- adapter: event y_\n- adapter: "event null"\n',
     ),
+    "names that are escaped": (
+        [*BEGUN, *(EVENT % (name, number) for number, name in enumerate(('"a\\"b"', '"\\\\"', '"\\n"', '"é"', '""'), 2))],
+        BEGUN_TEXT + '- adapter: "event a\\"b"\n- adapter: "event \\\\"\n- adapter: "event \\n"\n- adapter: "event é"\n- adapter: "event \\u0085"\n',
+    ),
     "names of the head": (
         [*BEGUN, '<{"adapter":1,"adapter_":2,"client":3,"clients":4,"command":"x","event":"x","seq":2,"success":true,"type":"event"}'],
         BEGUN_TEXT + '- adapter: event x\n  adapter_: 1\n  adapter__: 2\n  client_: 3\n  clients: 4\n  command: "x"\n  success: true\n',
@@ -116,7 +120,11 @@ def worked(report):
         report.check(f"{name}: the script reads it", read_transcript(text) == typed(messages(given)))
         answer = run(["show", "--yaml"], given)
         report.check(f"{name}: show --yaml", answer == (0, text, b""), repr(answer))
-        with Folder(**{"x.yaml": text, "none": b""}) as folder:
+        status, normal, _ = run(["normalise"], given)
+        with Folder(session=given, **{"x.yaml": text, "none": b""}) as folder:
+            if status == 0:
+                folder.run("golden", "--open", "--update", "g.yaml", "session")
+                report.check(f"{name}: the golden file", folder.read("g.yaml") == transcript(messages(normal)), repr(folder.read("g.yaml")))
             answer = folder.run("show", "--yaml", "x.yaml")
             report.check(f"{name}: show --yaml of the transcript", answer == (0, text, b""), repr(answer))
             answer = folder.run("mask", "none", "x.yaml")
@@ -349,6 +357,8 @@ def session_there_and_back(case):
             "normalise": normal[0] == 0 and folder.run("normalise", "x.yaml") == normal,
             "other readers": is_read_by_others(text, found),
         }
+        folder.run("golden", "--open", "--update", "g.yaml", "x")
+        checks["the golden file"] = folder.read("g.yaml") == transcript(messages(normal[1]))
     return [name for name, holds in checks.items() if not holds]
 
 
