@@ -36,8 +36,13 @@ abbrev pub StartsWithPlain : List ℕ → List ℕ → List ℕ → Type 0
 StartsWithPlain s name value = (k more : List ℕ) → StartsWithName s k more
     → (name ≡ name_text k) × (value ≡ more)
 
--- The line of the string or other scalar that the text starts with was appended, and `rest` follows
--- it in the text.
+-- The string that the text starts with was appended as it is written, and `rest` follows it in the
+-- text.
+abbrev pub WritesString : List ℕ → List ℕ → List ℕ → List ℕ → Type 0
+WritesString s rest old new = (t more : List ℕ) → s ≡ text_of (text t) ++ more
+    → (new ≡ old ++ string_text t) × (rest ≡ more)
+
+-- The same for the line of the string or other scalar that the text starts with.
 abbrev pub PushesString : List ℕ → List ℕ → List ℕ → List ℕ → Type 0
 PushesString s rest old new = (t more : List ℕ) → s ≡ text_of (text t) ++ more
     → (new ≡ old ++ scalar_line (string_text t)) × (rest ≡ more)

@@ -8,8 +8,9 @@ ghost use Rattle.dap_transcript.specs.Lines.{list_margin, margin};
 ghost use Rattle.dap_transcript.specs.Walk.{PushesItem, PushesItems, PushesList, PushesMember};
 ghost use Rattle.dap_transcript.specs.Walk.{PushesMembers, PushesNamed, PushesObject, PushesPart};
 ghost use Rattle.dap_transcript.specs.Walk.{PushesPlain, PushesString, StartsWithName};
+ghost use Rattle.dap_transcript.specs.Walk.{WritesString};
 
-use crate::canonical::{split_string, split_value};
+use crate::canonical::{split_simple, split_string, split_value};
 use crate::names::{push_name, split_plain_name};
 use crate::scalars::push_escaped;
 use std::alloc::AllocError;
@@ -77,6 +78,23 @@ pub(crate) fn split_name(text: &[u8]) -> Option<(&[u8], &[u8])>
     Some((name, value))
 }
 
+/// Appends the string that the text starts with, as it is written. Returns what follows the string.
+fn push_text<'t>(text: &'t [u8], out: &mut Vec<u8>) -> Result<&'t [u8], AllocError>
+    ensures string { IfOk result
+        (λ rest. WritesString text.now rest.now out.old.items out.new.items) }
+    ensures shorter { IfOk result (λ rest. length rest.now < length text.now) }
+{
+    if let Some((string, rest)) = split_simple(text) {
+        out.extend_from_slice(string)?;
+        return Ok(rest);
+    }
+    let Some((string, rest)) = split_string(text) else {
+        return Err(AllocError);
+    };
+    push_escaped(string, out)?;
+    Ok(rest)
+}
+
 /// Appends a blank, the string that the text starts with, and a line end. Returns what follows the
 /// string.
 fn push_string_line<'t>(text: &'t [u8], out: &mut Vec<u8>) -> Result<&'t [u8], AllocError>
@@ -84,11 +102,8 @@ fn push_string_line<'t>(text: &'t [u8], out: &mut Vec<u8>) -> Result<&'t [u8], A
         (λ rest. PushesString text.now rest.now out.old.items out.new.items) }
     ensures shorter { IfOk result (λ rest. length rest.now < length text.now) }
 {
-    let Some((string, rest)) = split_string(text) else {
-        return Err(AllocError);
-    };
     out.push(b' ')?;
-    push_escaped(string, out)?;
+    let rest = push_text(text, out)?;
     out.push(b'\n')?;
     Ok(rest)
 }
