@@ -33,7 +33,7 @@ TEXTS = ["", "12", "0x7f3a", "at 7f3a1c90", "123e4567-e89b-12d3-a456-42661417400
 VALUES = [*TEXTS, 7, -1, 2**63 - 1, True, None, [], {}, [1, "a"]]
 EXTRA_RULES = [
     "drop event output", "drop event thread", "drop event output category=12", "join event output per-stop", "fill event * x 0",
-    'word "/home/me" "<home>"', "per-stop", "# none", "",
+    'omit response * body.variables["v"]', 'word "/home/me" "<home>"', "per-stop", "# none", "",
 ]
 
 

@@ -30,6 +30,7 @@ SCRIPTS = {
         "masks": "recordings of fresh runs masked",
         "joining": "output that is joined",
         "filling": "members that are filled in",
+        "omitting": "elements that are omitted",
         "order": "recordings in order",
         "names": "names of declared ids",
         "example_rules": "the rules of the examples",

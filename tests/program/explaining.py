@@ -76,6 +76,15 @@ NUMBERS = {
             to_blank("event custom body.things[].v"), APPLY,
         ],
     ),
+    # The element after an omitted one is counted as in the record.
+    "a fraction after an omitted element": (
+        third('<{"seq":2,"type":"event","event":"custom","body":{"things":[{"name":"a","v":0.5},{"name":"b","v":0.25}]}}'),
+        'omit event custom body.things["a"]\n', "record 3: Fraction",
+        [
+            'record 3 is < event "custom"', "body.things[1].v is 0.25, which has a fraction; dapnorm takes only integers of 64 bits",
+            to_blank("event custom body.things[].v"), APPLY,
+        ],
+    ),
     "a fraction in an array": (
         third(LAUNCH % '{"y":[0.5,1]}'), None, "record 3: Fraction",
         [
@@ -373,7 +382,10 @@ TRACES = {
     ),
 }
 RULES = {
-    "a verb": (b"hide event output\n", "line 1: BadRule", ["line 1 is: hide event output", '"hide" is not a verb: write blank, digits, hex, long, uuid, drop, fill, join, swap, word or per-stop']),
+    "a verb": (
+        b"hide event output\n", "line 1: BadRule",
+        ["line 1 is: hide event output", '"hide" is not a verb: write blank, digits, hex, long, uuid, drop, fill, join, omit, swap, word or per-stop'],
+    ),
     "no kind": (b"blank\n", "line 1: BadRule", ["line 1 is: blank", "after the verb comes a kind: request, response or event"]),
     "a kind": (
         b"hex event x y\nblank evnt x y\n", "line 2: BadRule",
@@ -539,6 +551,50 @@ RULES = {
             "line 2 is: fill event a body.x 1", "line 1 blanks a value that contains the member",
             "no rule blanks a value in which another one sets a member: leave one of them out",
         ],
+    ),
+    "nothing that is omitted": (b"omit\n", "line 1: BadRule", ["line 1 is: omit", "after the verb comes a kind: request, response or event"]),
+    "a kind of what is omitted": (
+        b'omit threads body.threads["x"]\n', "line 1: BadRule",
+        ['line 1 is: omit threads body.threads["x"]', '"threads" is not a kind: write request, response or event'],
+    ),
+    "omitted elements without a message": (
+        b"omit response # threads\n", "line 1: BadRule", ["line 1 is: omit response # threads", "after the kind comes a command or an event, or * for any"],
+    ),
+    "omitted elements of any place": (
+        b"omit response threads\n", "line 1: BadRule", ["line 1 is: omit response threads", "after the name comes a place, such as body.reason"],
+    ),
+    "a bracket of omitted elements that is not closed": (
+        b'omit event a v["x"\n', "line 1: BadRule",
+        ['line 1 is: omit event a v["x"', '"v[\\"x\\"" is not a place: write names with dots between them, [] for elements, and quotes as for names'],
+    ),
+    "a category of what is omitted": (
+        b'omit event a category=b v["x"]\n', "line 1: BadRule",
+        [
+            'line 1 is: omit event a category=b v["x"]',
+            '"category=b" is not a place: write names with dots between them, [] for elements, and quotes as for names',
+        ],
+    ),
+    "more after omitted elements": (
+        b'omit event a v["x"] 1\n', "line 1: BadRule", ['line 1 is: omit event a v["x"] 1', '"1" is after the rule: only a comment may be there'],
+    ),
+    "a label of omitted elements": (
+        b'omit event a v["x"] as b\n', "line 1: BadRule", ['line 1 is: omit event a v["x"] as b', '"as b" is after the rule: only a comment may be there'],
+    ),
+    "elements of any name that are omitted": (
+        b"omit event a x[]\n", "line 1: BadPlace",
+        ["line 1 is: omit event a x[]", '"x[]" is not a place of omit: end it with ["NAME"], the name of the elements'],
+    ),
+    "a list that is omitted": (
+        b"omit response threads body.threads\n", "line 1: BadPlace",
+        ["line 1 is: omit response threads body.threads", '"body.threads" is not a place of omit: end it with ["NAME"], the name of the elements'],
+    ),
+    "a member of elements that is omitted": (
+        b'omit event a v["x"].name\n', "line 1: BadPlace",
+        ['line 1 is: omit event a v["x"].name', '"v[\\"x\\"].name" is not a place of omit: end it with ["NAME"], the name of the elements'],
+    ),
+    "omitted twice": (
+        b'omit event a v["x"]\n\nomit event a v["\\u0078"] # again\n', "line 3: Repeated",
+        ['line 3 is: omit event a v["\\u0078"] # again', "line 1 omits the same elements", "leave one of them out"],
     ),
     "joined requests": (b"join request x\n", "line 1: BadRule", ["line 1 is: join request x", '"request" cannot be joined: write join event output']),
     "another event that is joined": (b"join event stopped\n", "line 1: BadRule", ["line 1 is: join event stopped", '"stopped" cannot be joined: write join event output']),

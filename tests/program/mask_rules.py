@@ -112,6 +112,37 @@ REFUSED = [
     (b"fill event a body.x 1\nblank event a body\n", "line 2: Clash"),
     (b"blank event * body\nfill event a body.x.y 1\n", "line 2: Clash"),
     (b'blank event a v["x"]\nfill event a v[].y 1\n', "line 2: Clash"),
+    # Elements that are omitted.
+    (b"omit", "line 1: BadRule"),
+    (b"omit event", "line 1: BadRule"),
+    (b"omit event a", "line 1: BadRule"),
+    (b"omit event a # x", "line 1: BadRule"),
+    (b'omit event ["x"]', "line 1: BadRule"),
+    (b'omit event a ["x"]', "line 1: BadRule"),
+    (b'omit event a v ["x"]', "line 1: BadRule"),
+    (b'omit event a v["x"', "line 1: BadRule"),
+    (b"omit event a v[x]", "line 1: BadRule"),
+    (b"omit event a v[0]", "line 1: BadRule"),
+    (b'omit event a v["x"]["y"', "line 1: BadRule"),
+    (b'omit event a v["x"] 1', "line 1: BadRule"),
+    (b'omit event a v["x"] w["y"]', "line 1: BadRule"),
+    (b'omit event a v["x"] as thread-name', "line 1: BadRule"),
+    (b'omit event a category=b v["x"]', "line 1: BadRule"),
+    (b'omit message a v["x"]', "line 1: BadRule"),
+    (b'omits event a v["x"]', "line 1: BadRule"),
+    (b'omit a v["x"]', "line 1: BadRule"),
+    (b"omit event a v", "line 1: BadPlace"),
+    (b"omit event a v[]", "line 1: BadPlace"),
+    (b'omit event a v["x"].y', "line 1: BadPlace"),
+    (b'omit event a v["x"].name', "line 1: BadPlace"),
+    (b'omit event a v["x"].w[]', "line 1: BadPlace"),
+    (b'omit event a v["x"][]', "line 1: BadPlace"),
+    (b"omit event * type", "line 1: BadPlace"),
+    (b"omit event * seq", "line 1: BadPlace"),
+    (b'omit event a v["x"]\nomit event a v["x"]\n', "line 2: Repeated"),
+    (b'omit event a v["x"]\n\n omit  event "a" "v"["\\u0078"] # again\n', "line 3: Repeated"),
+    (b'omit event * v[].w["x"]\nomit event a v[].w["x"]\nomit event * v[].w["x"]\n', "line 3: Repeated"),
+    (b'omit response a v["x"]\nomit event b v["x"]\nomit event a v["y"]\nomit event a w["x"]\nomit event a v["x"]\nomit event b v["x"]\n', "line 6: Repeated"),
     # Output that is joined.
     (b"join", "line 1: BadRule"),
     (b"join event", "line 1: BadRule"),
@@ -375,6 +406,16 @@ BESIDE_ELEMENTS = [
     b'\tblank event a "v"["a \\"b\\" # [c]"]["d"]."y" # a comment\r\nblank event a v[""].y\n',
 ]
 
+# Rules that omit elements, which are accepted beside other rules whatever these change.
+BESIDE_OMISSIONS = [
+    b'omit event a v["x"]\nomit event * v["x"]\nomit event b v["x"]\nomit request a v["x"]\nomit response a v["x"]\nomit event a v["y"]\n',
+    b'omit event a v["x"]\nomit event a v["x"]["x"]\nomit event a v[]["x"]\nomit event a v["y"]["x"]\nomit event a v["x"].w["x"]\nomit event a w.v["x"]\n',
+    b'omit event a v["x"]\nblank event a v["x"]\nblank event a v["x"].y\nblank event a v[].name\nblank event a v\nblank event * v[].y\n',
+    b'digits event a v[].name\nomit event a v["x"].w["y"]\ndigits event a v[].w[].name\nfill event a v[].name "n"\n',
+    b'drop event a category=b\nomit event a body["x"]\nomit event a body.category["x"]\nomit response variables body.variables["x"]\nomit event * type["x"]\n',
+    b'hex event a v["x"].y as address\nomit event a v["x"]\nomit event a v["x"].y["z"]\nword z "<w>"\nper-stop\njoin event output\nswap event a event b\n',
+]
+
 # Rules for elements by their name, and contents that they change.
 ELEMENTS = b"""blank  response variables body.variables["orig_argv"].value
 digits response variables body.variables["pid \\"1\\""].value
@@ -573,6 +614,8 @@ def elements(report):
     left = record('<{"event":"stopped","type":"event"}')
     for number, rules in enumerate(BESIDE_ELEMENTS, 1):
         masks(report, f"rules for elements, row {number}", rules, left, left)
+    for number, rules in enumerate(BESIDE_OMISSIONS, 1):
+        masks(report, f"rules that omit elements, row {number}", rules, left, left)
     for number, (content, text) in enumerate(NAMED, 1):
         masks(report, f"elements by their name, row {number}", ELEMENTS, record("<" + content), record("<" + text))
         masks(report, f"elements by their name, masked again, row {number}", ELEMENTS, record("<" + text), record("<" + text))
@@ -597,6 +640,9 @@ def a_thousand_rules(report):
     dropped = [b"drop event e%d category=c\n" % number for number in range(1001)]
     masks(report, "a thousand rules for categories", b"".join(dropped[:1000]), b"", b"")
     masks(report, "one rule for a category more", b"".join(rules[:500] + dropped[:501]), b"", b"", "rules: line 1001: TooMany")
+    omitted = [b'omit event a v["x%d"]\n' % number for number in range(1001)]
+    masks(report, "a thousand rules that omit elements", b"".join(omitted[:1000]), b"", b"")
+    masks(report, "one rule that omits an element more", b"".join(rules[:500] + omitted[:501]), b"", b"", "rules: line 1001: TooMany")
     masks(report, "per-stop is one of a thousand rules", b"per-stop\n" + b"".join(rules[:999]), b"", b"")
     masks(report, "one rule more than with per-stop", b"per-stop\n" + b"".join(rules[:1000]), b"", b"", "rules: line 1001: TooMany")
     masks(report, "per-stop after a thousand rules", b"".join(rules[:1000]) + b"per-stop", b"", b"", "rules: line 1001: TooMany")

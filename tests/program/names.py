@@ -123,8 +123,9 @@ WORKED = {
     "another kind": ("hex response * x as address\nhex request * x as address", [{"x": "0x5"}], [{"x": "0x5"}]),
     "a label in quotes, and words of the form as names": ('hex event a as as "as" # again', [{"as": "0x5"}], [{"as": "<as 1>"}]),
     "other rules are not applied": (
-        'hex event a x as address\nblank event a y\ndrop event b\nword mock "<m>"\nfill event a z 1\nswap event a event b\nper-stop\njoin event output\ndigits event a w',
-        [{"x": "0x5 mock", "y": 7, "w": "w7"}], [{"x": "<address 1> mock", "y": 7, "w": "w7"}],
+        'hex event a x as address\nblank event a y\ndrop event b\nword mock "<m>"\nfill event a z 1\nswap event a event b\nper-stop\njoin event output\ndigits event a w\n'
+        'omit event a v["m"]',
+        [{"x": "0x5 mock", "y": 7, "w": "w7", "v": [{"name": "m"}]}], [{"x": "<address 1> mock", "y": 7, "w": "w7", "v": [{"name": "m"}]}],
     ),
     "no rules": ("# nothing\n", [{"x": "0x5", "y": 7}], [{"x": "0x5", "y": 7}]),
 }
@@ -166,7 +167,8 @@ REFUSED = {
     "hex event a x as *": "line 1: BadRule", 'hex event a x as "address': "line 1: BadRule", "hex event a x as address.x": "line 1: BadRule",
     "hex event a x as # address": "line 1: BadRule", "hex as address event a x": "line 1: BadRule", "as address": "line 1: BadRule", 'hex event a x "as" address': "line 1: BadRule",
     "drop event a as address": "line 1: BadRule", "fill event a x 1 as address": "line 1: BadRule", "swap event a event b as address": "line 1: BadRule",
-    "join event output as address": "line 1: BadRule", "word x y as address": "line 1: BadRule", "per-stop as address": "line 1: BadRule",
+    "join event output as address": "line 1: BadRule", 'omit event a x["y"] as address': "line 1: BadRule", "word x y as address": "line 1: BadRule",
+    "per-stop as address": "line 1: BadRule",
     **{f"# a comment\nhex event a x as {label}": "line 2: BadLabel" for label in BAD_LABELS}, **{f"\n{line} as id": "line 2: BadPlace" for line in BAD_PLACES},
     # A label is reported before a place, and a repeated rule before rules that exclude each other.
     "blank event * seq as Id": "line 1: BadLabel",
@@ -186,7 +188,7 @@ ACCEPTED = [
     f"{HEX}hex event b x as pointer", f"{HEX}hex request a x as pointer", f"{HEX}digits event b x", f"{HEX}digits event a y", f"{HEX}digits event a x.y", f"{HEX}blank event a x.y as id",
     'hex event a v["p"].w as x\nhex event a v["q"].w as y', 'digits event a v["p"].w\nhex event a v["q"].w as y', "hex event a category=c x as y\nhex event a category=d x as z",
     "digits event a category=c x\nhex event a category=d x as z", "hex event a body.name as x", "hex event a name as x", "blank event a body.x as x", "hex event a v[].name.y as x",
-    "hex event a as as as", "hex event a x as a-b-", f"{HEX}drop event a\nswap event a event b\nper-stop\njoin event output\nfill event a x 1\nword b c",
+    "hex event a as as as", "hex event a x as a-b-", f"{HEX}drop event a\nswap event a event b\nper-stop\njoin event output\nfill event a x 1\nword b c\nomit event a x[\"y\"]",
 ]
 
 

@@ -42,7 +42,13 @@ fn add_message(
     let (head, limits) = (Head::of(record.side, message), records.limits);
     add_head(lines, record.number, &head);
     match refused {
-        Refused::Fraction(_) => explain_fraction(lines, record.content, message, head),
+        Refused::Fraction(_) => explain_fraction(
+            lines,
+            record.content,
+            records.input.rules,
+            message,
+            head,
+        ),
         Refused::Rule(number, rule) => explain_rule(lines, records.before(number), &head, rule),
         Refused::TooManyIds(_) =>
             fill!(lines; "the limit is {0} different ids of a kind or a label: record shorter sessions",

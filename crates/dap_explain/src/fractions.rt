@@ -1,10 +1,11 @@
 //! Finds the numbers of a message that are not integers of 64 bits, and proposes mask rules that
 //! blank them.
-use crate::head::Head;
+use crate::head::{Head, read_kept};
 use crate::lines::{Lines, fill};
 use crate::rules_file::fault_in;
 use crate::words::Word::{Cut, Number, Text};
 use crate::words::{Name, Path, Step};
+use dap_mask::MaskRules;
 use dap_tree::Tree;
 use json::{Reader, Scratch, Token};
 use std::alloc::{AllocError, Global};
@@ -22,25 +23,53 @@ struct Fractions<'m> {
 }
 
 impl<'m> Fractions<'m> {
-    /// Adds the numbers in a value at a path.
-    fn search(&mut self, value: &'m Tree, path: &mut Vec<Step<'m>>) -> Result<(), AllocError> {
-        match value {
-            Tree::Whole(number) if *number > i128::from(u64::MAX) => self.add(path.as_slice())?,
-            Tree::List(items) => {
-                for (index, item) in items.iter().enumerate() {
-                    path.push(Step::Element(index))?;
-                    self.search(item, path)?;
-                    path.pop();
-                }
+    /// Adds the numbers in a value at a path that are also in `kept`, which is the value without the
+    /// elements that rules omit.
+    #[cycle(search)]
+    fn search(
+        &mut self,
+        value: &'m Tree,
+        kept: &Tree,
+        path: &mut Vec<Step<'m>>,
+    ) -> Result<(), AllocError> {
+        match (value, kept) {
+            (Tree::Whole(number), _) if *number > i128::from(u64::MAX) => {
+                self.add(path.as_slice())?;
             }
-            Tree::Object(members) => {
+            (Tree::List(items), Tree::List(kept)) => self.search_items(items, kept, path)?,
+            (Tree::Object(members), Tree::Object(kept)) => {
                 for (name, member) in members.iter() {
-                    path.push(Step::Member(name.as_str()))?;
-                    self.search(member, path)?;
-                    path.pop();
+                    if let Some(kept) = kept.get(name.as_str()) {
+                        path.push(Step::Member(name.as_str()))?;
+                        self.search(member, kept, path)?;
+                        path.pop();
+                    }
                 }
             }
             _ => {}
+        }
+        Ok(())
+    }
+
+    /// Adds the numbers in elements that are kept. An element that is omitted has another name than
+    /// each element that is kept, so the next one that is kept is the first element with its name.
+    #[cycle(search)]
+    fn search_items(
+        &mut self,
+        items: &'m [Tree],
+        kept: &[Tree],
+        path: &mut Vec<Step<'m>>,
+    ) -> Result<(), AllocError> {
+        let mut rest = kept;
+        for (index, item) in items.iter().enumerate() {
+            if let [first, others @ ..] = rest
+                && name_of(item) == name_of(first)
+            {
+                path.push(Step::Element(index))?;
+                self.search(item, first, path)?;
+                path.pop();
+                rest = others;
+            }
         }
         Ok(())
     }
@@ -59,6 +88,14 @@ impl<'m> Fractions<'m> {
         self.shared = apart.unwrap_or(path.len()).min(self.shared);
         self.count = self.count.saturating_add(1);
         Ok(())
+    }
+}
+
+/// Returns the `name` of an element, by which rules omit it.
+fn name_of(element: &Tree) -> Option<&str> {
+    match element.child("name")? {
+        Tree::Text(name) => Some(name.as_str()),
+        _ => None,
     }
 }
 
@@ -174,15 +211,25 @@ fn add_found(lines: &mut Lines, content: &[u8], found: &Fractions<'_>, head: Hea
 }
 
 /// Explains that a number of a message is not an integer of 64 bits. `content` is the text of the
-/// message, and `message` its tree after the rules are applied.
-pub(crate) fn explain_fraction(lines: &mut Lines, content: &[u8], message: &Tree, head: Head<'_>) {
+/// message, and `message` its tree after the rules are applied, but with the elements that they
+/// omit.
+pub(crate) fn explain_fraction(
+    lines: &mut Lines,
+    content: &[u8],
+    rules: Option<&MaskRules>,
+    message: &Tree,
+    head: Head<'_>,
+) {
+    let Some(kept) = read_kept(lines, content, rules) else {
+        return;
+    };
     let mut found = Fractions {
         first: Vec::new(lines.alloc),
         shared: 0,
         count: 0,
     };
     let mut path = Vec::new(lines.alloc);
-    let searched = found.search(message, &mut path);
+    let searched = found.search(message, &kept, &mut path);
     if lines.value_of(searched).is_some() && found.count > 0 {
         add_found(lines, content, &found, head);
     }

@@ -1,7 +1,7 @@
 //! Reads the head of a message: its sender, its kind and its name.
 use crate::lines::{Lines, fill};
 use crate::words::Word::{Named, Record, Seq, Text};
-use dap_mask::{MaskRules, mask, read_by_rules, read_loosely};
+use dap_mask::{MaskRules, mask, omit, read_by_rules, read_loosely};
 use dap_profile::Kind;
 use dap_tree::{Scratch, Side, Tree, TreeFault};
 use std::alloc::Global;
@@ -90,8 +90,8 @@ pub(crate) fn add_sender(lines: &mut Lines, side: Option<Side>) {
     });
 }
 
-/// Reads a content. If it has a number that is not an integer of 64 bits, applies the rules to it;
-/// such numbers that remain are 2^64.
+/// Reads a content. If it has a number that is not an integer of 64 bits, applies the rules to it
+/// but omits no elements; such numbers that remain are 2^64.
 fn read(alloc: Global, content: &[u8], rules: Option<&MaskRules>) -> Result<Tree, TreeFault> {
     let mut scratch = Scratch::new(alloc);
     let mut tree = read_loosely(alloc, content, &mut scratch)?;
@@ -113,4 +113,17 @@ pub(crate) fn read_message(
     let message = read(lines.alloc, content, rules);
     lines.fail_if(matches!(message, Err(TreeFault::Memory)));
     message.ok()
+}
+
+/// Reads a content as `read_message` does, without the elements that the rules omit.
+pub(crate) fn read_kept(
+    lines: &mut Lines,
+    content: &[u8],
+    rules: Option<&MaskRules>,
+) -> Option<Tree> {
+    let mut message = read_message(lines, content, rules)?;
+    if let Some(rules) = rules {
+        omit(&mut message, rules);
+    }
+    Some(message)
 }

@@ -79,6 +79,7 @@ fn parts_of(verb: &[u8]) -> Option<&'static [RulePart]> {
         b"drop" => Some(&[Event, Name, Category]),
         b"fill" => Some(&[Kind, Name, Place, Value]),
         b"join" => Some(&[JoinedKind, JoinedName, Span]),
+        b"omit" => Some(&[Kind, Name, Place]),
         b"swap" => Some(&[Kind, Name, SecondKind, Name]),
         b"word" => Some(&[Text, Text]),
         b"per-stop" => Some(&[]),
@@ -224,7 +225,7 @@ fn parts_in<'l>(lines: &mut Lines, line: &'l [u8]) -> Option<Shown<'l>> {
     let (verb, text) = split_verb(line);
     let Some(parts) = parts_of(verb) else {
         let verbs =
-            "is not a verb: write blank, digits, hex, long, uuid, drop, fill, join, swap, word or per-stop";
+            "is not a verb: write blank, digits, hex, long, uuid, drop, fill, join, omit, swap, word or per-stop";
         add_wrong(lines, verb, verbs);
         return None;
     };
@@ -295,11 +296,13 @@ fn place_words(place: &[u8], declares: bool) -> &'static str {
 }
 
 /// Adds the line about a place that no rule may change, or at which none may declare ids, or that
-/// is not that of a member to set.
+/// is not that of a member to set or of elements to omit.
 fn add_bad_place(lines: &mut Lines, line: &[u8], shown: Shown<'_>) {
     let Shown { place, label } = shown;
     let what = place_words(place, label.is_some());
-    let text = if has_verb(line, b"fill") && what != RECOGNISED {
+    let text = if has_verb(line, b"omit") {
+        "{0} is not a place of omit: end it with [\"NAME\"], the name of the elements"
+    } else if has_verb(line, b"fill") && what != RECOGNISED {
         "{0} is not a place of fill: end it with a name, and write [] for elements"
     } else {
         "{0} is {1}: leave the rule out"
@@ -435,6 +438,7 @@ fn repetition(line: &[u8]) -> &'static str {
         b"word" => "has a word for this text",
         b"join" => "joins output, too",
         b"fill" => "sets the same member",
+        b"omit" => "omits the same elements",
         _ => "has the same rule",
     }
 }
@@ -482,7 +486,7 @@ fn add_cause(lines: &mut Lines, rules: &[u8], line: &[u8], fault: RulesFault) {
         RulesCause::BadRule => {
             if parts_in(lines, line).is_some() {
                 lines.add(
-                    "a rule is VERB KIND NAME PLACE, VERB event NAME category=TEXT PLACE, one of these and as LABEL, drop event NAME, drop event NAME category=TEXT, join event output, fill KIND NAME PLACE VALUE, swap KIND NAME KIND NAME, word TEXT WORD, or per-stop",
+                    "a rule is VERB KIND NAME PLACE, VERB event NAME category=TEXT PLACE, one of these and as LABEL, drop event NAME, drop event NAME category=TEXT, join event output, fill KIND NAME PLACE VALUE, omit KIND NAME PLACE, swap KIND NAME KIND NAME, word TEXT WORD, or per-stop",
                 );
             }
         }

@@ -39,7 +39,7 @@ default_text k w v (list ds) = refl
 default_text k w v (object ms) = refl
 default_text k w v (id s z) = refl
 
-child_text : (k w : List ℕ) (f : Doc → Doc) (d : Doc)
+pub child_text : (k w : List ℕ) (f : Doc → Doc) (d : Doc)
     → is_text w (Some (change_child k f d)) ≡ is_text w (Some d)
 child_text k w f null = refl
 child_text k w f (boolean b) = refl
@@ -49,7 +49,7 @@ child_text k w f (list ds) = refl
 child_text k w f (object ms) = refl
 child_text k w f (id s z) = refl
 
-items_text : (w : List ℕ) (f : Doc → Doc) (d : Doc)
+pub items_text : (w : List ℕ) (f : Doc → Doc) (d : Doc)
     → is_text w (Some (change_items f d)) ≡ is_text w (Some d)
 items_text w f null = refl
 items_text w f (boolean b) = refl
@@ -142,7 +142,7 @@ applies_after g f d h = go (fill_applies g d)
 -- ---- a rule that is satisfied
 
 -- the member is set in each object at the place, if the rule applies
-abbrev IsMet : Fill → Doc → Type 0
+abbrev pub IsMet : Fill → Doc → Type 0
 IsMet f d = fill_applies f d ≡ true → IsFull f.parent f.last d
 
 met_same : (f : Fill) (d : Doc) → IsMet f d → fill_by f d ≡ d
@@ -233,15 +233,15 @@ met_filled rs (g ∷ gs) f d h met =
     met_filled rs gs f (fill_by g d) p.2 (met_by g f d p.0 met)
 
 -- each rule is satisfied
-abbrev AreMet : List Fill → Doc → Type 0
+abbrev pub AreMet : List Fill → Doc → Type 0
 AreMet [] d = Unit {0}
 AreMet (f ∷ fs) d = IsMet f d × AreMet fs d
 
-met_left : (fs : List Fill) (d : Doc) → AreMet fs d → filled fs d ≡ d
+pub met_left : (fs : List Fill) (d : Doc) → AreMet fs d → filled fs d ≡ d
 met_left [] d h = refl
 met_left (f ∷ fs) d h = ap (filled fs) (met_same f d h.0) ∙ met_left fs d h.1
 
-all_met : (rs : List Rule) (fs : List Fill) (d : Doc) → are_safe rs ≡ true
+pub all_met : (rs : List Rule) (fs : List Fill) (d : Doc) → are_safe rs ≡ true
     → keep_fills rs fs ≡ true → AreMet fs (masked rs (filled fs d))
 all_met rs [] d safe h = tt
 all_met rs (f ∷ fs) d safe h =

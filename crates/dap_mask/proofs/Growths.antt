@@ -8,7 +8,7 @@ use Rattle.std.specs.{Prelude.{is_some}, Str.is_utf8}
 use Rattle.dap_mask.specs.Categories.{is_output_moved_by}
 use Rattle.dap_mask.specs.Mask.{Mask, no_rules, rule_count, with_rule, Statement, change, leave_out}
 use Rattle.dap_mask.specs.Mask.{leave_out_category, swap, restart, join, put, fill, Line, nothing}
-use Rattle.dap_mask.specs.Mask.{declare, rule, bad}
+use Rattle.dap_mask.specs.Mask.{omit, declare, rule, bad}
 use Rattle.dap_mask.specs.RuleText.{line_said, statement_at, reported}
 use Rattle.dap_mask.specs.Rules.{Rule, comes_before, inserted}
 use Rattle.dap_mask.specs.RulesFile.{cause_against, outcome_unless, outcome_of, line_outcome}
@@ -81,6 +81,7 @@ one_more m (join j) h =
     omega (arith, first)
 one_more m (put p) h = let more = length_push m.words p in omega arith
 one_more m (fill f) h = let more = length_push m.fills f in omega arith
+one_more m (omit o) h = let more = length_push m.omissions o in omega arith
 one_more m (declare x) h = let more = length_push m.declared x in omega arith
 
 same_mask : (m k : Mask) → ◌≡◌ {A = Result Mask RulesCause} (Ok m) (Ok k) → m ≡ k

@@ -26,7 +26,7 @@ use Rattle.dap_mask.proofs.Utf8.{digits_utf8, hex_utf8}
 
 -- ---- depth
 
-abbrev Shallow : (Doc → Doc) → Type 0
+abbrev pub Shallow : (Doc → Doc) → Type 0
 Shallow f = (d : Doc) → depth (f d) ≤ depth d
 
 members_shallow : (k : List ℕ) (f : Doc → Doc) → Shallow f → (ms : Members)
@@ -94,12 +94,16 @@ called_shallow n f h d = go (is_called n (Some d)) (h d)
     go true k = k
     go false k = omega arith
 
+pub at_shallow : (f : Doc → Doc) → Shallow f → (ss : List RuleStep)
+    → Shallow (change_at_place ss f)
+at_shallow f h [] = h
+at_shallow f h (named k ∷ ss) = child_shallow k (change_at_place ss f) (at_shallow f h ss)
+at_shallow f h (elements n ∷ ss) =
+    list_shallow (change_called n (change_at_place ss f))
+    (called_shallow n (change_at_place ss f) (at_shallow f h ss))
+
 edit_shallow : (v : Verb) (ss : List RuleStep) → Shallow (change_at_place ss (of_verb v))
-edit_shallow v [] = verb_shallow v
-edit_shallow v (named k ∷ ss) = child_shallow k (change_at_place ss (of_verb v)) (edit_shallow v ss)
-edit_shallow v (elements n ∷ ss) =
-    list_shallow (change_called n (change_at_place ss (of_verb v)))
-    (called_shallow n (change_at_place ss (of_verb v)) (edit_shallow v ss))
+edit_shallow v ss = at_shallow (of_verb v) (verb_shallow v) ss
 
 -- ---- a test of all parts
 
@@ -202,7 +206,7 @@ masked_keeps T h (r ∷ rs) d g = masked_keeps T h rs (mask_by r d) (go (rule_ap
     go true = edit_keeps T (of_verb r.verb) (h r.verb) r.place d g
     go false = g
 
-abbrev range_test : Test
+abbrev pub range_test : Test
 range_test = record {
   doc = all_in_range;
   many = items_in_range;

@@ -9,6 +9,10 @@ pub mod Relations
 pub mod ByPath
 pub mod Settled
 pub mod AnyOrder
+pub mod OmittedSteps
+pub mod OmittedPlaces
+pub mod OmittedOnce
+pub mod OmittedKeeps
 pub mod Dropping
 pub mod FillSteps
 pub mod FilledOnce
@@ -23,6 +27,7 @@ pub mod LeftIds
 pub mod RulesBehind
 pub mod Lines
 pub mod Lists
+pub mod OmittedItems
 pub mod Growths
 pub mod Indexed
 pub mod FlatTold
@@ -32,10 +37,12 @@ pub mod Blanks
 pub mod Quoted
 pub mod Values
 pub mod Parsing
+pub mod ParsedParts
 pub mod Parsed
 pub mod WorkedRules
 pub mod WorkedJoining
 pub mod WorkedDeclarations
 pub mod WorkedFills
+pub mod WorkedOmissions
 pub mod WorkedOrder
 pub mod WordLines

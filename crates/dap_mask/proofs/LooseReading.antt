@@ -1,5 +1,5 @@
 -- A content read loosely: the document is unique, in order, in UTF-8 and without ids. The text of
--- the masked document is read as the same document.
+-- the redacted document is read as the same document.
 use Rattle.std.proofs.Common.{◌≡◌, ◌⊎◌, inl, inr, ℕ, true, false, not, ◌&&◌, List, [], Some}
 use Rattle.std.proofs.Common.{refl, sym}
 use Rattle.std.proofs.Common.{ap, ap₂, ◌∙◌, subst, nat_cmp}
@@ -30,16 +30,20 @@ use Rattle.dap_mask.specs.Loose.{loose, loose_items, loose_members, IsReadLoosel
 use Rattle.dap_mask.specs.Loose.{IsLeftOf}
 use Rattle.dap_mask.specs.Mask.{Mask, leaves_out}
 use Rattle.dap_mask.specs.Masked.{masked}
-use Rattle.dap_mask.specs.Promises.{IsMaskedAs, IsContentMasked}
+use Rattle.dap_mask.specs.Omissions.{omitted}
+use Rattle.dap_mask.specs.Promises.{IsMaskedAs, IsRedactedAs, IsContentMasked}
+use Rattle.dap_mask.specs.Redacted.{redacted}
 use Rattle.dap_mask.specs.Rules.{Rule, are_safe, are_idempotent}
 use Rattle.dap_mask.specs.Ids.{leave_ids}
 use Rattle.dap_mask.proofs.ByPath.{masked_by_path, one_masked, keeps_others, none_new}
 use Rattle.dap_mask.proofs.ByPath.{ordered-masked, agree_from_equal, equal_from_agree}
 use Rattle.dap_mask.proofs.FilledDocs.{ordered_filled, utf8_filled, no_id_filled}
-use Rattle.dap_mask.proofs.FilledOnce.{filled_once}
 use Rattle.dap_mask.proofs.Keeping.{no_id_masked, sound_masked, utf8_masked}
 use Rattle.dap_mask.proofs.LeftIds.{keeps_ids}
 use Rattle.dap_mask.proofs.Loosening.{no_id_loose, read_loose}
+use Rattle.dap_mask.proofs.OmittedKeeps.{ordered_omitted, utf8_omitted, no_id_omitted}
+use Rattle.dap_mask.proofs.OmittedKeeps.{filled_redacted, equal_outside}
+use Rattle.dap_mask.proofs.OmittedOnce.{redacted_once}
 use Rattle.dap_mask.proofs.Settled.{masked_once}
 
 -- ---- the document of a value
@@ -152,14 +156,14 @@ no_id_by mask bytes d (raw, read, is) =
     ∙ no_id_filled mask.fills (worded_message mask.words raw)
     (id_worded mask.words true raw ∙ loosely_no_id bytes raw read)
 
--- setting members again in the masked document does not change it
+-- setting members again in the redacted document does not change it
 pub filled_again : (mask : Mask) (bytes : List ℕ) (d : Doc) → are_safe mask.changes ≡ true
     → keep_fills mask.changes mask.fills ≡ true → IsReadBy mask bytes d
-    → filled mask.fills (masked mask.changes d) ≡ masked mask.changes d
+    → filled mask.fills (redacted mask d) ≡ redacted mask d
 filled_again mask bytes d safe full (raw, read, is) =
-    ap (λ x. filled mask.fills (masked mask.changes x)) is
-    ∙ filled_once mask (worded_message mask.words raw) safe full
-    ∙ ap (masked mask.changes) (sym is)
+    ap (λ x. filled mask.fills (redacted mask x)) is
+    ∙ filled_redacted mask (worded_message mask.words raw) safe full
+    ∙ ap (redacted mask) (sym is)
 
 -- ---- the result of masking a content
 
@@ -190,12 +194,15 @@ pub left_is_read : (mask : Mask) (bytes : List ℕ) (e : Doc) → AreUtf8 mask.w
     → AreFillsUtf8 mask.fills → IsLeftOf mask bytes (Some e) → IsRead (text_of e) e
 left_is_read mask bytes e u v (d, read, (kept, is, sound)) =
     let rules = mask.changes in
+    let os = mask.omissions in
+    let m = masked rules d in
     let ordered : is_ordered e ≡ true =
-    ap is_ordered is ∙ ordered-masked rules d (ordered_by mask bytes d read) in
+    ap is_ordered is
+    ∙ ordered_omitted os m (ordered-masked rules d (ordered_by mask bytes d read)) in
     let utf8 : all_utf8 e ≡ true =
-    ap all_utf8 is ∙ utf8_masked rules d (utf8_by mask bytes d u v read) in
+    ap all_utf8 is ∙ utf8_omitted os m (utf8_masked rules d (utf8_by mask bytes d u v read)) in
     let no_id : has_id e ≡ false =
-    ap has_id is ∙ no_id_masked rules d (no_id_by mask bytes d read) in
+    ap has_id is ∙ no_id_omitted os m (no_id_masked rules d (no_id_by mask bytes d read)) in
     subst (IsRead (text_of e)) (without_no_id e no_id)
     (text_is_read e sound (ranged_no_id e no_id) ordered utf8)
 
@@ -219,7 +226,22 @@ content_masked rules mask bytes d safe settled leave read =
       );
     }
 
--- ---- a content that is read as a document, if there are no words and no members to set
+pub content_redacted : (mask : Mask) (bytes : List ℕ) (d : Doc) → are_safe mask.changes ≡ true
+    → are_idempotent mask.changes ≡ true → leave_ids mask.changes ≡ true
+    → IsReadBy mask bytes d → IsRedactedAs mask d (redacted mask d)
+content_redacted mask bytes d safe settled leave read =
+    let ordered = ordered_by mask bytes d read in
+    record {
+      between = masked mask.changes d;
+      is_masked = content_masked mask.changes mask bytes d safe settled leave read;
+      without = refl;
+      again = redacted_once mask d safe settled ordered;
+      equal = λ other others f also.
+          equal_outside mask d f safe ordered (ordered_by other others f also);
+    }
+
+-- ---- a content that is read as a document, if there are no words, no members to set and no
+-- elements to omit
 
 pub read_plainly : (mask : Mask) (bytes : List ℕ) (d : Doc) → mask.words ≡ [] → mask.fills ≡ []
     → IsRead bytes d → IsReadBy mask bytes d
@@ -230,20 +252,25 @@ read_plainly mask bytes d none bare read = (
       ∙ ap (λ ws. worded_message ws d) none ∙ worded_none true d),
 )
 
+redacted_plainly : (mask : Mask) (d : Doc) → mask.omissions ≡ []
+    → redacted mask d ≡ masked mask.changes d
+redacted_plainly mask d full = ap (λ os. omitted os (masked mask.changes d)) full
+
 pub left_plainly : (mask : Mask) (bytes : List ℕ) (d : Doc) → mask.words ≡ [] → mask.fills ≡ []
-    → IsRead bytes d → leaves_out mask d ≡ false
+    → mask.omissions ≡ [] → IsRead bytes d → leaves_out mask d ≡ false
     → IsLeftOf mask bytes (Some (masked mask.changes d))
-left_plainly mask bytes d none bare read kept =
+left_plainly mask bytes d none bare full read kept =
     let sound = and_left (is_sound d) (not (has_id d)) (read_is_plain bytes d read) in (
       d,
       read_plainly mask bytes d none bare read,
-      (kept, refl, sound_masked mask.changes d sound),
+      (kept, sym (redacted_plainly mask d full), sound_masked mask.changes d sound),
     )
 
 pub masked_plainly : (mask : Mask) (bytes : List ℕ) (d : Doc) → are_safe mask.changes ≡ true
     → are_idempotent mask.changes ≡ true → leave_ids mask.changes ≡ true → mask.words ≡ []
-    → mask.fills ≡ [] → IsRead bytes d → IsContentMasked mask bytes (masked mask.changes d)
-masked_plainly mask bytes d safe settled leave none bare read e also =
+    → mask.fills ≡ [] → mask.omissions ≡ [] → IsRead bytes d
+    → IsContentMasked mask bytes (masked mask.changes d)
+masked_plainly mask bytes d safe settled leave none bare full read e also =
     let same = one_reading mask bytes e d also (read_plainly mask bytes d none bare read) in
-    subst (IsMaskedAs mask.changes e) (ap (masked mask.changes) same)
-    (content_masked mask.changes mask bytes e safe settled leave also)
+    subst (IsRedactedAs mask e) (ap (redacted mask) same ∙ redacted_plainly mask d full)
+    (content_redacted mask bytes e safe settled leave also)

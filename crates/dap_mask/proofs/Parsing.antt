@@ -16,7 +16,8 @@ use Rattle.dap_mask.specs.Declarations.{Declaration}
 use Rattle.dap_mask.specs.Categories.{CategoryRule, output_name}
 use Rattle.dap_mask.specs.Mask.{Statement, change, leave_out, leave_out_category, swap, restart}
 use Rattle.dap_mask.specs.Fills.{Fill, Scalar}
-use Rattle.dap_mask.specs.Mask.{join, put, fill, declare, Line, nothing, rule}
+use Rattle.dap_mask.specs.Mask.{join, put, fill, omit, declare, Line, nothing, rule}
+use Rattle.dap_mask.specs.Omissions.{Omission}
 use Rattle.dap_mask.specs.RuleSteps.{RuleStep, named, elements}
 use Rattle.dap_mask.specs.RuleText.{quoted_at, plain_at, name_at, this_name, any_name, called_step}
 use Rattle.dap_mask.specs.RuleText.{member_step, next_step, step_then, steps_from, place_at}
@@ -28,7 +29,7 @@ use Rattle.dap_mask.specs.RuleText.{category_behind, dropped_at, leave_out_at, h
 use Rattle.dap_mask.specs.RuleText.{swap_at, restart_at, is_output, join_ended, join_stops}
 use Rattle.dap_mask.specs.RuleText.{joined_at, join_at, part_at, word_with, put_at, statement_at}
 use Rattle.dap_mask.specs.RuleText.{value_at, valued, value_behind, fill_behind}
-use Rattle.dap_mask.specs.RuleText.{fill_at, reported, line_said}
+use Rattle.dap_mask.specs.RuleText.{fill_at, omission_behind, omit_at, reported, line_said}
 use Rattle.dap_words.specs.Words.{Pair}
 use Rattle.dap_mask.specs.Rules.{Rule, same_kind}
 use Rattle.dap_mask.specs.Runs.{is_blank, is_plain, behind, gap, is_over, is_end}
@@ -588,6 +589,30 @@ fill_read f n p w s on c d v =
     ∙ value_read v last.1 (end_stops is_plain last.1 plain_no_end ended))
     ∙ ap (λ (b : Bool). cond b (Some (fill f)) None) (end_read last.1 ended)
 
+abbrev pub omit_on : Head → Option Statement
+omit_on h = option_and_then (omission_behind h.0 h.1) (option_and_then place_at (gap h.2))
+
+-- the rule that omits elements, if the line ends after this place
+abbrev omission_if : Kind → Option (List ℕ) → Option (List RuleStep × RuleStep) → Bool
+    → Option Statement
+omission_if k n o ended =
+    cond ended (option_map (λ r. omit (record { kind = k; name = n; parent = r.0; last = r.1 })) o)
+    None
+
+omit_read : (o : Omission) (n p s : List ℕ) → GoesOn (kind_word o.kind ∷ n ∷ p ∷ []) s
+    → IsNameOrAny n o.name → IsPlace p (o.parent ++ o.last ∷ []) → omit_at s ≡ Some (omit o)
+omit_read o n p s on c d =
+    let place = o.parent ++ o.last ∷ [] in
+    let h = head_read o.kind o.name n (p ∷ []) s on c in
+    let next = h.on in
+    let ended = next.4 in
+    ap (option_and_then omit_on) h.head
+    ∙ ap (option_and_then (omission_behind o.kind o.name))
+    (ap (option_and_then place_at) (ap gap next.2
+    ∙ gap_read next.0 (p ++ next.1) next.3 (place_not_blank place p next.1 d))
+    ∙ place_read place p next.1 d (words_stop goes_on [] next.1 place_no_end ended))
+    ∙ ap₂ (omission_if o.kind o.name) (last_split o.parent o.last) (end_read next.1 ended)
+
 -- ---- lines
 
 abbrev pub statement_by : List ℕ → List ℕ → Option Statement
@@ -597,7 +622,8 @@ statement_by w s =
     (cond (bytes_eq w (codes "join")) (join_at s)
     (cond (bytes_eq w (codes "word")) (put_at s)
     (cond (bytes_eq w (codes "fill")) (fill_at s)
-    (option_and_then (λ v. change_at v s) (verb_named w)))))))
+    (cond (bytes_eq w (codes "omit")) (omit_at s)
+    (option_and_then (λ v. change_at v s) (verb_named w))))))))
 
 abbrev line_by : List ℕ → Line
 line_by s = cond (is_over s) nothing (reported (statement_at s))
@@ -671,6 +697,10 @@ says_words l (fill f) ws (n, p, w, is, c, d, v) has =
     let on = subst (λ (xs : List (List ℕ)). HasWords xs l) is has in
     words_read l (codes "fill") (kind_word f.kind ∷ n ∷ p ∷ w ∷ []) (fill f) on refl refl
     (fill_read f n p w on.1 on.4 c d v)
+says_words l (omit o) ws (n, p, is, c, d) has =
+    let on = subst (λ (xs : List (List ℕ)). HasWords xs l) is has in
+    words_read l (codes "omit") (kind_word o.kind ∷ n ∷ p ∷ []) (omit o) on refl refl
+    (omit_read o n p on.1 on.4 c d)
 
 pub rule_read : (l : List ℕ) (st : Statement) → SaysRule l st → line_said l ≡ rule st
 rule_read l st (ws, has, words) = says_words l st ws words has

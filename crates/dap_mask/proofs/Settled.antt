@@ -225,17 +225,33 @@ stable_to_end r (t ∷ ts) d o safe own calm late apart stable =
     (or_left (comes_before t r) (is_late r ts) late)
     (or_left (clash r t) (clashes_with r ts) apart) stable)
 
-pub masked_once : (rs : List Rule) (d : Doc) → are_safe rs ≡ true → are_idempotent rs ≡ true
-    → is_ordered d ≡ true → masked rs (masked rs d) ≡ masked rs d
-masked_once [] d safe settled o = refl
-masked_once (r ∷ rs) d safe settled o =
+-- each rule leaves the document unchanged
+abbrev pub AllStable : List Rule → Doc → Type 0
+AllStable [] d = Unit {0}
+AllStable (r ∷ rs) d = (mask_by r d ≡ d) × AllStable rs d
+
+pub stable_masked : (rs : List Rule) (d : Doc) → AllStable rs d → masked rs d ≡ d
+stable_masked [] d h = refl
+stable_masked (r ∷ rs) d h = ap (masked rs) h.0 ∙ stable_masked rs d h.1
+
+-- each rule leaves the masked document unchanged
+pub all_stable : (rs : List Rule) (d : Doc) → are_safe rs ≡ true → are_idempotent rs ≡ true
+    → is_ordered d ≡ true → AllStable rs (masked rs d)
+all_stable [] d safe settled o = tt
+all_stable (r ∷ rs) d safe settled o =
     let e = mask_by r d in
     let ordered = ordered-mask_by r d o in
     let own = first_renames r rs safe in
     let apart = not-true (clashes_with r rs)
-    (and_left (not (clashes_with r rs)) (are_idempotent rs) settled) in
-    ap (masked rs) (stable_to_end r rs e ordered (rest_safe r rs safe) own
-    (first_apart r rs safe) (first_early r rs safe) apart
-    (stable_itself r d o (first_safe r rs safe) own (first_leaves_own r rs safe)))
-    ∙ masked_once rs e (rest_safe r rs safe)
-    (and_right (not (clashes_with r rs)) (are_idempotent rs) settled) ordered
+    (and_left (not (clashes_with r rs)) (are_idempotent rs) settled) in (
+      stable_to_end r rs e ordered (rest_safe r rs safe) own (first_apart r rs safe)
+          (first_early r rs safe) apart
+          (stable_itself r d o (first_safe r rs safe) own (first_leaves_own r rs safe)),
+      all_stable rs e (rest_safe r rs safe)
+          (and_right (not (clashes_with r rs)) (are_idempotent rs) settled) ordered,
+    )
+
+pub masked_once : (rs : List Rule) (d : Doc) → are_safe rs ≡ true → are_idempotent rs ≡ true
+    → is_ordered d ≡ true → masked rs (masked rs d) ≡ masked rs d
+masked_once rs d safe settled o =
+    stable_masked rs (masked rs d) (all_stable rs d safe settled o)

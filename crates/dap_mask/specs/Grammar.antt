@@ -5,7 +5,7 @@ use Rattle.serde_json.specs.Data as json
 use Rattle.dap_profile.specs.declared.profile.Kind.{Kind, TheVariants.{Request, Response, Event}}
 use Rattle.dap_tree.specs.Json.{Reads}
 use Rattle.dap_mask.specs.Mask.{Statement, change, leave_out, leave_out_category, swap, restart}
-use Rattle.dap_mask.specs.Mask.{join, put, fill, declare, Line, nothing, rule, bad}
+use Rattle.dap_mask.specs.Mask.{join, put, fill, omit, declare, Line, nothing, rule, bad}
 use Rattle.dap_mask.specs.Categories.{output_name}
 use Rattle.dap_mask.specs.Fills.{Scalar, string}
 use Rattle.dap_mask.specs.RuleSteps.{RuleStep, named, elements}
@@ -133,8 +133,9 @@ AreWordsOfRule ws r others = (n : List ℕ) × (cs : List (List ℕ)) × (p : Li
 
 -- The words represent this rule: `VERB KIND NAME PLACE`, `VERB event NAME category=TEXT PLACE`, one
 -- of these and `as LABEL`, `drop event NAME`, `drop event NAME category=TEXT`, `swap KIND NAME KIND
--- NAME`, `per-stop`, `join event output`, `join event output per-stop`, `word TEXT WORD`, or `fill
--- KIND NAME PLACE VALUE`. TEXT, WORD and LABEL are written as names are, and so is `output`.
+-- NAME`, `per-stop`, `join event output`, `join event output per-stop`, `word TEXT WORD`, `fill
+-- KIND NAME PLACE VALUE`, or `omit KIND NAME PLACE`. TEXT, WORD and LABEL are written as names are,
+-- and so is `output`.
 abbrev pub AreWordsOf : List (List ℕ) → Statement → Type 0
 AreWordsOf ws (change r) = AreWordsOfRule ws r []
 AreWordsOf ws (declare x) = (l : List ℕ) × AreWordsOfRule ws x.rule (codes "as" ∷ l ∷ [])
@@ -155,6 +156,9 @@ AreWordsOf ws (put p) = (t : List ℕ) × (w : List ℕ) × (ws ≡ codes "word"
 AreWordsOf ws (fill f) = (n : List ℕ) × (p : List ℕ) × (w : List ℕ)
     × (ws ≡ codes "fill" ∷ kind_word f.kind ∷ n ∷ p ∷ w ∷ []) × IsNameOrAny n f.name
     × IsPlace p (f.parent ++ f.last ∷ []) × IsValue w f.value
+AreWordsOf ws (omit o) = (n : List ℕ) × (p : List ℕ)
+    × (ws ≡ codes "omit" ∷ kind_word o.kind ∷ n ∷ p ∷ []) × IsNameOrAny n o.name
+    × IsPlace p (o.parent ++ o.last ∷ [])
 
 -- The line consists of the words of this rule.
 abbrev pub SaysRule : List ℕ → Statement → Type 0

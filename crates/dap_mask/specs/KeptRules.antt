@@ -5,6 +5,7 @@ use Rattle.dap_mask.specs.ListedRules.{listed_changes, listed_dropped, listed_sw
 use Rattle.dap_mask.specs.ListedRules.{listed_categories, listed_per_stop, listed_joining}
 use Rattle.dap_mask.specs.Declarations.{Declaration}
 use Rattle.dap_mask.specs.{Fills.Fill, ListedRules.{listed_words, listed_fills, listed_declared}}
+use Rattle.dap_mask.specs.{ListedRules.listed_omissions, Omissions.Omission}
 use Rattle.dap_mask.specs.{Mask.Mask, Rules.Rule, declared.mask_rules.MaskRules.MaskRules}
 use Rattle.dap_mask.specs.declared.joining.Joining.{Joining}
 use Rattle.dap_message.specs.SwapRules.{SwapRule}
@@ -37,6 +38,10 @@ words_of_mask r = listed_words r.list
 -- The rules that set members before the other rules apply.
 abbrev pub fills_of_mask : MaskRules → List Fill
 fills_of_mask r = listed_fills r.list
+
+-- The rules that omit elements after the changes.
+abbrev pub omissions_of_mask : MaskRules → List Omission
+omissions_of_mask r = listed_omissions r.list
 
 -- The rules that declare ids.
 abbrev pub declared_of_mask : MaskRules → List Declaration

@@ -8,6 +8,7 @@ use Rattle.dap_mask.specs.Rules.{Rule, are_safe, are_idempotent, is_dropped}
 use Rattle.dap_mask.specs.{Categories.keep_categories, Fills.{Fill, filled, keep_fills}}
 use Rattle.dap_mask.specs.Mask.{Mask, leaves_out}
 use Rattle.dap_mask.specs.Masked.{IsMasked, AgreeBut, is_apart, masked, named_by}
+use Rattle.dap_mask.specs.{Omissions.{Omission, omitted}, Redacted.{redacted, AgreeOutside}}
 use Rattle.dap_mask.specs.Texts.{AreDigitsOf, IsHexOf, digits, hex}
 
 -- ---- only the places of the rules change
@@ -87,6 +88,53 @@ InAnyOrder = (rules others : List Rule) (d : Doc) → IsPermutation rules others
 abbrev pub EqualWhereAgree : Type 0
 EqualWhereAgree = (rules : List Rule) (d e : Doc) → are_safe rules ≡ true → is_ordered d ≡ true
     → is_ordered e ≡ true → (masked rules d ≡ masked rules e) ↔ AgreeBut rules d e
+
+-- ---- elements that are omitted
+
+-- Redacting a redacted document again does not change it, if its members are in order.
+abbrev pub RedactedOnce : Type 0
+RedactedOnce = (mask : Mask) (d : Doc) → are_safe mask.changes ≡ true
+    → are_idempotent mask.changes ≡ true → is_ordered d ≡ true
+    → redacted mask (redacted mask d) ≡ redacted mask d
+
+-- Setting members again in a redacted document does not change it.
+abbrev pub FilledRedacted : Type 0
+FilledRedacted = (mask : Mask) (d : Doc) → are_safe mask.changes ≡ true
+    → keep_fills mask.changes mask.fills ≡ true
+    → filled mask.fills (redacted mask (filled mask.fills d))
+    ≡ redacted mask (filled mask.fills d)
+
+-- The order of rules that omit elements does not matter.
+abbrev pub OmittedInAnyOrder : Type 0
+OmittedInAnyOrder = (os ps : List Omission) (d : Doc) → IsPermutation os ps
+    → omitted ps d ≡ omitted os d
+
+-- If no rule drops a message, none drops the redacted message.
+abbrev pub RedactedStaysIn : Type 0
+RedactedStaysIn = (mask : Mask) (d : Doc) → are_safe mask.changes ≡ true
+    → keep_categories mask.changes mask.categories ≡ true → leaves_out mask d ≡ false
+    → leaves_out mask (redacted mask d) ≡ false
+
+-- Redacting two documents yields equal documents if and only if the two agree except for the parts
+-- that the mask redacts and the elements that it omits.
+abbrev pub EqualOutside : Type 0
+EqualOutside = (mask : Mask) (d e : Doc) → are_safe mask.changes ≡ true → is_ordered d ≡ true
+    → is_ordered e ≡ true → (redacted mask d ≡ redacted mask e) ↔ AgreeOutside mask d e
+
+-- Omitting elements keeps members in order, a document serialisable, and strings in UTF-8.
+abbrev pub OmittedKeepsOrder : Type 0
+OmittedKeepsOrder = (os : List Omission) (d : Doc) → is_ordered d ≡ true
+    → is_ordered (omitted os d) ≡ true
+
+abbrev pub OmittedKeepsSound : Type 0
+OmittedKeepsSound = (os : List Omission) (d : Doc) → is_sound d ≡ true
+    → is_sound (omitted os d) ≡ true
+
+abbrev pub OmittedKeepsUtf8 : Type 0
+OmittedKeepsUtf8 = (os : List Omission) (d : Doc) → all_utf8 d ≡ true
+    → all_utf8 (omitted os d) ≡ true
+
+-- ---- order, numbers and strings
 
 -- Masking keeps members in order.
 abbrev pub KeepsOrder : Type 0

@@ -4,8 +4,10 @@ pub mod Rules
 pub mod Swaps
 pub mod Categories
 pub mod Fills
+pub mod Omissions
 pub mod Mask
 pub mod Masked
+pub mod Redacted
 pub mod Ids
 pub mod Declarations
 pub mod Runs

@@ -2,7 +2,7 @@
 use Rattle.std.specs.Prelude.{Bool, List, map, ℕ, Option, option_map, string_bytes}
 use Rattle.dap_mask.specs.{Categories.{CategoryRule, categories_of}, Fills.{Fill, fills_of}}
 use Rattle.dap_mask.specs.Declarations.{Declaration, declarations_of}
-use Rattle.dap_mask.specs.{Mask.Mask, Rules.{Rule, rules_of}}
+use Rattle.dap_mask.specs.{Mask.Mask, Omissions.{Omission, omissions_of}, Rules.{Rule, rules_of}}
 use Rattle.dap_mask.specs.declared.rule_list.RuleList.{RuleList}
 use Rattle.dap_mask.specs.declared.joining.Joining.{Joining}
 use Rattle.dap_message.specs.SwapRules.{SwapRule, swaps_of}
@@ -32,6 +32,9 @@ listed_words r = pairs_in r.words
 abbrev pub listed_fills : RuleList → List Fill
 listed_fills r = fills_of r.fills.items
 
+abbrev pub listed_omissions : RuleList → List Omission
+listed_omissions r = omissions_of r.omissions.items
+
 abbrev pub listed_declared : RuleList → List Declaration
 listed_declared r = declarations_of r.declared.items
 
@@ -45,5 +48,6 @@ listed_mask r = record {
   joining = listed_joining r;
   words = listed_words r;
   fills = listed_fills r;
+  omissions = listed_omissions r;
   declared = listed_declared r;
 }

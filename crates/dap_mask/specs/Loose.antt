@@ -7,7 +7,7 @@ use Rattle.dap_tree.specs.Doc.{Members, no_members, member, is_sound, is_ordered
 use Rattle.dap_tree.specs.Json.{Reads, IsRead, HasNoReading, text_of}
 use Rattle.dap_tree.specs.declared.fault.TreeFault.{TreeFault, TheVariants.{Json, Fraction, Memory}}
 use Rattle.dap_mask.specs.Fills.{filled, AreFillsUtf8}
-use Rattle.dap_mask.specs.{Mask.{Mask, no_rules, leaves_out}, Masked.masked}
+use Rattle.dap_mask.specs.{Mask.{Mask, no_rules, leaves_out}, Redacted.redacted}
 use Rattle.dap_words.specs.{Words.AreUtf8, Worded.worded_message}
 
 -- An integer that is out of range and represents each number that is not an integer of 64 bits.
@@ -50,16 +50,14 @@ IsReadBy mask bytes d = (raw : Doc) × IsReadLoosely bytes raw
     × (d ≡ filled mask.fills (worded_message mask.words raw))
 
 -- The result of masking a document (own): `None` for an event that the rules drop, and otherwise
--- the masked document, which must be serialisable.
+-- the redacted document, which must be serialisable.
 abbrev pub IsLeft : Mask → Doc → Option Doc → Type 0
 IsLeft mask d None = leaves_out mask d ≡ true
-IsLeft mask d (Some e) = (leaves_out mask d ≡ false) × (e ≡ masked mask.changes d)
-    × (is_sound e ≡ true)
+IsLeft mask d (Some e) = (leaves_out mask d ≡ false) × (e ≡ redacted mask d) × (is_sound e ≡ true)
 
--- The document is not dropped, and a non-integer number remains in the masked document.
+-- The document is not dropped, and a non-integer number remains in the redacted document.
 abbrev pub HasFractionLeft : Mask → Doc → Type 0
-HasFractionLeft mask d = (leaves_out mask d ≡ false)
-    × (is_sound (masked mask.changes d) ≡ false)
+HasFractionLeft mask d = (leaves_out mask d ≡ false) × (is_sound (redacted mask d) ≡ false)
 
 -- The content is JSON text, and this is the result of masking it, after the words were put in and
 -- members were set.

@@ -7,7 +7,8 @@ use Rattle.dap_message.specs.{Rows.is_of_kind, SwapRules.{SwapRule, swap_of}}
 use Rattle.dap_profile.specs.declared.profile.Kind.TheVariants.{Event}
 use Rattle.dap_mask.specs.Categories.{CategoryRule, category_of, is_dropped_by}
 use Rattle.dap_mask.specs.Declarations.{Declaration, declaration_of}
-use Rattle.dap_mask.specs.{Fills.{Fill, fill_of}, Rules.{Rule, rule_of, is_event_of, inserted}}
+use Rattle.dap_mask.specs.{Fills.{Fill, fill_of}, Omissions.{Omission, omission_of}}
+use Rattle.dap_mask.specs.Rules.{Rule, rule_of, is_event_of, inserted}
 use Rattle.dap_mask.specs.declared.joining.Joining.{Joining}
 use Rattle.dap_mask.specs.declared.statement.Line.{Line as ReadLine}
 use Rattle.dap_mask.specs.declared.statement.Line.TheVariants.{Nothing, Rule as ReadRule, Bad}
@@ -15,15 +16,15 @@ use Rattle.dap_mask.specs.declared.statement.Statement.{Statement as ReadStateme
 use Rattle.dap_mask.specs.declared.statement.Statement.TheVariants.{Change, LeaveOut, Swap}
 use Rattle.dap_mask.specs.declared.statement.Statement.TheVariants.{LeaveOutCategory, PerStop}
 use Rattle.dap_mask.specs.declared.statement.Statement.TheVariants.{Join, Put, Fill as ReadFill}
-use Rattle.dap_mask.specs.declared.statement.Statement.TheVariants.{Declare}
+use Rattle.dap_mask.specs.declared.statement.Statement.TheVariants.{Omit, Declare}
 
 -- The rules that change values, in the order in which they apply; the names of the events that are
 -- dropped (`None` is any name), and the rules that drop the events of one category; and the rules
 -- for the order of messages, which masking does not use. `per_stop` says that ids are numbered
 -- again from each stop, and `joining` how output is joined, if it is; masking does not use them
 -- either. The words are put in the place of texts before the rules apply, and then the rules in
--- `fills` set members that are absent or null. The declared ids get names after all other rules,
--- and masking does not use them.
+-- `fills` set members that are absent or null. The rules in `omissions` omit elements after the
+-- changes. The declared ids get names after all other rules, and masking does not use them.
 pub record Mask : Type 0 where
   pub changes : List Rule
   pub dropped : List (Option (List ℕ))
@@ -33,6 +34,7 @@ pub record Mask : Type 0 where
   pub joining : Option Joining
   pub words : List Pair
   pub fills : List Fill
+  pub omissions : List Omission
   pub declared : List Declaration
 
 abbrev pub no_rules : Mask
@@ -45,6 +47,7 @@ no_rules = record {
   joining = None;
   words = [];
   fills = [];
+  omissions = [];
   declared = [];
 }
 
@@ -52,7 +55,7 @@ abbrev pub rule_count : Mask → ℕ
 rule_count m =
     length m.changes + length m.dropped + length m.categories + length m.swaps
     + cond m.per_stop 1 0 + cond (is_some m.joining) 1 0 + length m.words
-    + length m.fills + length m.declared
+    + length m.fills + length m.omissions + length m.declared
 
 -- The message is dropped (own): an event of one of the names, or of the name and the category of a
 -- rule.
@@ -61,7 +64,8 @@ leaves_out m d = is_of_kind Event d && (is_event_of m.dropped d || is_dropped_by
 
 -- A rule in a line of a rules file: a change, events that are dropped, by their name alone or by
 -- their category too, a rule for the order, ids that are numbered again from each stop, output that
--- is joined, a text and its word, a member that is set if it is absent or null, or declared ids.
+-- is joined, a text and its word, a member that is set if it is absent or null, elements that are
+-- omitted, or declared ids.
 pub data Statement : Type 0 where
   change : Rule → Statement
   leave_out : Option (List ℕ) → Statement
@@ -71,6 +75,7 @@ pub data Statement : Type 0 where
   join : Joining → Statement
   put : Pair → Statement
   fill : Fill → Statement
+  omit : Omission → Statement
   declare : Declaration → Statement
 
 -- The mask with one more rule: a change at its place in the order in which changes apply, another
@@ -84,6 +89,7 @@ with_rule m restart = record m { per_stop = true }
 with_rule m (join j) = record m { joining = Some j }
 with_rule m (put p) = record m { words = m.words ++ p ∷ [] }
 with_rule m (fill f) = record m { fills = m.fills ++ f ∷ [] }
+with_rule m (omit o) = record m { omissions = m.omissions ++ o ∷ [] }
 with_rule m (declare x) = record m { declared = m.declared ++ x ∷ [] }
 
 -- The meaning of a line.
@@ -103,6 +109,7 @@ statement_of PerStop = restart
 statement_of (Join j) = join j
 statement_of (Put w) = put (pair_of w)
 statement_of (ReadFill f) = fill (fill_of f)
+statement_of (Omit o) = omit (omission_of o)
 statement_of (Declare x) = declare (declaration_of x)
 
 abbrev pub line_of : ReadLine → Line

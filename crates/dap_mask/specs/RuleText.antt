@@ -7,7 +7,7 @@ use Rattle.serde_json.specs.Data as json
 use Rattle.serde_json.specs.Read.{read}
 use Rattle.dap_profile.specs.declared.profile.Kind.{Kind, TheVariants.{Request, Response, Event}}
 use Rattle.dap_mask.specs.Mask.{Statement, change, leave_out, leave_out_category, swap, restart}
-use Rattle.dap_mask.specs.Mask.{join, put, fill, declare, Line, nothing, rule, bad}
+use Rattle.dap_mask.specs.Mask.{join, put, fill, omit, declare, Line, nothing, rule, bad}
 use Rattle.dap_mask.specs.{Categories.output_name, Fills.{Scalar, flag, number, string}}
 use Rattle.dap_mask.specs.RuleSteps.{RuleStep, named, elements}
 use Rattle.dap_mask.specs.Rules.{Rule, same_kind, same_name}
@@ -296,6 +296,17 @@ abbrev pub fill_at : List ℕ → Option Statement
 fill_at s = option_and_then (λ h. option_and_then (fill_behind h.0 h.1)
     (option_and_then place_at (gap h.2))) (head_at s)
 
+-- The rule that omits the elements at this place, if the line ends after it.
+abbrev pub omission_behind : Kind → Option (List ℕ) → List RuleStep × List ℕ → Option Statement
+omission_behind k n p = cond (is_end p.1)
+    (option_map (λ r. omit (record { kind = k; name = n; parent = r.0; last = r.1 }))
+    (split_last p.0)) None
+
+-- The rule that omits elements, whose messages and place are in the text.
+abbrev pub omit_at : List ℕ → Option Statement
+omit_at s = option_and_then (λ h. option_and_then (omission_behind h.0 h.1)
+    (option_and_then place_at (gap h.2))) (head_at s)
+
 abbrev pub statement_at : List ℕ → Option Statement
 statement_at s =
     cond (bytes_eq (front is_plain s) (codes "drop")) (leave_out_at (behind is_plain s))
@@ -304,7 +315,8 @@ statement_at s =
     (cond (bytes_eq (front is_plain s) (codes "join")) (join_at (behind is_plain s))
     (cond (bytes_eq (front is_plain s) (codes "word")) (put_at (behind is_plain s))
     (cond (bytes_eq (front is_plain s) (codes "fill")) (fill_at (behind is_plain s))
-    (option_and_then (λ v. change_at v (behind is_plain s)) (verb_named (front is_plain s))))))))
+    (cond (bytes_eq (front is_plain s) (codes "omit")) (omit_at (behind is_plain s))
+    (option_and_then (λ v. change_at v (behind is_plain s)) (verb_named (front is_plain s)))))))))
 
 abbrev pub reported : Option Statement → Line
 reported None = bad

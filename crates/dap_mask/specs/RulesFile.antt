@@ -13,7 +13,8 @@ use Rattle.dap_mask.specs.Mask.{Mask, no_rules, rule_count, with_rule, Statement
 use Rattle.dap_mask.specs.Fills.{Fill, is_fill_misplaced, is_fill_among, clashes_with_fills}
 use Rattle.dap_mask.specs.Fills.{removes_one_of, is_removed_by}
 use Rattle.dap_mask.specs.Mask.{leave_out_category, swap, restart, join, put, fill, Line, nothing}
-use Rattle.dap_mask.specs.Mask.{declare, rule, bad}
+use Rattle.dap_mask.specs.Mask.{omit, declare, rule, bad}
+use Rattle.dap_mask.specs.Omissions.{Omission, is_by_name, is_omission_among}
 use Rattle.dap_mask.specs.RuleText.{line_said}
 use Rattle.dap_mask.specs.Rules.{Rule, is_among, is_misplaced, clashes_with, disturbs_one_of}
 use Rattle.dap_mask.specs.Rules.{same_name}
@@ -53,6 +54,12 @@ fill_cause m f = cond (is_fill_misplaced f) (Some BadPlace)
     (cond (is_fill_among f m.fills) (Some Repeated)
     (cond (clashes_with_fills f m.fills || is_removed_by m.changes f) (Some Clash) None))
 
+-- Why a rule that omits elements may not follow the rules of a mask, apart from the limit on their
+-- number. Its place ends in a step that selects elements by their name.
+abbrev pub omission_cause : Mask → Omission → Option RulesCause
+omission_cause m o = cond (is_by_name o.last)
+    (cond (is_omission_among o m.omissions) (Some Repeated) None) (Some BadPlace)
+
 -- Why a declaration may not follow the rules of a mask, apart from the limit on their number.
 abbrev pub declaration_cause : Mask → Declaration → Option RulesCause
 declaration_cause m x = cond (not (is_own_label x.label)) (Some BadLabel)
@@ -78,6 +85,7 @@ cause_of m restart = cond m.per_stop (Some Repeated) None
 cause_of m (join j) = join_cause m
 cause_of m (put p) = option_map cause_of_word (word_cause m.words p)
 cause_of m (fill f) = fill_cause m f
+cause_of m (omit o) = omission_cause m o
 cause_of m (declare x) = declaration_cause m x
 
 -- Why a rule may not follow the rules of a mask; `None` if it may. A mask has at most a thousand

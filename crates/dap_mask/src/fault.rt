@@ -25,7 +25,8 @@ pub enum RulesCause {
     /// - Fix: write a line of one of these forms: `ACTION KIND NAME PLACE`, `ACTION event NAME
     ///   category=TEXT PLACE`, `drop event NAME`, `drop event NAME category=TEXT`, `swap KIND NAME
     ///   KIND NAME`, `word TEXT WORD`, `per-stop`, `join event output`, `join event output
-    ///   per-stop`, or `fill KIND NAME PLACE VALUE`. The first two may end in `as LABEL`.
+    ///   per-stop`, `fill KIND NAME PLACE VALUE`, or `omit KIND NAME PLACE`. The first two may end
+    ///   in `as LABEL`.
     BadRule,
     /// A thousand rules precede it.
     ///
@@ -35,15 +36,18 @@ pub enum RulesCause {
     /// The place never changes: it is an id that the profile renames, the message itself, its
     /// `type`, `command`, `event` or `success`, or the name by which the rule selects an element.
     /// For a rule with a category, the place is also never `body` or `body.category`. The place of
-    /// a `fill` rule ends in a member and selects no element by its name. The place of declared ids
-    /// is also never the `name` of elements, nor `body` or `body.category`.
+    /// a `fill` rule ends in a member and selects no element by its name. The place of an `omit`
+    /// rule ends in `["NAME"]`, the name of the elements. The place of declared ids is also never
+    /// the `name` of elements, nor `body` or `body.category`.
     ///
-    /// - Cause: a rule for a number that `normalise` renames anyway.
-    /// - Fix: leave the rule out.
+    /// - Cause: a rule for a number that `normalise` renames anyway, or an `omit` rule whose place
+    ///   ends in `[]`.
+    /// - Fix: leave the rule out, or write the name of the elements in the brackets.
     BadPlace,
     /// The same rule precedes it, or another word for the same text, or another `join` rule, or a
-    /// `fill` rule for the same member. A `swap` rule with its halves exchanged is the same rule.
-    /// Two declarations are the same rule if they have the same label.
+    /// `fill` rule for the same member, or an `omit` rule for the same elements. A `swap` rule with
+    /// its halves exchanged is the same rule. Two declarations are the same rule if they have the
+    /// same label.
     ///
     /// - Cause: two rules files put together.
     /// - Fix: leave it out.

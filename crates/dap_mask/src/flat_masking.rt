@@ -5,7 +5,7 @@ ghost use Rattle.dap_mask.specs.FlatMasking.{IsLeftFlat, IsMaskedFlat, IsTold};
 ghost use Rattle.dap_mask.specs.FlatMasking.{asked_category, are_limited, is_limited};
 ghost use Rattle.dap_mask.specs.FlatMasking.{changed_at, changed_by};
 ghost use Rattle.dap_mask.specs.{Index.told_kind, KeptRules.{changes_of, mask_of}, Masked.masked};
-ghost use Rattle.dap_mask.specs.KeptRules.{words_of_mask, fills_of_mask};
+ghost use Rattle.dap_mask.specs.KeptRules.{words_of_mask, fills_of_mask, omissions_of_mask};
 ghost use Rattle.dap_mask.specs.Rules.{rule_of, rules_of};
 ghost use Rattle.std.specs.Prelude.{IsTrue, []};
 
@@ -30,8 +30,8 @@ use dap_tree::Scratch;
 ///
 /// - `Memory`: an allocation failed. The content is not empty.
 /// - `Unclear`: [`read_masked`](crate::read_masked) has to mask the content. It has to be read as
-///   a tree (see [`Unclear`](struct@dap_flat::Unclear)), the rules have words or set members, or a
-///   rule blanks a list or an object that is not empty.
+///   a tree (see [`Unclear`](struct@dap_flat::Unclear)), the rules have words, set members or omit
+///   elements, or a rule blanks a list or an object that is not empty.
 pub fn read_masked_flat<'a>(
     content: &'a [u8],
     rules: &MaskRules,
@@ -60,11 +60,12 @@ pub fn read_masked_flat<'a>(
     Ok(Some(nodes))
 }
 
-// Returns whether the rules have no words and set no members.
+// Returns whether the rules have no words, set no members and omit no elements.
 fn is_plain(rules: &MaskRules) -> bool
-    ensures { IsTrue result → (words_of_mask rules.now ≡ []) × (fills_of_mask rules.now ≡ []) }
+    ensures { IsTrue result → (words_of_mask rules.now ≡ []) × (fills_of_mask rules.now ≡ [])
+        × (omissions_of_mask rules.now ≡ []) }
 {
-    rules.words().is_empty() && rules.fills().is_empty()
+    rules.words().is_empty() && rules.fills().is_empty() && rules.omissions().is_empty()
 }
 
 fn mask_flat<'a>(

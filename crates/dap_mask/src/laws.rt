@@ -3,7 +3,10 @@
 ghost use Rattle.dap_mask.specs.Grammar.{ParserFindsLine, LineSaysOne};
 ghost use Rattle.dap_mask.specs.Laws.{MaskedByPath, OneMasked, KeepsOthers, NoneNew, DropsAlike};
 ghost use Rattle.dap_mask.specs.Laws.{MaskedOnce, EqualWhereAgree, KeepsOrder, KeepsSound};
-ghost use Rattle.dap_mask.specs.Laws.{InAnyOrder, FilledOnce, FillsKeepValues};
+ghost use Rattle.dap_mask.specs.Laws.{InAnyOrder, FilledOnce, FillsKeepValues, RedactedOnce};
+ghost use Rattle.dap_mask.specs.Laws.{FilledRedacted, RedactedStaysIn, OmittedInAnyOrder};
+ghost use Rattle.dap_mask.specs.Laws.{EqualOutside, OmittedKeepsOrder, OmittedKeepsSound};
+ghost use Rattle.dap_mask.specs.Laws.{OmittedKeepsUtf8};
 ghost use Rattle.dap_mask.specs.Laws.{KeepsUtf8, StaysIn, DigitsAre, HexIs, PlainPlaces};
 ghost use Rattle.dap_mask.specs.Loose.{UnmaskedIsRead, OneLooseReading, LooseIsOrdered, LeftIsRead};
 ghost use Rattle.dap_mask.specs.{Ids.LeavesIds, WordLines.OneMoreLine};
@@ -24,6 +27,20 @@ pub fn exactly_those_places()
 /// Masking a masked document again does not change it, if its members are in order.
 pub fn masked_once()
     ensures { MaskedOnce }
+{}
+
+/// Redacting a redacted document again does not change it, if its members are in order: neither the
+/// changes, nor the rules that set members, nor those that omit elements. The order of the rules
+/// that omit elements does not matter.
+pub fn omitted_once()
+    ensures redacted { RedactedOnce }
+    ensures filled { FilledRedacted }
+    ensures stays { RedactedStaysIn }
+    ensures any_order { OmittedInAnyOrder }
+    ensures equal { EqualOutside }
+    ensures ordered { OmittedKeepsOrder }
+    ensures sound { OmittedKeepsSound }
+    ensures utf8 { OmittedKeepsUtf8 }
 {}
 
 /// Setting members keeps each value that is not null, and setting them again in a masked document

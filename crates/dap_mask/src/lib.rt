@@ -4,8 +4,9 @@
 //! the places of the rules. [`read_masked_flat`] does the same to the nodes of a flat document, and
 //! [`write_masked`] writes the result. `specs/` defines the meaning of the rules, and [`laws`]
 //! states the theorems. The file may also contain texts and their words, [`MaskRules::words`],
-//! and rules that set members that are absent or null. [`read_masked`] puts in the words, sets the
-//! members, and then applies the other rules. The file may contain rules for the order of messages,
+//! rules that set members that are absent or null, and rules that omit elements of arrays.
+//! [`read_masked`] puts in the words, sets the members, applies the other rules, and then omits the
+//! elements, as [`omit`] does. The file may contain rules for the order of messages,
 //! [`MaskRules::swaps`]; the line `per-stop`, [`MaskRules::per_stop`]; a line that joins output,
 //! [`MaskRules::joining`]; and rules that declare ids, [`MaskRules::declared`]. Masking does not use
 //! the last four.
@@ -35,6 +36,8 @@ mod masked_text;
 mod masking;
 mod meets;
 mod names;
+mod omissions;
+mod omitting;
 mod places;
 mod profile_ids;
 mod rule_list;
@@ -60,6 +63,8 @@ pub use mask_rules::MaskRules;
 pub use masked_text::write_masked;
 pub use masking::{is_dropped, mask, rule_applies};
 pub use names::{any_name, name_at};
+pub use omissions::Omission;
+pub use omitting::omit;
 pub use places::place_at;
 pub use rules::{MaskRule, Step, Verb};
 pub use runs::{ByteClass, gap, is_end, split_run};

@@ -11,6 +11,7 @@ ghost use Rattle.dap_mask.specs.{Loose.ExplainsMasked, Promises.IsContentMasked}
 use crate::filling::fill;
 use crate::mask_rules::MaskRules;
 use crate::masking::{is_dropped, mask};
+use crate::omitting::omit;
 use dap_tree::{Scratch, Tree, TreeFault, read_tree_with};
 use dap_words::put_words;
 use serde_json::{Map, Number, Value};
@@ -39,8 +40,9 @@ pub fn read_masked(
     ensures err { IfErr result (ExplainsMasked (mask_of rules.now) content.now) }
     ensures memory { IsErrOf result TreeFault.Memory → 0 < length content.now }
 
-    // Only the places of the rules change. Masking the result again does not change it. Another
-    // content has the same result if and only if both agree except for the redacted parts.
+    // Only the places of the rules change, and only the elements that rules omit are missing.
+    // Masking the result again does not change it. Another content has the same result if and only
+    // if both agree except for the redacted parts and these elements.
     ensures masked { IfOk result (λ o. IfSome (option_map view o)
         (IsContentMasked (mask_of rules.now) content.now)) }
 {
@@ -49,6 +51,7 @@ pub fn read_masked(
         return Ok(None);
     }
     mask(&mut tree, rules);
+    omit(&mut tree, rules);
     if tree.sound() {
         Ok(Some(tree))
     } else {

@@ -10,6 +10,7 @@ use crate::fault::{RulesCause, RulesFault};
 use crate::fills::FillRule;
 use crate::index::KindRules;
 use crate::joining::Joining;
+use crate::omissions::Omission;
 use crate::rule_list::RuleList;
 use crate::rules::MaskRule;
 use dap_message::{Kind, SwapRule};
@@ -22,7 +23,8 @@ use std::alloc::{AllocError, Global};
 /// an id that the profile renames. No rule changes `body` or `body.category` of events to which it
 /// or another rule applies by their category, and none changes `body.category` of `output` events
 /// if [`MaskRules::joining`] is not `None`. Masking a masked message again does not change it, if
-/// its members are in order. The places of declared ids have the same restrictions.
+/// its members are in order. The places of declared ids have the same restrictions. The place of a
+/// rule that omits elements ends in their name.
 #[derive(Drop)]
 pub struct MaskRules {
     list: RuleList,
@@ -42,6 +44,7 @@ impl MaskRules {
     ghost use Rattle.dap_mask.specs.Declarations.{declarations_of, are_declared};
     ghost use Rattle.dap_mask.specs.{Categories.categories_of, ListedRules.listed_mask};
     ghost use Rattle.dap_mask.specs.{Fills.fills_of};
+    ghost use Rattle.dap_mask.specs.{KeptRules.omissions_of_mask, Omissions.omissions_of};
     ghost use Rattle.dap_mask.specs.{Mask.no_rules, Rules.rules_of, RulesFile.rules_said};
     ghost use Rattle.dap_words.specs.Kept.{pairs_in};
     ghost use Rattle.dap_message.specs.SwapRules.{swaps_of};
@@ -153,6 +156,13 @@ impl MaskRules {
         ensures { fills_of result.now ≡ fills_of_mask self.now }
     {
         self.list.fills.as_slice()
+    }
+
+    /// Returns the rules that omit elements after the changes, in the order of the file.
+    pub fn omissions(&self) -> &[Omission]
+        ensures { omissions_of result.now ≡ omissions_of_mask self.now }
+    {
+        self.list.omissions.as_slice()
     }
 
     /// Returns the positions of the changes that may apply to messages of this kind and name, in

@@ -8,6 +8,7 @@ ghost use Rattle.dap_mask.specs.Categories.{keep_output};
 ghost use Rattle.dap_mask.specs.Declarations.{declaration_of, declarations_of, are_declared};
 ghost use Rattle.dap_mask.specs.Fills.{fill_of, fills_of, keep_fills};
 ghost use Rattle.dap_mask.specs.Ids.{leave_ids, takes_profile_id};
+ghost use Rattle.dap_mask.specs.Omissions.{omission_of};
 ghost use Rattle.dap_mask.specs.Rules.{rule_of, rules_of, are_safe, are_idempotent, same_name};
 ghost use Rattle.dap_mask.specs.Rules.{is_misplaced};
 ghost use Rattle.dap_mask.specs.RulesFile.{last_line, cause_of_word};
@@ -28,6 +29,7 @@ use crate::fills::{
 };
 use crate::joining::Joining;
 use crate::meets::{clashes_with, is_among, is_telling_place, same_name, text_of};
+use crate::omissions::{Omission, is_by_name, is_omission_among};
 use crate::profile_ids::takes_profile_id;
 use crate::rule_order::place_in;
 use crate::rules::MaskRule;
@@ -51,9 +53,10 @@ const MAX_RULES: usize = 1_000;
 /// The place of a rule is never the message itself, its `type`, `command`, `event` or `success`, or
 /// an id that the profile renames. No rule changes `body` or `body.category` of events to which it
 /// or another rule applies by their category, and none changes `body.category` of `output` events
-/// if output is joined. No rule removes a member that another rule sets. Masking a masked message
+/// if output is joined. No change removes a member that another rule sets. Masking a masked message
 /// again does not change it, if its members are in order. The places of declared ids have the same
-/// restrictions, and are not names of elements.
+/// restrictions, and are not names of elements. The place of a rule that omits elements ends in
+/// their name.
 #[derive(Drop)]
 pub(crate) struct RuleList {
     changes: Vec<MaskRule>,
@@ -64,9 +67,10 @@ pub(crate) struct RuleList {
     pub(crate) joining: Option<Joining>,
     pub(crate) words: Words,
     pub(crate) fills: Vec<FillRule>,
+    pub(crate) omissions: Vec<Omission>,
     pub(crate) declared: Vec<Declaration>,
     ghost few: { vec_len changes + vec_len dropped + vec_len categories + vec_len swaps
-        + length (pairs_in words) + vec_len fills + vec_len declared ≤ 1000 },
+        + length (pairs_in words) + vec_len fills + vec_len omissions + vec_len declared ≤ 1000 },
     ghost safe: { are_safe (rules_of changes.items) ≡ true },
     ghost settled: { are_idempotent (rules_of changes.items) ≡ true },
     ghost leave: { leave_ids (rules_of changes.items) ≡ true },
@@ -85,11 +89,12 @@ impl RuleList {
     ghost use Rattle.dap_mask.specs.Declarations.{blurs_one_of, shares_ids, is_blurred_by};
     ghost use Rattle.dap_mask.specs.Fills.{removes_one_of, clashes_with_fills, is_removed_by};
     ghost use Rattle.dap_mask.specs.Mask.{no_rules, rule_count, with_rule, statement_of, nothing};
-    ghost use Rattle.dap_mask.specs.Mask.{change, leave_out_category, join, put, fill, declare};
+    ghost use Rattle.dap_mask.specs.Mask.{change, leave_out_category, join, put, fill, omit};
+    ghost use Rattle.dap_mask.specs.Mask.{declare};
     ghost use Rattle.dap_mask.specs.RuleText.{line_said};
     ghost use Rattle.dap_mask.specs.RulesFile.{cause_against, line_outcome, rules_from, rules_said};
     ghost use Rattle.dap_mask.specs.RulesFile.{change_cause, join_cause, fill_cause};
-    ghost use Rattle.dap_mask.specs.RulesFile.{declaration_cause};
+    ghost use Rattle.dap_mask.specs.RulesFile.{omission_cause, declaration_cause};
     ghost use Rattle.dap_mask.specs.Runs.{lines_of};
 
     /// Reads the rules of a file.
@@ -131,6 +136,7 @@ impl RuleList {
             joining: None,
             words: Words::new(alloc),
             fills: Vec::new(alloc),
+            omissions: Vec::new(alloc),
             declared: Vec::new(alloc),
         }
     }
@@ -148,7 +154,7 @@ impl RuleList {
     {
         let values = self.changes.len() + self.dropped.len() + self.categories.len();
         let lists = values + self.swaps.len() + self.words.len() + self.fills.len();
-        let lists = lists + self.declared.len();
+        let lists = lists + self.omissions.len() + self.declared.len();
         let stops = if self.per_stop { lists + 1 } else { lists };
         match self.joining {
             Some(_) => stops + 1,
@@ -299,6 +305,22 @@ impl RuleList {
         }
     }
 
+    // Returns why a rule that omits elements may not follow the rules read so far, apart from their
+    // number.
+    #[tactic(auto, using(crate::proofs::Lists::any_mapped))]
+    fn omission_cause(&self, rule: &Omission) -> Option<RulesCause>
+        ensures { result ≡ omission_cause (listed_mask self.now) (omission_of rule.now) }
+    {
+        if is_by_name(&rule.last) {
+            cause_if(
+                is_omission_among(rule, &self.omissions),
+                RulesCause::Repeated,
+            )
+        } else {
+            Some(RulesCause::BadPlace)
+        }
+    }
+
     // Returns whether another declaration may find the same ids, or a change may change a number in
     // a name.
     #[tactic(auto, using(crate::proofs::Lists::any_mapped))]
@@ -357,6 +379,7 @@ impl RuleList {
                 }
             }
             Statement::Fill(rule) => self.fill_cause(rule),
+            Statement::Omit(rule) => self.omission_cause(rule),
             Statement::Declare(rule) => self.declaration_cause(rule),
         }
     }
@@ -406,6 +429,15 @@ impl RuleList {
         Ok(())
     }
 
+    fn take_omission(&mut self, rule: Omission) -> Result<(), AllocError>
+        requires { cause_against (listed_mask self.old) (omit (omission_of rule)) ≡ None }
+        ensures { OnOk result
+            (listed_mask self.new ≡ with_rule (listed_mask self.old) (omit (omission_of rule))) }
+    {
+        self.omissions.push(rule)?;
+        Ok(())
+    }
+
     fn take_declaration(&mut self, rule: Declaration) -> Result<(), AllocError>
         requires { cause_against (listed_mask self.old) (declare (declaration_of rule)) ≡ None }
         ensures { OnOk result (listed_mask self.new
@@ -429,6 +461,7 @@ impl RuleList {
             Statement::Join(joining) => self.take_joining(joining),
             Statement::Put(word) => self.take_word(word)?,
             Statement::Fill(rule) => self.take_fill(rule)?,
+            Statement::Omit(rule) => self.take_omission(rule)?,
             Statement::Declare(rule) => self.take_declaration(rule)?,
         }
         Ok(())

@@ -4,9 +4,10 @@ ghost use Rattle.dap_mask.specs.Mask.{statement_of, line_of, nothing};
 ghost use Rattle.dap_mask.specs.RuleText.{verb_named, kind_named, head_at, change_at, category_at};
 ghost use Rattle.dap_mask.specs.RuleText.{limit_at, category_then, category_behind, leave_out_at};
 ghost use Rattle.dap_mask.specs.RuleText.{half_at, swap_at, is_output, join_ended, join_stops};
-ghost use Rattle.dap_mask.specs.RuleText.{joined_at, join_at, stated, label_at};
+ghost use Rattle.dap_mask.specs.RuleText.{joined_at, join_at, stated, label_at, omission_behind};
+ghost use Rattle.dap_mask.specs.RuleText.{omit_at};
 ghost use Rattle.dap_mask.specs.RuleText.{restart_at, part_at, put_at, statement_at, line_said};
-ghost use Rattle.dap_mask.specs.Rules.{rule_of};
+ghost use Rattle.dap_mask.specs.Rules.{rule_of, place_of};
 ghost use Rattle.dap_message.specs.SwapRules.{half_of};
 
 use crate::categories::CategoryRule;
@@ -16,8 +17,9 @@ use crate::fills::FillRule;
 use crate::joining::Joining;
 use crate::meets::{same_kind, same_name, text_of};
 use crate::names::{any_name, name_at};
+use crate::omissions::Omission;
 use crate::places::place_at;
-use crate::rules::{MaskRule, Verb};
+use crate::rules::{MaskRule, Step, Verb};
 use crate::runs::{ByteClass, gap, is_end, split_run};
 use dap_message::{Half, Kind, SwapRule};
 use dap_words::Word;
@@ -42,6 +44,8 @@ pub(crate) enum Statement {
     Put(Word),
     /// Sets a member that is absent or null.
     Fill(FillRule),
+    /// Omits elements of arrays.
+    Omit(Omission),
     /// Declares ids.
     Declare(Declaration),
 }
@@ -92,6 +96,9 @@ fn statement_at(alloc: Global, text: &[u8]) -> Result<Option<Statement>, AllocEr
     }
     if word == b"fill".as_slice() {
         return fill_at(alloc, rest);
+    }
+    if word == b"omit".as_slice() {
+        return omit_at(alloc, rest);
     }
     match verb_named(word) {
         Some(verb) => change_at(alloc, verb, rest),
@@ -381,4 +388,41 @@ fn put_at(alloc: Global, text: &[u8]) -> Result<Option<Statement>, AllocError>
         })));
     }
     Ok(None)
+}
+
+fn omit_at(alloc: Global, text: &[u8]) -> Result<Option<Statement>, AllocError>
+    ensures { IfOk result (λ o. option_map statement_of o ≡ omit_at text.now) }
+{
+    if let Some((kind, name, text)) = head_at(alloc, text)?
+        && let Some(text) = gap(text)
+        && let Some((place, rest)) = place_at(alloc, text)?
+    {
+        return Ok(omission_behind(kind, name, place, rest));
+    }
+    Ok(None)
+}
+
+// Returns the rule that omits the elements at this place, if the line ends.
+fn omission_behind(
+    kind: Kind,
+    name: Option<String>,
+    place: Vec<Step>,
+    text: &[u8],
+) -> Option<Statement>
+    ensures { option_map statement_of result
+        ≡ omission_behind kind (option_map string_bytes name) (place_of place.items, text.now) }
+{
+    if !is_end(text) {
+        return None;
+    }
+    let mut parent = place;
+    match parent.pop() {
+        Some(last) => Some(Statement::Omit(Omission {
+            kind,
+            name,
+            parent,
+            last,
+        })),
+        None => None,
+    }
 }

@@ -3,7 +3,7 @@
 use Rattle.std.proofs.Common.{◌≡◌, ℕ, Bool, true, false, not, List, [], ◌∷◌, map}
 use Rattle.std.proofs.Common.{refl, sym, ◌∙◌, ap, ap₂, subst}
 use Rattle.std.specs.List.{AllByRecursion, AllZip}
-use Rattle.dap_tree.specs.Doc.{is_ordered}
+use Rattle.dap_tree.specs.Doc.{Doc, is_ordered}
 use Rattle.dap_frame.proofs.Ends.{not_empty}
 use Rattle.dap_frame.proofs.ItemStreams as items
 use Rattle.dap_message.specs.Message.{Sent, IsTyped}
@@ -21,20 +21,23 @@ use Rattle.dap_mask.specs.Categories.{keep_categories}
 use Rattle.dap_mask.specs.Fills.{filled, keep_fills, AreFillsUtf8}
 use Rattle.dap_mask.specs.Loose.{IsReadBy, IsReadLoosely}
 use Rattle.dap_mask.specs.Mask.{Mask, leaves_out}
-use Rattle.dap_mask.specs.Masked.{masked}
+use Rattle.dap_mask.specs.Masked.{AgreeBut, masked}
+use Rattle.dap_mask.specs.Omissions.{omitted}
+use Rattle.dap_mask.specs.Redacted.{AgreeOutside, redacted}
 use Rattle.dap_mask.specs.Rules.{are_safe, are_idempotent}
 use Rattle.dap_mask.proofs.ByPath.{agree_from_equal, equal_from_agree}
-use Rattle.dap_mask.proofs.Dropping.{stays_in}
-use Rattle.dap_mask.proofs.LooseReading.{content_masked, filled_again, left_is_read, ordered_by}
+use Rattle.dap_mask.proofs.LooseReading.{content_redacted, filled_again, left_is_read, ordered_by}
+use Rattle.dap_mask.proofs.OmittedKeeps.{redacted_stays_in, agree_from_redacted}
+use Rattle.dap_mask.proofs.OmittedKeeps.{redacted_from_agree}
 use Rattle.dap_words.specs.Words.{AreUtf8}
 use Rattle.dap_words.proofs.WordedDocs.{worded_none}
 use Rattle.dap_mask.proofs.LooseReading.{one_loose_reading}
 use Rattle.dap_mask.proofs.Loosening.{read_loose}
-use Rattle.dap_mask.proofs.Settled.{masked_once}
+use Rattle.dap_mask.proofs.OmittedOnce.{redacted_once}
 use Rattle.dap_rules.specs.Masking.{AreMessages, AreWhole, IsAccepted, is_kept, kept, left_of}
 use Rattle.dap_rules.specs.Masking.{mask_message, masking}
 use Rattle.dap_rules.specs.Naming.{AreMessages as AreReadMessages}
-use Rattle.dap_rules.specs.MaskedRecordings.{Agree, HaveNoText, IsMasked, IsMaskedTo}
+use Rattle.dap_rules.specs.MaskedRecordings.{HaveNoText, IsMasked, IsMaskedTo}
 use Rattle.dap_rules.specs.MaskedRecordings.{IsTypedAs, Masks, with_words}
 use Rattle.dap_rules.proofs.LeftLists.{by_bool}
 use Rattle.dap_rules.proofs.MaskingFacts.{accepted_facts, value_laws}
@@ -93,13 +96,14 @@ module _ (mask : Mask) (safe : are_safe mask.changes ≡ true)
   -- ---- masking masked messages
 
   kept_again : (m : Sent) → is_kept mask m ≡ true → is_kept mask (mask_message mask m) ≡ true
-  kept_again m is = ap not (stays_in mask m.doc safe keep (not_true (leaves_out mask m.doc) is))
+  kept_again m is =
+      ap not (redacted_stays_in mask m.doc safe keep (not_true (leaves_out mask m.doc) is))
 
   masked_again : (m : Sent) → IsSomeRead mask m
       → mask_message mask (mask_message mask m) ≡ mask_message mask m
   masked_again m read =
       ap (λ d. record { side = m.side; doc = d })
-      (masked_once mask.changes m.doc safe settled (ordered mask m read))
+      (redacted_once mask m.doc safe settled (ordered mask m read))
 
   left_again : (messages : List Sent) → AllByRecursion (IsSomeRead mask) messages
       → left_of mask (left_of mask messages) ≡ left_of mask messages
@@ -112,33 +116,42 @@ module _ (mask : Mask) (safe : are_safe mask.changes ≡ true)
 
   -- ---- messages that agree
 
-  some_agree : (ms ns : List Sent)
-      → map (mask_message mask) ms ≡ map (mask_message mask) ns
-      → AllZip (Agree mask.changes) ms ns
-  some_agree [] [] same = tt
-  some_agree [] (n ∷ ns) same = absurd cc
-  some_agree (m ∷ ms) [] same = absurd cc
-  some_agree (m ∷ ms) (n ∷ ns) same =
-      let first : mask_message mask m ≡ mask_message mask n = cc in
-      let rest : map (mask_message mask) ms ≡ map (mask_message mask) ns = cc in (
-        (
-          ap (λ (k : Sent). k.side) first,
-          agree_from_equal mask.changes m.doc n.doc safe (ap (λ (k : Sent). k.doc) first),
-        ),
-        some_agree ms ns rest,
-      )
+  -- Two read messages agree in the sense of R if and only if their redacted forms are equal.
+  module _ (R : Doc → Doc → Type 0)
+      (from : (m n : Sent) → IsSomeRead mask m → IsSomeRead mask n
+      → redacted mask m.doc ≡ redacted mask n.doc → R m.doc n.doc)
+      (to : (m n : Sent) → IsSomeRead mask m → IsSomeRead mask n → R m.doc n.doc
+      → redacted mask m.doc ≡ redacted mask n.doc) where
+    abbrev Alike : Sent → Sent → Type 0
+    Alike m n = (m.side ≡ n.side) × R m.doc n.doc
 
-  all_equal : (ms ns : List Sent) → AllByRecursion (IsSomeRead mask) ns
-      → AllZip (Agree mask.changes) ms ns
-      → map (mask_message mask) ms ≡ map (mask_message mask) ns
-  all_equal [] [] read agree = refl
-  all_equal [] (n ∷ ns) read agree = absurd agree
-  all_equal (m ∷ ms) [] read agree = absurd agree
-  all_equal (m ∷ ms) (n ∷ ns) read agree =
-      ap₂ (λ k ks. k ∷ ks)
-      (ap₂ (λ s d. record { side = s; doc = d }) agree.0.0
-      (equal_from_agree mask.changes m.doc n.doc safe (ordered mask n read.0) agree.0.1))
-      (all_equal ms ns read.1 agree.1)
+    some_agree : (ms ns : List Sent) → AllByRecursion (IsSomeRead mask) ms
+        → AllByRecursion (IsSomeRead mask) ns
+        → map (mask_message mask) ms ≡ map (mask_message mask) ns → AllZip Alike ms ns
+    some_agree [] [] read also same = tt
+    some_agree [] (n ∷ ns) read also same = absurd cc
+    some_agree (m ∷ ms) [] read also same = absurd cc
+    some_agree (m ∷ ms) (n ∷ ns) read also same =
+        let first : mask_message mask m ≡ mask_message mask n = cc in
+        let rest : map (mask_message mask) ms ≡ map (mask_message mask) ns = cc in (
+          (
+            ap (λ (k : Sent). k.side) first,
+            from m n read.0 also.0 (ap (λ (k : Sent). k.doc) first),
+          ),
+          some_agree ms ns read.1 also.1 rest,
+        )
+
+    all_equal : (ms ns : List Sent) → AllByRecursion (IsSomeRead mask) ms
+        → AllByRecursion (IsSomeRead mask) ns → AllZip Alike ms ns
+        → map (mask_message mask) ms ≡ map (mask_message mask) ns
+    all_equal [] [] read also agree = refl
+    all_equal [] (n ∷ ns) read also agree = absurd agree
+    all_equal (m ∷ ms) [] read also agree = absurd agree
+    all_equal (m ∷ ms) (n ∷ ns) read also agree =
+        ap₂ (λ k ks. k ∷ ks)
+        (ap₂ (λ s d. record { side = s; doc = d }) agree.0.0
+        (to m n read.0 also.0 agree.0.1))
+        (all_equal ms ns read.1 also.1 agree.1)
 
   -- The masked messages are read from their own text.
   left_read : AreUtf8 mask.words → AreFillsUtf8 mask.fills → (messages : List Sent)
@@ -150,7 +163,7 @@ module _ (mask : Mask) (safe : are_safe mask.changes ≡ true)
       (λ yes. rw yes (left_read utf8 fills messages read.1 (rw yes at whole)))
       (λ no.
       let sound = rw no at whole in
-      let e = masked mask.changes m.doc in
+      let e = redacted mask m.doc in
       rw no (
         (
           refl,
@@ -297,29 +310,67 @@ module _ (limits : Limits) (sound : AreSound limits) where
 
     -- ---- equal texts
 
-    equal_texts : (bytes others written other : List ℕ) (a : Masks limits mask bytes written)
-        (b : Masks limits mask others other) → written ≡ other
-        → AllZip (Agree mask.changes) (kept mask a.messages) (kept mask b.messages)
-    equal_texts bytes others written other a b same =
-        let first = left_accepted bytes a.messages a.accepts in
-        let second = left_accepted others b.messages b.accepts in
-        let texts : text (left_of mask b.messages) ≡ text (left_of mask a.messages) =
-        sym b.text_is ∙ sym same ∙ a.text_is in
-        some_agree mask safe settled keep (kept mask a.messages) (kept mask b.messages)
-        (one_accepted (text (left_of mask a.messages)) (left_of mask a.messages)
-        (left_of mask b.messages) first
-        (subst (λ t. IsAccepted limits rules_alone t (left_of mask b.messages)) texts second))
+    module _ (R : Doc → Doc → Type 0)
+        (from : (m n : Sent) → IsSomeRead mask m → IsSomeRead mask n
+        → redacted mask m.doc ≡ redacted mask n.doc → R m.doc n.doc)
+        (to : (m n : Sent) → IsSomeRead mask m → IsSomeRead mask n → R m.doc n.doc
+        → redacted mask m.doc ≡ redacted mask n.doc) where
+      equal_texts : (bytes others written other : List ℕ) (a : Masks limits mask bytes written)
+          (b : Masks limits mask others other) → written ≡ other
+          → AllZip (Alike mask safe settled keep R from to) (kept mask a.messages)
+          (kept mask b.messages)
+      equal_texts bytes others written other a b same =
+          let first = left_accepted bytes a.messages a.accepts in
+          let second = left_accepted others b.messages b.accepts in
+          let texts : text (left_of mask b.messages) ≡ text (left_of mask a.messages) =
+          sym b.text_is ∙ sym same ∙ a.text_is in
+          some_agree mask safe settled keep R from to (kept mask a.messages) (kept mask b.messages)
+          (kept_read mask a.messages (all_read mask a.accepts.records a.messages a.accepts.read))
+          (kept_read mask b.messages (all_read mask b.accepts.records b.messages b.accepts.read))
+          (one_accepted (text (left_of mask a.messages)) (left_of mask a.messages)
+          (left_of mask b.messages) first
+          (subst (λ t. IsAccepted limits rules_alone t (left_of mask b.messages)) texts second))
 
-    same_texts : (bytes others written other : List ℕ) (a : Masks limits mask bytes written)
-        (b : Masks limits mask others other)
-        → AllZip (Agree mask.changes) (kept mask a.messages) (kept mask b.messages)
-        → written ≡ other
-    same_texts bytes others written other a b agree =
-        a.text_is ∙ ap text (all_equal mask safe settled keep (kept mask a.messages)
-        (kept mask b.messages)
-        (kept_read mask b.messages (all_read mask b.accepts.records b.messages b.accepts.read))
-        agree)
-        ∙ sym b.text_is
+      same_texts : (bytes others written other : List ℕ) (a : Masks limits mask bytes written)
+          (b : Masks limits mask others other)
+          → AllZip (Alike mask safe settled keep R from to) (kept mask a.messages)
+          (kept mask b.messages) → written ≡ other
+      same_texts bytes others written other a b agree =
+          a.text_is
+          ∙ ap text (all_equal mask safe settled keep R from to (kept mask a.messages)
+          (kept mask b.messages)
+          (kept_read mask a.messages (all_read mask a.accepts.records a.messages a.accepts.read))
+          (kept_read mask b.messages (all_read mask b.accepts.records b.messages b.accepts.read))
+          agree)
+          ∙ sym b.text_is
+
+    outside_from : (m n : Sent) → IsSomeRead mask m → IsSomeRead mask n
+        → redacted mask m.doc ≡ redacted mask n.doc → AgreeOutside mask m.doc n.doc
+    outside_from m n read also =
+        agree_from_redacted mask m.doc n.doc safe (ordered mask m read) (ordered mask n also)
+
+    outside_to : (m n : Sent) → IsSomeRead mask m → IsSomeRead mask n
+        → AgreeOutside mask m.doc n.doc → redacted mask m.doc ≡ redacted mask n.doc
+    outside_to m n read also =
+        redacted_from_agree mask m.doc n.doc safe (ordered mask m read) (ordered mask n also)
+
+    -- If the rules omit no elements, redacting a document is masking it.
+    module _ (none : mask.omissions ≡ []) where
+      only_masked : (d : Doc) → redacted mask d ≡ masked mask.changes d
+      only_masked d = ap (λ os. omitted os (masked mask.changes d)) none
+
+      values_from : (m n : Sent) → IsSomeRead mask m → IsSomeRead mask n
+          → redacted mask m.doc ≡ redacted mask n.doc → AgreeBut mask.changes m.doc n.doc
+      values_from m n read also same =
+          agree_from_equal mask.changes m.doc n.doc safe
+          (sym (only_masked m.doc) ∙ same ∙ only_masked n.doc)
+
+      values_to : (m n : Sent) → IsSomeRead mask m → IsSomeRead mask n
+          → AgreeBut mask.changes m.doc n.doc → redacted mask m.doc ≡ redacted mask n.doc
+      values_to m n read also agree =
+          only_masked m.doc
+          ∙ equal_from_agree mask.changes m.doc n.doc safe (ordered mask n also) agree
+          ∙ sym (only_masked n.doc)
 
     -- ---- the normal form
 
@@ -344,12 +395,12 @@ module _ (limits : Limits) (sound : AreSound limits) where
 
     module _ (leave : leave_ids mask.changes ≡ true) where
       each_masked : (messages : List Sent) → AllByRecursion (IsSomeRead mask) messages
-          → AllZip (IsMasked mask.changes) messages (map (mask_message mask) messages)
+          → AllZip (IsMasked mask) messages (map (mask_message mask) messages)
       each_masked [] read = tt
       each_masked (m ∷ messages) read = (
         record {
           side = refl;
-          doc = content_masked mask.changes mask read.0.0 m.doc safe settled leave read.0.1;
+          doc = content_redacted mask read.0.0 m.doc safe settled leave read.0.1;
         },
         each_masked messages read.1,
       )
@@ -375,8 +426,16 @@ module _ (limits : Limits) (sound : AreSound limits) where
             only = λ other is. one_text written written other again is;
             again_with_words = λ none. masks_with bytes written masks none;
             equal = λ others other b. (
-              λ same. equal_texts bytes others written other masks b same,
-              λ agree. same_texts bytes others written other masks b agree,
+              λ same. equal_texts (AgreeOutside mask) outside_from outside_to bytes others written
+                  other masks b same,
+              λ agree. same_texts (AgreeOutside mask) outside_from outside_to bytes others written
+                  other masks b agree,
+            );
+            equal_values = λ none others other b. (
+              λ same. equal_texts (AgreeBut mask.changes) (values_from none) (values_to none) bytes
+                  others written other masks b same,
+              λ agree. same_texts (AgreeBut mask.changes) (values_from none) (values_to none) bytes
+                  others written other masks b agree,
             );
             typed = left_typed bytes messages accepted;
             forms = λ mode others other normal also b n k.

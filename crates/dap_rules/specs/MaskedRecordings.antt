@@ -2,7 +2,8 @@
 use Rattle.std.specs.{Prelude.{◌≡◌, ◌↔◌, ℕ, List, []}, List.{AllZip, AllByRecursion}}
 use Rattle.dap_message.specs.Message.{Sent, IsTyped}
 use Rattle.dap_rename.specs.{Messages.AreSame, Modes.stop_in, declared.mode.Mode.Mode}
-use Rattle.dap_mask.specs.{Mask.Mask, Masked.AgreeBut, Promises.IsMaskedAs, Rules.Rule}
+use Rattle.dap_mask.specs.{Mask.Mask, Masked.AgreeBut, Promises.IsRedactedAs, Rules.Rule}
+use Rattle.dap_mask.specs.{Redacted.AgreeOutside}
 use Rattle.dap_words.specs.{Words.Pair, Worded.worded_message}
 use Rattle.dap_input.specs.declared.limits.Limits.{Limits}
 use Rattle.dap_recording.specs.Recording.{IsRecording}
@@ -15,14 +16,19 @@ pub record Masks (limits : Limits) (mask : Mask) (bytes written : List ℕ) : Ty
   pub accepts : IsAccepted limits mask bytes messages
   pub text_is : written ≡ masked_text mask messages
 
--- `new` is `old` masked by the rules, on the same side.
-pub record IsMasked (rules : List Rule) (old new : Sent) : Type 0 where
+-- `new` is `old` redacted by the mask, on the same side.
+pub record IsMasked (mask : Mask) (old new : Sent) : Type 0 where
   pub side : new.side ≡ old.side
-  pub doc : IsMaskedAs rules old.doc new.doc
+  pub doc : IsRedactedAs mask old.doc new.doc
 
 -- The two messages have the same side, and are equal except for the values that the rules remove.
 abbrev pub Agree : List Rule → Sent → Sent → Type 0
 Agree rules one other = (one.side ≡ other.side) × AgreeBut rules one.doc other.doc
+
+-- The two messages have the same side, and are equal except for the values that the rules remove
+-- and the elements that they omit.
+abbrev pub AgreeBy : Mask → Sent → Sent → Type 0
+AgreeBy mask one other = (one.side ≡ other.side) × AgreeOutside mask one.doc other.doc
 
 -- `new` is `old` typed, on the same side.
 abbrev pub IsTypedAs : Sent → Sent → Type 0
@@ -41,10 +47,9 @@ HaveNoText words messages =
 -- the mask in the place of texts.
 pub record IsMaskedTo (limits : Limits) (mask : Mask) (bytes written : List ℕ) : Type 0 where
   pub masks : Masks limits mask bytes written
-  -- Only the values that the rules name are changed: the messages that no rule drops are masked, in
-  -- their order.
-  pub places : AllZip (IsMasked mask.changes) (kept mask masks.messages)
-      (left_of mask masks.messages)
+  -- Only the values that the rules name are changed, and only the elements that they name are
+  -- omitted: the messages that no rule drops are masked, in their order.
+  pub places : AllZip (IsMasked mask) (kept mask masks.messages) (left_of mask masks.messages)
   -- The records of the output contain the masked messages. Their numbers are integers of 64 bits.
   pub records : List Payload
   pub recording : IsRecording limits.frame written records
@@ -57,8 +62,12 @@ pub record IsMaskedTo (limits : Limits) (mask : Mask) (bytes written : List ℕ)
   pub again_with_words : HaveNoText mask.words (left_of mask masks.messages)
       → Masks limits mask written written
   -- Another recording has equal output if and only if the messages of the two that are not dropped
-  -- agree pairwise.
+  -- agree pairwise. If the rules omit no elements, the messages differ only in values that the
+  -- rules remove.
   pub equal : (others other : List ℕ) (b : Masks limits mask others other) → (written ≡ other)
+      ↔ AllZip (AgreeBy mask) (kept mask masks.messages) (kept mask b.messages)
+  pub equal_values : mask.omissions ≡ [] → (others other : List ℕ)
+      (b : Masks limits mask others other) → (written ≡ other)
       ↔ AllZip (Agree mask.changes) (kept mask masks.messages) (kept mask b.messages)
   -- If the output is normalised, in any mode, its messages are the masked ones, typed. The normal
   -- form of another masked recording is equal if and only if a renaming maps the messages of one to

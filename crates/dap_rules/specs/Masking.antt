@@ -5,7 +5,7 @@ use Rattle.std.specs.List.{filter, AllByRecursion}
 use Rattle.dap_tree.specs.{Doc.is_sound, Json.HasNoReading}
 use Rattle.dap_message.specs.Message.{Sent, no_reading, fraction}
 use Rattle.dap_recording.specs.Recording.{IsRecording, records}
-use Rattle.dap_mask.specs.{Loose.IsReadBy, Mask.{Mask, leaves_out}, Masked.masked}
+use Rattle.dap_mask.specs.{Loose.IsReadBy, Mask.{Mask, leaves_out}, Redacted.redacted}
 use Rattle.dap_input.specs.declared.limits.Limits.{Limits}
 use Rattle.dap_input.specs.Validation.{Validation, ContentError, no_message, grew}
 use Rattle.dap_normalise.specs.Accepting.{Payload, Fits, text}
@@ -34,10 +34,10 @@ is_kept mask message = not (leaves_out mask message.doc)
 abbrev pub kept : Mask → List Sent → List Sent
 kept mask messages = filter (is_kept mask) messages
 
--- The message masked, on its side.
+-- The message redacted by the mask, on its side.
 abbrev pub mask_message : Mask → Sent → Sent
 mask_message mask message =
-    record { side = message.side; doc = masked mask.changes message.doc }
+    record { side = message.side; doc = redacted mask message.doc }
 
 -- The messages after masking.
 abbrev pub left_of : Mask → List Sent → List Sent

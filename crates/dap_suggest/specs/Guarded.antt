@@ -2,7 +2,7 @@
 use Rattle.std.specs.Prelude.{◌≡◌, ℕ, ◌+◌, Bool, true, false, ◌&&◌, ◌||◌, List, [], ◌∷◌, Option}
 use Rattle.std.specs.Prelude.{Some, None, Ok, bytes_eq, codes, count_by}
 use Rattle.std.specs.List.{list_any}
-use Rattle.dap_mask.specs.{Declarations.Declaration, Mask.Mask}
+use Rattle.dap_mask.specs.{Declarations.Declaration, Mask.Mask, Omissions.Omission}
 use Rattle.dap_mask.specs.RuleSteps.{RuleStep, named, elements}
 use Rattle.dap_mask.specs.{Rules.{Rule, same_verb}, RulesFile.rules_said}
 use Rattle.dap_mask.specs.declared.rules.Verb.TheVariants.{Blank}
@@ -57,10 +57,15 @@ is_guarded rule = same_verb rule.verb Blank && is_guarded_place rule.kind rule.n
 abbrev pub is_guarded_id : Declaration → Bool
 is_guarded_id x = is_guarded x.rule
 
--- How many rules for guarded places the mask has: those that blank them, or declare their values as
--- ids.
+-- The rule omits elements of a guarded list.
+abbrev pub is_guarded_omission : Omission → Bool
+is_guarded_omission o = is_guarded_place o.kind o.name o.parent
+
+-- How many rules for guarded places the mask has: those that blank them, declare their values as
+-- ids, or omit elements of them.
 abbrev pub guarded_count : Mask → ℕ
 guarded_count mask = count_by is_guarded mask.changes + count_by is_guarded_id mask.declared
+    + count_by is_guarded_omission mask.omissions
 
 -- The second file of rules has this number of rules for guarded places more than the first one.
 abbrev pub AddsGuarded : ℕ → List ℕ → List ℕ → Type 0

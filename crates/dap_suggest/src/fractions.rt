@@ -7,7 +7,7 @@ use crate::joined_rules::{fault_after, missing_end};
 use crate::suggestion::Inputs;
 use crate::words::{class_of, head_of, push_member, push_parts};
 use dap_compare::Which;
-use dap_mask::{MaskRules, is_dropped, mask, read_by_rules};
+use dap_mask::{MaskRules, is_dropped, mask, omit, read_by_rules};
 use dap_recording::{FedRecord, Record, RecordCause, RecordReader};
 use dap_tree::{Scratch, Tree, TreeFault};
 use serde_json::{Map, Value};
@@ -49,28 +49,56 @@ fn add_number(numbers: &mut Numbers<'_>, value: &Value) -> Result<(), AllocError
     Ok(())
 }
 
-/// Adds the rules for the numbers in a value that remain in `left`, which is what the rules that
-/// were given leave of it.
+/// Returns the `name` of an element, by which rules omit it.
+fn name_of(element: &Tree) -> Option<&str> {
+    match element.child("name")? {
+        Tree::Text(name) => Some(name.as_str()),
+        _ => None,
+    }
+}
+
+/// Adds the rules for the numbers in a value that remain in `left`. `masked` is the value after the
+/// changes of the rules that were given, and `left` is `masked` without the elements that they
+/// omit.
 #[cycle(search)]
-fn search(numbers: &mut Numbers<'_>, value: &Value, left: &Tree) -> Result<(), AllocError> {
-    match (value, left) {
-        (Value::Array(values), Tree::List(items)) => search_items(numbers, values, items),
-        (Value::Object(values), Tree::Object(members)) => search_members(numbers, values, members),
-        (Value::Number(_), Tree::Whole(_)) if !left.sound() => add_number(numbers, value),
+fn search(
+    numbers: &mut Numbers<'_>,
+    value: &Value,
+    masked: &Tree,
+    left: &Tree,
+) -> Result<(), AllocError> {
+    match (value, masked, left) {
+        (Value::Array(values), Tree::List(items), Tree::List(kept)) => {
+            search_items(numbers, values, items, kept.as_slice())
+        }
+        (Value::Object(values), Tree::Object(members), Tree::Object(kept)) => {
+            search_members(numbers, values, members, kept)
+        }
+        (Value::Number(_), _, Tree::Whole(_)) if !left.sound() => add_number(numbers, value),
         _ => Ok(()),
     }
 }
 
+/// Adds the rules for the numbers in elements that remain in `kept`. An element that is omitted has
+/// another name than each element that is kept, so the next one that is kept is the first element
+/// with its name.
 #[cycle(search)]
 fn search_items(
     numbers: &mut Numbers<'_>,
     values: &Vec<Value>,
     items: &Vec<Tree>,
+    kept: &[Tree],
 ) -> Result<(), AllocError> {
     let start = numbers.target.len();
     numbers.target.extend_from_slice(b"[]")?;
+    let mut rest = kept;
     for (value, item) in values.iter().zip(items.iter()) {
-        search(numbers, value, item)?;
+        if let [left, others @ ..] = rest
+            && name_of(item) == name_of(left)
+        {
+            search(numbers, value, item, left)?;
+            rest = others;
+        }
     }
     numbers.target.truncate(start);
     Ok(())
@@ -81,12 +109,15 @@ fn search_members(
     numbers: &mut Numbers<'_>,
     values: &Map<String, Value>,
     members: &BTreeMap<String, Tree>,
+    kept: &BTreeMap<String, Tree>,
 ) -> Result<(), AllocError> {
     let start = numbers.target.len();
     for (name, value) in values.iter() {
-        if let Some(member) = members.get(name.as_str()) {
+        if let Some(member) = members.get(name.as_str())
+            && let Some(left) = kept.get(name.as_str())
+        {
             push_member(numbers.alloc, name.as_str(), &mut numbers.target)?;
-            search(numbers, value, member)?;
+            search(numbers, value, member, left)?;
             numbers.target.truncate(start);
         }
     }
@@ -99,8 +130,12 @@ fn search_content(
     content: &[u8],
     left: &Tree,
 ) -> Result<(), AllocError> {
-    let message = Value::from_slice(numbers.alloc, content).map_err(|_| AllocError)?;
-    search(numbers, &message, left)
+    let (alloc, rules) = (numbers.alloc, numbers.rules);
+    let message = Value::from_slice(alloc, content).map_err(|_| AllocError)?;
+    let masked = read_by_rules(alloc, content, rules, &mut numbers.scratch);
+    let mut masked = masked.map_err(|_| AllocError)?;
+    mask(&mut masked, rules);
+    search(numbers, &message, &masked, left)
 }
 
 /// Adds the rules for the numbers of a record. `left` is its tree with the words of the rules that
@@ -115,6 +150,7 @@ fn add_left(
         return Ok(false);
     }
     mask(left, numbers.rules);
+    omit(left, numbers.rules);
     if !left.sound()
         && let Some((kind, name)) = head_of(left)
     {

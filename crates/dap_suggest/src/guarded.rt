@@ -2,13 +2,14 @@
 ghost use Rattle.std.specs.Prelude.{◌≡◌, count_by, option_map, string_bytes};
 ghost use Rattle.dap_mask.specs.{KeptRules.mask_of, Rules.{place_of, rule_of}};
 ghost use Rattle.dap_mask.specs.Declarations.{declaration_of};
+ghost use Rattle.dap_mask.specs.Omissions.{omission_of};
 ghost use Rattle.dap_suggest.specs.Guarded.{guarded_count, is_guarded, is_guarded_event};
-ghost use Rattle.dap_suggest.specs.Guarded.{is_guarded_id};
+ghost use Rattle.dap_suggest.specs.Guarded.{is_guarded_id, is_guarded_omission};
 ghost use Rattle.dap_suggest.specs.Guarded.{is_guarded_inside, is_guarded_list, is_guarded_member};
 ghost use Rattle.dap_suggest.specs.Guarded.{is_guarded_place, is_list_or_names};
 
 use crate::words::parts_of;
-use dap_mask::{Declaration, MaskRule, MaskRules, RulesCause, Step, Verb};
+use dap_mask::{Declaration, MaskRule, MaskRules, Omission, RulesCause, Step, Verb};
 use dap_message::Kind;
 use std::alloc::{AllocError, Global};
 
@@ -94,13 +95,24 @@ fn guarded_ids(rules: &[Declaration]) -> usize
     rules.iter().filter(|x| is_guarded(&x.rule)).count()
 }
 
-/// Returns how many rules for guarded places a mask has: those that blank them, or declare their
-/// values as ids.
+fn guarded_omissions(rules: &[Omission]) -> usize
+    ensures { result ≡ count_by (λ o. is_guarded_omission (omission_of o)) rules.now }
+{
+    rules
+        .iter()
+        .filter(|rule| is_guarded_place(rule.kind, &rule.name, &rule.parent))
+        .count()
+}
+
+/// Returns how many rules for guarded places a mask has: those that blank them, declare their
+/// values as ids, or omit elements of them.
 #[tactic(auto, using(crate::proofs::Lists::counted_mapped))]
 pub fn guarded_count(rules: &MaskRules) -> usize
     ensures { result ≡ guarded_count (mask_of rules.now) }
 {
-    guarded_changes(rules.changes()) + guarded_ids(rules.declared())
+    guarded_changes(rules.changes())
+        + guarded_ids(rules.declared())
+        + guarded_omissions(rules.omissions())
 }
 
 /// What is hidden if a guarded member of a body is blanked, or the names of its elements.

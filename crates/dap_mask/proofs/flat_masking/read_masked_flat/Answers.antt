@@ -35,6 +35,7 @@ returns c =
     let e = masked (changes_of c.args.rules.now) d in
     let none = (c.is_plain.ensures c.if-not-is_plain.false).0 in
     let bare = (c.is_plain.ensures c.if-not-is_plain.false).1 in
+    let full = (c.is_plain.ensures c.if-not-is_plain.false).2 in
     let before = subst (λ ns. Represents ns d) (sym c.deref.ensures.value) read.2 in
     let kept = sym (c.in_ok-dropped.ensures d (holds_whole now d before)) ∙ c.if-dropped.false in
     let old = c.in_ok-nodes.nodes in
@@ -50,12 +51,12 @@ returns c =
     (shown_whole was new d e showed c.mask_flat.auto.nodes
     (c.in_ok-mask_flat.ensures d (holds_whole was d showed))) in
     record {
-      ok = (e, left_plainly mask c.args.content.now d none bare read.1 kept, shows);
+      ok = (e, left_plainly mask c.args.content.now d none bare full read.1 kept, shows);
       memory = search rules;
       masked = (
         e,
         masked_plainly mask c.args.content.now d list.safe list.settled list.leave none bare
-            read.1,
+            full read.1,
         shows,
       );
     }
