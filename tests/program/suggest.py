@@ -55,7 +55,29 @@ def read(path):
 
 STEP = re.compile(r'\["(?:[^"\\]|\\.)*"\]|\[\]|"(?:[^"\\]|\\.)*"|[^.\[\s"]+')
 RULE = re.compile(r'(blank|digits|hex|long|uuid) +(request|response|event) +("(?:[^"\\]|\\.)*"|\S+) (.*?)(?:  as ([a-z-]+))?')
+OMIT = re.compile(r'omit +(request|response|event) +("(?:[^"\\]|\\.)*"|\S+) (.*)\[("(?:[^"\\]|\\.)*")\]')
 COUNT = re.compile(r"# also hides (?:(1) value that is|(\d+) values that are) equal(; keeps which ids are equal)?")
+
+
+def steps_of(place):
+    """The steps of a place without the names of elements."""
+    return tuple("[]" if step[0] == "[" else json.loads(step) if step[0] == '"' else step for step in STEP.findall(place))
+
+
+def count_in(lines):
+    return next((int(found[1] or found[2]) for found in map(COUNT.fullmatch, lines) if found), 0)
+
+
+def named(word):
+    return json.loads(word) if word[0] == '"' else word
+
+
+def read_omissions(printed):
+    """For each rule that omits elements the messages and the place of their lists, their name, and the number in its comment."""
+    for block in printed.decode().split("\n\n"):
+        lines = block.splitlines()
+        for rule in filter(None, map(OMIT.fullmatch, lines)):
+            yield (rule[1], named(rule[2]), steps_of(rule[3])), json.loads(rule[4]), count_in(lines)
 
 
 def read_rules(printed):
@@ -65,11 +87,8 @@ def read_rules(printed):
         rules = [RULE.fullmatch(line) for line in lines]
         rules = [rule for rule in rules if rule]
         if rules:
-            count = next((int(found[1] or found[2]) for found in map(COUNT.fullmatch, lines) if found), 0)
-            kind, name, place = rules[0][2], rules[0][3], rules[0][4]
-            steps = ["[]" if step[0] == "[" else json.loads(step) if step[0] == '"' else step for step in STEP.findall(place)]
             plain = "".join(" ".join(rule.groups()[:4]) + "\n" for rule in rules)
-            yield plain, (kind, json.loads(name) if name[0] == '"' else name, tuple(steps)), count
+            yield plain, (rules[0][2], named(rules[0][3]), steps_of(rules[0][4])), count_in(lines)
 
 
 def wrong_comments(printed):
@@ -78,7 +97,7 @@ def wrong_comments(printed):
         lines = block.splitlines()
         said = [found for found in map(COUNT.fullmatch, lines) if found]
         labels = [rule[5] for rule in map(RULE.fullmatch, lines) if rule]
-        if said and (said[0][3] is not None) != all(labels):
+        if said and (said[0][3] is not None) != (labels != [] and all(labels)):
             yield block
 
 
@@ -105,18 +124,31 @@ def is_mended_inside(a, b):
     return a == b
 
 
-def equal_values(a, b, steps, path=()):
-    """The paths of the equal values of two messages at a place."""
-    if steps and not is_mended_inside(a, b):
-        return
+def is_called(item, name):
+    return isinstance(item, dict) and item.get("name") == name
+
+
+def without(one, other, names):
+    """The indices of the pairs of elements of two lists without those of these names, or of all elements if other numbers of them are left.
+
+    Each list is before and after the rules for names."""
+    left = [[place for place, item in enumerate(after) if not any(is_called(item, name) for name in names)] for _, after in (one, other)]
+    return zip(*left) if len(left[0]) == len(left[1]) else zip(range(len(one[0])), range(len(other[0])))
+
+
+def reached(one, other, steps, lost, before=(), path=()):
+    """The pairs of values of two messages at a place, each with the path of the first one. Each value is before and after the rules for names.
+
+    `lost` has the names of the elements that are omitted from the lists at a place."""
     if not steps:
-        if a == b:
-            yield path
-    elif steps[0] == "[]" and isinstance(a, list):
-        for place, (x, y) in enumerate(zip(a, b)):
-            yield from equal_values(x, y, steps[1:], (*path, place))
-    elif isinstance(a, dict) and steps[0] in a:
-        yield from equal_values(a[steps[0]], b[steps[0]], steps[1:], (*path, steps[0]))
+        yield path, one, other
+    elif before in lost or is_mended_inside(one[0], other[0]):
+        inside = (*before, steps[0])
+        if steps[0] == "[]" and isinstance(one[0], list):
+            for place, twin in without(one, other, lost.get(before, ())):
+                yield from reached([it[place] for it in one], [it[twin] for it in other], steps[1:], lost, inside, (*path, place))
+        elif isinstance(one[0], dict) and steps[0] in one[0]:
+            yield from reached([it[steps[0]] for it in one], [it[steps[0]] for it in other], steps[1:], lost, inside, (*path, steps[0]))
 
 
 def at(value, path):
@@ -125,31 +157,59 @@ def at(value, path):
     return value
 
 
+def is_name(steps):
+    return steps[-2:] == ("[]", "name")
+
+
+def is_for(message, kind, name):
+    return message["type"] == kind and message["event" if kind == "event" else "command"] == name
+
+
+def lost_names(printed):
+    """The names of the elements that are omitted, by their messages and then by the places of their lists."""
+    lost = {}
+    for (kind, name, steps), element, _ in read_omissions(printed):
+        lost.setdefault((kind, name), {}).setdefault(steps, []).append(element)
+    return lost
+
+
 def hidden_values(folder, printed):
-    """For each rule for values the rule, the number of equal values in its comment, and the number of those that it changes."""
+    """For each rule for values the rule, the number of equal values in its comment, and the number of those that it changes. For each rule that omits
+    elements, the number of those that both lists have. Rules for names in lists from which elements are omitted are left out."""
     lines = printed.decode().splitlines(keepends=True)
     folder.write("drops", "".join(line for line in lines if line.startswith("drop ")).encode())
-    folder.write("base", folder.run("mask", "drops", "a")[1])
-    bases = [[(side, plain(message)) for side, message in marked(given, False)] for given in (folder.read("base"), folder.run("mask", "drops", "b")[1])]
-    pairs = counterparts(*[marked(given, False) for given in (folder.read("base"), folder.run("mask", "drops", "b")[1])])
-    names = "".join(rules for rules, (_, _, steps), _ in read_rules(printed) if steps[-2:] == ("[]", "name"))
+    for given, dropped in (("a", "base"), ("b", "other")):
+        folder.write(dropped, folder.run("mask", "drops", given)[1])
+    marks = [marked(folder.read(dropped), False) for dropped in ("base", "other")]
+    bases = [[plain(message) for _, message in messages] for messages in marks]
+    names = "".join(rules for rules, (_, _, steps), _ in read_rules(printed) if is_name(steps))
+    lost = lost_names(printed)
 
-    def masked(rules):
+    def masked(rules, text="base"):
         folder.write("block", rules.encode())
-        return [plain(message) for _, message in marked(folder.run("mask", "block", "base")[1], False)]
+        return [plain(message) for _, message in marked(folder.run("mask", "block", text)[1], False)]
 
+    after = masked(names), masked(names, "other")
+    pairs = [[(bases[side][it], after[side][it]) for side, it in enumerate(pair)] + [pair[0]] for pair in counterparts(*marks)]
+
+    def pairs_at(kind, name, steps):
+        for one, other, index in pairs:
+            if is_for(one[0], kind, name):
+                for path, value, twin in reached(one, other, steps, lost.get((kind, name), {})):
+                    yield index, path, value, twin
+
+    for place, element, count in read_omissions(printed):
+        lists = ([items if isinstance(items, list) else [] for _, items in pair] for _, _, *pair in pairs_at(*place))
+        yield element, count, sum(min(sum(is_called(it, element) for it in items) for items in pair) for pair in lists)
     hidden = {}
     for rules, place, count in read_rules(printed):
         kind, name, steps = place
-        first = "" if steps[-2:] == ("[]", "name") else names
-        before, after = masked(first), masked(first + rules)
-        changed = set()
-        for one, other in pairs:
-            message, twin = bases[0][one][1], bases[1][other][1]
-            if (message["type"], message["event" if kind == "event" else "command"] if message["type"] == kind else None) == (kind, name):
-                for path in equal_values(message, twin, steps):
-                    if at(before[one], path) != at(after[one], path):
-                        changed.add((one, path))
+        if is_name(steps) and any(steps[:end] in lost.get((kind, name), {}) for end in range(len(steps))):
+            continue
+        first = "" if is_name(steps) else names
+        before, later = masked(first), masked(first + rules)
+        equal = {(index, path) for index, path, value, twin in pairs_at(*place) if value[0] == twin[0]}
+        changed = {(index, path) for index, path in equal if at(before[index], path) != at(later[index], path)}
         yield rules, count, len(changed - hidden.setdefault(place, set()))
         hidden[place] |= changed
 
@@ -439,6 +499,110 @@ def elements(report):
     report.check("a thousand rules for elements", answer == (0, wanted.encode(), b""), repr(answer)[-300:])
 
 
+def omitted(report):
+    """Elements of at most four names that two lists have in different numbers are omitted. Lists that differ otherwise are blanked."""
+    place = "event    process body.x"
+
+    def sent(*lists):
+        return recording([*BEGUN, *(message("<", "event", "process", seq, {"x": items}) for seq, items in enumerate(lists, 2))])
+
+    def called(*names):
+        return [{"name": name} for name in names]
+
+    def valued(*pairs):
+        return [{"name": name, "y": value} for name, value in pairs]
+
+    def listed(command, member, arguments, items):
+        lines = [*BEGUN, message(">", "request", command, 2, arguments)]
+        return recording([*lines, message("<", "response", command, 2, {member: items}, request_seq=2, success=True)])
+
+    def omit(name, *counts, number=3, hidden=0, check="", target=place):
+        shown = "".join(f"# {side} record {number}: {count or 'no'} such element{'s' * (count > 1)}\n" for side, count in zip("AB", counts))
+        shown += f"# also hides {'1 value that is' if hidden == 1 else f'{hidden} values that are'} equal\n" if hidden else ""
+        return shown + (f"# CHECK: hides {check}\n" if check else "") + f"omit   {target}[{json.dumps(name, ensure_ascii=False)}]\n\n"
+
+    def blank(a, b, number=3, check="", target=place):
+        shown = "".join(f"# {side} record {number}: {json.dumps(items, separators=(',', ':'))}\n" for side, items in zip("AB", (a, b)))
+        return shown + (f"# CHECK: hides {check}\n" if check else "") + f"blank  {target}\n\n"
+
+    def check(name, a, b, wanted, *options, same="same"):
+        with Folder(a=a, b=b) as folder:
+            answer = folder.run("suggest", *options, "a", "b")
+            report.check(f"omitted: {name}", answer == (0, f"{wanted}# with these rules: {same}\n".encode(), b""), repr(answer))
+            report.check(f"omitted: {name}: they make it the same", makes_same(folder, answer[1], "a", "b"))
+            wrong = [*(it for it in hidden_values(folder, answer[1]) if it[1] != it[2]), *wrong_comments(answer[1])]
+            report.check(f"omitted: {name}: the comments", wrong == [], repr(wrong))
+
+    kept = ("kept", "3")
+    check("one more element in B", sent(called("k")), sent(called("k", "a")), omit("a", 0, 1))
+    check("one more element in A, before others", sent(called("a", "k")), sent(called("k")), omit("a", 1, 0))
+    check("an empty list", sent([]), sent(called("a")), omit("a", 0, 1))
+    check("a name in quotes", sent([]), sent(called('a "b" \u00fc')), omit('a "b" \u00fc', 0, 1))
+    check("an empty name", sent(called("k")), sent(called("", "k")), omit("", 0, 1))
+    check("four names", sent(called("k")), sent(called("d", "b", "k", "a", "c")), "".join(omit(it, 0, 1) for it in "abcd"))
+    check(
+        "four names of both lists", sent(called("a", "k", "b", "e")), sent(called("d", "k")),
+        "".join(omit(it, 1, 0) for it in "ab") + omit("d", 0, 1) + omit("e", 1, 0),
+    )
+    five = called("k"), called("a", "b", "k", "c", "d", "e")
+    check("five names", *map(sent, five), blank(*five))
+    check(
+        "one name in each pair", sent(called("k", "p"), called("k")), sent(called("k"), called("q", "k")), omit("p", 1, 0) + omit("q", 0, 1, number=4),
+    )
+    check("five names of five pairs", sent(*[called("k")] * 5), sent(*(called("k", it) for it in "abcde")), blank(called("k"), called("k", "a")))
+    check("two elements of one name", sent(called("k")), sent(called("a", "k", "a")), omit("a", 0, 2))
+    check("a name twice in A and once in B", sent(called("a", "k", "a")), sent(called("a", "k")), omit("a", 2, 1, hidden=1))
+    check(
+        "elements that both have in other pairs", sent(called("k"), called("a"), called("a", "a", "k")),
+        sent(called("k", "a"), called("a"), called("a", "a", "k")),
+        omit("a", 0, 1, hidden=3),
+    )
+    check(
+        "names that long makes equal", sent(called("7f3a1c0", "b"), called("1234567", "b")), sent(called("9b00d4e", "b"), called("89abcd0", "b", "c")),
+        omit("c", 0, 1, number=4) + f'# A record 3: "7f3a1c0"\n# B record 3: "9b00d4e"\nlong   {place}[].name\n\n',
+    )
+    check(
+        "an address in another element", sent(valued(("at", "0x1f"), kept)), sent(valued(("c", "0x5"), ("at", "0x2e"), kept)),
+        omit("c", 0, 1) + f'# A record 3: "0x1f"\n# B record 3: "0x2e"\nhex    {place}[].y  as address\n\n',
+    )
+    check(
+        "a number in an element of another name", sent(valued(("n", "run 1"), kept)), sent(valued(("c", "run 5"), ("n", "run 22"), kept)),
+        omit("c", 0, 1) + f'# A record 3: "run 1"\n# B record 3: "run 22"\ndigits {place}["n"].y  as number\n\n',
+    )
+    check("elements without a name beside it", sent([*called("a"), 7]), sent([*called("a", "b"), 7]), omit("b", 0, 1))
+    inner = ([{"name": "o", "w": called(*names)}] for names in ("i", "ij"))
+    check("a list in an element", *map(sent, inner), omit("j", 0, 1, target=f"{place}[].w"))
+    for command, member, arguments, item, exists in (
+        ("threads", "threads", None, lambda number: {"id": number}, "threads"),
+        ("stackTrace", "stackFrames", {"threadId": 1}, lambda number: {"id": number, "line": 3, "column": 1}, "frames"),
+        ("scopes", "scopes", {"frameId": 7}, lambda number: {"variablesReference": number, "expensive": False}, "scopes"),
+        ("variables", "variables", {"variablesReference": 9}, lambda _: {"value": "1", "variablesReference": 0}, "variables"),
+        ("setFunctionBreakpoints", "breakpoints", {"breakpoints": []}, lambda _: {"verified": True}, "breakpoints"),
+    ):
+        a, b = (listed(command, member, arguments, [{**item(number), "name": name} for number, name in enumerate(names, 40)]) for names in ("kx", "akx"))
+        wanted = omit("a", 0, 1, number=4, check=f"which {exists} exist", target=f"response {command} body.{member}")
+        check(f"one of the {member}", a, b, wanted, same="same (1 rule to check)")
+        with Folder(a=a, b=b) as folder:
+            answer = folder.run("suggest", "--strict", "a", "b")
+            line = f'no rules can: record 4 of A, response "{command}", differs where no rule may change it from B\n'.encode()
+            report.check(f"omitted: one of the {member}, strict", answer == (1, b"", line), repr(answer))
+    check("one more element, strict", sent(called("k")), sent(called("k", "a")), omit("a", 0, 1), "--strict")
+
+    for name, a, b in (
+        ("no names", [1], [1, 2]), ("an element without a name", called("a"), [*called("a"), 7]),
+        ("others in another order", called("a", "b"), called("b", "c", "a")),
+        ("others that no rules make equal", valued(("a", 1)), valued(("a", "1"), ("b", 1))),
+        # A rule for all elements would take away the name by which one is omitted.
+        ("a rule for all elements", [*called("a"), 7], [*called("a", "b"), 8]),
+    ):
+        check(name, sent(a), sent(b), blank(a, b))
+    a, b = ([{"name": name, "verified": True} for name in names] for names in ("ab", "bca"))
+    check(
+        "breakpoints in another order", *(listed("setFunctionBreakpoints", "breakpoints", {"breakpoints": []}, it) for it in (a, b)),
+        blank(a, b, 4, "which breakpoints exist", "response setFunctionBreakpoints body.breakpoints"), same="same (1 rule to check)",
+    )
+
+
 def strict(report):
     """With `--strict` nothing is hidden that a test looks at, and other rules are as without."""
     def exited(code, pid):
@@ -473,6 +637,14 @@ def fractions(report):
         ("in B alone", [("x", 1)], [("x", 2.5)], b"\n", rule % ("B", 3, "2.5", "x")),
     ):
         with Folder(a=told(*a), b=told(*b), given=given) as folder:
+            answer = folder.run("suggest", "--rules", "given", "a", "b")
+            report.check(f"a number that is not an integer, {name}", answer == (0, (wanted + same).encode(), b""), repr(answer))
+    items = [[{"name": "a", "t": 0.5}, {"name": "b", "t": time}, {"name": "a"}] for time in (7, 1.5)]
+    for name, given, wanted in (
+        ("in an omitted element", b'omit event x body.t["a"]\nomit event x body.t["b"]\n', ""),
+        ("after an omitted element", b'omit event x body.t["a"]\n', "# B record 3: 1.5\nblank  event    x body.t[].t\n\n"),
+    ):
+        with Folder(a=told(("x", items[0])), b=told(("x", items[1])), given=given) as folder:
             answer = folder.run("suggest", "--rules", "given", "a", "b")
             report.check(f"a number that is not an integer, {name}", answer == (0, (wanted + same).encode(), b""), repr(answer))
     exited = [recording([*BEGUN, message("<", "event", "exited", 2, {"exitCode": code})]) for code in (0.5, 1.5)]
@@ -515,9 +687,8 @@ def cheapest(report):
     )
     check(
         "other variables", variables(("x", "1"), ("y", "2")), variables(("x", "1")),
-        '# A record 4: [{"name":"x","value":"1","variablesReference":0},{"name":"y","value":"2","variablesReference":0}]\n'
-        '# B record 4: [{"name":"x","value":"1","variablesReference":0}]\n'
-        f"# CHECK: hides which variables exist\nblank  {place}\n\n", "same (1 rule to check)",
+        f'# A record 4: 1 such element\n# B record 4: no such element\n# CHECK: hides which variables exist\nomit   {place}["y"]\n\n',
+        "same (1 rule to check)",
     )
     stopped = [recording([*BEGUN, message("<", "event", "stopped", 2, {"reason": reason, "allThreadsStopped": all_stopped})])
                for reason, all_stopped in (("step", True), ("pause", False))]
@@ -705,6 +876,7 @@ def main():
     categories(report)
     elements(report)
     cheapest(report)
+    omitted(report)
     labels(report)
     strict(report)
     fractions(report)

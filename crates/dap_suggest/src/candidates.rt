@@ -17,6 +17,9 @@ const HEX: Actions = 8;
 
 pub const BLANK: Actions = 16;
 
+/// The actions that replace addresses and UUIDs.
+pub const ADDRESSES: Actions = UUID | LONG | HEX;
+
 /// The actions, in the order in which they apply. Each has its verb with spaces up to one length,
 /// and a number for how much of a text it can hide.
 pub static ACTIONS: [(Actions, Verb, &str, u64); 5] = [

@@ -17,6 +17,7 @@ mod joined_rules;
 mod labels;
 mod matched;
 mod obstacle;
+mod omitting;
 mod pairs;
 mod pieces;
 mod repeats;

@@ -24,6 +24,8 @@ pub struct FoundRules {
     pub text: Vec<u8>,
     /// The lines of it that blank ids of which some occur twice.
     pub blanked_ids: BTreeSet<Vec<u8>>,
+    /// Whether some rules omit elements.
+    pub have_omissions: bool,
 }
 
 /// The rules that a search finds, and the records for which it finds none.
@@ -123,6 +125,7 @@ impl Search<'_> {
         self.order.search(&mut self.pairs)?;
         self.choose()?;
         self.write(&mut found.rules.text)?;
+        found.rules.have_omissions = self.spots.have_omissions();
         add_blanked_ids(
             self.chooser.alloc,
             &self.spots,
@@ -148,7 +151,7 @@ fn search_pairs<'m>(
     let mut search = Search {
         chooser,
         pairs: Pairs::new(alloc, pairs.as_slice(), limits),
-        spots: Spots::new(alloc),
+        spots: Spots::new(alloc, chooser.may_omit),
         order: Order::new(alloc),
         failed: BTreeSet::new(alloc),
     };
@@ -161,6 +164,7 @@ fn search_sessions(
     inputs: &Inputs<'_>,
     sessions: &Sessions,
     events: &EventsByName,
+    may_omit: bool,
     found: &mut Found,
 ) -> Result<(), AllocError>
     requires { AreSound inputs.now.limits }
@@ -174,6 +178,7 @@ fn search_sessions(
         before: before.as_slice(),
         are_joined: false,
         are_strict: inputs.strict,
+        may_omit,
     };
     let mut a = Vec::new(alloc);
     let mut b = Vec::new(alloc);
@@ -183,7 +188,7 @@ fn search_sessions(
 }
 
 /// Returns the rules for two sessions of which some events are dropped, after the rules `before`
-/// them. Drops the sessions from memory.
+/// them. Some may omit elements if `may_omit`. Drops the sessions from memory.
 ///
 /// # Errors
 ///
@@ -194,6 +199,7 @@ pub fn rules_for(
     before: &[u8],
     sessions: Sessions,
     events: &EventsByName,
+    may_omit: bool,
 ) -> Result<FoundRules, Unsolved>
     requires { AreSound inputs.now.limits }
 {
@@ -201,10 +207,11 @@ pub fn rules_for(
         rules: FoundRules {
             text: Vec::from_slice(alloc, before)?,
             blanked_ids: BTreeSet::new(alloc),
+            have_omissions: false,
         },
         remaining: Remaining::new(alloc),
     };
-    search_sessions(alloc, inputs, &sessions, events, &mut found)?;
+    search_sessions(alloc, inputs, &sessions, events, may_omit, &mut found)?;
     let Found { rules, remaining } = found;
     if remaining.is_empty() {
         Ok(rules)

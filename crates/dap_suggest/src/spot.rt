@@ -1,6 +1,7 @@
 //! A place at which pairs differ, what the candidates do there, and the rules that are chosen.
 use crate::candidates::{Actions, BLANK, only};
 use crate::guarded::hidden_at;
+use crate::omitting::Omitted;
 use crate::repeats::Repeats;
 use crate::tallies::{Different, Tally};
 use std::alloc::{AllocError, Global};
@@ -56,6 +57,8 @@ pub struct Spot {
     /// The indices of the pairs that differ here.
     pub pairs: Vec<usize>,
     pub list: Option<NamedList>,
+    /// The elements that are omitted from the lists here.
+    pub omitted: Omitted,
     /// The tallies of the names at which pairs differ: all of them, or one more than is useful.
     names: BTreeMap<String, usize>,
     /// How many pairs that differ here were recorded.
@@ -76,6 +79,7 @@ impl Spot {
             hidden: hidden_at(alloc, target)?,
             pairs: Vec::new(alloc),
             list: None,
+            omitted: Omitted::new(alloc),
             names: BTreeMap::new(alloc),
             seen: 0,
             tallies: Vec::new(alloc),
@@ -89,6 +93,7 @@ impl Spot {
     /// Forgets all names, and all that was counted.
     pub fn reset(&mut self, alloc: Global) -> Result<(), AllocError> {
         self.pairs.clear();
+        self.omitted = Omitted::new(alloc);
         self.names.clear();
         self.seen = 0;
         self.tallies.clear();

@@ -1,6 +1,7 @@
 //! All places at which pairs differ.
 use crate::candidates::Actions;
 use crate::spot::Spot;
+use crate::words::parts_of;
 use std::alloc::{AllocError, Global};
 use std::collections::{BTreeMap, BTreeSet};
 
@@ -11,19 +12,27 @@ pub struct Spots {
     pub by_target: BTreeMap<Vec<u8>, Spot>,
     /// The heads of their messages, without the side.
     pub heads: BTreeSet<String>,
+    /// Whether elements may be omitted from lists of different lengths.
+    pub may_omit: bool,
 }
 
 impl Spots {
-    pub fn new(alloc: Global) -> Spots {
+    pub fn new(alloc: Global, may_omit: bool) -> Spots {
         Spots {
             by_target: BTreeMap::new(alloc),
             heads: BTreeSet::new(alloc),
+            may_omit,
         }
     }
 
     /// Returns whether pairs differ at the names of elements.
     pub fn have_names(&self) -> bool {
         self.by_target.values().any(|spot| spot.is_name)
+    }
+
+    /// Returns whether elements of some list are omitted.
+    pub fn have_omissions(&self) -> bool {
+        self.by_target.values().any(|spot| spot.omitted.is_some())
     }
 
     /// Forgets what was found at all places but the names of elements.
@@ -42,6 +51,12 @@ impl Spots {
             Some(spot) => spot.actions(),
             None => 0,
         }
+    }
+
+    /// Returns the actions of the rules for the names of the elements of all lists at a place.
+    pub fn name_actions(&self, alloc: Global, target: &[u8]) -> Result<Actions, AllocError> {
+        let names = parts_of(alloc, &[target, b"[].name"])?;
+        Ok(self.actions_at(names.as_slice()))
     }
 
     /// Adds a place in the messages with a head, unless it was added before.

@@ -27,11 +27,13 @@ use dap_rules::{ApplyRefused, mode_by};
 use std::alloc::Global;
 use std::collections::BTreeMap;
 
-/// Searches rules for two recordings and their sessions, which the rules that were given and those
-/// `before` the others make. Some of these events are dropped. Confirms and labels the rules, after
-/// the sessions are dropped from memory.
+/// Searches rules for two recordings and their sessions, which `rules` make: those that were given
+/// and those `before` the others. Some of these events are dropped. Confirms and labels the rules
+/// that are found, after the sessions are dropped from memory. If the recordings differ by rules
+/// that omit elements, searches again without such rules.
 fn find_by(
     alloc: Global,
+    rules: &MaskRules,
     inputs: &Inputs<'_>,
     before: &[u8],
     sessions: Sessions,
@@ -40,8 +42,14 @@ fn find_by(
     requires { AreSound inputs.now.limits }
     ensures { IfOk result (IsSuggestion inputs.now) }
 {
-    let rules = rules_for(alloc, inputs, before, sessions, events)?;
-    confirm_labelled(alloc, inputs, &rules)
+    let found = rules_for(alloc, inputs, before, sessions, events, true)?;
+    let confirmed = confirm_labelled(alloc, inputs, &found);
+    if !found.have_omissions || !matches!(&confirmed, Err(Unsolved::Differs(_))) {
+        return confirmed;
+    }
+    let sessions = sessions_by(alloc, rules, inputs)?;
+    let found = rules_for(alloc, inputs, before, sessions, events, false)?;
+    confirm_labelled(alloc, inputs, &found)
 }
 
 /// Searches and confirms rules by events of one category, or by all events of a name, if no rules
@@ -58,14 +66,14 @@ fn find_by_events(
     ensures { IfOk result (IsSuggestion inputs.now) }
 {
     add_differing(alloc, &sessions, events)?;
-    let found = find_by(alloc, inputs, before, sessions, events);
+    let found = find_by(alloc, rules, inputs, before, sessions, events);
     let has_none = matches!(&found, Err(Unsolved::NoRules(_) | Unsolved::Differs(_)));
     if !have_categories(events) || !has_none {
         return found;
     }
     forget_categories(events);
     let sessions = sessions_by(alloc, rules, inputs)?;
-    find_by(alloc, inputs, before, sessions, events)
+    find_by(alloc, rules, inputs, before, sessions, events)
 }
 
 /// Searches and confirms rules. Events are dropped by their category, or by their name alone if no
@@ -255,7 +263,8 @@ fn suggest_by(
 /// other pieces is joined. Events that the recordings have in different numbers are dropped, only
 /// those of some categories if these explain the difference. At each place at which pairs differ,
 /// the rules that hide the fewest equal values are suggested, for all elements of a list or for
-/// those of one name; or a parent is blanked. Pairs in another order may change places. Numbers
+/// those of one name; or a parent is blanked. If lists have different lengths, up to four names of
+/// elements are omitted, or the lists are blanked. Pairs in another order may change places. Numbers
 /// that are not integers of 64 bits are blanked. Then the rules are applied to both recordings, and
 /// the results are compared. Last, the rules get labels, so that they keep which ids are equal,
 /// except for labels with which the recordings differ.

@@ -61,6 +61,10 @@ fn push_rule(
 pub fn push_spots(alloc: Global, spots: &Spots, out: &mut Vec<u8>) -> Result<(), AllocError> {
     for (target, spot) in spots.by_target.iter() {
         if !spots.is_hidden(target.as_slice()) {
+            if spot.omitted.is_some() {
+                spot.omitted
+                    .push_rules(alloc, target.as_slice(), spot.hidden, out)?;
+            }
             for index in 0..spot.rules.len() {
                 push_rule(alloc, target.as_slice(), spot, index, out)?;
             }
@@ -113,8 +117,10 @@ pub struct Chooser<'c> {
     pub before: &'c [u8],
     /// Whether all rules are for all elements.
     pub are_joined: bool,
-    /// Whether nothing that a test looks at may be blanked.
+    /// Whether nothing that a test looks at may be hidden.
     pub are_strict: bool,
+    /// Whether elements may be omitted from lists of different lengths.
+    pub may_omit: bool,
 }
 
 impl Chooser<'_> {
@@ -133,6 +139,9 @@ impl Chooser<'_> {
 
     /// Chooses the rules of a spot. Returns whether they make all pairs of values equal.
     pub fn choose(&self, target: &[u8], spot: &mut Spot) -> Result<bool, AllocError> {
+        if spot.omitted.is_some() && self.are_strict && spot.hidden.is_some() {
+            return Ok(false);
+        }
         for _ in 0..MAX_RULES {
             if !choose(self.alloc, spot, self.are_joined, self.are_strict)? {
                 return Ok(false);

@@ -87,12 +87,17 @@ fn can_equate_items(items: &Vec<Tree>, others: &Vec<Tree>) -> bool {
         return false;
     }
     for (item, other) in items.iter().zip(others.iter()) {
-        let is_blanked = have_one_blank(item, other) && !is_container(item);
-        if !is_blanked && !can_equate_inside(item, other) {
+        if !can_equate_pair(item, other) {
             return false;
         }
     }
     true
+}
+
+/// Returns whether rules for two elements of lists, or for their parts, can make these equal.
+#[cycle(can_equate_inside)]
+pub fn can_equate_pair(item: &Tree, other: &Tree) -> bool {
+    (have_one_blank(item, other) && !is_container(item)) || can_equate_inside(item, other)
 }
 
 /// Returns whether two objects have members of the same names, and rules can make these equal.

@@ -1,9 +1,10 @@
 //! Walks over the values of pairs: finds the places at which pairs differ, and records what the
 //! candidates do to the values there.
-use crate::candidates::{changing, equating};
+use crate::candidates::{Actions, changing, equating};
 use crate::comments::push_values;
 use crate::elements::{Elements, element_of, innermost, name_in};
 use crate::matched::Pair;
+use crate::omitting::have_one_name;
 use crate::pairs::Pairs;
 use crate::spot::{ALL, Spot};
 use crate::spots::Spots;
@@ -41,7 +42,7 @@ struct Walker<'t> {
     elements: Elements<'t>,
 }
 
-impl Walker<'_> {
+impl<'t> Walker<'t> {
     /// Adds the name of the element in which a spot is, if rules can select it by its name.
     fn add_element(&self, spot: &mut Spot) -> Result<(), AllocError> {
         if spot.is_name {
@@ -56,6 +57,18 @@ impl Walker<'_> {
         }
     }
 
+    /// Enters an element of two lists, whose brackets are at `start` in the target. `actions` are
+    /// those of the rules for the names of the elements.
+    fn enter(
+        &mut self,
+        item: &'t Tree,
+        other: &'t Tree,
+        actions: Actions,
+        start: usize,
+    ) -> Result<(), AllocError> {
+        Ok(self.elements.push(element_of(item, other, actions, start))?)
+    }
+
     /// Adds the place, at which two values differ.
     fn find(&self, spots: &mut Spots) -> Result<(), AllocError> {
         spots.add(self.alloc, self.pair.head(), self.target.as_slice())?;
@@ -65,6 +78,44 @@ impl Walker<'_> {
                 self.add_element(spot)
             }
             None => Ok(()),
+        }
+    }
+
+    /// Adds the place, at which two lists have different lengths, and the elements to omit. Returns
+    /// whether the lists can be made equal so.
+    fn find_omitted(
+        &self,
+        spots: &mut Spots,
+        items: &[Tree],
+        others: &[Tree],
+    ) -> Result<bool, AllocError> {
+        let target = self.target.as_slice();
+        let actions = spots.name_actions(self.alloc, target)?;
+        spots.add(self.alloc, self.pair.head(), target)?;
+        let Some(spot) = spots.by_target.get_mut(target) else {
+            return Ok(false);
+        };
+        spot.omitted
+            .add(self.alloc, &self.pair, (items, others), actions)?;
+        if !spot.omitted.is_some() {
+            return Ok(false);
+        }
+        spot.add_pair(self.index)?;
+        Ok(true)
+    }
+
+    /// Returns whether two values are lists of different lengths that rules can make equal by
+    /// omitting elements. Adds the place and these elements.
+    fn can_omit(&self, spots: &mut Spots, a: &Tree, b: &Tree) -> Result<bool, AllocError> {
+        match (a, b) {
+            (Tree::List(items), Tree::List(others)) => {
+                if spots.may_omit && items.len() != others.len() {
+                    self.find_omitted(spots, items, others)
+                } else {
+                    Ok(false)
+                }
+            }
+            _ => Ok(false),
         }
     }
 
@@ -110,6 +161,9 @@ impl Walker<'_> {
     /// equal.
     fn record(&self, spot: &mut Spot, a: &Tree, b: &Tree) -> Result<bool, AllocError> {
         let is_recorded = spot.is_name == (self.pass == Pass::RecordNames);
+        if spot.omitted.is_some() {
+            return Ok(true);
+        }
         if self.is_same || are_equal(a, b) {
             if is_recorded {
                 self.record_equal(spot, a)?;
@@ -125,15 +179,35 @@ impl Walker<'_> {
         Ok(false)
     }
 
+    /// Returns the elements of the second list that are walked over, if some elements of both lists
+    /// are omitted here, and counts these.
+    fn kept_others<'l>(
+        &self,
+        spots: &mut Spots,
+        items: &'l [Tree],
+        others: &'l [Tree],
+        actions: Actions,
+    ) -> Result<Option<Vec<&'l Tree>>, AllocError> {
+        match spots.by_target.get_mut(self.target.as_slice()) {
+            Some(spot) if spot.omitted.is_some() => {
+                if self.pass == Pass::RecordOthers {
+                    spot.omitted.add_hidden(self.alloc, items, others, actions)?;
+                }
+                Ok(Some(spot.omitted.kept(self.alloc, others, actions)?))
+            }
+            _ => Ok(None),
+        }
+    }
+
     /// Finds or records the place, at which the messages have these values. Returns whether the
     /// walk goes on inside them.
     fn visit(&self, spots: &mut Spots, a: &Tree, b: &Tree) -> Result<bool, AllocError> {
         if self.pass == Pass::Find {
-            let is_equated = can_equate_inside(a, b);
-            if !is_equated {
-                self.find(spots)?;
+            if can_equate_inside(a, b) || self.can_omit(spots, a, b)? {
+                return Ok(true);
             }
-            return Ok(is_equated);
+            self.find(spots)?;
+            return Ok(false);
         }
         match spots.by_target.get_mut(self.target.as_slice()) {
             Some(spot) => self.record(spot, a, b),
@@ -170,15 +244,30 @@ fn walk_items<'t>(
     others: &'t Vec<Tree>,
 ) -> Result<(), AllocError> {
     let start = walker.target.len();
-    walker.target.extend_from_slice(b"[].name")?;
-    let actions = spots.actions_at(walker.target.as_slice());
-    // Two bytes are the brackets.
-    walker.target.truncate(start.saturating_add(2));
-    for (item, other) in items.iter().zip(others.iter()) {
-        let element = element_of(item, other, actions, start);
-        walker.elements.push(element)?;
-        walk(walker, spots, item, other)?;
-        let _ = walker.elements.pop();
+    let actions = spots.name_actions(walker.alloc, walker.target.as_slice())?;
+    let kept = walker.kept_others(spots, items, others, actions)?;
+    walker.target.extend_from_slice(b"[]")?;
+    match kept {
+        None => {
+            for (item, other) in items.iter().zip(others.iter()) {
+                walker.enter(item, other, actions, start)?;
+                walk(walker, spots, item, other)?;
+                let _ = walker.elements.pop();
+            }
+        }
+        Some(kept) => {
+            let mut rest = kept.as_slice();
+            for item in items.iter() {
+                if let [other, others @ ..] = rest
+                    && have_one_name(walker.alloc, item, *other, actions)?
+                {
+                    walker.enter(item, *other, actions, start)?;
+                    walk(walker, spots, item, *other)?;
+                    let _ = walker.elements.pop();
+                    rest = others;
+                }
+            }
+        }
     }
     walker.target.truncate(start);
     Ok(())
