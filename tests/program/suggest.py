@@ -375,7 +375,7 @@ def categories(report):
     def check(name, a, b, *rules, given=b""):
         with Folder(a=said(*a), b=said(*b), given=given) as folder:
             answer = folder.run("suggest", "--rules", "given", "a", "b")
-        wanted = "".join(f"# {one} in A, {other} in B\ndrop   event    {rule}\n\n" for one, other, rule in rules)
+        wanted = "".join(f"# {one} in A, {other} in B{''.join(order)}\ndrop   event    {rule}\n\n" for one, other, rule, *order in rules)
         report.check(name, answer == (0, (wanted + "# with these rules: same\n").encode(), b""), repr(answer))
 
     def output(category, text="x"):
@@ -399,6 +399,15 @@ def categories(report):
     check("another event", [("x", {"category": "a"})], [("x", {"category": "a"}), ("x", {"category": "b"})], (0, 1, "x category=b"))
     check("equal numbers", [sent, printed], [sent, printed])
     stopped = ("stopped", {"reason": "pause"})
+    x, y, z = (("module", {"reason": "new", "module": {"name": name}}) for name in "xyz")
+    check("events in another order", [x, y, z, printed], [z, x, y, printed], (3, 3, "module", ", in another order"))
+    check("events that are the same but for their ids in another order", *(
+        [("breakpoint", {"reason": "changed", "breakpoint": {"id": number, "verified": True, "line": line}}) for number, line in it]
+        for it in (((1, 5), (2, 9)), ((1, 9), (2, 5)))
+    ), (2, 2, "breakpoint", ", in another order"))
+    check("events in one order with other ids", *(
+        [("thread", {"reason": "started", "threadId": it}) for it in threads] for threads in ((1, 2), (2, 1))
+    ))
 
     def piece(text, **members):
         return "output", {"category": "stdout", "output": text, **members}

@@ -1,5 +1,7 @@
-//! Counts the events of two sessions, and drops those of which they have different numbers.
+//! Counts the events of two sessions, and drops those of which they have different numbers, or which
+//! come in another order.
 use crate::broad::is_needed_event;
+use crate::reordered::{Places, are_reordered};
 use crate::sessions::Sessions;
 use crate::words::{class_of, content_of, text_at};
 use dap_compare::Which;
@@ -30,23 +32,27 @@ impl Counts {
     }
 }
 
-/// How many events of one name each session has, if these numbers differ.
+/// The events of one name, if the sessions have different numbers of them, or have them in another
+/// order.
 #[derive(Drop)]
 pub struct Events {
     all: Counts,
+    /// The numbers are equal, and the events come in another order.
+    are_reordered: bool,
     /// Those that are not counted by their category.
     others: Counts,
     by_category: BTreeMap<String, Counts>,
 }
 
-/// The events of which two sessions have different numbers, by their names. Those that explain the
-/// difference are dropped.
+/// The events of which two sessions have different numbers or orders, by their names. Those that
+/// explain the difference are dropped.
 pub type EventsByName = BTreeMap<String, Events>;
 
 impl Events {
-    fn new(alloc: Global) -> Events {
+    fn new(alloc: Global, all: Counts) -> Events {
         Events {
-            all: Counts::default(),
+            all,
+            are_reordered: !all.differ(),
             others: Counts::default(),
             by_category: BTreeMap::new(alloc),
         }
@@ -68,7 +74,7 @@ impl Events {
         event: &StoredMessage<'_>,
         scratch: &mut Scratch,
     ) -> Result<bool, AllocError> {
-        if self.others.differ() {
+        if self.are_reordered || self.others.differ() {
             return Ok(true);
         }
         match category_of(alloc, event, scratch)? {
@@ -80,15 +86,15 @@ impl Events {
         }
     }
 
-    /// Appends the rules that drop events of this name: all of them, if no categories explain the
-    /// difference.
+    /// Appends the rules that drop events of this name: all of them, if they come in another order or
+    /// if no categories explain the difference.
     pub fn push_drops(
         &self,
         alloc: Global,
         name: &str,
         out: &mut Vec<u8>,
     ) -> Result<(), AllocError> {
-        if self.others.differ() {
+        if self.are_reordered || self.others.differ() {
             return push_drop(alloc, &self.all, name, None, out);
         }
         for (category, counts) in self.by_category.iter() {
@@ -110,7 +116,8 @@ fn push_drop(
     out: &mut Vec<u8>,
 ) -> Result<(), AllocError> {
     let (a, b) = (counts.a, counts.b);
-    out.extend_from_slice(format!(in alloc; "# {a} in A, {b} in B\ndrop   ")?.as_bytes())?;
+    let order = if a == b { ", in another order" } else { "" };
+    out.extend_from_slice(format!(in alloc; "# {a} in A, {b} in B{order}\ndrop   ")?.as_bytes())?;
     out.extend_from_slice(class_of(alloc, Kind::Event, name)?.as_slice())?;
     if let Some(category) = category {
         out.extend_from_slice(b" category=")?;
@@ -133,12 +140,13 @@ fn category_of(
     }
 }
 
-/// Counts the events of a session by their names. Those that a session needs are left out.
-fn count_names(
+/// Adds the places of the events of a session, by their names. Those that a session needs are left
+/// out.
+fn add_places(
     alloc: Global,
     which: Which,
     session: &StoredSession,
-    events: &mut EventsByName,
+    places: &mut BTreeMap<String, Places>,
 ) -> Result<(), AllocError> {
     for place in 0..session.len() {
         if let Some(event) = session.message(place)
@@ -146,11 +154,27 @@ fn count_names(
             && !is_needed_event(event.name())
         {
             let name = String::from_str(alloc, event.name())?;
-            let found = events.entry(name)?.or_insert_with(|| Events::new(alloc));
-            found.all.add(which);
+            let found = places.entry(name)?.or_insert_with(|| Places::new(alloc));
+            found.add(which, place)?;
         }
     }
     Ok(())
+}
+
+/// Returns the events of which two sessions have different numbers or orders, without their
+/// categories. Output in another order is left out, since rules can join it.
+fn differing(alloc: Global, sessions: &Sessions) -> Result<EventsByName, AllocError> {
+    let mut places = BTreeMap::new(alloc);
+    add_places(alloc, Which::A, &sessions.a, &mut places)?;
+    add_places(alloc, Which::B, &sessions.b, &mut places)?;
+    let mut events = BTreeMap::new(alloc);
+    for (name, found) in places {
+        let (a, b) = (found.a.len() as u64, found.b.len() as u64);
+        if a != b || (name.as_str() != "output" && are_reordered(alloc, sessions, &found)?) {
+            let _ = events.insert(name, Events::new(alloc, Counts { a, b }))?;
+        }
+    }
+    Ok(events)
 }
 
 /// Counts the events of a session that have these names by their categories.
@@ -165,6 +189,7 @@ fn count_categories(
         if let Some(event) = session.message(place)
             && event.kind() == Kind::Event
             && let Some(found) = events.get_mut(event.name())
+            && !found.are_reordered
         {
             found.count(which, category_of(alloc, &event, scratch)?)?;
         }
@@ -172,19 +197,14 @@ fn count_categories(
     Ok(())
 }
 
-/// Adds the events of which two sessions have different numbers, counted by their categories. Those
-/// that a session needs are left out.
-pub fn add_differing(
-    alloc: Global,
-    sessions: &Sessions,
-    events: &mut EventsByName,
-) -> Result<(), AllocError> {
-    count_names(alloc, Which::A, &sessions.a, events)?;
-    count_names(alloc, Which::B, &sessions.b, events)?;
-    events.retain(|_, found| found.all.differ());
+/// Returns the events of which two sessions have different numbers, counted by their categories, and
+/// those that come in another order. Those that a session needs are left out.
+pub fn differing_events(alloc: Global, sessions: &Sessions) -> Result<EventsByName, AllocError> {
+    let mut events = differing(alloc, sessions)?;
     let mut scratch = Scratch::new(alloc);
-    count_categories(alloc, Which::A, &sessions.a, events, &mut scratch)?;
-    count_categories(alloc, Which::B, &sessions.b, events, &mut scratch)
+    count_categories(alloc, Which::A, &sessions.a, &mut events, &mut scratch)?;
+    count_categories(alloc, Which::B, &sessions.b, &mut events, &mut scratch)?;
+    Ok(events)
 }
 
 /// Returns whether some event is counted by its category.

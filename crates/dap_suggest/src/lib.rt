@@ -20,6 +20,7 @@ mod obstacle;
 mod omitting;
 mod pairs;
 mod pieces;
+mod reordered;
 mod repeats;
 mod searching;
 mod sessions;

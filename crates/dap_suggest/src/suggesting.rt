@@ -10,7 +10,7 @@ ghost use Rattle.dap_suggest.specs.Suggested.{SaysWhatToCheck, SuggestsNothing};
 
 use crate::broad::broad_of;
 use crate::confirming::suggested;
-use crate::counting::{EventsByName, add_differing, forget_categories, have_categories};
+use crate::counting::{EventsByName, differing_events, forget_categories, have_categories};
 use crate::fractions::fraction_rules;
 use crate::guarded::guarded_count;
 use crate::joined_rules::{joined, missing_end, read_joined};
@@ -53,31 +53,7 @@ fn find_by(
 }
 
 /// Searches and confirms rules by events of one category, or by all events of a name, if no rules
-/// are found otherwise. No events are known yet.
-fn find_by_events(
-    alloc: Global,
-    rules: &MaskRules,
-    inputs: &Inputs<'_>,
-    before: &[u8],
-    sessions: Sessions,
-    events: &mut EventsByName,
-) -> Result<Suggestion, Unsolved>
-    requires { AreSound inputs.now.limits }
-    ensures { IfOk result (IsSuggestion inputs.now) }
-{
-    add_differing(alloc, &sessions, events)?;
-    let found = find_by(alloc, rules, inputs, before, sessions, events);
-    let has_none = matches!(&found, Err(Unsolved::NoRules(_) | Unsolved::Differs(_)));
-    if !have_categories(events) || !has_none {
-        return found;
-    }
-    forget_categories(events);
-    let sessions = sessions_by(alloc, rules, inputs)?;
-    find_by(alloc, rules, inputs, before, sessions, events)
-}
-
-/// Searches and confirms rules. Events are dropped by their category, or by their name alone if no
-/// rules are found otherwise. The sessions are those that `rules` make of the recordings.
+/// are found otherwise. The sessions are those that `rules` make of the recordings.
 fn find_confirmed(
     alloc: Global,
     rules: &MaskRules,
@@ -88,8 +64,15 @@ fn find_confirmed(
     requires { AreSound inputs.now.limits }
     ensures { IfOk result (IsSuggestion inputs.now) }
 {
-    let mut events = BTreeMap::new(alloc);
-    find_by_events(alloc, rules, inputs, before, sessions, &mut events)
+    let mut events = differing_events(alloc, &sessions)?;
+    let found = find_by(alloc, rules, inputs, before, sessions, &events);
+    let has_none = matches!(&found, Err(Unsolved::NoRules(_) | Unsolved::Differs(_)));
+    if !have_categories(&events) || !has_none {
+        return found;
+    }
+    forget_categories(&mut events);
+    let sessions = sessions_by(alloc, rules, inputs)?;
+    find_by(alloc, rules, inputs, before, sessions, &events)
 }
 
 /// Searches rules after those `before` them, the last of which joins output. Returns `None` if the
@@ -261,7 +244,8 @@ fn suggest_by(
 ///
 /// The records are matched as those of [`diff_all_with`](dap_diff::diff_all_with). Equal output in
 /// other pieces is joined. Events that the recordings have in different numbers are dropped, only
-/// those of some categories if these explain the difference. At each place at which pairs differ,
+/// those of some categories if these explain the difference, and equal events of one name that they
+/// have in another order. At each place at which pairs differ,
 /// the rules that hide the fewest equal values are suggested, for all elements of a list or for
 /// those of one name; or a parent is blanked. If lists have different lengths, up to four names of
 /// elements are omitted, or the lists are blanked. Pairs in another order may change places. Numbers

@@ -2,7 +2,7 @@
 use dap_tree::Tree;
 use std::collections::BTreeMap;
 
-/// Returns whether two values that are no lists and no objects are equal. Any two ids are: only
+/// Returns whether two values that are neither lists nor objects are equal. Any two ids are: only
 /// their numbers can differ.
 fn are_one_scalar(a: &Tree, b: &Tree) -> bool {
     match (a, b) {
