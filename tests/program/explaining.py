@@ -723,8 +723,12 @@ RULES = {
         b"hex event x y as a\nhex event * y as b\n", "line 2: Clash",
         [
             "line 2 is: hex event * y as b", "line 1 declares ids at the same place",
-            "a place has at most one rule that ends in as LABEL: leave one of them out",
+            "at one place each action has one label, and blank excludes the others: leave one of them out",
         ],
+    ),
+    "numbers beside UUIDs": (
+        b"uuid event x y as a\ndigits event * y as b\n", "line 2: Clash",
+        ["line 2 is: digits event * y as b", "line 1 declares ids at the same place", "no place has both: leave one of them out"],
     ),
     "declared after digits": (
         b"digits event x y\nhex event * y as b\n", "line 2: Clash",

@@ -83,8 +83,34 @@ WORKED = {
         "uuid event a x as object", [{"x": f"{A_UUID}0x5 0{A_UUID} {A_UUID}g <object 4>{A_UUID}"}],
         [{"x": f"{A_UUID}0x5 0{A_UUID} <object 1>g <object 2><object 1>"}],
     ),
-    "a UUID before 0x, in a second pass": (
-        "uuid event a x as object\nhex event a y as address", [{"x": f"{A_UUID}0x5", "y": f"{A_UUID}0x5"}], [{"x": f"{A_UUID}0x5", "y": f"{A_UUID}<address 1>"}],
+    "a UUID before 0x": (
+        "uuid event a x as object\nhex event a y as address\nuuid event a z as object\nhex event a z as address",
+        [{"x": f"{A_UUID}0x5", "y": f"{A_UUID}0x5", "z": f"{A_UUID}0x5 {A_UUID} 0x5"}],
+        [{"x": f"{A_UUID}0x5", "y": f"{A_UUID}0x5", "z": f"{A_UUID}0x5 <object 1> <address 1>"}],
+    ),
+    "0x after a literal digit": ("hex event a x as address", [{"x": "f0x5 g0x5 10x5 0x5y0x6"}], [{"x": "f0x5 g<address 1> 10x5 <address 1>y<address 2>"}]),
+    "numbers and addresses in one text": (
+        "hex event a x as address\ndigits event a x as number", [{"x": "0x10 10 010 <number 3> <address 3> 0x0 0"}],
+        [{"x": "<address 1> <number 1> <number 1> <number 2> <address 2> 0x0 0"}],
+    ),
+    "addresses with and without 0x": (
+        "hex event a x as address\nlong event a x as address", [{"x": "0x7f3a1c 7F3A1C 0x1 abcdef0 0xabcdef0"}],
+        [{"x": "<address 1> <address 1> <address 2> <address 3> <address 3>"}],
+    ),
+    "the other actions before digits": (
+        "digits event a x as number\nlong event a x as address\nhex event a x as pointer", [{"x": "12 123456 7f3a1c 0x12 x12 ab12"}],
+        [{"x": "<number 1> <address 1> <address 2> <pointer 1> x<number 1> ab<number 1>"}],
+    ),
+    "UUIDs, addresses and long numbers": (
+        "long event a x as address\nuuid event a x as object\nhex event a x as pointer", [{"x": f"{A_UUID} {NIL} 9c3a11d9 0x9c3a 9c3a {A_UUID.upper()}"}],
+        [{"x": f"<object 1> {NIL} <address 1> <pointer 1> 9c3a <object 1>"}],
+    ),
+    "a literal digit before a token of another action": (
+        "hex event a x as address\ndigits event a x as number", [{"x": "a0x5 a00x5 b5"}], [{"x": "a0x<number 1> a00x<number 1> b<number 1>"}],
+    ),
+    "one label for all elements and for some": (
+        'hex event a v[].w as x\nhex event a v["p"].w as x\ndigits event a v["p"].w as y', [{"v": [{"name": "p", "w": "0x1 2"}, {"name": "q", "w": "0x1 2"}]}],
+        [{"v": [{"name": "p", "w": "<x 1> <y 1>"}, {"name": "q", "w": "<x 1> 2"}]}],
     ),
     "no ids": (
         "blank event a x as id", [{"x": it} for it in (0, "", "0", "0x0", NIL, None, True, False, [], {}, [7], {"y": 7})],
@@ -173,11 +199,11 @@ REFUSED = {
     # A label is reported before a place, and a repeated rule before rules that exclude each other.
     "blank event * seq as Id": "line 1: BadLabel",
     f"{HEX}{HEX}": "line 2: Repeated", f'{HEX}hex event "a" "x" as "address"': "line 2: Repeated", f'{HEX}digits event a y\n\nhex event a x as "\\u0061ddress" # again': "line 4: Repeated",
-    # Two labels, or two actions with a label, of which some value may have both.
-    f"{HEX}hex event a x as pointer": "line 2: Clash", f"{HEX}long event a x as address": "line 2: Clash", f"{HEX}blank event a x as address": "line 2: Clash",
-    f"{HEX}uuid event * x as object": "line 2: Clash", f"uuid event * x as object\n{HEX}": "line 2: Clash", f"{HEX}hex event a category=c x as address": "line 2: Clash",
-    'hex event a v[].w as x\nhex event a v["p"].w as x': "line 2: Clash", 'hex event a v["p"].w as x\nhex event a v[].w as x': "line 2: Clash",
-    "digits event a x as n\nuuid event a x as u": "line 2: Clash", "digits event a x as n\nhex event a x as n": "line 2: Clash",
+    # Two labels for one action, or `blank` beside another action, or `uuid` beside `digits`, for some value.
+    f"{HEX}hex event a x as pointer": "line 2: Clash", f"hex event a x as pointer\n{HEX}": "line 2: Clash", f"{HEX}blank event a x as address": "line 2: Clash",
+    f"blank event * x as address\n{HEX}": "line 2: Clash", f"{HEX}hex event a category=c x as pointer": "line 2: Clash",
+    'hex event a v[].w as x\nhex event a v["p"].w as y': "line 2: Clash", 'hex event a v["p"].w as x\nhex event a v[].w as y': "line 2: Clash",
+    "digits event a x as n\nuuid event a x as u": "line 2: Clash", "uuid event * x as n\ndigits event a x as n": "line 2: Clash",
     # An action without a label that would change the number in a name.
     f"{HEX}digits event a x": "line 2: Clash", f"digits event a x\n{HEX}": "line 2: Clash", f"{HEX}long event * x": "line 2: Clash", f"long event * x\n{HEX}": "line 2: Clash",
     f"{HEX}digits event a category=c x": "line 2: Clash", 'digits event a v[].w\nblank event a v["p"].w as id': "line 2: Clash",
@@ -185,6 +211,8 @@ REFUSED = {
 }
 ACCEPTED = [
     f"{HEX}hex event a x", f"hex event a x\n{HEX}", f"{HEX}uuid event a x", f"{HEX}blank event a x", "blank event a x\ndigits event a x as n", "uuid event a x as u\nuuid event a x",
+    f"{HEX}long event a x as address", f"{HEX}long event a x as pointer", f"{HEX}uuid event * x as object", f"uuid event * x as object\n{HEX}",
+    "digits event a x as n\nhex event a x as n\nlong event a x as n", f"{HEX}hex event a category=c x as address", 'hex event a v[].w as x\nhex event a v["p"].w as x',
     f"{HEX}hex event b x as pointer", f"{HEX}hex request a x as pointer", f"{HEX}digits event b x", f"{HEX}digits event a y", f"{HEX}digits event a x.y", f"{HEX}blank event a x.y as id",
     'hex event a v["p"].w as x\nhex event a v["q"].w as y', 'digits event a v["p"].w\nhex event a v["q"].w as y', "hex event a category=c x as y\nhex event a category=d x as z",
     "digits event a category=c x\nhex event a category=d x as z", "hex event a body.name as x", "hex event a name as x", "blank event a body.x as x", "hex event a v[].name.y as x",
@@ -492,6 +520,10 @@ TEXTS = (("response", "variables", "body.variables[].value"), ("response", "eval
 NUMBERS = (0, 1, 2, 7, 10, 28201, 0x7F3A1C, 0xABC123, 0x55555555)
 LITERALS = (" ", ", ", "x", "<", ">", "<T at ", "abcdef", "ff", "0x", "-", "é", "g", "", "0")
 UUIDS = (A_UUID, ANOTHER, NIL, "12345678-1234-1234-1234-123456789abc")
+# Actions that may each have a label at one place.
+TOGETHER_AT_A_PLACE = (
+    ("blank",), ("digits",), ("hex",), ("long",), ("uuid",), ("hex", "digits"), ("long", "digits"), ("hex", "long", "digits"), ("hex", "long"), ("uuid", "hex", "long"), ("uuid", "hex"),
+)
 
 
 def cased(dice, text):
@@ -558,15 +590,13 @@ def halves(dice, found, kind):
 
 
 def lines_at_random(dice, found):
-    """Rules with labels, at most one for each value."""
-    lines = []
-    for place in PLACES:
-        for kind in ("request", "response", "event"):
-            for name in halves(dice, found, kind):
-                lines.append(f"{dice.choice(('blank', 'digits', 'hex', 'long', 'uuid'))} {kind} {word_of(name)} {place} as {dice.choice(LABELS)}\n")
-    for kind, name, place in TEXTS:
-        if dice.random() < 0.7:
-            lines.append(f"{dice.choice(('blank', 'digits', 'hex', 'long', 'uuid'))} {kind} {name} {place} as {dice.choice(LABELS)}\n")
+    """Rules with labels, of which some are for one value, in any order."""
+    places = [(kind, word_of(name), place) for place in PLACES for kind in ("request", "response", "event") for name in halves(dice, found, kind)]
+    places += [text for text in TEXTS if dice.random() < 0.7]
+    lines = [
+        f"{action} {kind} {name} {place} as {dice.choice(LABELS)}\n"
+        for kind, name, place in places for action in dice.choice(TOGETHER_AT_A_PLACE)
+    ]
     dice.shuffle(lines)
     return "".join(lines)
 
@@ -604,20 +634,32 @@ def token_of(dice, rule, value, token):
     return spelled(dice, rule.action, value[2:] if rule.action in ("hex", "long") else value)
 
 
-def revalued(dice, declared, found):
-    """The session with other values of each label, by a one-to-one renaming, in other spellings."""
+def renaming(dice, listed):
+    """Another value for each id."""
     others, used = {}, set()
-    for key in ids(declared, found):
+    for key in listed:
         while key not in others:
             new = key[0], new_value(dice, class_of(key[1]))
             if new not in used:
                 used.add(new)
                 others[key] = new[1]
-    return session_replaced(declared, found, lambda rule, value, token: token_of(dice, rule, others[rule.label, value], token))
+    return others
+
+
+def revalued(dice, declared, found):
+    """The session with other values of each label, by a one-to-one renaming, in other spellings. A run of digits beside letters can become
+    a long number by this: then other values are tried, and after ten times the session stays."""
+    listed = ids(declared, found)
+    for _ in range(10):
+        others = renaming(dice, listed)
+        new = session_replaced(declared, found, lambda rule, value, token: token_of(dice, rule, others[rule.label, value], token))
+        if ids(declared, new) == [(label, others[label, value]) for label, value in listed]:
+            return new
+    return found
 
 
 def aliased(dice, declared, found):
-    """The session with one id replaced by another one of the session, or None without two such ids."""
+    """The session with one id replaced by another one of the session, or None without two such ids, or if the new text has other ids."""
     listed = ids(declared, found)
     choices = [
         (at, value) for at, (label, old) in enumerate(listed)
@@ -627,7 +669,9 @@ def aliased(dice, declared, found):
         return None
     chosen, value = dice.choice(choices)
     at = iter(range(len(listed)))
-    return session_replaced(declared, found, lambda rule, old, token: token_of(dice, rule, value, token) if next(at) == chosen else token)
+    new = session_replaced(declared, found, lambda rule, old, token: token_of(dice, rule, value, token) if next(at) == chosen else token)
+    wanted = [(label, value if place == chosen else old) for place, (label, old) in enumerate(listed)]
+    return new if ids(declared, new) == wanted else None
 
 
 class Trial:

@@ -8,14 +8,15 @@ STRING = r'"(?:[^"\\]|\\.)*"'
 COMMENTED = re.compile(rf'(?:{STRING}|[^#"])*')
 WORD = re.compile(rf'(?:{STRING}|[^\s"])+')
 STEP = re.compile(rf'\.?({STRING}|[\w$-]+)|\[({STRING})?\]')
-# A text that an action takes for a token. `long` and `uuid` start none after a literal hexadecimal digit.
+# A text that an action takes for a token. Only `digits` starts one after a literal hexadecimal digit.
 TOKENS = {
     "digits": re.compile("[0-9]+"),
     "hex": re.compile("0[xX][0-9a-fA-F]+"),
     "long": re.compile("(?=[a-fA-F]*[0-9])[0-9a-fA-F]{6,}"),
     "uuid": re.compile("[0-9a-fA-F]{8}(?:-[0-9a-fA-F]{4}){3}-[0-9a-fA-F]{12}(?![0-9a-fA-F])"),
 }
-APART = ("long", "uuid")
+# The order in which the actions for one place are tried at each character. Beside `uuid`, `digits` is not tried.
+TRIED = ("uuid", "hex", "long", "digits")
 DIGITS = "0123456789abcdefABCDEF"
 # Values of tokens that are not ids.
 NOTHING = ("", "0", "0x0", "00000000-0000-0000-0000-000000000000")
@@ -64,16 +65,31 @@ def name_pattern(label):
     return re.compile(rf"<{label} ([1-9][0-9]*)>")
 
 
-def parts(rule, text):
-    """Returns the text in parts, from left to right: each is a token, or a character that belongs to none."""
-    if rule.action == "blank":
-        return [(text, True)]
-    name, found, at, after_digit = name_pattern(rule.label), [], 0, False
+def rule_of(action, rules):
+    return next((rule for rule in rules if rule.action == action), None)
+
+
+def token_at(rules, text, at, after_digit):
+    """Returns the token that starts here, and its rule. A name comes first."""
+    tried = [rule for rule in (rule_of(action, rules) for action in TRIED) if rule]
+    patterns = [(name_pattern(rule.label), rule) for rule in rules] + [
+        (TOKENS[rule.action], rule) for rule in tried
+        if rule.action == "digits" and not rule_of("uuid", rules) or rule.action != "digits" and not after_digit
+    ]
+    found = ((pattern.match(text, at), rule) for pattern, rule in patterns)
+    return next(((match[0], rule) for match, rule in found if match), (text[at], None))
+
+
+def parts(rules, text):
+    """Returns the text in parts, from left to right: each is a token with its rule, or a character that belongs to none."""
+    whole = rule_of("blank", rules)
+    if whole:
+        return [(text, whole)]
+    found, at, after_digit = [], 0, False
     while at < len(text):
-        token = name.match(text, at) or (None if after_digit and rule.action in APART else TOKENS[rule.action].match(text, at))
-        part = token[0] if token else text[at]
-        found.append((part, bool(token)))
-        at, after_digit = at + len(part), not token and part in DIGITS
+        part, rule = token_at(rules, text, at, after_digit)
+        found.append((part, rule))
+        at, after_digit = at + len(part), not rule and part in DIGITS
     return found
 
 
@@ -98,10 +114,9 @@ def replaced(doc, rules, replace):
     if isinstance(doc, list):
         return [replaced(element, [rule._replace(place=rule.place[1:]) for rule in rules if leads_to(rule, element)], replace) for element in doc]
     if here and isinstance(doc, str):
-        return "".join(token_replaced(here[0], part, replace) if is_token else part for part, is_token in parts(here[0], doc))
-    if here and here[0].action == "blank" and type(doc) is int and doc != 0:
-        return replace(here[0], str(doc), doc)
-    return doc
+        return "".join(token_replaced(rule, part, replace) if rule else part for part, rule in parts(here, doc))
+    whole = rule_of("blank", here)
+    return replace(whole, str(doc), doc) if whole and type(doc) is int and doc != 0 else doc
 
 
 def leads_to(rule, element):

@@ -313,10 +313,10 @@ def worked(report):
     for name, a, b, verbs in (
         ("an address", "at 0x1f", "at 0x2e", ["hex address"]), ("a number", "run 17", "run 4", ["digits number"]), ("a word", "red", "blue", ["blank"]),
         ("a shortened address", "at 7f3a1c", "at 9b00d4e", ["long address"]), ("a UUID", f"at {FIRST[0]}", f"at {SECOND[0]}", ["uuid uuid"]),
-        ("a digit and an address", "1 0xa", "2 0xb", ["digits number", "hex"]),
-        ("a UUID and an address", f"{FIRST[0]} 0xa", f"{SECOND[0]} 0xb", ["uuid uuid", "hex"]),
-        ("a shortened address and an address", "7f3a1c 0xa", "9b00d4e 0xb", ["long address", "hex"]),
-        ("a shortened address and a digit", "7f3a1c 1", "9b00d4e 2", ["long", "digits"]),
+        ("a digit and an address", "1 0xa", "2 0xb", ["digits number", "hex address"]),
+        ("a UUID and an address", f"{FIRST[0]} 0xa", f"{SECOND[0]} 0xb", ["uuid uuid", "hex address"]),
+        ("a shortened address and an address", "7f3a1c 0xa", "9b00d4e 0xb", ["long address", "hex address"]),
+        ("a shortened address and a digit", "7f3a1c 1", "9b00d4e 2", ["long address", "digits number"]),
     ):
         lines = (it.partition(" ") for it in verbs)
         rules = "".join(f"{verb:6} event    process body.name{'  as ' if label else ''}{label}\n" for verb, _, label in lines)
@@ -776,7 +776,12 @@ def labels(report):
     a, b = asked({"p": "0x7f", "q": "0x5"}, "0x7f"), asked({"p": "0x9", "q": "0x8"}, "0x8")
     check("another alias", a, b, result, f"{hexes}  as address")
     a, b = asked({"p": "0x7f", "n": "17"}, "0x7f"), asked({"p": "0x9", "n": "4"}, "0x9")
-    check("what would change a name", a, b, f"{result}  as address", hexes, 'digits response variables body.variables["n"].value  as number')
+    check("two labels for one value", a, b, f"{result}  as address", f"{hexes}  as address", 'digits response variables body.variables["n"].value  as number')
+    a, b = asked({"p": "7f3a1c", "q": "7f3a1c", "m": "17"}, "0x7f"), asked({"p": "9b00d4e", "q": "9b00d4f", "m": "4"}, "0x9")
+    check(
+        "a label beside which another one is left out", a, b, f"{result}  as address", "long   response variables body.variables[].value",
+        'digits response variables body.variables["m"].value',
+    )
     a, b = asked({}, "0x7f"), asked({}, "0x9")
     check("a given rule that would change a name", a, b, result, given=b"long response * body.result\n")
     check("a given rule for other values", a, b, f"{result}  as address", given=b"long response * body.type\n")

@@ -256,7 +256,7 @@ const FILL_ADVICE: &str =
 const UUID_ADVICE: &str = "no place has both: leave one of them out";
 
 const LABEL_ADVICE: &str =
-    "a place has at most one rule that ends in as LABEL: leave one of them out";
+    "at one place each action has one label, and blank excludes the others: leave one of them out";
 
 const NUMBER_ADVICE: &str =
     "no rule changes the numbers in the names of declared ids: leave one of them out";
@@ -377,6 +377,17 @@ fn is_declaration(lines: &mut Lines, line: &[u8]) -> bool {
     rules.is_ok_and(|rules| !rules.declared().is_empty())
 }
 
+/// Returns what to do about two lines that declare ids at one place.
+fn label_advice(earlier: &[u8], line: &[u8]) -> &'static str {
+    let apart = [b"uuid".as_slice(), b"digits".as_slice()];
+    let (verb, other) = (split_verb(earlier).0, split_verb(line).0);
+    if verb != other && apart.contains(&verb) && apart.contains(&other) {
+        UUID_ADVICE
+    } else {
+        LABEL_ADVICE
+    }
+}
+
 /// Returns how an earlier line clashes with a line, and what to do, if one of them declares ids.
 fn clash_of_ids(
     lines: &mut Lines,
@@ -384,7 +395,10 @@ fn clash_of_ids(
     line: &[u8],
 ) -> Option<(&'static str, &'static str)> {
     match (is_declaration(lines, earlier), is_declaration(lines, line)) {
-        (true, true) => Some(("declares ids at the same place", LABEL_ADVICE)),
+        (true, true) => Some((
+            "declares ids at the same place",
+            label_advice(earlier, line),
+        )),
         (true, false) => Some(("declares ids at the same place", NUMBER_ADVICE)),
         (false, true) if has_verb(earlier, b"digits") => {
             Some(("has a digits rule for the same place", NUMBER_ADVICE))

@@ -17,7 +17,8 @@ use Rattle.dap_mask.specs.Categories.{CategoryRule, category_of, categories_of, 
 use Rattle.dap_mask.specs.Categories.{is_moved_by, keep_categories, is_category_among}
 use Rattle.dap_mask.specs.Categories.{moves_output, is_output_moved_by, moves_joined, keep_output}
 use Rattle.dap_mask.specs.Declarations.{Declaration, declaration_of, declarations_of, are_declared}
-use Rattle.dap_mask.specs.Declarations.{is_own_label, is_misdeclared, is_declared_among, shares_ids}
+use Rattle.dap_mask.specs.Declarations.{is_own_label, is_misdeclared, is_declared_among}
+use Rattle.dap_mask.specs.Declarations.{disagrees_with}
 use Rattle.dap_mask.specs.Declarations.{is_blurred_by, blurs_one_of}
 use Rattle.dap_mask.specs.declared.declarations.Declaration.{Declaration as ReadDeclaration}
 use Rattle.dap_mask.specs.Fills.{Fill, removes, removes_one_of, is_removed_by, keep_fills}
@@ -387,7 +388,7 @@ pub declaration_may_stand : (m : Mask) (x : Declaration) → cause_against m (de
     → (is_own_label x.label ≡ true) × (is_misdeclared x.rule ≡ false)
 declaration_may_stand m x h =
     go (nat_le 1000 (rule_count m)) (is_own_label x.label) (is_misdeclared x.rule)
-    (is_declared_among x m.declared) (shares_ids x m.declared || is_blurred_by m.changes x) h
+    (is_declared_among x m.declared) (disagrees_with x m.declared || is_blurred_by m.changes x) h
   where
     go : (a b c d e : Bool) → cond a (Some TooMany) (cond (not b) (Some BadLabel)
         (cond c (Some BadPlace) (cond d (Some Repeated) (cond e (Some Clash) None)))) ≡ None
@@ -401,7 +402,7 @@ declaration_may_stand m x h =
 pub exclusion_cause : (m : Mask) (x : Declaration) (excluded : Bool) (cause : Option RulesCause)
     → is_own_label x.label ≡ true → is_misdeclared x.rule ≡ false
     → is_declared_among x m.declared ≡ false
-    → excluded ≡ (shares_ids x m.declared || is_blurred_by m.changes x)
+    → excluded ≡ (disagrees_with x m.declared || is_blurred_by m.changes x)
     → cause ≡ cond excluded (Some Clash) None → cause ≡ declaration_cause m x
 exclusion_cause m x excluded cause labelled placed new is e =
     e ∙ ap (λ b. cond b (Some Clash) None) is
@@ -411,7 +412,7 @@ exclusion_cause m x excluded cause labelled placed new is e =
     repeated)) labelled)
   where
     clash : Option RulesCause
-    clash = cond (shares_ids x m.declared || is_blurred_by m.changes x) (Some Clash) None
+    clash = cond (disagrees_with x m.declared || is_blurred_by m.changes x) (Some Clash) None
 
     repeated : Option RulesCause
     repeated = cond (is_declared_among x m.declared) (Some Repeated) clash

@@ -1,6 +1,6 @@
 -- Rules that declare ids, and the rules that they exclude. A declaration is a rule with a label. Its
 -- action finds ids, which keep their identity, in place of texts that it redacts.
-use Rattle.std.specs.Prelude.{ℕ, Bool, true, false, not, ◌&&◌, ◌||◌, List, [], ◌∷◌, map}
+use Rattle.std.specs.Prelude.{ℕ, Bool, true, false, cond, not, ◌&&◌, ◌||◌, List, [], ◌∷◌, map}
 use Rattle.std.specs.Prelude.{bytes_eq, string_bytes}
 use Rattle.std.specs.List.{list_any}
 use Rattle.dap_tree.specs.Sorts.{all_sorts, sort_word}
@@ -8,7 +8,8 @@ use Rattle.dap_tokens.specs.Tokens.{is_label}
 use Rattle.dap_tokens.specs.declared.form.Form.{Form}
 use Rattle.dap_tokens.specs.declared.form.Form.TheVariants as form
 use Rattle.dap_mask.specs.Ids.{takes_profile_id}
-use Rattle.dap_mask.specs.Rules.{Rule, rule_of, same_rule, shares_values, is_telling_place}
+use Rattle.dap_mask.specs.Rules.{Rule, rule_of, same_rule, same_verb, excludes, shares_values}
+use Rattle.dap_mask.specs.Rules.{is_telling_place}
 use Rattle.dap_mask.specs.Rules.{is_for_names, holds_category, plain_place_of}
 use Rattle.dap_mask.specs.declared.declarations.Declaration.{Declaration as ReadDeclaration}
 use Rattle.dap_mask.specs.declared.rules.Verb.{Verb, TheVariants.{Blank, Digits, Hex, Long, Uuid}}
@@ -57,9 +58,27 @@ same_declaration x y = same_rule x.rule y.rule && bytes_eq x.label y.label
 abbrev pub is_declared_among : Declaration → List Declaration → Bool
 is_declared_among x xs = list_any (same_declaration x) xs
 
--- Some value may be at the places of both declarations. An id has one label.
-abbrev pub shares_ids : Declaration → List Declaration → Bool
-shares_ids x xs = list_any (λ y. shares_values x.rule y.rule) xs
+-- The action finds the whole value, and not its parts.
+abbrev pub takes_whole : Verb → Bool
+takes_whole Blank = true
+takes_whole Digits = false
+takes_whole Hex = false
+takes_whole Long = false
+takes_whole Uuid = false
+
+-- The two cannot declare the ids of one value (own): they have one action and two labels, or one
+-- finds the whole value and the other its parts, or they are `uuid` and `digits`.
+abbrev pub are_opposed : Declaration → Declaration → Bool
+are_opposed x y = cond (same_verb x.rule.verb y.rule.verb) (not (bytes_eq x.label y.label))
+    (takes_whole x.rule.verb || (takes_whole y.rule.verb || excludes x.rule.verb y.rule.verb))
+
+-- Some value may be at the places of both declarations, and they cannot declare its ids.
+abbrev pub disagrees : Declaration → Declaration → Bool
+disagrees x y = shares_values x.rule y.rule && are_opposed x y
+
+-- One of these disagrees with the declaration.
+abbrev pub disagrees_with : Declaration → List Declaration → Bool
+disagrees_with x xs = list_any (disagrees x) xs
 
 -- The action changes decimal digits, and so the number in a name.
 abbrev pub takes_numbers : Verb → Bool

@@ -6,7 +6,7 @@ use Rattle.std.specs.Prelude.{is_some}
 use Rattle.std.specs.{Str.is_utf8, List.list_any}
 use Rattle.dap_mask.specs.Categories.{is_category_among, is_moved_by, moves_one_of, moves_joined}
 use Rattle.dap_mask.specs.Categories.{is_output_moved_by}
-use Rattle.dap_mask.specs.Declarations.{Declaration, is_own_label, is_misdeclared, shares_ids}
+use Rattle.dap_mask.specs.Declarations.{Declaration, is_own_label, is_misdeclared, disagrees_with}
 use Rattle.dap_mask.specs.Declarations.{is_declared_among, blurs_one_of, is_blurred_by}
 use Rattle.dap_mask.specs.Ids.{takes_profile_id}
 use Rattle.dap_mask.specs.Mask.{Mask, no_rules, rule_count, with_rule, Statement, change, leave_out}
@@ -65,7 +65,7 @@ abbrev pub declaration_cause : Mask → Declaration → Option RulesCause
 declaration_cause m x = cond (not (is_own_label x.label)) (Some BadLabel)
     (cond (is_misdeclared x.rule) (Some BadPlace)
     (cond (is_declared_among x m.declared) (Some Repeated)
-    (cond (shares_ids x m.declared || is_blurred_by m.changes x) (Some Clash) None)))
+    (cond (disagrees_with x m.declared || is_blurred_by m.changes x) (Some Clash) None)))
 
 -- The cause, as an error of a rules file.
 abbrev pub cause_of_word : WordCause → RulesCause

@@ -2,12 +2,13 @@
 ghost use Rattle.std.specs.{Prelude.{◌≡◌}, List.list_any};
 ghost use Rattle.dap_mask.specs.Declarations.{declaration_of, is_sort_word, is_own_label};
 ghost use Rattle.dap_mask.specs.Declarations.{is_of_category, is_misdeclared, same_declaration};
-ghost use Rattle.dap_mask.specs.Declarations.{takes_numbers, blurs};
-ghost use Rattle.dap_mask.specs.Rules.{rule_of, shares_values};
+ghost use Rattle.dap_mask.specs.Declarations.{takes_numbers, blurs, takes_whole, are_opposed};
+ghost use Rattle.dap_mask.specs.Declarations.{disagrees};
+ghost use Rattle.dap_mask.specs.Rules.{rule_of};
 
 use crate::categories::holds_category;
 use crate::element_names::is_for_names;
-use crate::meets::{is_telling_place, same_rule, shares_values};
+use crate::meets::{excludes, is_telling_place, same_rule, same_verb, shares_values};
 use crate::profile_ids::takes_profile_id;
 use crate::rules::{MaskRule, Verb};
 use dap_tokens::is_label;
@@ -64,14 +65,37 @@ pub(crate) fn is_declared_among(rule: &Declaration, rules: &[Declaration]) -> bo
     rules.iter().any(|other| same_declaration(rule, other))
 }
 
-/// Returns whether some value may be at the places of the declaration and of one of the others.
-pub(crate) fn shares_ids(rule: &Declaration, rules: &[Declaration]) -> bool
-    ensures { result ≡ list_any
-        (λ x. shares_values (declaration_of rule.now).rule (declaration_of x).rule) rules.now }
+fn takes_whole(verb: Verb) -> bool
+    ensures { result ≡ takes_whole verb }
 {
-    rules
-        .iter()
-        .any(|other| shares_values(&rule.rule, &other.rule))
+    matches!(verb, Verb::Blank)
+}
+
+// Returns whether the two cannot declare the ids of one value.
+fn are_opposed(rule: &Declaration, other: &Declaration) -> bool
+    ensures { result ≡ are_opposed (declaration_of rule.now) (declaration_of other.now) }
+{
+    let (verb, other_verb) = (rule.rule.verb, other.rule.verb);
+    if same_verb(verb, other_verb) {
+        rule.label.as_str() != other.label.as_str()
+    } else {
+        takes_whole(verb) || takes_whole(other_verb) || excludes(verb, other_verb)
+    }
+}
+
+fn disagrees(rule: &Declaration, other: &Declaration) -> bool
+    ensures { result ≡ disagrees (declaration_of rule.now) (declaration_of other.now) }
+{
+    shares_values(&rule.rule, &other.rule) && are_opposed(rule, other)
+}
+
+/// Returns whether the declaration and one of the others may be for one value whose ids they cannot
+/// both declare.
+pub(crate) fn disagrees_with(rule: &Declaration, rules: &[Declaration]) -> bool
+    ensures { result ≡ list_any
+        (λ x. disagrees (declaration_of rule.now) (declaration_of x)) rules.now }
+{
+    rules.iter().any(|other| disagrees(rule, other))
 }
 
 fn takes_numbers(verb: Verb) -> bool

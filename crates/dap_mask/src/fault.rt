@@ -57,12 +57,13 @@ pub enum RulesCause {
     /// could change a text again. Or one changes `body.category` of events that the other drops,
     /// selects or joins by their category. Or one changes `body` of events, and the other applies
     /// only to events of one category. Or both may set the same member, or one sets a member of a
-    /// value that the other blanks. Or both declare ids at one place. Or one declares ids there,
-    /// and the other is `digits` or `long`, which would change the numbers in their names.
+    /// value that the other blanks. Or both declare ids at one place, with one action and two
+    /// labels, or one of them by `blank`. Or one declares ids there, and the other is `digits` or
+    /// `long`, which would change the numbers in their names.
     ///
-    /// - Cause: `uuid` and `digits` at one place, or two rules for one place of which one ends in
-    ///   `as LABEL`. Or a change of a category by which events are dropped, selected or joined. Or a
-    ///   `blank` of a value that contains the place of a `fill`.
+    /// - Cause: `uuid` and `digits` at one place, or two labels there for one action. Or a change of
+    ///   a category by which events are dropped, selected or joined. Or a `blank` of a value that
+    ///   contains the place of a `fill`.
     /// - Fix: leave one of the two out, or give two rules for events different categories.
     Clash,
     /// The text of a `word` line is empty, or a word of the file can overlap a text of the file:

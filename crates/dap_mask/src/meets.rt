@@ -47,7 +47,7 @@ pub(crate) fn same_name(name: Option<&str>, other: Option<&str>) -> bool
     }
 }
 
-fn same_verb(verb: Verb, other: Verb) -> bool
+pub(crate) fn same_verb(verb: Verb, other: Verb) -> bool
     ensures { result ≡ same_verb verb other }
 {
     verb == other
@@ -130,7 +130,7 @@ pub(crate) fn is_among(rule: &MaskRule, rules: &[MaskRule]) -> bool
 }
 
 // Returns whether the two actions exclude each other at one place.
-fn excludes(verb: Verb, other: Verb) -> bool
+pub(crate) fn excludes(verb: Verb, other: Verb) -> bool
     ensures { result ≡ excludes verb other }
 {
     matches!(

@@ -19,8 +19,8 @@ use crate::categories::{
     moves_one_of, moves_output, recategorises,
 };
 use crate::declarations::{
-    Declaration, blurs_one_of, is_blurred_by, is_declared_among, is_misdeclared, is_own_label,
-    shares_ids,
+    Declaration, blurs_one_of, disagrees_with, is_blurred_by, is_declared_among, is_misdeclared,
+    is_own_label,
 };
 use crate::element_names::renames;
 use crate::fault::{RulesCause, RulesFault};
@@ -86,7 +86,7 @@ impl RuleList {
     ghost use Rattle.dap_mask.specs.Rules.{disturbs_one_of};
     ghost use Rattle.dap_mask.specs.ListedRules.{listed_mask, listed_changes, listed_categories};
     ghost use Rattle.dap_mask.specs.ListedRules.{listed_joining, listed_fills, listed_declared};
-    ghost use Rattle.dap_mask.specs.Declarations.{blurs_one_of, shares_ids, is_blurred_by};
+    ghost use Rattle.dap_mask.specs.Declarations.{blurs_one_of, disagrees_with, is_blurred_by};
     ghost use Rattle.dap_mask.specs.Fills.{removes_one_of, clashes_with_fills, is_removed_by};
     ghost use Rattle.dap_mask.specs.Mask.{no_rules, rule_count, with_rule, statement_of, nothing};
     ghost use Rattle.dap_mask.specs.Mask.{change, leave_out_category, join, put, fill, omit};
@@ -325,10 +325,10 @@ impl RuleList {
     // a name.
     #[tactic(auto, using(crate::proofs::Lists::any_mapped))]
     fn excludes_declaration(&self, rule: &Declaration) -> bool
-        ensures { result ≡ (shares_ids (declaration_of rule.now) (listed_declared self.now)
+        ensures { result ≡ (disagrees_with (declaration_of rule.now) (listed_declared self.now)
             || is_blurred_by (listed_changes self.now) (declaration_of rule.now)) }
     {
-        shares_ids(rule, &self.declared) || is_blurred_by(&self.changes, rule)
+        disagrees_with(rule, &self.declared) || is_blurred_by(&self.changes, rule)
     }
 
     // Returns why a declaration may not follow the rules read so far, apart from their number.

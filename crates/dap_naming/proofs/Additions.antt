@@ -6,7 +6,8 @@ use Rattle.std.specs.List.{list_any, position_or_len}
 use Rattle.std.specs.Str.{bytes_eq}
 use Rattle.std.proofs.lemmas.Slice.Eq.{bytes_eq-Decides}
 use Rattle.std.proofs.lemmas.List.Folds.{list_any-append}
-use Rattle.dap_naming.specs.Numbers.{Id, values, add, add_all, distinct}
+use Rattle.dap_tokens.specs.Naming.{Id}
+use Rattle.dap_naming.specs.Numbers.{values, add, add_all, distinct}
 use Rattle.dap_naming.proofs.Lists.{by_bool, at_end, place_below}
 
 pub same_bytes : (xs ys : List ℕ) → bytes_eq xs ys ≡ true → xs ≡ ys

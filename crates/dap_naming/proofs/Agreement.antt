@@ -1,5 +1,5 @@
 -- Only the numbers of the ids of a document matter for its names.
-use Rattle.std.proofs.Common.{◌≡◌, ℕ, ℤ, pos, List, [], ◌∷◌, ◌++◌, map, length}
+use Rattle.std.proofs.Common.{◌≡◌, ℕ, ℤ, pos, List, [], ◌∷◌, ◌++◌, length}
 use Rattle.std.proofs.Common.{Option, Some, None, refl, ap, ap₂, sym, ◌∙◌, append_assoc}
 use Rattle.std.specs.Fmt.{decimal}
 use Rattle.std.proofs.lemmas.List.{map-append, length-map}
@@ -7,51 +7,40 @@ use Rattle.dap_tree.specs.Doc.{Doc, null, boolean, whole, text, list, object, id
 use Rattle.dap_tree.specs.Doc.{item, Members, no_members, member}
 use Rattle.dap_tokens.specs.Tokens.{Part, literal, token, parts, name}
 use Rattle.dap_tokens.specs.Values.{value, is_nothing}
-use Rattle.dap_tokens.specs.Naming.{ids, ids_of_parts, named_parts}
-use Rattle.dap_tokens.specs.declared.form.Form.{Form}
-use Rattle.dap_naming.specs.Numbers.{Id, Numbering, number, numbered}
+use Rattle.dap_tokens.specs.Naming.{ids_of_parts, named_parts, Id, Numbering, numbered}
+use Rattle.dap_tokens.specs.declared.form.Form.TheVariants.{Whole}
+use Rattle.dap_naming.specs.Numbers.{number}
 use Rattle.dap_naming.specs.Documents.{Declared, here, below, inside, ids_of, items_ids}
 use Rattle.dap_naming.specs.Documents.{members_ids, named_doc, named_items, named_members}
-use Rattle.dap_naming.specs.Documents.{named_text, named_whole, ids_of_text, ids_of_whole, is_id_at}
+use Rattle.dap_naming.specs.Documents.{named_whole, ids_of_whole, integer_text}
 use Rattle.dap_naming.specs.Messages.{Message, ids_of_all, named_each, named_all}
 use Rattle.dap_naming.specs.Laws.{OnlyOwnIdsMatter, NamesOfPrefix}
 use Rattle.dap_naming.proofs.Lists.{by_bool, head_of, tail_of, same_cons, same_append}
 use Rattle.dap_naming.proofs.Lists.{front_of, rest_of}
 use Rattle.dap_naming.proofs.Numbers.{each_among, numbered_in_prefix}
-use Rattle.dap_naming.proofs.Values.{numbers_labelled}
 
 -- ---- strings and integers
 
-named_by_parts : (label : List ℕ) (form : Form) (f g : List ℕ → ℕ) (ps : List Part)
-    → map f (ids_of_parts label form ps) ≡ map g (ids_of_parts label form ps)
-    → named_parts label form f ps ≡ named_parts label form g ps
-named_by_parts label form f g [] h = refl
-named_by_parts label form f g (literal b ∷ ps) h =
-    ap (λ s. b ∷ s) (named_by_parts label form f g ps h)
-named_by_parts label form f g (token t ∷ ps) h =
+parts_agree : (f g : Numbering) (ps : List Part)
+    → numbered f (ids_of_parts ps) ≡ numbered g (ids_of_parts ps)
+    → named_parts f ps ≡ named_parts g ps
+parts_agree f g [] h = refl
+parts_agree f g (literal b ∷ ps) h = ap (λ s. b ∷ s) (parts_agree f g ps h)
+parts_agree f g (token form label t ∷ ps) h =
     by_bool (is_nothing (value label form t))
-    (λ e. let k = rw e at h in rw e (ap (λ s. t ++ s) (named_by_parts label form f g ps k)))
+    (λ e. let k = rw e at h in rw e (ap (λ s. t ++ s) (parts_agree f g ps k)))
     (λ e. let k = rw e at h in
-    rw e (same_append _ _ _ _ (ap (λ n. name label (decimal n)) (head_of k))
-    (named_by_parts label form f g ps (tail_of k))))
+    rw e (same_append _ _ _ _ (ap (λ (n : List ℕ × ℕ). name label (decimal n.1)) (head_of k))
+    (parts_agree f g ps (tail_of k))))
 
-text_agrees : (o : Option (Form × List ℕ)) (f g : Numbering) (s : List ℕ)
-    → numbered f (ids_of_text o s) ≡ numbered g (ids_of_text o s)
-    → named_text o f s ≡ named_text o g s
-text_agrees None f g s h = refl
-text_agrees (Some r) f g s h =
-    named_by_parts r.1 r.0 (f r.1) (g r.1) (parts r.1 r.0 s)
-    (sym (numbers_labelled r.1 f (ids r.1 r.0 s))
-    ∙ (ap (map (λ (t : List ℕ × ℕ). t.1)) h ∙ numbers_labelled r.1 g (ids r.1 r.0 s)))
-
-whole_agrees : (o : Option (Form × List ℕ)) (f g : Numbering) (z : ℤ)
+whole_agrees : (o : Option (List ℕ)) (f g : Numbering) (z : ℤ)
     → numbered f (ids_of_whole o z) ≡ numbered g (ids_of_whole o z)
     → named_whole o f z ≡ named_whole o g z
 whole_agrees None f g z h = refl
-whole_agrees (Some r) f g z h =
-    by_bool (is_id_at (Some r) z)
-    (λ e. let k = rw e at h in rw e (ap (λ (t : List ℕ × ℕ). pos t.1) (head_of k)))
+whole_agrees (Some label) f g z h =
+    by_bool (is_nothing (integer_text z))
     (λ e. rw e refl)
+    (λ e. let k = rw e at h in rw e (ap (λ (t : List ℕ × ℕ). pos t.1) (head_of k)))
 
 -- ---- documents
 
@@ -80,8 +69,8 @@ module _ (f g : Numbering) where
         → numbered f (ids_of rs d) ≡ numbered g (ids_of rs d) → named_doc rs f d ≡ named_doc rs g d
     doc_agrees rs null h = refl
     doc_agrees rs (boolean b) h = refl
-    doc_agrees rs (whole z) h = ap whole (whole_agrees (here rs) f g z h)
-    doc_agrees rs (text s) h = ap text (text_agrees (here rs) f g s h)
+    doc_agrees rs (whole z) h = ap whole (whole_agrees (here rs Whole) f g z h)
+    doc_agrees rs (text s) h = ap text (parts_agree f g (parts (here rs) s) h)
     doc_agrees rs (list ds) h = ap list (items_agree rs ds h)
     doc_agrees rs (object ms) h = ap object (members_agree rs ms h)
     doc_agrees rs (id sort z) h = refl

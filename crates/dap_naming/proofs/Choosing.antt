@@ -9,11 +9,13 @@ use Rattle.dap_mask.specs.Rules.{place_of}
 use Rattle.dap_mask.specs.declared.rules.Step.{Step as ReadStep}
 use Rattle.dap_mask.specs.RuleSteps.{RuleStep}
 use Rattle.dap_tree.specs.Doc.{Doc}
-use Rattle.dap_tokens.specs.Tokens.{is_label}
+use Rattle.dap_tokens.specs.Tokens.{Labels, is_label}
+use Rattle.dap_tokens.specs.Models.{no_labels, same_form, label_or, with_label}
+use Rattle.dap_tokens.specs.declared.form.Form.{Form}
 use Rattle.dap_naming.specs.declared.rules.Declared.{Declared as ReadDeclared}
 use Rattle.dap_naming.specs.Documents.{Declared, after_first, after_step, is_here, here, below}
 use Rattle.dap_naming.specs.Documents.{inside, is_to_member, is_to_element}
-use Rattle.dap_naming.specs.DeclaredRules.{have_labels, with_place, after_if, HasLabel}
+use Rattle.dap_naming.specs.DeclaredRules.{have_labels, with_place, after_if}
 use Rattle.dap_naming.specs.DeclaredRules.{declared_of, is_only_member, rules_of}
 use Rattle.dap_naming.proofs.Lists.{by_bool, first_of_both, second_of_both}
 
@@ -57,16 +59,6 @@ labels-below k rs h = ap have_labels (below-left k rs) ∙ labels-left (is_to_me
 pub labels-inside : (d : Doc) (rs : List Declared) → have_labels rs ≡ true
     → have_labels (inside d rs) ≡ true
 labels-inside d rs h = ap have_labels (inside-left d rs) ∙ labels-left (is_to_element d) rs h
-
-pub labelled_here : (rs : List Declared) → have_labels rs ≡ true → HasLabel (here rs)
-labelled_here [] h = tt
-labelled_here (r ∷ rs) h =
-    by_place (is_here r.place) (first_of_both _ _ h) (labelled_here rs (second_of_both _ _ h))
-  where
-    by_place : (b : Bool) → is_label r.label ≡ true → HasLabel (here rs)
-        → HasLabel (cond b (Some (r.form, r.label)) (here rs))
-    by_place true p q = p
-    by_place false p q = q
 
 pub no_rules : (rs : List ReadDeclared) → (length rs == 0) ≡ true → rules_of rs ≡ []
 no_rules [] h = refl
@@ -130,12 +122,50 @@ left_step test rs i r before after e h =
     (sym (left-one test (declared_of r) (rules_of (drop (i + 1) rs)))
     ∙ sym (ap (λ ts. left_by test (rules_of ts)) e))
 
-pub here_step : (rs : List ReadDeclared) (i : ℕ) (r : ReadDeclared)
-    → drop i rs ≡ r ∷ drop (i + 1) rs → is_here (place_of r.place.now) ≡ false
-    → here (rules_of (drop (i + 1) rs)) ≡ here (rules_of (drop i rs))
-here_step rs i r e h =
-    sym (ap (λ ts. here (rules_of ts)) e
-    ∙ ap (λ b. cond b (Some (r.form, r.label.now)) (here (rules_of (drop (i + 1) rs)))) h)
+-- the labels so far, and those of the rest
+label_added : (form f : Form) (label : List ℕ) (o rest : Option (List ℕ))
+    → label_or (cond (same_form form f) (label_or o (Some label)) o) rest
+    ≡ label_or o (cond (same_form form f) (Some label) rest)
+label_added form f label None rest = by_bool (same_form form f) (λ e. rw e refl) (λ e. rw e refl)
+label_added form f label (Some own) rest =
+    by_bool (same_form form f) (λ e. rw e refl) (λ e. rw e refl)
+
+label_last : (o : Option (List ℕ)) → label_or o None ≡ o
+label_last None = refl
+label_last (Some label) = refl
+
+pub labels_first : (labels rest : Labels) → labels ≡ no_labels → (form : Form)
+    → label_or (labels form) (rest form) ≡ rest form
+labels_first labels rest none form = ap (λ (l : Labels). label_or (l form) (rest form)) none
+
+pub labels_last : (labels rest all : Labels) → rest ≡ no_labels
+    → ((form : Form) → label_or (labels form) (rest form) ≡ all form) → labels ≡ all
+labels_last labels rest all none h =
+    let each : (form : Form) → labels form ≡ all form =
+    λ form. sym (label_last (labels form))
+    ∙ ap (λ (l : Labels). label_or (labels form) (l form)) (sym none) ∙ h form in
+    λ i form. each form i
+
+-- the rules that are for a value itself give its labels
+module _ (labels : Labels) (rs : List ReadDeclared) (i : ℕ) (r : ReadDeclared)
+    (is : drop i rs ≡ r ∷ drop (i + 1) rs) (f : Form) where
+  pub here_added : (added : Labels) → is_here (place_of r.place.now) ≡ true
+      → added ≡ with_label r.form r.label.now labels
+      → label_or (added f) (here (rules_of (drop (i + 1) rs)) f)
+      ≡ label_or (labels f) (here (rules_of (drop i rs)) f)
+  here_added added to e =
+      let rest = here (rules_of (drop (i + 1) rs)) f in
+      ap (λ (l : Labels). label_or (l f) rest) e
+      ∙ label_added r.form f r.label.now (labels f) rest
+      ∙ ap (label_or (labels f)) (sym (ap (λ ts. here (rules_of ts) f) is
+      ∙ ap (λ b. cond (b && same_form r.form f) (Some r.label.now) rest) to))
+
+  pub here_skipped : is_here (place_of r.place.now) ≡ false
+      → here (rules_of (drop (i + 1) rs)) f ≡ here (rules_of (drop i rs)) f
+  here_skipped other =
+      let rest = here (rules_of (drop (i + 1) rs)) f in
+      sym (ap (λ ts. here (rules_of ts) f) is
+      ∙ ap (λ b. cond (b && same_form r.form f) (Some r.label.now) rest) other)
 
 -- the step to a member is the last
 abbrev pub is_last : Option (List RuleStep) → Bool
@@ -151,9 +181,9 @@ only_member k steps left e =
     (λ to. ap is_last (e ∙ ap (λ b. after_if b steps) to)
     ∙ sym (ap (λ b. b && is_here (after_first steps)) to))
 
--- the rules for a member, after a rule that is not for its value
-module _ (k : List ℕ) (rs : List ReadDeclared) (i : ℕ) (r : ReadDeclared)
-    (is : drop i rs ≡ r ∷ drop (i + 1) rs) where
+-- the rules that are for the value of a member give its labels
+module _ (labels : Labels) (k : List ℕ) (rs : List ReadDeclared) (i : ℕ) (r : ReadDeclared)
+    (is : drop i rs ≡ r ∷ drop (i + 1) rs) (f : Form) where
   abbrev rest : List Declared
   rest = below k (rules_of (drop (i + 1) rs))
 
@@ -164,23 +194,34 @@ module _ (k : List ℕ) (rs : List ReadDeclared) (i : ℕ) (r : ReadDeclared)
       ≡ cond (is_to_member k first.place) (after_step first ∷ rest) rest
   next_below = ap (λ ts. below k (rules_of ts)) is
 
-  pub first_below : is_only_member k (place_of r.place.now) ≡ true
-      → here (below k (rules_of (drop i rs))) ≡ Some (r.form, r.label.now)
+  first_below : is_only_member k (place_of r.place.now) ≡ true
+      → here (below k (rules_of (drop i rs))) f
+      ≡ cond (same_form r.form f) (Some r.label.now) (here rest f)
   first_below only =
       let to : is_to_member k first.place ≡ true = first_of_both _ _ only in
       let last : is_here (after_first first.place) ≡ true = second_of_both _ _ only in
-      ap here (next_below ∙ ap (λ b. cond b (after_step first ∷ rest) rest) to)
-      ∙ ap (λ b. cond b (Some (r.form, r.label.now)) (here rest)) last
+      ap (λ ts. here ts f)
+      (next_below ∙ ap (λ b. cond b (after_step first ∷ rest) rest) to)
+      ∙ ap (λ b. cond (b && same_form r.form f) (Some r.label.now) (here rest f)) last
+
+  pub below_added : (added : Labels) → is_only_member k (place_of r.place.now) ≡ true
+      → added ≡ with_label r.form r.label.now labels
+      → label_or (added f) (here rest f)
+      ≡ label_or (labels f) (here (below k (rules_of (drop i rs))) f)
+  below_added added only e =
+      ap (λ (l : Labels). label_or (l f) (here rest f)) e
+      ∙ label_added r.form f r.label.now (labels f) (here rest f)
+      ∙ ap (label_or (labels f)) (sym (first_below only))
 
   pub not_below : is_only_member k (place_of r.place.now) ≡ false
-      → here rest ≡ here (below k (rules_of (drop i rs)))
+      → here rest f ≡ here (below k (rules_of (drop i rs))) f
   not_below other =
-      sym (ap here next_below
+      sym (ap (λ ts. here ts f) next_below
       ∙ by_bool (is_to_member k first.place)
-      (λ to. ap (λ b. here (cond b (after_step first ∷ rest) rest)) to
-      ∙ ap (λ b. cond b (Some (r.form, r.label.now)) (here rest))
+      (λ to. ap (λ b. here (cond b (after_step first ∷ rest) rest) f) to
+      ∙ ap (λ b. cond (b && same_form r.form f) (Some r.label.now) (here rest f))
       (sym (ap (λ b. b && is_here (after_first first.place)) to) ∙ other))
-      (λ to. ap (λ b. here (cond b (after_step first ∷ rest) rest)) to))
+      (λ to. ap (λ b. here (cond b (after_step first ∷ rest) rest) f) to))
 
 pub place_here : (steps : List ReadStep) → is_here (place_of steps) ≡ (length steps == 0)
 place_here [] = refl

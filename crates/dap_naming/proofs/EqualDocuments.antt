@@ -6,19 +6,20 @@ use Rattle.std.proofs.lemmas.Fmt.{decimal_injective}
 use Rattle.std.proofs.lemmas.List.{length-map}
 use Rattle.dap_tree.specs.Doc.{Doc, null, boolean, whole, text, list, object, id, Items, no_items}
 use Rattle.dap_tree.specs.Doc.{item, Members, no_members, member}
+use Rattle.dap_tokens.specs.Naming.{Id, IsNumbering, Numbering, named_by, numbered}
 use Rattle.dap_tokens.specs.Laws.{NamesAreRead, NamedTwice, EqualNamed}
-use Rattle.dap_naming.specs.Numbers.{Id, Numbering, numbered, named_by}
-use Rattle.dap_naming.specs.Documents.{Declared, AreNumberings, here, below, inside, ids_of}
+use Rattle.dap_tokens.specs.declared.form.Form.TheVariants.{Whole}
+use Rattle.dap_naming.specs.Documents.{Declared, here, below, inside, ids_of}
 use Rattle.dap_naming.specs.Documents.{items_ids, members_ids, named_doc, named_items}
 use Rattle.dap_naming.specs.Documents.{named_members, skeleton_doc, are_sound}
 use Rattle.dap_naming.specs.Laws.{EqualNamedDocs}
 use Rattle.dap_naming.proofs.Lists.{head_of, tail_of, front_of, rest_of}
 use Rattle.dap_naming.proofs.SoundRules.{sound-below, sound-inside, label-here, inside-named}
 use Rattle.dap_naming.proofs.Agreement.{numbered-append}
-use Rattle.dap_naming.proofs.Values.{whole_equal, text_equal}
+use Rattle.dap_naming.proofs.Values.{whole_equal}
 use Rattle.dap_naming.proofs.NamedDocuments.{names_of_doc_are_read, named_doc_twice}
 
-pub one_is_numbering : AreNumberings (λ label v. 1)
+pub one_is_numbering : IsNumbering (λ label v. 1)
 one_is_numbering label v = (omega arith, omega arith)
 
 -- ---- lists of numbers
@@ -28,8 +29,8 @@ same_numbered : (l m : List ℕ) (j k : ℕ) (js ks : List (List ℕ × ℕ)) �
 same_numbered l m j k js ks e f g = rw (e, f, g) refl
 
 -- equal decimal digits are equal numbers
-pub numbers_from_names : (number other : Numbering) (is js : List Id) → AreNumberings number
-    → AreNumberings other → named_by number is ≡ named_by other js
+pub numbers_from_names : (number other : Numbering) (is js : List Id) → IsNumbering number
+    → IsNumbering other → named_by number is ≡ named_by other js
     → numbered number is ≡ numbered other js
 numbers_from_names number other [] [] n m e = refl
 numbers_from_names number other [] (j ∷ js) n m e = absurd cc
@@ -100,7 +101,7 @@ module _ (read : NamesAreRead) (twice : NamedTwice) (equal : EqualNamed) where
       sym (inside-named rs number d s)
       ∙ (ap (λ x. inside x rs) h ∙ inside-named rs other e s)
 
-  module _ (number other : Numbering) (n : AreNumberings number) (m : AreNumberings other) where
+  module _ (number other : Numbering) (n : IsNumbering number) (m : IsNumbering other) where
     pub split_front : (rs : List Declared) (d e : Doc) (is js : List Id) → are_sound rs ≡ true
         → skeleton_doc rs d ≡ skeleton_doc rs e
         → numbered number (ids_of rs d ++ is) ≡ numbered other (ids_of rs e ++ js)
@@ -130,11 +131,10 @@ module _ (read : NamesAreRead) (twice : NamedTwice) (equal : EqualNamed) where
       doc_equal rs (boolean b) (boolean c) s h k = h
       doc_equal rs (boolean b) e s h k = absurd cc
       doc_equal rs (whole z) (whole y) s h k =
-          ap whole (whole_equal (here rs) number other z y (whole_of _ _ h) k)
+          ap whole (whole_equal (here rs Whole) number other z y (whole_of _ _ h) k)
       doc_equal rs (whole z) e s h k = absurd cc
       doc_equal rs (text t) (text u) s h k =
-          ap text (text_equal read twice equal (here rs) number other t u (label-here rs s) n m
-          (text_of _ _ h) k)
+          ap text ((equal (here rs) number other t u (label-here rs s) n m).1 (text_of _ _ h, k))
       doc_equal rs (text t) e s h k = absurd cc
       doc_equal rs (list ds) (list es) s h k =
           ap list (items_equal rs ds es s (list_of _ _ h) k)
@@ -189,7 +189,7 @@ module _ (read : NamesAreRead) (twice : NamedTwice) (equal : EqualNamed) where
   -- ---- the same named document
 
   same_skeleton : (rs : List Declared) (number other : Numbering) (d e : Doc)
-      → are_sound rs ≡ true → AreNumberings number → AreNumberings other
+      → are_sound rs ≡ true → IsNumbering number → IsNumbering other
       → named_doc rs number d ≡ named_doc rs other e → skeleton_doc rs d ≡ skeleton_doc rs e
   same_skeleton rs number other d e s n m h =
       sym (named_doc_twice read twice equal rs number (λ label v. 1) d s n)
@@ -197,7 +197,7 @@ module _ (read : NamesAreRead) (twice : NamedTwice) (equal : EqualNamed) where
       ∙ named_doc_twice read twice equal rs other (λ label v. 1) e s m)
 
   same_numbers : (rs : List Declared) (number other : Numbering) (d e : Doc)
-      → are_sound rs ≡ true → AreNumberings number → AreNumberings other
+      → are_sound rs ≡ true → IsNumbering number → IsNumbering other
       → named_doc rs number d ≡ named_doc rs other e
       → numbered number (ids_of rs d) ≡ numbered other (ids_of rs e)
   same_numbers rs number other d e s n m h =

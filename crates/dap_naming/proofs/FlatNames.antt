@@ -1,10 +1,12 @@
 -- Names in parts of a list of nodes.
 use Rattle.std.proofs.Common.{◌≡◌, ◌∙◌, ℕ, ◌+◌, ◌<◌, List, [], ◌∷◌, ◌++◌, length, take, drop}
 use Rattle.std.proofs.Common.{get_or, set, refl, sym, ap, ap₂, subst, arith, append_assoc}
-use Rattle.std.proofs.Common.{append-nil, length-append, ℤ, Option}
+use Rattle.std.proofs.Common.{append-nil, length-append, ℤ}
 use Rattle.std.proofs.Math.Seq.{take-append_seam, drop-append_seam}
 use Rattle.std.proofs.lemmas.List.{map-append, length-map}
-use Rattle.dap_tokens.specs.declared.form.Form.{Form}
+use Rattle.dap_tokens.specs.Naming.{Id, Numbering, ids, named}
+use Rattle.dap_tokens.specs.Tokens.{Labels}
+use Rattle.dap_tokens.specs.declared.form.Form.TheVariants.{Whole}
 use Rattle.dap_tree.specs.Doc.{Doc, null, boolean, whole, text, list, object, id, Items, no_items}
 use Rattle.dap_tree.specs.Doc.{item, Members, no_members, member}
 use Rattle.dap_flat.specs.declared.node.Node.{Node}
@@ -20,13 +22,12 @@ use Rattle.dap_flat_message.proofs.Heads.{holds_whole}
 use Rattle.dap_mask.specs.{Declarations.Declaration, FlatMasking.IsTold}
 use Rattle.dap_mask.proofs.FlatChanges.{shown_whole}
 use Rattle.dap_naming.specs.Documents.{Declared, below, inside, ids_of, items_ids, members_ids}
-use Rattle.dap_naming.specs.Documents.{named_doc, named_items, named_members, named_text}
-use Rattle.dap_naming.specs.Documents.{named_whole, here, ids_of_text, ids_of_whole}
+use Rattle.dap_naming.specs.Documents.{named_doc, named_items, named_members, named_whole, here}
+use Rattle.dap_naming.specs.Documents.{ids_of_whole}
 use Rattle.dap_naming.specs.Flat.{NamesWithin, Stretch, of_doc, of_items, of_members, NamesStretch}
 use Rattle.dap_naming.specs.Flat.{NamesValue, NamesLeaf, NamesWhole, SoFar, NamesNodes}
 use Rattle.dap_naming.specs.Flat.{FitsNodes}
 use Rattle.dap_naming.specs.Known.{FitsLimit, Names, limit_of}
-use Rattle.dap_naming.specs.Numbers.{Id, Numbering}
 use Rattle.dap_naming.specs.Sessions.{rules_for}
 use Rattle.dap_naming.specs.declared.value_numbers.ValueNumbers.{ValueNumbers}
 use Rattle.dap_naming.proofs.Limits.{fits_none, fits_then}
@@ -400,30 +401,31 @@ module _ (a b : ValueNumbers) (ns : List Node) (at : ℕ) (n x : Node) (rs : Lis
 -- ---- what is named in one node
 
 module _ (a b : ValueNumbers) (rs : List Declared) (p q : Piece) where
-  pub text_leaf : (rule : Option (Form × List ℕ)) (s t : List ℕ) → rule ≡ here rs
+  pub text_leaf : (labels : Labels) (s t : List ℕ) → labels ≡ here rs
       → p ≡ leaf (text s) → q ≡ leaf (text t)
-      → NamesWithin a b (ids_of_text rule s) (λ n. t ≡ named_text rule n s) → NamesLeaf rs a b p q
-  text_leaf rule s t is was now h = (
+      → NamesWithin a b (ids labels s) (λ n. t ≡ named labels n s) → NamesLeaf rs a b p q
+  text_leaf labels s t is was now h = (
     text s,
     was,
     text t,
     now,
-    within_like a b (ids_of_text (here rs) s) (λ n. t ≡ named_text (here rs) n s)
-        (λ n. text t ≡ text (named_text (here rs) n s))
-        (subst (λ r. NamesWithin a b (ids_of_text r s) (λ n. t ≡ named_text r n s)) is h)
+    within_like a b (ids (here rs) s) (λ n. t ≡ named (here rs) n s)
+        (λ n. text t ≡ text (named (here rs) n s))
+        (subst (λ (l : Labels). NamesWithin a b (ids l s) (λ n. t ≡ named l n s)) is h)
         (λ n e. ap text e),
   )
 
-  pub whole_leaf : (rule : Option (Form × List ℕ)) (z : ℤ) → rule ≡ here rs
-      → p ≡ leaf (whole z) → NamesWhole rule a b z q → NamesLeaf rs a b p q
-  whole_leaf rule z is was h = (
+  pub whole_leaf : (labels : Labels) (z : ℤ) → labels ≡ here rs
+      → p ≡ leaf (whole z) → NamesWhole (labels Whole) a b z q → NamesLeaf rs a b p q
+  whole_leaf labels z is was h = (
     whole z,
     was,
     whole h.0,
     h.1,
-    within_like a b (ids_of_whole (here rs) z) (λ n. h.0 ≡ named_whole (here rs) n z)
-        (λ n. whole h.0 ≡ whole (named_whole (here rs) n z))
-        (subst (λ r. NamesWithin a b (ids_of_whole r z) (λ n. h.0 ≡ named_whole r n z)) is h.2)
+    within_like a b (ids_of_whole (here rs Whole) z) (λ n. h.0 ≡ named_whole (here rs Whole) n z)
+        (λ n. whole h.0 ≡ whole (named_whole (here rs Whole) n z))
+        (subst (λ (l : Labels). NamesWithin a b (ids_of_whole (l Whole) z)
+        (λ n. h.0 ≡ named_whole (l Whole) n z)) is h.2)
         (λ n e. ap whole e),
   )
 

@@ -2,25 +2,30 @@
 use Rattle.std.proofs.Common.{◌≡◌, ℕ, ◌+◌, ℤ, Bool, true, false, cond, List, [], ◌∷◌, ◌++◌, map}
 use Rattle.std.proofs.Common.{take, drop, Option, Some, None, is_some, option_map, unwrap_or, Bor}
 use Rattle.std.proofs.Common.{bytes_eq, string_bytes, nat_cmp, ◌⊎◌, inl, inr, ⊎_elim, refl, ap, ap₂}
-use Rattle.std.proofs.Common.{sym, ◌∙◌, append_assoc}
+use Rattle.std.proofs.Common.{sym, ◌∙◌, append_assoc, suc, ◌-◌, ◌<◌, length, length-drop, arith}
+use Rattle.std.proofs.Common.{String, Global, rules}
 use Rattle.std.proofs.lemmas.Bool.{or_cases, or_left, or_right, and_from}
 use Rattle.std.specs.{List.list_all, BTreeMap.is_at, Map.lookup}
+use Rattle.std.specs.Char.{is_ascii_hexdigit}
 use Rattle.std.specs.Cmp.Lexicographic.{slice_cmp}
-use Rattle.dap_tokens.specs.Tokens.{parts, part_length, parts_from}
-use Rattle.dap_tokens.specs.Values.{value}
-use Rattle.dap_tokens.specs.declared.form.Form.{Form}
+use Rattle.dap_tokens.specs.Tokens.{Labels, Token, token_at, parts, parts_from}
+use Rattle.dap_tokens.specs.{Naming.{Id}, Values.{value}}
+use Rattle.dap_tokens.specs.declared.form.Form.{TheVariants.{Whole}}
+use Rattle.dap_tokens.proofs.{Readings.{of_byte}, Starts.{count_some}}
 use Rattle.dap_tree.specs.Doc.{Doc, whole, text, list, object, Items, no_items, item, Members}
 use Rattle.dap_tree.specs.Doc.{no_members, member, get_member}
 use Rattle.dap_tree.specs.View.{view, items_view, members_view}
-use Rattle.dap_tree.specs.declared.tree.Tree.{Tree}
+use Rattle.dap_tree.specs.declared.tree.Tree.{Tree, the_lemmas}
+use Rattle.dap_tree.specs.declared.tree.Tree as tree
 use Rattle.dap_tree.proofs.Views.{view-lookup, view_of_ref}
-use Rattle.dap_naming.specs.Documents.{Declared, here, below, inside}
-use Rattle.dap_naming.specs.Joint.{Pair, value_pairs, tokens_in, token_values, text_pairs}
-use Rattle.dap_naming.specs.Joint.{whole_pairs, doc_pairs, items_pairs, members_pairs, Table}
-use Rattle.dap_naming.specs.Joint.{table_of, is_numbered, add_pair, join_pair, join_all, Joins}
-use Rattle.dap_naming.specs.Joint.{AreNumbered}
+use Rattle.dap_naming.specs.Documents.{Declared, here, below, inside, integer_text}
+use Rattle.dap_naming.specs.Joint.{Pair, id_of, are_paired, value_pairs, tokens_in, text_pairs}
+use Rattle.dap_naming.specs.Joint.{whole_token, whole_pairs, doc_pairs, items_pairs, members_pairs}
+use Rattle.dap_naming.specs.Joint.{Table, table_of, is_numbered, add_pair, join_pair, join_all}
+use Rattle.dap_naming.specs.Joint.{Joins, AreNumbered}
 use Rattle.dap_naming.specs.Known.{key}
 use Rattle.dap_naming.specs.declared.joint.JointNames.{JointNames}
+use Rattle.dap_naming.specs.declared.joint.Labelled.{Labelled}
 use Rattle.dap_naming.proofs.Additions.{itself}
 use Rattle.dap_naming.proofs.Lists.{by_bool}
 use Rattle.dap_naming.proofs.MoreParts.{Entry}
@@ -28,19 +33,19 @@ use Rattle.dap_naming.proofs.Writing.{read_part}
 
 -- ---- pairs after other pairs
 
-pub joined-append : (t : Table) (ps qs : List Pair)
+joined-append : (t : Table) (ps qs : List Pair)
     → join_all t (ps ++ qs) ≡ join_all (join_all t ps) qs
 joined-append t [] qs = refl
 joined-append t (p ∷ ps) qs = joined-append (join_pair t p) ps qs
 
 -- `all` begins with the pairs `ps`, which are joined now, and the pairs `qs` are left
-pub joined_step : (t u w : Table) (ps qs all : List Pair) → join_all t all ≡ w → all ≡ ps ++ qs
+joined_step : (t u w : Table) (ps qs all : List Pair) → join_all t all ≡ w → all ≡ ps ++ qs
     → u ≡ join_all t ps → join_all u qs ≡ w
 joined_step t u w ps qs all h split e =
     ap (λ s. join_all s qs) e ∙ sym (joined-append t ps qs) ∙ ap (join_all t) (sym split) ∙ h
 
 -- no pair is left
-pub joined_last : (t w : Table) (ps : List Pair) → join_all t ps ≡ w → ps ≡ [] → t ≡ w
+joined_last : (t w : Table) (ps : List Pair) → join_all t ps ≡ w → ps ≡ [] → t ≡ w
 joined_last t w ps h none = sym (ap (join_all t) none) ∙ h
 
 pub none_joined : (names : JointNames) (ps : List Pair) → ps ≡ [] → Joins names names ps
@@ -104,84 +109,98 @@ pub numbered_since : (old new : JointNames) (ps : List Pair) → Joins old new p
 numbered_since old new ps h =
     ap (λ t. list_all (is_numbered t) ps) h ∙ all_numbered (table_of old) ps
 
--- ---- lists of values
+-- ---- lists of tokens
 
-pub no_values_left : (label : List ℕ) (vs ws : List (List ℕ)) → vs ≡ []
-    → value_pairs label vs ws ≡ []
-no_values_left label vs ws none = ap (λ us. value_pairs label us ws) none
+no_values_left : (is js : List Id) → is ≡ [] → value_pairs is js ≡ []
+no_values_left is js none = ap (λ us. value_pairs us js) none
 
-pub no_values_right : (label : List ℕ) (vs ws : List (List ℕ)) → ws ≡ []
-    → value_pairs label vs ws ≡ []
-no_values_right label [] ws none = refl
-no_values_right label (v ∷ vs) ws none = ap (value_pairs label (v ∷ vs)) none
+no_values_right : (is js : List Id) → js ≡ [] → value_pairs is js ≡ []
+no_values_right [] js none = refl
+no_values_right (i ∷ is) js none = ap (value_pairs (i ∷ is)) none
+
+one_more : (b : Bool) (p : Pair) (ps : List Pair) → cond b (p ∷ ps) ps ≡ cond b (p ∷ []) [] ++ ps
+one_more true p ps = refl
+one_more false p ps = refl
+
+values_first : (i j : Id) (is js : List Id)
+    → value_pairs (i ∷ is) (j ∷ js) ≡ value_pairs (i ∷ []) (j ∷ []) ++ value_pairs is js
+values_first i j is js =
+    one_more (are_paired i j) (i.0, i.1, j.1) (value_pairs is js)
+
+pub tokens_more : (t u w : Table) (xs ys more others : List Labelled) (x y : Labelled)
+    → join_all t (value_pairs (map id_of xs) (map id_of ys)) ≡ w → xs ≡ x ∷ more
+    → ys ≡ y ∷ others → u ≡ join_all t (value_pairs (id_of x ∷ []) (id_of y ∷ []))
+    → join_all u (value_pairs (map id_of more) (map id_of others)) ≡ w
+tokens_more t u w xs ys more others x y h e f joined =
+    let rest = value_pairs (map id_of more) (map id_of others) in
+    joined_step t u w (value_pairs (id_of x ∷ []) (id_of y ∷ [])) rest
+    (value_pairs (map id_of xs) (map id_of ys)) h
+    (ap₂ (λ us vs. value_pairs (map id_of us) (map id_of vs)) e f
+    ∙ values_first (id_of x) (id_of y) (map id_of more) (map id_of others)) joined
+
+pub tokens_end : (t w : Table) (xs ys : List Labelled)
+    → join_all t (value_pairs (map id_of xs) (map id_of ys)) ≡ w → (xs ≡ []) ⊎ (ys ≡ []) → t ≡ w
+tokens_end t w xs ys h (inl none) =
+    joined_last t w (value_pairs (map id_of xs) (map id_of ys)) h
+    (no_values_left (map id_of xs) (map id_of ys) (ap (map id_of) none))
+tokens_end t w xs ys h (inr none) =
+    joined_last t w (value_pairs (map id_of xs) (map id_of ys)) h
+    (no_values_right (map id_of xs) (map id_of ys) (ap (map id_of) none))
 
 -- ---- strings
 
-pub now-push : (ts : List (Bor (List ℕ))) (t : Bor (List ℕ))
-    → map (λ x. x.now) (ts ++ t ∷ []) ≡ map (λ x. x.now) ts ++ t.now ∷ []
-now-push [] t = refl
-now-push (u ∷ ts) t = ap (λ us. u.now ∷ us) (now-push ts t)
-
--- the values of these tokens, in order
-abbrev pub values_of : List ℕ → Form → List (Bor (List ℕ)) → List (List ℕ)
-values_of label form ts = map (λ t. value label form t.now) ts
-
-values-now : (label : List ℕ) (form : Form) (ts : List (Bor (List ℕ)))
-    → values_of label form ts ≡ map (value label form) (map (λ t. t.now) ts)
-values-now label form [] = refl
-values-now label form (t ∷ ts) = ap (λ vs. value label form t.now ∷ vs) (values-now label form ts)
-
-pub values_read : (label : List ℕ) (form : Form) (s t : List ℕ) (ts : List (Bor (List ℕ)))
-    → s ≡ t → map (λ x. x.now) ts ≡ tokens_in (parts label form s)
-    → values_of label form ts ≡ token_values label form t
-values_read label form s t ts same h =
-    values-now label form ts ∙ ap (map (value label form)) h ∙ ap (token_values label form) same
-
-pub tokens_end : (t w : Table) (label : List ℕ) (f g : Form) (xs ys : List (Bor (List ℕ)))
-    → join_all t (value_pairs label (values_of label f xs) (values_of label g ys)) ≡ w
-    → (xs ≡ []) ⊎ (ys ≡ []) → t ≡ w
-tokens_end t w label f g xs ys h (inl none) =
-    joined_last t w (value_pairs label (values_of label f xs) (values_of label g ys)) h
-    (no_values_left label (values_of label f xs) (values_of label g ys)
-    (ap (values_of label f) none))
-tokens_end t w label f g xs ys h (inr none) =
-    joined_last t w (value_pairs label (values_of label f xs) (values_of label g ys)) h
-    (no_values_right label (values_of label f xs) (values_of label g ys)
-    (ap (values_of label g) none))
-
-pub same_label_texts : (f g : Form) (label other s t : List ℕ) → bytes_eq label other ≡ true
-    → value_pairs label (token_values label f s) (token_values label g t)
-    ≡ text_pairs (Some (f, label)) s (Some (g, other)) t
-same_label_texts f g label other s t e =
-    sym (ap (λ b. cond b (value_pairs label (token_values label f s) (token_values label g t)) [])
-    e)
-
-pub texts_joined : (old new : JointNames) (ra rb : Option (Form × List ℕ)) (f g : Form)
-    (label other s t u v : List ℕ) (xs ys : List (Bor (List ℕ))) → ra ≡ Some (f, label)
-    → rb ≡ Some (g, other) → bytes_eq label other ≡ true → u ≡ s → v ≡ t
-    → map (λ x. x.now) xs ≡ tokens_in (parts label f u)
-    → map (λ x. x.now) ys ≡ tokens_in (parts label g v)
-    → Joins old new (value_pairs label (values_of label f xs) (values_of label g ys))
-    → Joins old new (text_pairs ra s rb t)
-texts_joined old new ra rb f g label other s t u v xs ys is_a is_b same e k left right joined =
-    joined_like old new (value_pairs label (values_of label f xs) (values_of label g ys))
-    (text_pairs ra s rb t)
-    (ap₂ (value_pairs label) (values_read label f u s xs e left)
-    (values_read label g v t ys k right)
-    ∙ same_label_texts f g label other s t same
-    ∙ ap₂ (λ p q. text_pairs p s q t) (sym is_a) (sym is_b)) joined
-
-pub text_none : (r : Option (Form × List ℕ)) (s t : List ℕ) → text_pairs r s None t ≡ []
-text_none None s t = refl
-text_none (Some r) s t = refl
+-- the pairs of two lists of tokens are those of the strings
+pub text_tokens : (labels others : Labels) (s t u v : List ℕ) (xs ys : List Labelled) → u ≡ s
+    → v ≡ t → map id_of xs ≡ tokens_in (parts labels u) → map id_of ys ≡ tokens_in (parts others v)
+    → value_pairs (map id_of xs) (map id_of ys) ≡ text_pairs labels s others t
+text_tokens labels others s t u v xs ys e k left right =
+    ap₂ value_pairs (left ∙ ap (λ x. tokens_in (parts labels x)) e)
+    (right ∙ ap (λ x. tokens_in (parts others x)) k)
 
 -- ---- integers
 
-pub whole_none : (r : Option (Form × List ℕ)) (z y : ℤ) → whole_pairs r z None y ≡ []
-whole_none None z y = refl
-whole_none (Some r) z y = refl
+no_whole_right : (o : Option (List ℕ)) (z y : ℤ) → whole_pairs o z None y ≡ []
+no_whole_right o z y = no_values_right (whole_token o z) [] refl
+
+pub wholes_joined : (old new : JointNames) (o q : Option (List ℕ)) (label other : List ℕ) (z y : ℤ)
+    (i j : Id) → o ≡ Some label → q ≡ Some other → i ≡ (label, integer_text z)
+    → j ≡ (other, integer_text y) → Joins old new (value_pairs (i ∷ []) (j ∷ []))
+    → Joins old new (whole_pairs o z q y)
+wholes_joined old new o q label other z y i j is_a is_b left right joined =
+    joined_like old new (value_pairs (i ∷ []) (j ∷ [])) (whole_pairs o z q y)
+    (ap₂ (λ us vs. value_pairs (us ∷ []) (vs ∷ [])) left right
+    ∙ ap₂ (λ us vs. whole_pairs us z vs y) (sym is_a) (sym is_b)) joined
+
+-- ---- a string or an integer, by its rules
+
+pub view-Text : (s : String Global) → view (tree.Text s) ≡ text (string_bytes s)
+view-Text s = search (rules, the_lemmas)
+
+pub view-Whole : (z : ℤ) → view (tree.Whole z) ≡ whole z
+view-Whole z = search (rules, the_lemmas)
+
+pub doc_texts : (old new : JointNames) (rs qs : List Declared) (labels others : Labels)
+    (s t : List ℕ) (d e : Doc) → labels ≡ here rs → others ≡ here qs → d ≡ text s → e ≡ text t
+    → Joins old new (text_pairs labels s others t) → Joins old new (doc_pairs rs d qs e)
+doc_texts old new rs qs labels others s t d e here_a here_b is_a is_b joined =
+    joined_like old new (text_pairs labels s others t) (doc_pairs rs d qs e)
+    (ap₂ (λ ls ms. text_pairs ls s ms t) here_a here_b
+    ∙ ap₂ (λ us vs. doc_pairs rs us qs vs) (sym is_a) (sym is_b)) joined
+
+pub doc_wholes : (old new : JointNames) (rs qs : List Declared) (labels others : Labels) (z y : ℤ)
+    (d e : Doc) → labels ≡ here rs → others ≡ here qs → d ≡ whole z → e ≡ whole y
+    → Joins old new (whole_pairs (labels Whole) z (others Whole) y)
+    → Joins old new (doc_pairs rs d qs e)
+doc_wholes old new rs qs labels others z y d e here_a here_b is_a is_b joined =
+    joined_like old new (whole_pairs (labels Whole) z (others Whole) y) (doc_pairs rs d qs e)
+    (ap₂ (λ (ls : Labels) (ms : Labels). whole_pairs (ls Whole) z (ms Whole) y) here_a here_b
+    ∙ ap₂ (λ us vs. doc_pairs rs us qs vs) (sym is_a) (sym is_b)) joined
 
 -- ---- documents without rules
+
+no_tokens : (d : Bool) (s : List ℕ) → tokens_in (parts_from (here []) 0 d s) ≡ []
+no_tokens d [] = refl
+no_tokens d (b ∷ s) = no_tokens (is_ascii_hexdigit b) s
 
 none_found : (o : Option Doc) (f : Doc → List Pair) → ((e : Doc) → f e ≡ [])
     → unwrap_or (option_map f o) [] ≡ []
@@ -191,7 +210,9 @@ none_found (Some e) f h = h e
 mutual
   pub unruled_a : (d : Doc) (qs : List Declared) (e : Doc) → doc_pairs [] d qs e ≡ []
   unruled_a (whole z) qs (whole y) = refl
-  unruled_a (text s) qs (text t) = refl
+  unruled_a (text s) qs (text t) =
+      no_values_left (tokens_in (parts (here []) s)) (tokens_in (parts (here qs) t))
+      (no_tokens false s)
   unruled_a (list ds) qs (list es) = unruled_items_a ds qs es
   unruled_a (object ms) qs (object ns) = unruled_members_a ms qs ns
   unruled_a d qs e = refl
@@ -213,8 +234,10 @@ mutual
 
 mutual
   pub unruled_b : (rs : List Declared) (d e : Doc) → doc_pairs rs d [] e ≡ []
-  unruled_b rs (whole z) (whole y) = whole_none (here rs) z y
-  unruled_b rs (text s) (text t) = text_none (here rs) s t
+  unruled_b rs (whole z) (whole y) = no_whole_right (here rs Whole) z y
+  unruled_b rs (text s) (text t) =
+      no_values_right (tokens_in (parts (here rs) s)) (tokens_in (parts (here []) t))
+      (no_tokens false t)
   unruled_b rs (list ds) (list es) = unruled_items_b rs ds es
   unruled_b rs (object ms) (object ns) = unruled_members_b rs ms ns
   unruled_b rs d e = refl
@@ -297,15 +320,36 @@ members_other t w rs qs es more e ns h split found =
 
 -- ---- the tokens of a string
 
-module _ (label : List ℕ) (form : Form) where
-  pub token_read : (d : Bool) (rest part others : List ℕ) (k : ℕ) (s : List ℕ) (n : ℕ)
-      (before all : List (List ℕ))
-      → before ++ tokens_in (parts_from label form 0 d rest) ≡ all → rest ≡ k ∷ s
-      → n ≡ part_length label form d rest → (n ≡ 0 → ⊥) → part ≡ take n rest
-      → others ≡ drop n rest
-      → (before ++ part ∷ []) ++ tokens_in (parts_from label form 0 false others) ≡ all
-  token_read d rest part others k s n before all h split length some first after =
-      append_assoc before (part ∷ []) _
-      ∙ ap (λ t. before ++ part ∷ tokens_in (parts_from label form 0 false t)) after
+module _ (labels : Labels) where
+  pub byte_read : (d e : Bool) (rest : List ℕ) (b : ℕ) (s : List ℕ) (before all : List Id)
+      → before ++ tokens_in (parts_from labels 0 d rest) ≡ all → rest ≡ b ∷ s
+      → token_at labels d rest ≡ None → e ≡ is_ascii_hexdigit b
+      → before ++ tokens_in (parts_from labels 0 e s) ≡ all
+  byte_read d e rest b s before all h split none digit =
+      ap (λ f. before ++ tokens_in (parts_from labels 0 f s)) digit
       ∙ ap (λ ps. before ++ tokens_in ps)
-      (sym (read_part label form d rest part k s n split length some first)) ∙ h
+      (sym (ap (parts_from labels 0 d) split
+      ∙ of_byte labels d b s (ap (token_at labels d) (sym split) ∙ none))) ∙ h
+
+  pub token_read : (d : Bool) (rest part others : List ℕ) (k : ℕ) (s : List ℕ) (t : Token)
+      (i : Id) (before all : List Id) → before ++ tokens_in (parts_from labels 0 d rest) ≡ all
+      → rest ≡ k ∷ s → token_at labels d rest ≡ Some t → part ≡ take t.count rest
+      → others ≡ drop t.count rest → i ≡ (t.label, value t.label t.form part)
+      → (before ++ i ∷ []) ++ tokens_in (parts_from labels 0 false others) ≡ all
+  token_read d rest part others k s t i before all h split found first after is =
+      append_assoc before (i ∷ []) (tokens_in (parts_from labels 0 false others))
+      ∙ ap₂ (λ (j : Id) (u : List ℕ). before ++ j ∷ tokens_in (parts_from labels 0 false u)) is
+      after
+      ∙ ap (λ ps. before ++ tokens_in ps)
+      (sym (read_part labels d rest part k s t split found first)) ∙ h
+
+  -- a token has bytes
+  pub token_shorter : (d : Bool) (rest others : List ℕ) (k : ℕ) (s : List ℕ) (t : Token)
+      → rest ≡ k ∷ s → token_at labels d rest ≡ Some t → others ≡ drop t.count rest
+      → length others < length rest
+  token_shorter d rest others k s t split found after =
+      let some = count_some labels d rest t found in
+      let long : length rest ≡ suc (length s) = ap length split in
+      let left : length others ≡ length rest - t.count =
+      ap length after ∙ length-drop t.count rest in
+      omega (arith, some)

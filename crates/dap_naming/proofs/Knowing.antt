@@ -5,8 +5,9 @@ use Rattle.std.proofs.Common.{append_assoc, subst, true≢false}
 use Rattle.std.specs.List.{list_any, position_or_len}
 use Rattle.std.specs.Str.{bytes_eq}
 use Rattle.std.proofs.lemmas.List.Folds.{list_any-append}
+use Rattle.dap_tokens.specs.Naming.{Id}
 use Rattle.dap_tokens.specs.Tokens.{is_label}
-use Rattle.dap_naming.specs.Numbers.{Id, values, add, distinct, number}
+use Rattle.dap_naming.specs.Numbers.{values, add, distinct, number}
 use Rattle.dap_naming.specs.Known.{key, is_known, known_number, number_at, count_of, Knows, Names}
 use Rattle.dap_naming.specs.Known.{limit_of, Keeps, HasRoom, IsFull}
 use Rattle.dap_naming.specs.declared.value_numbers.ValueNumbers.{ValueNumbers}

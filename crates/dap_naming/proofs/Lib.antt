@@ -1,4 +1,6 @@
 pub mod Lists
+pub mod Heres
+pub mod Unlabelled
 pub mod Additions
 pub mod Renamed
 pub mod Numbers

@@ -5,8 +5,9 @@ use Rattle.std.proofs.Common.{◌++◌, length, refl, ap, sym, ◌∙◌, subst,
 use Rattle.std.proofs.Common.{append-nil, bytes_eq, Result, Err}
 use Rattle.std.specs.List.{list_any}
 use Rattle.std.specs.Result.{IsErrAnd}
+use Rattle.dap_tokens.specs.Naming.{Id, Numbering}
 use Rattle.dap_naming.specs.declared.fault.NamingFault.{NamingFault, TheVariants.{Full}}
-use Rattle.dap_naming.specs.Numbers.{Id, Numbering, values, add, add_all, distinct}
+use Rattle.dap_naming.specs.Numbers.{values, add, add_all, distinct}
 use Rattle.dap_naming.specs.Sessions.{AreFew, HasTooMany}
 use Rattle.dap_naming.specs.Known.{is_known, limit_of, Names, IsFull, HasRoom, FitsLimit}
 use Rattle.dap_naming.specs.Known.{ExceedsLimit}

@@ -1,15 +1,16 @@
 -- The limit of the numbers of values, for one more element or member of a document.
-use Rattle.std.proofs.Common.{◌≡◌, List, [], ◌∷◌, ◌++◌, ap, sym, ◌∙◌, subst, string_bytes, refl}
+use Rattle.std.proofs.Common.{◌≡◌, ℕ, List, [], ◌∷◌, ◌++◌, ap, sym, ◌∙◌, subst, string_bytes, refl}
 use Rattle.std.proofs.Common.{append_assoc}
 use Rattle.dap_tree.specs.Doc.{Doc}
 use Rattle.dap_tree.specs.View.{view, items_view, members_view}
 use Rattle.dap_tree.specs.declared.tree.Tree.{Tree}
+use Rattle.dap_tokens.specs.{Tokens.Labels, Models.no_labels, Naming.{Numbering, ids}}
 use Rattle.dap_naming.specs.Documents.{Declared, below, inside, ids_of, items_ids, members_ids}
 use Rattle.dap_naming.specs.Known.{Names, FitsLimit, ExceedsLimit, limit_of}
-use Rattle.dap_naming.specs.Numbers.{Numbering}
 use Rattle.dap_naming.specs.declared.value_numbers.ValueNumbers.{ValueNumbers}
 use Rattle.dap_naming.proofs.Limits.{fits_none, fits_then, exceeds_then}
 use Rattle.dap_naming.proofs.MoreParts.{Entry, no_ids, ids-last, member_ids-last}
+use Rattle.dap_naming.proofs.Unlabelled.{no_string_ids}
 
 -- ---- without rules
 
@@ -17,6 +18,11 @@ pub few_unruled : (a : ValueNumbers) (rs : List Declared) (d : Doc) → rs ≡ [
     → FitsLimit a (ids_of rs d)
 few_unruled a rs d none =
     subst (FitsLimit a) (sym (ap (λ ts. ids_of ts d) none ∙ no_ids d)) (fits_none a)
+
+pub few_unlabelled : (a : ValueNumbers) (labels : Labels) (s : List ℕ) → labels ≡ no_labels
+    → FitsLimit a (ids labels s)
+few_unlabelled a labels s none =
+    subst (FitsLimit a) (sym (no_string_ids labels none s)) (fits_none a)
 
 -- ---- one more element
 

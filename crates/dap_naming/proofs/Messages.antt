@@ -3,9 +3,10 @@ use Rattle.std.proofs.Common.{◌≡◌, Bool, true, false, ◌&&◌, List, [], 
 use Rattle.std.proofs.Common.{sym, ◌∙◌}
 use Rattle.std.specs.Fmt.{decimal}
 use Rattle.dap_tree.specs.Doc.{Doc}
+use Rattle.dap_tokens.specs.Naming.{Id, IsNumbering, Numbering, named_by, numbered}
 use Rattle.dap_tokens.specs.Laws.{NamesAreRead, NamedTwice, EqualNamed}
-use Rattle.dap_naming.specs.Numbers.{Id, Numbering, number, numbered, named_by, renumbered}
-use Rattle.dap_naming.specs.Documents.{Declared, AreNumberings, ids_of, named_doc, skeleton_doc}
+use Rattle.dap_naming.specs.Numbers.{number, renumbered}
+use Rattle.dap_naming.specs.Documents.{Declared, ids_of, named_doc, skeleton_doc}
 use Rattle.dap_naming.specs.Documents.{are_sound}
 use Rattle.dap_naming.specs.Messages.{Message, all_sound, ids_of_all, named_each, named_all}
 use Rattle.dap_naming.specs.Messages.{skeletons}
@@ -43,7 +44,7 @@ numbered-named_by number other (i ∷ is) =
 module _ (read : NamesAreRead) (twice : NamedTwice) (equal : EqualNamed) where
   -- ---- named lists
 
-  pub ids_of_named : (number : Numbering) → AreNumberings number → (ms : List Message)
+  pub ids_of_named : (number : Numbering) → IsNumbering number → (ms : List Message)
       → all_sound ms ≡ true → ids_of_all (named_each number ms) ≡ named_by number (ids_of_all ms)
   ids_of_named number n [] s = refl
   ids_of_named number n (m ∷ ms) s =
@@ -52,7 +53,7 @@ module _ (read : NamesAreRead) (twice : NamedTwice) (equal : EqualNamed) where
       (ids_of_named number n ms (others_sound m ms s))
       ∙ sym (named-append number (ids_of m.0 m.1) (ids_of_all ms))
 
-  pub named_each_twice : (number other : Numbering) → AreNumberings number → (ms : List Message)
+  pub named_each_twice : (number other : Numbering) → IsNumbering number → (ms : List Message)
       → all_sound ms ≡ true
       → named_each other (named_each number ms) ≡ named_each (followed number other) ms
   named_each_twice number other n [] s = refl
@@ -64,7 +65,7 @@ module _ (read : NamesAreRead) (twice : NamedTwice) (equal : EqualNamed) where
 
   -- ---- equal named lists
 
-  pub equal_each : (number other : Numbering) → AreNumberings number → AreNumberings other
+  pub equal_each : (number other : Numbering) → IsNumbering number → IsNumbering other
       → (ms ns : List Message) → all_sound ms ≡ true → skeletons ms ≡ skeletons ns
       → numbered number (ids_of_all ms) ≡ numbered other (ids_of_all ns)
       → named_each number ms ≡ named_each other ns
@@ -89,14 +90,14 @@ module _ (read : NamesAreRead) (twice : NamedTwice) (equal : EqualNamed) where
       (split_rest read twice equal number other n m x.0 x.1 y.1 (ids_of_all ms) (ids_of_all ns) f
       shape counts))
 
-  same_skeletons : (number other : Numbering) → AreNumberings number → AreNumberings other
+  same_skeletons : (number other : Numbering) → IsNumbering number → IsNumbering other
       → (ms ns : List Message) → all_sound ms ≡ true → all_sound ns ≡ true
       → named_each number ms ≡ named_each other ns → skeletons ms ≡ skeletons ns
   same_skeletons number other n m ms ns s t h =
       sym (named_each_twice number (λ label v. 1) n ms s)
       ∙ (ap (named_each (λ label v. 1)) h ∙ named_each_twice other (λ label v. 1) m ns t)
 
-  same_numbers : (number other : Numbering) → AreNumberings number → AreNumberings other
+  same_numbers : (number other : Numbering) → IsNumbering number → IsNumbering other
       → (ms ns : List Message) → all_sound ms ≡ true → all_sound ns ≡ true
       → named_each number ms ≡ named_each other ns
       → numbered number (ids_of_all ms) ≡ numbered other (ids_of_all ns)
@@ -125,7 +126,7 @@ module _ (read : NamesAreRead) (twice : NamedTwice) (equal : EqualNamed) where
       let n = number-is_numbering is f in
       let m = number-is_numbering (renumbered is) (numbers-are_countable is f) in
       let both = followed (number is) (number (renumbered is)) in
-      let b : AreNumberings both = λ label v. m label (decimal (number is label v)) in
+      let b : IsNumbering both = λ label v. m label (decimal (number is label v)) in
       ap (λ js. named_each (number js) (named_all ms)) (ids_of_named (number is) n ms s)
       ∙ (named_each_twice (number is) (number (renumbered is)) n ms s
       ∙ each_agrees both (number is) ms

@@ -13,9 +13,10 @@ use Rattle.dap_tree.specs.Doc.{Doc, null, boolean, whole, text, list, object, id
 use Rattle.dap_tree.specs.Doc.{item, Members, no_members, member, put}
 use Rattle.dap_tree.specs.View.{view, items_view, members_view}
 use Rattle.dap_tree.specs.declared.tree.Tree.{Tree}
-use Rattle.dap_naming.specs.Numbers.{Numbering}
+use Rattle.dap_tokens.specs.Naming.{Numbering}
 use Rattle.dap_naming.specs.Documents.{Declared, below, inside, ids_of, items_ids, members_ids}
 use Rattle.dap_naming.specs.Documents.{named_doc, named_items, named_members}
+use Rattle.dap_naming.proofs.Heres.{no_ids_of_string, unnamed_string}
 
 abbrev pub Entry : Type 0
 Entry = String Global × Tree
@@ -27,7 +28,7 @@ mutual
   no_ids null = refl
   no_ids (boolean b) = refl
   no_ids (whole z) = refl
-  no_ids (text s) = refl
+  no_ids (text s) = no_ids_of_string [] s refl
   no_ids (list ds) = no_items_ids ds
   no_ids (object ms) = no_members_ids ms
   no_ids (id s z) = refl
@@ -45,7 +46,7 @@ mutual
   same_doc n null = refl
   same_doc n (boolean b) = refl
   same_doc n (whole z) = refl
-  same_doc n (text s) = refl
+  same_doc n (text s) = ap text (unnamed_string [] n s refl)
   same_doc n (list ds) = ap list (same_items n ds)
   same_doc n (object ms) = ap object (same_members n ms)
   same_doc n (id s z) = refl

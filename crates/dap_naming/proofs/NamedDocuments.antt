@@ -4,15 +4,16 @@ use Rattle.std.specs.Fmt.{decimal}
 use Rattle.std.proofs.lemmas.List.{map-append}
 use Rattle.dap_tree.specs.Doc.{Doc, null, boolean, whole, text, list, object, id, Items, no_items}
 use Rattle.dap_tree.specs.Doc.{item, Members, no_members, member}
+use Rattle.dap_tokens.specs.Naming.{Id, IsNumbering, Numbering, named_by}
 use Rattle.dap_tokens.specs.Laws.{NamesAreRead, NamedTwice, EqualNamed}
-use Rattle.dap_naming.specs.Numbers.{Id, Numbering, named_by}
-use Rattle.dap_naming.specs.Documents.{Declared, AreNumberings, here, below, inside, ids_of}
+use Rattle.dap_tokens.specs.declared.form.Form.TheVariants.{Whole}
+use Rattle.dap_naming.specs.Documents.{Declared, here, below, inside, ids_of}
 use Rattle.dap_naming.specs.Documents.{items_ids, members_ids, named_doc, named_items}
 use Rattle.dap_naming.specs.Documents.{named_members, are_sound}
 use Rattle.dap_naming.specs.Laws.{NamesOfDocAreRead, NamedDocTwice}
 use Rattle.dap_naming.proofs.Lists.{same_append}
 use Rattle.dap_naming.proofs.SoundRules.{sound-below, sound-inside, label-here, inside-named}
-use Rattle.dap_naming.proofs.Values.{whole_read, whole_twice, text_read, text_twice}
+use Rattle.dap_naming.proofs.Values.{whole_read, whole_twice}
 
 pub named-append : (number : Numbering) (is js : List Id)
     → named_by number (is ++ js) ≡ named_by number is ++ named_by number js
@@ -22,15 +23,14 @@ abbrev pub followed : Numbering → Numbering → Numbering
 followed number other = λ label v. other label (decimal (number label v))
 
 module _ (read : NamesAreRead) (twice : NamedTwice) (equal : EqualNamed) (number : Numbering) (n
-    : AreNumberings number) where
+    : IsNumbering number) where
   mutual
     doc_read : (rs : List Declared) (d : Doc) → are_sound rs ≡ true
         → ids_of rs (named_doc rs number d) ≡ named_by number (ids_of rs d)
     doc_read rs null s = refl
     doc_read rs (boolean b) s = refl
-    doc_read rs (whole z) s = whole_read (here rs) number z n
-    doc_read rs (text t) s =
-        text_read read twice equal (here rs) number t (label-here rs s) n
+    doc_read rs (whole z) s = whole_read (here rs Whole) number z n
+    doc_read rs (text t) s = read (here rs) number t (label-here rs s) n
     doc_read rs (list ds) s = items_read rs ds s
     doc_read rs (object ms) s = members_read rs ms s
     doc_read rs (id sort z) s = refl
@@ -58,9 +58,9 @@ module _ (read : NamesAreRead) (twice : NamedTwice) (equal : EqualNamed) (number
           → named_doc rs other (named_doc rs number d) ≡ named_doc rs (followed number other) d
       doc_twice rs null s = refl
       doc_twice rs (boolean b) s = refl
-      doc_twice rs (whole z) s = ap whole (whole_twice (here rs) number other z n)
+      doc_twice rs (whole z) s = ap whole (whole_twice (here rs Whole) number other z n)
       doc_twice rs (text t) s =
-          ap text (text_twice read twice equal (here rs) number other t (label-here rs s) n)
+          ap text (twice (here rs) number other t (label-here rs s) n)
       doc_twice rs (list ds) s = ap list (items_twice rs ds s)
       doc_twice rs (object ms) s = ap object (members_twice rs ms s)
       doc_twice rs (id sort z) s = refl

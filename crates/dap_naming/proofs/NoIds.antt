@@ -1,5 +1,5 @@
--- A message has no declared ids if no declaration finds a token in its content.
-use Rattle.std.proofs.Common.{◌≡◌, ℕ, ◌+◌, ◌-◌, ◌==◌, inl, inr, ℤ, Bool, true, false, cond, ◌&&◌}
+-- A message lacks declared ids if no declaration finds a token in its content.
+use Rattle.std.proofs.Common.{◌≡◌, ℕ, ◌+◌, ◌==◌, inl, inr, Bool, true, false, ◌&&◌}
 use Rattle.std.proofs.Common.{List, [], ◌∷◌, ◌++◌, length, take, drop, Option, Some, None, refl}
 use Rattle.std.proofs.Common.{sym, ap, ap₂, subst, ◌∙◌, codes, bytes_eq, take-append-drop}
 use Rattle.std.specs.List.{AllByRecursion}
@@ -11,18 +11,21 @@ use Rattle.serde_json.specs.Written.{items_text, members_text, comma_if}
 use Rattle.dap_tree.specs.Doc.{Doc, null, boolean, whole, text, list, object, id, Items, no_items}
 use Rattle.dap_tree.specs.{Doc.{item, Members, no_members, member}, Json.{items_data}}
 use Rattle.dap_tree.specs.Json.{members_data, text_of}
-use Rattle.dap_tokens.specs.Naming.{ids_of_parts}
-use Rattle.dap_tokens.specs.Tokens.{is_label, name, name_length, number_in, part_length}
-use Rattle.dap_tokens.specs.Tokens.{parts_from, starts_hex, is_numeral, literal, token}
+use Rattle.dap_tokens.specs.{Models.{same_form}, Naming.{ids, ids_of_parts}}
+use Rattle.dap_tokens.specs.Tokens.{Labels, is_label, name, name_length, number_in, tried}
+use Rattle.dap_tokens.specs.Tokens.{token_length, parts_from, starts_hex, is_numeral, whole_or}
 use Rattle.dap_tokens.specs.declared.form.Form.{Form}
 use Rattle.dap_tokens.specs.declared.form.Form.TheVariants.{Whole, Digits, Hex, Long, Uuid}
+use Rattle.dap_tokens.proofs.FirstTokens.{AllSkipped, none, more}
+use Rattle.dap_tokens.proofs.Readings.{of_byte}
+use Rattle.dap_tokens.proofs.Starts.{all_forms, nothing_at}
 use Rattle.dap_mask.specs.Declarations.{Declaration, are_declared, is_own_label, declaration_of}
 use Rattle.dap_mask.specs.{Declarations.declarations_of, Rules.rule_applies}
 use Rattle.dap_mask.specs.declared.declarations.Declaration.{Declaration as ReadDeclaration}
 use Rattle.dap_naming.specs.Absence.{Occurs, Lacks, LacksTokens, FindsNothing}
 use Rattle.dap_naming.specs.Documents.{Declared, below, here, inside, is_here}
 use Rattle.dap_naming.specs.Documents.{is_to_member, is_to_element, ids_of, items_ids, members_ids}
-use Rattle.dap_naming.specs.Documents.{ids_of_text, ids_of_whole, labelled}
+use Rattle.dap_naming.specs.Documents.{ids_of_whole}
 use Rattle.dap_naming.specs.Sessions.{rules_for}
 use Rattle.dap_naming.proofs.Lists.{by_bool, first_of_both, second_of_both}
 use Rattle.dap_naming.proofs.Occurring.{ArePlain, occurs_left, occurs_right, occurs_later}
@@ -74,22 +77,77 @@ no_hex (b ∷ x ∷ h ∷ s) small large = by_bool (b == 48) zero_first (λ is. 
         (λ e. absurd (large (starts 88 (eqb-true b 48 is) (eqb-true x 88 e))))
         (λ e. rw (is, other, e) refl))
 
-no_ids_in : (l : List ℕ) (after_digit : Bool) (s : List ℕ) → LacksTokens Hex l s
-    → ids_of_parts l Hex (parts_from l Hex 0 after_digit s) ≡ []
-no_ids_in l after_digit [] lacks = refl
-no_ids_in l after_digit (b ∷ s) lacks =
-    ap (λ n. ids_of_parts l Hex
-    (cond (n == 0) (literal b ∷ parts_from l Hex 0 (is_ascii_hexdigit b) s)
-    (token (take n (b ∷ s)) ∷ parts_from l Hex (n - 1) false s))) none
-    ∙ no_ids_in l (is_ascii_hexdigit b) s (
-      λ o. lacks.0 (occurs_later _ s b o),
-      λ o. lacks.1 (occurs_later _ s b o),
-      λ o. lacks.2
-          (occurs_later _ s b o),
-    )
-  where
-    none : part_length l Hex after_digit (b ∷ s) ≡ 0
-    none = rw (no_name l (b ∷ s) lacks.2, no_hex (b ∷ s) lacks.0 lacks.1) refl
+-- what no form has is skipped
+none_of_all : (labels : Labels) (count : Form → List ℕ → ℕ) (forms : List Form)
+    → ((form : Form) (label : List ℕ) → labels form ≡ Some label → count form label ≡ 0)
+    → AllSkipped labels count forms
+none_of_all labels count [] h = none
+none_of_all labels count (form ∷ forms) h =
+    more (λ label e. h form label e) (none_of_all labels count forms h)
+
+-- no form that has a label has a token in the list
+abbrev Absent : Labels → List ℕ → Type 0
+Absent labels s =
+    (form : Form) (label : List ℕ) → labels form ≡ Some label → LacksTokens form label s
+
+later_lacks : (form : Form) (label : List ℕ) (b : ℕ) (s : List ℕ)
+    → LacksTokens form label (b ∷ s) → LacksTokens form label s
+later_lacks Hex label b s lacks = (
+  λ o. lacks.0 (occurs_later (codes "0x") s b o),
+  λ o. lacks.1 (occurs_later (codes "0X") s b o),
+  λ o. lacks.2 (occurs_later label s b o),
+)
+later_lacks Whole label b s lacks = lacks
+later_lacks Digits label b s lacks = lacks
+later_lacks Long label b s lacks = lacks
+later_lacks Uuid label b s lacks = lacks
+
+none_named : (form : Form) (label s : List ℕ) → LacksTokens form label s → name_length label s ≡ 0
+none_named Hex label s lacks = no_name label s lacks.2
+none_named Whole label s lacks = absurd lacks
+none_named Digits label s lacks = absurd lacks
+none_named Long label s lacks = absurd lacks
+none_named Uuid label s lacks = absurd lacks
+
+none_found : (form : Form) (label : List ℕ) (d : Bool) (s : List ℕ) → LacksTokens form label s
+    → token_length form d s ≡ 0
+none_found Hex label true s lacks = refl
+none_found Hex label false s lacks = rw (no_hex s lacks.0 lacks.1) refl
+none_found Whole label d s lacks = absurd lacks
+none_found Digits label d s lacks = absurd lacks
+none_found Long label d s lacks = absurd lacks
+none_found Uuid label d s lacks = absurd lacks
+
+no_ids_in : (labels : Labels) (d : Bool) (s : List ℕ) → Absent labels s
+    → ids_of_parts (parts_from labels 0 d s) ≡ []
+no_ids_in labels d [] absent = refl
+no_ids_in labels d (b ∷ s) absent =
+    ap ids_of_parts (of_byte labels d b s (nothing_at labels d (b ∷ s)
+    (none_of_all labels (λ form label. name_length label (b ∷ s)) all_forms
+    (λ form label e. none_named form label (b ∷ s) (absent form label e)))
+    (none_of_all labels (λ form label. token_length form d (b ∷ s)) (tried labels)
+    (λ form label e. none_found form label d (b ∷ s) (absent form label e)))))
+    ∙ no_ids_in labels (is_ascii_hexdigit b) s
+    (λ form label e. later_lacks form label b s (absent form label e))
+
+no_whole : (o : Option (List ℕ)) (s : List ℕ)
+    → ((label : List ℕ) → o ≡ Some label → LacksTokens Whole label s) → o ≡ None
+no_whole None s lacks = refl
+no_whole (Some label) s lacks = absurd (lacks label refl)
+
+no_ids_of_text : (labels : Labels) (s : List ℕ) → Absent labels s → ids labels s ≡ []
+no_ids_of_text labels s absent =
+    ap (λ o. ids_of_parts (whole_or o s (parts_from labels 0 false s)))
+    (no_whole (labels Whole) s (absent Whole))
+    ∙ no_ids_in labels false s absent
+
+form_is : (f g : Form) → same_form f g ≡ true → f ≡ g
+form_is Whole Whole h = refl
+form_is Digits Digits h = refl
+form_is Hex Hex h = refl
+form_is Long Long h = refl
+form_is Uuid Uuid h = refl
+form_is _ _ h = absurd cc
 
 -- ---- documents whose text is in the content
 
@@ -104,14 +162,25 @@ module _ (content : List ℕ) where
   abbrev AreQuiet : List Declared → Type 0
   AreQuiet rs = AllByRecursion Quiet rs
 
-  abbrev IsQuiet : Option (Form × List ℕ) → Type 0
-  IsQuiet None = Unit {0}
-  IsQuiet (Some r) = LacksTokens r.0 r.1 content × ArePlain r.1
+  abbrev IsQuiet : Form → Option (List ℕ) → Type 0
+  IsQuiet form None = Unit {0}
+  IsQuiet form (Some label) = LacksTokens form label content × ArePlain label
 
-  quiet_here : (rs : List Declared) → AreQuiet rs → IsQuiet (here rs)
-  quiet_here [] all = tt
-  quiet_here (r ∷ rs) all =
-      by_bool (is_here r.place) (λ is. rw is all.0) (λ is. rw is (quiet_here rs all.1))
+  quiet_first : (r : Declared) (form : Form) → same_form r.form form ≡ true → Quiet r
+      → IsQuiet form (Some r.label)
+  quiet_first r form same quiet =
+      subst (λ f. IsQuiet f (Some r.label)) (form_is r.form form same) quiet
+
+  quiet_here : (rs : List Declared) → AreQuiet rs → (form : Form) → IsQuiet form (here rs form)
+  quiet_here [] all form = tt
+  quiet_here (r ∷ rs) all form =
+      by_bool (is_here r.place && same_form r.form form)
+      (λ is. rw is (quiet_first r form (second_of_both _ _ is) all.0))
+      (λ is. rw is (quiet_here rs all.1 form))
+
+  quiet_label : (rs : List Declared) → AreQuiet rs → (form : Form) (label : List ℕ)
+      → here rs form ≡ Some label → LacksTokens form label content × ArePlain label
+  quiet_label rs all form label e = subst (IsQuiet form) e (quiet_here rs all form)
 
   quiet_below : (k : List ℕ) (rs : List Declared) → AreQuiet rs → AreQuiet (below k rs)
   quiet_below k [] all = tt
@@ -125,37 +194,28 @@ module _ (content : List ℕ) where
       by_bool (is_to_element d r.place) (λ is. rw is (all.0, quiet_inside d rs all.1))
       (λ is. rw is (quiet_inside d rs all.1))
 
-  no_ids_of_text : (o : Option (Form × List ℕ)) (s : List ℕ) → IsQuiet o → IsIn (quoted s)
-      → ids_of_text o s ≡ []
-  no_ids_of_text None s quiet within = refl
-  no_ids_of_text (Some (Hex, l)) s quiet within =
-      let lacks = quiet.0 in
-      ap (labelled l) (no_ids_in l false s (
-        λ o. lacks.0 (within _ (occurs_quoted (codes "0x") s plain_small o)),
-        λ o. lacks.1
-            (within _ (occurs_quoted (codes "0X") s plain_large o)),
-        λ o. lacks.2
-            (within _ (occurs_quoted l s quiet.1 o)),
-      ))
-  no_ids_of_text (Some (Whole, l)) s quiet within = absurd quiet.0
-  no_ids_of_text (Some (Digits, l)) s quiet within = absurd quiet.0
-  no_ids_of_text (Some (Long, l)) s quiet within = absurd quiet.0
-  no_ids_of_text (Some (Uuid, l)) s quiet within = absurd quiet.0
-
-  no_ids_of_whole : (o : Option (Form × List ℕ)) (z : ℤ) → IsQuiet o → ids_of_whole o z ≡ []
-  no_ids_of_whole None z quiet = refl
-  no_ids_of_whole (Some (Hex, l)) z quiet = refl
-  no_ids_of_whole (Some (Whole, l)) z quiet = absurd quiet.0
-  no_ids_of_whole (Some (Digits, l)) z quiet = absurd quiet.0
-  no_ids_of_whole (Some (Long, l)) z quiet = absurd quiet.0
-  no_ids_of_whole (Some (Uuid, l)) z quiet = absurd quiet.0
+  lacks_quoted : (form : Form) (label s : List ℕ) → IsIn (quoted s)
+      → LacksTokens form label content × ArePlain label → LacksTokens form label s
+  lacks_quoted Hex label s within quiet = (
+    λ o. quiet.0.0 (within (codes "0x") (occurs_quoted (codes "0x") s plain_small o)),
+    λ o. quiet.0.1 (within (codes "0X") (occurs_quoted (codes "0X") s plain_large o)),
+    λ o. quiet.0.2 (within label (occurs_quoted label s quiet.1 o)),
+  )
+  lacks_quoted Whole label s within quiet = quiet.0
+  lacks_quoted Digits label s within quiet = quiet.0
+  lacks_quoted Long label s within quiet = quiet.0
+  lacks_quoted Uuid label s within quiet = quiet.0
 
   mutual
     no_ids : (rs : List Declared) (d : Doc) → AreQuiet rs → IsIn (text_of d) → ids_of rs d ≡ []
     no_ids rs null quiet within = refl
     no_ids rs (boolean b) quiet within = refl
-    no_ids rs (whole z) quiet within = no_ids_of_whole (here rs) z (quiet_here rs quiet)
-    no_ids rs (text s) quiet within = no_ids_of_text (here rs) s (quiet_here rs quiet) within
+    no_ids rs (whole z) quiet within =
+        ap (λ o. ids_of_whole o z) (no_whole (here rs Whole) content
+        (λ label e. (quiet_label rs quiet Whole label e).0))
+    no_ids rs (text s) quiet within =
+        no_ids_of_text (here rs) s
+        (λ form label e. lacks_quoted form label s within (quiet_label rs quiet form label e))
     no_ids rs (list ds) quiet within =
         no_items_ids rs false ds quiet (λ p o. within p (occurs_later p _ 91 o))
     no_ids rs (object ms) quiet within =

@@ -9,8 +9,8 @@ use Rattle.std.proofs.Props.{props}
 use Rattle.std.proofs.lemmas.List.{length-map}
 use Rattle.std.specs.{Fmt.decimal, Str.Parse.digits_value}
 use Rattle.std.proofs.lemmas.Fmt.{decimal_is_IsNumeral}
-use Rattle.dap_tokens.specs.Naming.{IsNumbering}
-use Rattle.dap_naming.specs.Numbers.{Id, values, distinct, number, numbered}
+use Rattle.dap_tokens.specs.Naming.{IsNumbering, Id, numbered}
+use Rattle.dap_naming.specs.Numbers.{values, distinct, number}
 use Rattle.dap_naming.specs.Numbers.{numbers, renamed, renumbered, AreRenamed, AreCountable}
 use Rattle.dap_naming.specs.Laws.{EqualNumbers, NumbersAreFresh, NumbersStay}
 use Rattle.dap_naming.proofs.Lists.{by_bool, head_of, tail_of, same_cons, at_index, each-more}
@@ -115,8 +115,7 @@ number-small is small label v =
     let l : length (distinct label is) < 2 ^ 63 = small label in
     let p = place_within (bytes_eq v) (distinct label is) in omega arith
 
-pub number-is_numbering : (is : List Id) → AreCountable is → (label : List ℕ)
-    → IsNumbering (number is label)
+pub number-is_numbering : (is : List Id) → AreCountable is → IsNumbering (number is)
 number-is_numbering is small label v = (number-positive is label v, number-small is small label v)
 
 pub from_decimal : List Id → List ℕ → List ℕ → List ℕ

@@ -4,7 +4,8 @@ use Rattle.std.proofs.Common.{map, refl, ap, sym, ◌∙◌, true≢false, subst
 use Rattle.std.specs.List.{list_any, position_or_len, AllByRecursion}
 use Rattle.std.specs.Str.{bytes_eq}
 use Rattle.std.proofs.lemmas.List.{map-append}
-use Rattle.dap_naming.specs.Numbers.{Id, values, add, add_all, distinct, number, numbered}
+use Rattle.dap_tokens.specs.Naming.{Id, numbered}
+use Rattle.dap_naming.specs.Numbers.{values, add, add_all, distinct, number}
 use Rattle.dap_naming.specs.Numbers.{numbers, renamed, AreRenamed}
 use Rattle.dap_naming.proofs.Lists.{by_bool, head_of, tail_of, same_cons, each-append}
 use Rattle.dap_naming.proofs.Additions.{same_bytes, bytes_same}

@@ -5,10 +5,12 @@ use Rattle.dap_tree.specs.Doc.{Doc, null, boolean, whole, text, list, object, id
 use Rattle.dap_tree.specs.Doc.{item, Members, no_members, member}
 use Rattle.dap_tree.specs.declared.side.Side.{Side}
 use Rattle.dap_message.specs.Message.{Sent}
+use Rattle.dap_tokens.specs.Naming.{IsNumbering, Numbering, numbered}
 use Rattle.dap_mask.specs.Declarations.{Declaration, are_declared}
 use Rattle.dap_tokens.specs.Laws.{NamesAreRead, NamedTwice, EqualNamed}
-use Rattle.dap_naming.specs.Numbers.{Numbering, number, numbered}
-use Rattle.dap_naming.specs.Documents.{AreNumberings, named_doc, named_items, named_members}
+use Rattle.dap_naming.proofs.Heres.{unnamed_string}
+use Rattle.dap_naming.specs.Numbers.{number}
+use Rattle.dap_naming.specs.Documents.{named_doc, named_items, named_members}
 use Rattle.dap_naming.specs.Messages.{Message, all_sound, ids_of_all, named_each, named_all}
 use Rattle.dap_naming.specs.Sessions.{rules_for, with_rules, declared_ids, name_sent, named_sents}
 use Rattle.dap_naming.specs.Sessions.{sent_skeleton}
@@ -28,7 +30,7 @@ mutual
   unnamed_doc number null = refl
   unnamed_doc number (boolean b) = refl
   unnamed_doc number (whole z) = refl
-  unnamed_doc number (text s) = refl
+  unnamed_doc number (text s) = ap text (unnamed_string [] number s refl)
   unnamed_doc number (list ds) = ap list (unnamed_items number ds)
   unnamed_doc number (object ms) = ap object (unnamed_members number ms)
   unnamed_doc number (id sort z) = refl
@@ -102,7 +104,7 @@ all_are_sound xs (m ∷ ms) h = rw (sound_for xs m.doc h, all_are_sound xs ms h)
 
 module _ (read : NamesAreRead) (twice : NamedTwice) (equal : EqualNamed) where
   named_again : (xs : List Declaration) (f g : Numbering) (ms : List Sent)
-      → are_declared xs ≡ true → AreNumberings f
+      → are_declared xs ≡ true → IsNumbering f
       → map (name_sent xs g) (map (name_sent xs f) ms) ≡ map (name_sent xs (followed f g)) ms
   named_again xs f g [] h n = refl
   named_again xs f g (m ∷ ms) h n =
@@ -129,7 +131,7 @@ module _ (read : NamesAreRead) (twice : NamedTwice) (equal : EqualNamed) where
   -- ---- equal named messages
 
   same_skeletons : (xs : List Declaration) (f g : Numbering) (ms ns : List Sent)
-      → are_declared xs ≡ true → AreNumberings f → AreNumberings g
+      → are_declared xs ≡ true → IsNumbering f → IsNumbering g
       → map (name_sent xs f) ms ≡ map (name_sent xs g) ns
       → map (sent_skeleton xs) ms ≡ map (sent_skeleton xs) ns
   same_skeletons xs f g ms ns h n m e =

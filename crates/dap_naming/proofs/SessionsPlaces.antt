@@ -18,6 +18,7 @@ use Rattle.dap_profile.specs.declared.profile.Kind.TheVariants.{Request, Respons
 use Rattle.dap_message.specs.Rows.{is_text, is_true, row_applies, may_have_body, type_name}
 use Rattle.dap_message.specs.Rows.{name_key}
 use Rattle.dap_message.proofs.RowMarks.{one_step}
+use Rattle.dap_tokens.specs.Naming.{Numbering}
 use Rattle.dap_mask.specs.RuleSteps.{RuleStep, named as to_member, elements, plain_place}
 use Rattle.dap_mask.specs.Rules.{Rule, rule_applies, has_name, has_category, category_path}
 use Rattle.dap_mask.specs.Rules.{is_telling, is_telling_place, same_place, body_place}
@@ -25,14 +26,14 @@ use Rattle.dap_mask.specs.Rules.{category_place, is_for_names, plain_place_of}
 use Rattle.dap_mask.specs.Declarations.{Declaration, is_own_label, is_sort_word, is_misdeclared}
 use Rattle.dap_mask.specs.Declarations.{is_of_category, are_declared}
 use Rattle.dap_mask.specs.Ids.{takes_profile_id}
-use Rattle.dap_tokens.specs.Tokens.{is_label}
-use Rattle.dap_naming.specs.Numbers.{Numbering}
+use Rattle.dap_tokens.specs.{Tokens.is_label, Models.no_labels}
 use Rattle.dap_naming.specs.Documents.{Declared, after_first, is_here, here}
 use Rattle.dap_naming.specs.Documents.{is_to_member, below, is_to_element, inside, named_doc}
 use Rattle.dap_naming.specs.Documents.{named_members, are_sound}
 use Rattle.dap_naming.specs.Sessions.{declared_by, rules_for}
 use Rattle.dap_naming.specs.SessionLaws.{NamesKeepRules}
 use Rattle.dap_naming.proofs.Lists.{by_bool}
+use Rattle.dap_naming.proofs.Heres.{not_first}
 use Rattle.dap_naming.proofs.SoundRules.{text-kept}
 
 -- ---- the members of a named document
@@ -65,7 +66,7 @@ get-named rs number k (object ms) = get_member-named rs number k ms
 get-named rs number k (id s z) = refl
 
 pub text-option : (rs : List Declared) (number : Numbering) (w : List ℕ) (o : Option Doc)
-    → here rs ≡ None → is_text w (option_map (named_doc rs number) o) ≡ is_text w o
+    → here rs ≡ no_labels → is_text w (option_map (named_doc rs number) o) ≡ is_text w o
 text-option rs number w None h = refl
 text-option rs number w (Some d) h = text-kept rs number w d h
 
@@ -81,7 +82,7 @@ true-option rs number (Some (object ms)) = refl
 true-option rs number (Some (id s z)) = refl
 
 category-option : (rs : List Declared) (number : Numbering) (w : List ℕ) (o : Option Doc)
-    → here (below (codes "category") rs) ≡ None
+    → here (below (codes "category") rs) ≡ no_labels
     → is_text w
     (option_and_then (at (child (codes "category") ∷ [])) (option_map (named_doc rs number) o))
     ≡ is_text w (option_and_then (at (child (codes "category") ∷ [])) o)
@@ -104,9 +105,9 @@ not_here : (place : List RuleStep) → same_place (plain_place place) [] ≡ fal
 not_here [] h = cc
 not_here (step ∷ steps) h = refl
 
-pub nothing_here : (rs : List Declared) → Avoid [] rs → here rs ≡ None
+pub nothing_here : (rs : List Declared) → Avoid [] rs → here rs ≡ no_labels
 nothing_here [] a = refl
-nothing_here (r ∷ rs) a = rw (not_here r.place a.0) (nothing_here rs a.1)
+nothing_here (r ∷ rs) a = not_first r rs (not_here r.place a.0) ∙ nothing_here rs a.1
 
 same_bytes : (k l : List ℕ) → bytes_eq k l ≡ true → bytes_eq l k ≡ true
 same_bytes k l e = (bytes_eq-Decides l k).1 (sym ((bytes_eq-Decides k l).0 e))

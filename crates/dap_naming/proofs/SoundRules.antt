@@ -9,16 +9,17 @@ use Rattle.std.specs.Ordering.{match_ordering}
 use Rattle.std.proofs.lemmas.Map.Lookups.{exact_bytes}
 use Rattle.dap_tree.specs.Doc.{Doc, null, boolean, whole, text, list, object, id}
 use Rattle.dap_tree.specs.Doc.{Members, no_members, member, get_member}
+use Rattle.dap_tokens.specs.Naming.{Numbering}
 use Rattle.dap_mask.specs.RuleSteps.{RuleStep, named as to_member, elements, is_called}
 use Rattle.dap_mask.specs.Rules.{is_for_names, leads_to_name}
 use Rattle.dap_message.specs.Rows.{is_text}
-use Rattle.dap_tokens.specs.Tokens.{is_label}
-use Rattle.dap_naming.specs.Numbers.{Numbering}
+use Rattle.dap_tokens.specs.{Tokens.is_label, Laws.AreLabels, Models.no_labels}
 use Rattle.dap_naming.specs.Documents.{Declared, after_first, after_step}
 use Rattle.dap_naming.specs.Documents.{is_here, here, is_to_member}
 use Rattle.dap_naming.specs.Documents.{below, is_to_element, inside, named_doc, named_members}
-use Rattle.dap_naming.specs.Documents.{named_text, are_sound}
-use Rattle.dap_naming.specs.DeclaredRules.{HasLabel}
+use Rattle.dap_naming.specs.Documents.{are_sound}
+use Rattle.dap_naming.specs.DeclaredRules.{have_labels}
+use Rattle.dap_naming.proofs.Heres.{labels_here, not_first, unnamed_string}
 use Rattle.dap_naming.proofs.Lists.{by_bool}
 
 -- ---- the rules after a step are sound
@@ -76,12 +77,13 @@ sound-inside d (r ∷ rs) s =
     (λ b. rw b (sound-after r (inside d rs) p.0 p.1 more))
     (λ b. rw b more)
 
--- what a value is declared as has a label
-pub label-here : (rs : List Declared) → are_sound rs ≡ true → HasLabel (here rs)
-label-here [] s = tt
-label-here (r ∷ rs) s =
-    let p = sound_parts r rs s in
-    by_bool (is_here r.place) (λ b. rw b p.1) (λ b. rw b (label-here rs p.2))
+pub sound_labels : (rs : List Declared) → are_sound rs ≡ true → have_labels rs ≡ true
+sound_labels [] s = refl
+sound_labels (r ∷ rs) s = let p = sound_parts r rs s in rw (p.1, sound_labels rs p.2) refl
+
+-- the labels of a value are valid
+pub label-here : (rs : List Declared) → are_sound rs ≡ true → AreLabels (here rs)
+label-here rs s = labels_here rs (sound_labels rs s)
 
 -- ---- no rule is for the `name` of an element
 
@@ -97,25 +99,27 @@ not_here d (elements n ∷ to_member k ∷ []) p q e =
 not_here d (elements n ∷ to_member k ∷ step ∷ steps) p q e = refl
 
 pub no_name : (d : Doc) (rs : List Declared) → are_sound rs ≡ true
-    → here (below (codes "name") (inside d rs)) ≡ None
+    → here (below (codes "name") (inside d rs)) ≡ no_labels
 no_name d [] s = refl
 no_name d (r ∷ rs) s =
     let p = sound_parts r rs s in
     let more = no_name d rs p.2 in
     by_bool (is_to_element d r.place)
     (λ b. rw b (by_bool (is_to_member (codes "name") (after_first r.place))
-    (λ c. rw (c, not_here d r.place b c p.0) more)
+    (λ c. rw c (not_first (after_step (after_step r)) (below (codes "name") (inside d rs))
+    (not_here d r.place b c p.0) ∙ more))
     (λ c. rw c more)))
     (λ b. rw b more)
 
 -- ---- an element keeps its `name`
 
-pub text-kept : (rs : List Declared) (number : Numbering) (n : List ℕ) (d : Doc) → here rs ≡ None
+pub text-kept : (rs : List Declared) (number : Numbering) (n : List ℕ) (d : Doc)
+    → here rs ≡ no_labels
     → is_text n (Some (named_doc rs number d)) ≡ is_text n (Some d)
 text-kept rs number n null h = refl
 text-kept rs number n (boolean b) h = refl
 text-kept rs number n (whole z) h = refl
-text-kept rs number n (text s) h = ap (λ o. bytes_eq n (named_text o number s)) h
+text-kept rs number n (text s) h = ap (bytes_eq n) (unnamed_string rs number s h)
 text-kept rs number n (list ds) h = refl
 text-kept rs number n (object ms) h = refl
 text-kept rs number n (id sort z) h = refl
@@ -128,7 +132,7 @@ member-kept Equal n a b c d p q = q refl
 member-kept Greater n a b c d p q = p
 
 members-kept : (rs : List Declared) (number : Numbering) (n : List ℕ) (ms : Members)
-    → here (below (codes "name") rs) ≡ None
+    → here (below (codes "name") rs) ≡ no_labels
     → is_text n (get_member (codes "name") (named_members rs number ms))
     ≡ is_text n (get_member (codes "name") ms)
 members-kept rs number n no_members h = refl
@@ -138,7 +142,7 @@ members-kept rs number n (member l e ms) h =
     (ap (λ k. here (below k rs)) (sym (exact_bytes (codes "name") l same)) ∙ h))
 
 pub called-kept : (rs : List Declared) (number : Numbering) (d : Doc) (n : Option (List ℕ))
-    → here (below (codes "name") rs) ≡ None
+    → here (below (codes "name") rs) ≡ no_labels
     → is_called n (Some (named_doc rs number d)) ≡ is_called n (Some d)
 called-kept rs number d None h = refl
 called-kept rs number null (Some n) h = refl

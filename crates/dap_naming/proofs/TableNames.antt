@@ -1,30 +1,32 @@
 -- Names by a table of numbers: a document without rules, single values, and one more element or
 -- member of a named document.
-use Rattle.std.proofs.Common.{◌≡◌, ℕ, ℤ, pos, not, cond, false, List, [], ◌∷◌, ◌++◌, Option, Some}
-use Rattle.std.proofs.Common.{ap, sym, ◌∙◌, subst, string_bytes, string_cmp, String, Global}
-use Rattle.std.proofs.Common.{Result, IfOk}
+use Rattle.std.proofs.Common.{◌≡◌, ℕ, ℤ, pos, cond, false, List, [], ◌∷◌, ◌++◌, Some}
+use Rattle.std.proofs.Common.{ap, sym, ◌∙◌, subst, string_bytes, string_cmp}
 use Rattle.std.specs.List.Sorted.{IsStrictlySortedBy}
 use Rattle.std.specs.Map.{keys_of}
 use Rattle.std.specs.BTreeMap.{insert_entry}
-use Rattle.dap_tokens.specs.{Naming.named, Values.is_nothing}
-use Rattle.dap_tokens.specs.declared.form.Form.{Form, TheVariants.{Whole}}
+use Rattle.dap_tokens.specs.{Tokens.Labels, Models.no_labels, Naming.{Numbering, named}}
+use Rattle.dap_tokens.specs.Values.{is_nothing}
 use Rattle.dap_tree.specs.Doc.{Doc}
 use Rattle.dap_tree.specs.View.{view, items_view, members_view}
 use Rattle.dap_tree.specs.declared.tree.Tree.{Tree}
 use Rattle.dap_tree.proofs.Views.{members_view-insert_entry}
-use Rattle.dap_naming.specs.Numbers.{Numbering}
 use Rattle.dap_naming.specs.Documents.{Declared, below, inside, integer_text, named_doc}
-use Rattle.dap_naming.specs.Documents.{named_items, named_members, named_text, named_whole}
+use Rattle.dap_naming.specs.Documents.{named_items, named_members, named_whole}
 use Rattle.dap_naming.specs.Known.{key, number_at, Keeps, ByTable}
-use Rattle.dap_naming.specs.declared.fault.NamingFault.{NamingFault}
 use Rattle.dap_naming.specs.declared.value_numbers.ValueNumbers.{ValueNumbers}
 use Rattle.dap_naming.proofs.MoreParts.{Entry, same_doc, item_named, put_named}
+use Rattle.dap_naming.proofs.Unlabelled.{same_string}
 
 -- ---- tables after other tables
 
 pub table_none : (a : ValueNumbers) (P : Numbering → Type 0) → ((f : Numbering) → P f)
     → ByTable a a P
 table_none a P p = (λ k n e. e, λ f h. p f)
+
+pub table_like : (a c : ValueNumbers) (P Q : Numbering → Type 0) → ByTable a c P
+    → ((f : Numbering) → P f → Q f) → ByTable a c Q
+table_like a c P Q h to = (h.0, λ f k. to f (h.1 f k))
 
 pub table_then : (a b c : ValueNumbers) (P Q R : Numbering → Type 0) → ByTable a b P
     → ByTable b c Q → ((f : Numbering) → P f → Q f → R f) → ByTable a c R
@@ -41,27 +43,21 @@ table_unruled a rs d none =
     subst (λ ts. ByTable a a (λ f. d ≡ named_doc ts f d)) (sym none)
     (table_none a (λ f. d ≡ named_doc [] f d) (λ f. sym (same_doc f d)))
 
--- ---- single values
+pub table_unlabelled : (a : ValueNumbers) (labels : Labels) (s : List ℕ) → labels ≡ no_labels
+    → ByTable a a (λ f. s ≡ named labels f s)
+table_unlabelled a labels s none =
+    table_none a (λ f. s ≡ named labels f s) (λ f. sym (same_string labels none f s))
 
--- a string, by a rule with this form and label; t is the same string
-pub ruled_by_table : (rule : Option (Form × List ℕ)) (form : Form) (label s t : List ℕ)
-    → rule ≡ Some (form, label) → t ≡ s → (a c : ValueNumbers)
-    → (r : Result (String Global) NamingFault)
-    → IfOk r (λ x. ByTable a c (λ f. string_bytes x ≡ named label form (f label) t))
-    → IfOk r (λ x. ByTable a c (λ f. string_bytes x ≡ named_text rule f s))
-ruled_by_table rule form label s t is same a c r h =
-    subst (λ q. IfOk r (λ x. ByTable a c (λ f. string_bytes x ≡ named_text q f s))) (sym is)
-    (subst (λ u. IfOk r (λ x. ByTable a c (λ f. string_bytes x ≡ named label form (f label) u)))
-    same h)
+-- ---- single values
 
 pub whole_by_table : (a c : ValueNumbers) (label v : List ℕ) (z y : ℤ) (n : ℕ)
     → v ≡ integer_text z → is_nothing v ≡ false → y ≡ pos n
     → number_at c (key label v) ≡ Some n → Keeps a c
-    → ByTable a c (λ f. y ≡ named_whole (Some (Whole, label)) f z)
+    → ByTable a c (λ f. y ≡ named_whole (Some label) f z)
 whole_by_table a c label v z y n same some is held keeps = (
   keeps,
   λ f h. is ∙ ap pos (sym (h label v n held)) ∙ ap (λ u. pos (f label u)) same
-      ∙ ap (λ b. cond (not b) (pos (f label (integer_text z))) z)
+      ∙ ap (λ b. cond b z (pos (f label (integer_text z))))
       (sym (ap is_nothing (sym same) ∙ some)),
 )
 

@@ -20,14 +20,16 @@ use Rattle.dap_message.specs.Places.{parts_at, is_object, list_of, elements}
 use Rattle.dap_message.specs.Rows.{has_type, is_null, cause_against, first_cause, of_row}
 use Rattle.dap_message.specs.Rows.{row_applies, row_fault, first_fault, broken_at}
 use Rattle.dap_message.specs.declared.fault.MessageFault.TheVariants.{NotObject, UnknownType}
+use Rattle.dap_tokens.specs.{Naming.Numbering, Models.no_labels}
+use Rattle.dap_tokens.specs.declared.form.Form.TheVariants as form
 use Rattle.dap_mask.specs.Rules.{Rule}
 use Rattle.dap_mask.specs.Declarations.{Declaration, are_declared}
 use Rattle.dap_mask.specs.Ids.{takes_id, takes_id_of, takes_profile_id}
-use Rattle.dap_naming.specs.Numbers.{Numbering}
 use Rattle.dap_naming.specs.Documents.{Declared, here, below, inside, named_doc, named_items}
 use Rattle.dap_naming.specs.Sessions.{rules_for}
 use Rattle.dap_naming.specs.SessionLaws.{NamesKeepFaults}
 use Rattle.dap_naming.proofs.Lists.{same_append}
+use Rattle.dap_naming.proofs.Heres.{no_label}
 use Rattle.dap_naming.proofs.SessionsPlaces.{get-named, Avoid, nothing_here, avoid-below}
 use Rattle.dap_naming.proofs.SessionsPlaces.{avoid-inside, Placed, named_reads, kind_alike}
 use Rattle.dap_naming.proofs.SessionsPlaces.{row_of_named}
@@ -48,16 +50,18 @@ object_type Object ms ns = refl
 object_type w ms ns = refl
 
 module _ (number : Numbering) where
-  whole_type : (w : Want) (rs : List Declared) (z : ℤ) → (wants_id w ≡ true → here rs ≡ None)
+  whole_type : (w : Want) (rs : List Declared) (z : ℤ)
+      → (wants_id w ≡ true → here rs ≡ no_labels)
       → has_type w (named_doc rs number (whole z)) ≡ has_type w (whole z)
   whole_type WantBool rs z h = refl
   whole_type Whole rs z h = refl
   whole_type Text rs z h = refl
   whole_type Object rs z h = refl
   whole_type WantList rs z h = refl
-  whole_type w rs z h = rw (h refl) refl
+  whole_type w rs z h = rw (no_label rs form.Whole (h refl)) refl
 
-  named_type : (w : Want) (rs : List Declared) (d : Doc) → (wants_id w ≡ true → here rs ≡ None)
+  named_type : (w : Want) (rs : List Declared) (d : Doc)
+      → (wants_id w ≡ true → here rs ≡ no_labels)
       → has_type w (named_doc rs number d) ≡ has_type w d
   named_type w rs null h = refl
   named_type w rs (boolean b) h = refl
@@ -88,7 +92,8 @@ module _ (number : Numbering) where
   -- ---- the values at the place of a row
 
   module _ (w : Want) (needed : Bool) where
-    cause_named : (rs : List Declared) (o : Option Doc) → (wants_id w ≡ true → here rs ≡ None)
+    cause_named : (rs : List Declared) (o : Option Doc)
+        → (wants_id w ≡ true → here rs ≡ no_labels)
         → cause_against w needed (option_map (named_doc rs number) o) ≡ cause_against w needed o
     cause_named rs None h = refl
     cause_named rs (Some d) h =
@@ -132,7 +137,7 @@ module _ (number : Numbering) where
     kept_list ps rs (id s z) h = refl
 
     kept_member : (rs : List Declared) (b : Bool) (o : Option Doc)
-        → (wants_id w ≡ true → here rs ≡ None)
+        → (wants_id w ≡ true → here rs ≡ no_labels)
         → map (cause_against w needed) (cond b (option_map (named_doc rs number) o ∷ []) [])
         ≡ map (cause_against w needed) (cond b (o ∷ []) [])
     kept_member rs true o h = ap (λ c. c ∷ []) (cause_named rs o h)

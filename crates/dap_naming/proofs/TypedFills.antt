@@ -22,9 +22,9 @@ use Rattle.dap_message.specs.Capabilities.{with_capabilities, filled}
 use Rattle.dap_message.specs.Rows.{is_text}
 use Rattle.dap_message.proofs.Envelopes.{apart, given_other, get-filled}
 use Rattle.dap_message.proofs.FilledOnce.{get_member-put}
+use Rattle.dap_tokens.specs.Naming.{Id, Numbering}
 use Rattle.dap_mask.specs.Rules.{is_telling, category_path}
 use Rattle.dap_mask.specs.Declarations.{Declaration, are_declared}
-use Rattle.dap_naming.specs.Numbers.{Id, Numbering}
 use Rattle.dap_naming.specs.Documents.{Declared, below, ids_of, members_ids, named_doc}
 use Rattle.dap_naming.specs.Documents.{named_members}
 use Rattle.dap_naming.specs.Sessions.{rules_for}

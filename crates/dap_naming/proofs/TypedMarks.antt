@@ -27,18 +27,20 @@ use Rattle.dap_message.specs.Rows.{is_text, row_applies, is_of_kind, name_key}
 use Rattle.dap_message.specs.Rows.{may_have_body}
 use Rattle.dap_message.proofs.Edits.{at-edit}
 use Rattle.dap_message.proofs.RowMarks.{text-top, text-marked, one_step}
+use Rattle.dap_tokens.specs.{Naming.Numbering, Models.no_labels}
+use Rattle.dap_tokens.specs.declared.form.Form.TheVariants as form
 use Rattle.dap_mask.specs.RuleSteps.{is_called, plain_place}
 use Rattle.dap_mask.specs.Rules.{Rule, rule_applies, has_head, has_name, same_place}
 use Rattle.dap_mask.specs.Rules.{category_path}
 use Rattle.dap_mask.specs.Declarations.{Declaration, are_declared}
 use Rattle.dap_mask.specs.Ids.{meets, takes_id, takes_id_of}
 use Rattle.dap_mask.proofs.Matches.{head_of, kind_alike, name_alike}
-use Rattle.dap_naming.specs.Numbers.{Numbering}
 use Rattle.dap_naming.specs.Documents.{Declared, here, below, inside, ids_of, items_ids}
 use Rattle.dap_naming.specs.Documents.{members_ids, named_doc, named_items}
 use Rattle.dap_naming.specs.Documents.{named_members}
 use Rattle.dap_naming.specs.Sessions.{rules_for}
 use Rattle.dap_naming.proofs.Lists.{by_bool, same_append}
+use Rattle.dap_naming.proofs.Heres.{no_label}
 use Rattle.dap_naming.proofs.SoundRules.{inside-same}
 use Rattle.dap_naming.proofs.SessionsPlaces.{Avoid, nothing_here, avoid-below, avoid-inside}
 use Rattle.dap_naming.proofs.SessionsPlaces.{Placed, avoid_for, Reads, rules_alike}
@@ -134,12 +136,14 @@ module _ (rs : List Declared) (number : Numbering) where
 
 -- ---- a mark and the names
 
-named_marked : (number : Numbering) (s : Sort) (rs : List Declared) (d : Doc) → here rs ≡ None
+named_marked : (number : Numbering) (s : Sort) (rs : List Declared) (d : Doc)
+    → here rs ≡ no_labels
     → named_doc rs number (marked s d) ≡ marked s (named_doc rs number d)
 named_marked number s rs null h = refl
 named_marked number s rs (boolean b) h = refl
 named_marked number s rs (whole z) h =
-    by_bool (is_id_of s z) (λ b. rw (h, b) refl) (λ b. rw (h, b) (rw h refl))
+    let none = no_label rs form.Whole h in
+    by_bool (is_id_of s z) (λ b. rw (none, b) refl) (λ b. rw (none, b) (rw none refl))
 named_marked number s rs (text t) h = refl
 named_marked number s rs (list ds) h = refl
 named_marked number s rs (object ms) h = refl
@@ -213,12 +217,12 @@ ids-changed_items rs f same h (list ds) = ids-changed_each rs f same h ds
 ids-changed_items rs f same h (object ms) = refl
 ids-changed_items rs f same h (id s z) = refl
 
-ids-marked : (s : Sort) (rs : List Declared) (d : Doc) → here rs ≡ None
+ids-marked : (s : Sort) (rs : List Declared) (d : Doc) → here rs ≡ no_labels
     → ids_of rs (marked s d) ≡ ids_of rs d
 ids-marked s rs null h = refl
 ids-marked s rs (boolean b) h = refl
 ids-marked s rs (whole z) h =
-    by_bool (is_id_of s z) (λ b. rw (b, h) refl) (λ b. rw b refl)
+    by_bool (is_id_of s z) (λ b. rw (b, no_label rs form.Whole h) refl) (λ b. rw b refl)
 ids-marked s rs (text t) h = refl
 ids-marked s rs (list ds) h = refl
 ids-marked s rs (object ms) h = refl

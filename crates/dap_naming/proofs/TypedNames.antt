@@ -5,9 +5,10 @@ use Rattle.dap_profile.specs.Profile.{profile}
 use Rattle.dap_message.specs.Capabilities.{filled}
 use Rattle.dap_message.specs.Marks.{mark_rows, mark_by_rows}
 use Rattle.dap_message.specs.Message.{Sent}
+use Rattle.dap_tokens.specs.Naming.{Numbering}
 use Rattle.dap_mask.specs.Declarations.{Declaration, are_declared}
 use Rattle.dap_mask.specs.Ids.{takes_profile_id}
-use Rattle.dap_naming.specs.Numbers.{Numbering, number}
+use Rattle.dap_naming.specs.Numbers.{number}
 use Rattle.dap_naming.specs.Documents.{ids_of, named_doc}
 use Rattle.dap_naming.specs.Sessions.{rules_for, declared_ids, name_sent}
 use Rattle.dap_naming.specs.SessionLaws.{TypedNamesCommute, TypedIdsStay, typed_sent}

@@ -15,7 +15,7 @@ pub record Occurs (part xs : List ℕ) : Type 0 where
 abbrev pub Lacks : List ℕ → List ℕ → Type 0
 Lacks part xs = Occurs part xs → ⊥
 
--- The content has no token of the label in this form (own): a hexadecimal number starts with `0x`
+-- The content lacks tokens of the label in this form (own): a hexadecimal number starts with `0x`
 -- or `0X`, and a name contains its label. Nothing is known of the other forms.
 abbrev pub LacksTokens : Form → List ℕ → List ℕ → Type 0
 LacksTokens Hex label content =
@@ -26,7 +26,7 @@ LacksTokens Long label content = ⊥
 LacksTokens Uuid label content = ⊥
 
 -- The declaration finds no id in the message with this content: its rule does not apply, or the
--- content has no token.
+-- content lacks tokens.
 abbrev pub FindsNothing : Declaration → Doc → List ℕ → Type 0
 FindsNothing x d content = (rule_applies x.rule d ≡ false)
     ⊎ LacksTokens (form_of x.rule.verb) x.label content

@@ -1,8 +1,6 @@
 -- The model of the rules that declare ids.
 use Rattle.std.specs.Prelude.{◌≡◌, ℕ, Bool, true, cond, ◌&&◌, List, [], ◌∷◌, map}
 use Rattle.std.specs.Prelude.{Option, Some, None}
-use denote.Ref.{Bor}
-use Rattle.dap_tokens.specs.declared.form.Form.{Form}
 use Rattle.dap_mask.specs.{Rules.place_of, RuleSteps.RuleStep}
 use Rattle.dap_tokens.specs.Tokens.{is_label}
 use Rattle.dap_naming.specs.Documents.{Declared, after_first, is_here, is_to_member}
@@ -21,15 +19,10 @@ have_labels (r ∷ rs) = is_label r.label && have_labels rs
 
 -- ---- for private clauses
 
--- What a value is declared as.
-abbrev pub declared_as : Option (Form × Bor (List ℕ)) → Option (Form × List ℕ)
-declared_as None = None
-declared_as (Some r) = Some (r.0, r.1.now)
-
--- If there is a declaration, its label is valid.
-abbrev pub HasLabel : Option (Form × List ℕ) → Type 0
-HasLabel None = Unit {0}
-HasLabel (Some r) = is_label r.1 ≡ true
+-- If there is a label, it is valid.
+abbrev pub IsLabel : Option (List ℕ) → Type 0
+IsLabel None = Unit {0}
+IsLabel (Some label) = is_label label ≡ true
 
 -- The rule with this place, if there is one.
 abbrev pub with_place : Declared → Option (List RuleStep) → List Declared

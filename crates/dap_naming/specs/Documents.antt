@@ -1,15 +1,14 @@
 -- The declared ids of a document, and the document with names in their place.
 use Rattle.std.specs.Prelude.{ℕ, suc, ℤ, pos, negsuc, Bool, true, false, cond, not, ◌&&◌}
-use Rattle.std.specs.Prelude.{List, [], ◌∷◌, ◌++◌, map, Option, Some, None, codes, bytes_eq}
-use Rattle.std.specs.Prelude.{decimal}
+use Rattle.std.specs.Prelude.{List, [], ◌∷◌, ◌++◌, Option, Some, None, codes, bytes_eq, decimal}
 use Rattle.dap_tree.specs.Doc.{Doc, null, boolean, whole, text, list, object, id, Items, no_items}
 use Rattle.dap_tree.specs.Doc.{item, Members, no_members, member}
 use Rattle.dap_mask.specs.RuleSteps.{RuleStep, named as to_member, elements, is_called}
 use Rattle.dap_mask.specs.Rules.{is_for_names}
-use Rattle.dap_tokens.specs.{Naming.{ids, named, IsNumbering}, Tokens.is_label, Values.is_nothing}
+use Rattle.dap_tokens.specs.{Naming.{Id, Numbering, ids, named}, Tokens.is_label}
+use Rattle.dap_tokens.specs.{Models.same_form, Values.is_nothing}
 use Rattle.dap_tokens.specs.declared.form.Form.{Form}
-use Rattle.dap_tokens.specs.declared.form.Form.TheVariants.{Whole, Digits, Hex, Long, Uuid}
-use Rattle.dap_naming.specs.Numbers.{Id, Numbering}
+use Rattle.dap_tokens.specs.declared.form.Form.TheVariants.{Whole}
 
 -- A rule that declares ids (own): their place below a value, the form of their tokens, and their
 -- label.
@@ -32,10 +31,11 @@ abbrev pub is_here : List RuleStep → Bool
 is_here [] = true
 is_here (step ∷ steps) = false
 
--- What a value itself is declared as, by the first rule for it.
-abbrev pub here : List Declared → Option (Form × List ℕ)
-here [] = None
-here (r ∷ rs) = cond (is_here r.place) (Some (r.form, r.label)) (here rs)
+-- The labels that rules give to the forms of a value itself: each is that of the first rule for the
+-- form.
+abbrev pub here : List Declared → Form → Option (List ℕ)
+here [] form = None
+here (r ∷ rs) form = cond (is_here r.place && same_form r.form form) (Some r.label) (here rs form)
 
 -- The first step is to the member of this name.
 abbrev pub is_to_member : List ℕ → List RuleStep → Bool
@@ -64,36 +64,19 @@ abbrev pub integer_text : ℤ → List ℕ
 integer_text (pos n) = decimal n
 integer_text (negsuc n) = codes "-" ++ decimal (suc n)
 
-abbrev pub labelled : List ℕ → List (List ℕ) → List Id
-labelled label vs = map (λ v. (label, v)) vs
-
--- The ids of a string, and of an integer. An integer is an id only as a whole, and 0 is none.
-abbrev pub ids_of_text : Option (Form × List ℕ) → List ℕ → List Id
-ids_of_text None s = []
-ids_of_text (Some r) s = labelled r.1 (ids r.1 r.0 s)
-
-abbrev pub is_whole : Form → Bool
-is_whole Whole = true
-is_whole Digits = false
-is_whole Hex = false
-is_whole Long = false
-is_whole Uuid = false
-
-abbrev pub is_id_at : Option (Form × List ℕ) → ℤ → Bool
-is_id_at None z = false
-is_id_at (Some r) z = is_whole r.0 && not (is_nothing (integer_text z))
-
-abbrev pub ids_of_whole : Option (Form × List ℕ) → ℤ → List Id
+-- The ids of an integer with this label. An integer is an id only as a whole, and 0 is none.
+abbrev pub ids_of_whole : Option (List ℕ) → ℤ → List Id
 ids_of_whole None z = []
-ids_of_whole (Some r) z = cond (is_id_at (Some r) z) ((r.1, integer_text z) ∷ []) []
+ids_of_whole (Some label) z =
+    cond (is_nothing (integer_text z)) [] ((label, integer_text z) ∷ [])
 
 -- The declared ids of a document, in the order of its text (own).
 abbrev mutual
   pub ids_of : List Declared → Doc → List Id
   ids_of rs null = []
   ids_of rs (boolean b) = []
-  ids_of rs (whole z) = ids_of_whole (here rs) z
-  ids_of rs (text s) = ids_of_text (here rs) s
+  ids_of rs (whole z) = ids_of_whole (here rs Whole) z
+  ids_of rs (text s) = ids (here rs) s
   ids_of rs (list ds) = items_ids rs ds
   ids_of rs (object ms) = members_ids rs ms
   ids_of rs (id sort z) = []
@@ -106,17 +89,10 @@ abbrev mutual
   members_ids rs no_members = []
   members_ids rs (member k d ms) = ids_of (below k rs) d ++ members_ids rs ms
 
--- The numbers of each label are a numbering of its values.
-abbrev pub AreNumberings : Numbering → Type 0
-AreNumberings number = (label : List ℕ) → IsNumbering (number label)
-
-abbrev pub named_text : Option (Form × List ℕ) → Numbering → List ℕ → List ℕ
-named_text None number s = s
-named_text (Some r) number s = named r.1 r.0 (number r.1) s
-
-abbrev pub named_whole : Option (Form × List ℕ) → Numbering → ℤ → ℤ
+abbrev pub named_whole : Option (List ℕ) → Numbering → ℤ → ℤ
 named_whole None number z = z
-named_whole (Some r) number z = cond (is_id_at (Some r) z) (pos (number r.1 (integer_text z))) z
+named_whole (Some label) number z =
+    cond (is_nothing (integer_text z)) z (pos (number label (integer_text z)))
 
 -- The document with each declared id replaced by its name (own): an integer by its number, and
 -- a token of a string by `<LABEL NUMBER>`.
@@ -124,8 +100,8 @@ abbrev mutual
   pub named_doc : List Declared → Numbering → Doc → Doc
   named_doc rs number null = null
   named_doc rs number (boolean b) = boolean b
-  named_doc rs number (whole z) = whole (named_whole (here rs) number z)
-  named_doc rs number (text s) = text (named_text (here rs) number s)
+  named_doc rs number (whole z) = whole (named_whole (here rs Whole) number z)
+  named_doc rs number (text s) = text (named (here rs) number s)
   named_doc rs number (list ds) = list (named_items rs number ds)
   named_doc rs number (object ms) = object (named_members rs number ms)
   named_doc rs number (id sort z) = id sort z

@@ -1,9 +1,10 @@
 -- Naming the nodes of flat documents in their place (own).
 use Rattle.std.specs.Prelude.{◌≡◌, ◌&&◌, ℕ, ℤ, ◌+◌, ◌==◌, Bool, true, false, cond, ◌||◌, List, []}
-use Rattle.std.specs.Prelude.{◌∷◌, ◌++◌, length, Option, Some, None}
+use Rattle.std.specs.Prelude.{◌∷◌, ◌++◌, length, Option, Some, None, is_some}
 use Rattle.dap_tree.specs.Doc.{Doc, Items, Members, whole}
-use Rattle.dap_tokens.specs.declared.form.Form.{Form}
-use Rattle.dap_tokens.specs.declared.form.Form.TheVariants.{Whole, Digits, Hex, Long, Uuid}
+use Rattle.dap_tokens.specs.Naming.{Id, Numbering}
+use Rattle.dap_tokens.specs.Tokens.{Labels}
+use Rattle.dap_tokens.specs.declared.form.Form.TheVariants.{Whole, Digits, Long, Uuid}
 use Rattle.dap_flat.specs.{declared.node.Node.Node, Finding.{Holds, Stand}}
 use Rattle.dap_flat.specs.Pieces.{Piece, leaf, end_list, end_object, pieces, items_pieces}
 use Rattle.dap_flat.specs.Pieces.{members_pieces, Represents}
@@ -14,7 +15,6 @@ use Rattle.dap_naming.specs.Documents.{Declared, after_step, here, ids_of, items
 use Rattle.dap_naming.specs.Documents.{ids_of_whole, named_doc, named_items, named_members}
 use Rattle.dap_naming.specs.Documents.{named_whole}
 use Rattle.dap_naming.specs.Known.{FitsLimit, Names}
-use Rattle.dap_naming.specs.Numbers.{Id, Numbering}
 use Rattle.dap_naming.specs.Sessions.{rules_for}
 use Rattle.dap_naming.specs.declared.value_numbers.ValueNumbers.{ValueNumbers}
 
@@ -123,18 +123,18 @@ MembersSoFar rs old now before after from p = (ms : Members)
 -- ---- for private clauses: one node
 
 -- The integer z is replaced by the integer of the piece.
-abbrev pub NamesWhole : Option (Form × List ℕ) → ValueNumbers → ValueNumbers → ℤ → Piece → Type 0
-NamesWhole rule old new z p = (y : ℤ) × (p ≡ leaf (whole y))
-    × NamesWithin old new (ids_of_whole rule z) (λ number. y ≡ named_whole rule number z)
+abbrev pub NamesWhole : Option (List ℕ) → ValueNumbers → ValueNumbers → ℤ → Piece → Type 0
+NamesWhole label old new z p = (y : ℤ) × (p ≡ leaf (whole y))
+    × NamesWithin old new (ids_of_whole label z) (λ number. y ≡ named_whole label number z)
 
 -- The piece p is a value without parts, and q is the value with names.
 abbrev pub NamesLeaf : List Declared → ValueNumbers → ValueNumbers → Piece → Piece → Type 0
 NamesLeaf rs old new p q = (d : Doc) × (p ≡ leaf d) × (e : Doc) × (q ≡ leaf e)
     × NamesWithin old new (ids_of rs d) (λ number. e ≡ named_doc rs number d)
 
--- The property holds for all lists of rules that declare a value itself like this.
-abbrev pub WithRule : Option (Form × List ℕ) → (List Declared → Type 0) → Type 0
-WithRule rule P = (rs : List Declared) → rule ≡ here rs → P rs
+-- The property holds for all lists of rules that give these labels to a value itself.
+abbrev pub WithLabels : Labels → (List Declared → Type 0) → Type 0
+WithLabels labels P = (rs : List Declared) → labels ≡ here rs → P rs
 
 -- The byte is the first of a name, `<`, or the second of a hexadecimal number, `x` or `X` after
 -- `0`.
@@ -146,13 +146,14 @@ abbrev pub may_have_hex : Bool → List ℕ → Bool
 may_have_hex after_zero [] = false
 may_have_hex after_zero (b ∷ s) = is_sign after_zero b || may_have_hex (b == 48) s
 
--- The text may have tokens of the form.
-abbrev pub may_have_tokens : Form → List ℕ → Bool
-may_have_tokens Whole s = true
-may_have_tokens Digits s = true
-may_have_tokens Hex s = may_have_hex false s
-may_have_tokens Long s = true
-may_have_tokens Uuid s = true
+-- A form other than that of hexadecimal numbers has a label.
+abbrev pub has_others : Labels → Bool
+has_others labels = is_some (labels Whole)
+    || (is_some (labels Digits) || (is_some (labels Long) || is_some (labels Uuid)))
+
+-- The text may have tokens.
+abbrev pub may_have_tokens : Labels → List ℕ → Bool
+may_have_tokens labels s = has_others labels || may_have_hex false s
 
 -- ---- for private clauses: elements by their name
 

@@ -1,21 +1,22 @@
 -- The joint numbers of the declared ids of two recordings.
-use Rattle.std.specs.Prelude.{◌≡◌, ℕ, ◌+◌, ℤ, Bool, true, cond, ◌&&◌, ◌||◌, List, [], ◌∷◌, ◌++◌}
-use Rattle.std.specs.Prelude.{map, Option, Some, None, is_some, option_map, unwrap_or, bytes_eq}
+use Rattle.std.specs.Prelude.{◌≡◌, ℕ, ◌+◌, ℤ, Bool, true, cond, not, ◌&&◌, ◌||◌, List, []}
+use Rattle.std.specs.Prelude.{◌∷◌, ◌++◌}
+use Rattle.std.specs.Prelude.{Option, Some, None, is_some, option_map, unwrap_or, bytes_eq}
 use Rattle.std.specs.{BTreeMap.get_by, List.list_all}
 use Rattle.std.specs.Cmp.Lexicographic.{slice_cmp}
 use Rattle.std.specs.Ordering.{nat_cmp}
 use Rattle.dap_tree.specs.Doc.{Doc, whole, text, list, object, Items, no_items, item, Members}
 use Rattle.dap_tree.specs.Doc.{no_members, member, get_member}
 use Rattle.dap_mask.specs.Declarations.{Declaration}
-use Rattle.dap_tokens.specs.{Tokens.{Part, literal, token, parts, is_label}, Values.{value}}
-use Rattle.dap_tokens.specs.Values.{is_nothing}
-use Rattle.dap_tokens.specs.declared.form.Form.{Form}
-use Rattle.dap_naming.specs.Numbers.{Numbering}
-use Rattle.dap_naming.specs.Documents.{Declared, here, below, inside, integer_text, is_whole}
+use Rattle.dap_tokens.specs.Tokens.{Labels, Part, literal, token, parts, is_label}
+use Rattle.dap_tokens.specs.{Naming.{Id, Numbering}, Values.{value, is_nothing}}
+use Rattle.dap_tokens.specs.declared.form.Form.TheVariants.{Whole}
+use Rattle.dap_naming.specs.Documents.{Declared, here, below, inside, integer_text}
 use Rattle.dap_naming.specs.Documents.{named_doc}
 use Rattle.dap_naming.specs.Sessions.{rules_for}
 use Rattle.dap_naming.specs.Known.{key, number_at, count_of, limit_of}
 use Rattle.dap_naming.specs.declared.joint.JointNames.{JointNames}
+use Rattle.dap_naming.specs.declared.joint.Labelled.{Labelled}
 
 -- The joint number at a key of A, and at a key of B.
 abbrev pub at_a : JointNames → List ℕ → Option ℕ
@@ -73,44 +74,45 @@ NamesInB names xs d e = (f : Numbering)
 abbrev pub Pair : Type 0
 Pair = List ℕ × List ℕ × List ℕ
 
--- The pairs at each position of two lists of values. Both values of a pair are ids.
-abbrev pub value_pairs : List ℕ → List (List ℕ) → List (List ℕ) → List Pair
-value_pairs label [] ws = []
-value_pairs label (v ∷ vs) [] = []
-value_pairs label (v ∷ vs) (w ∷ ws) = cond (is_nothing v || is_nothing w)
-    (value_pairs label vs ws) ((label, v, w) ∷ value_pairs label vs ws)
+-- The label and the value of a token.
+abbrev pub id_of : Labelled → Id
+id_of t = (t.label.now, t.value.items)
 
--- The tokens among the parts of a string.
-abbrev pub tokens_in : List Part → List (List ℕ)
+-- Both are ids of one label.
+abbrev pub are_paired : Id → Id → Bool
+are_paired i j = bytes_eq i.0 j.0 && not (is_nothing i.1 || is_nothing j.1)
+
+-- The pairs at each position of two lists of tokens, each with its label and its value.
+abbrev pub value_pairs : List Id → List Id → List Pair
+value_pairs [] js = []
+value_pairs (i ∷ is) [] = []
+value_pairs (i ∷ is) (j ∷ js) = cond (are_paired i j)
+    ((i.0, i.1, j.1) ∷ value_pairs is js) (value_pairs is js)
+
+-- The labels and the values of the tokens among the parts of a string, in order.
+abbrev pub tokens_in : List Part → List Id
 tokens_in [] = []
 tokens_in (literal b ∷ ps) = tokens_in ps
-tokens_in (token t ∷ ps) = t ∷ tokens_in ps
+tokens_in (token form label t ∷ ps) = (label, value label form t) ∷ tokens_in ps
 
--- The values of the tokens of a string, in order.
-abbrev pub token_values : List ℕ → Form → List ℕ → List (List ℕ)
-token_values label form s = map (value label form) (tokens_in (parts label form s))
+-- The pairs of two strings: the ids at each position among their tokens.
+abbrev pub text_pairs : Labels → List ℕ → Labels → List ℕ → List Pair
+text_pairs labels s others t = value_pairs (tokens_in (parts labels s)) (tokens_in (parts others t))
 
--- The pairs of two strings that are declared with one label: the ids at each position among their
--- tokens.
-abbrev pub text_pairs : Option (Form × List ℕ) → List ℕ → Option (Form × List ℕ) → List ℕ
-    → List Pair
-text_pairs None s q t = []
-text_pairs (Some r) s None t = []
-text_pairs (Some r) s (Some q) t = cond (bytes_eq r.1 q.1)
-    (value_pairs r.1 (token_values r.1 r.0 s) (token_values r.1 q.0 t)) []
+-- The integer as a token, if it has a label.
+abbrev pub whole_token : Option (List ℕ) → ℤ → List Id
+whole_token None z = []
+whole_token (Some label) z = (label, integer_text z) ∷ []
 
--- The pair of two integers that are declared as ids with one label.
-abbrev pub whole_pairs : Option (Form × List ℕ) → ℤ → Option (Form × List ℕ) → ℤ → List Pair
-whole_pairs None z q y = []
-whole_pairs (Some r) z None y = []
-whole_pairs (Some r) z (Some q) y = cond (is_whole r.0 && (is_whole q.0 && bytes_eq r.1 q.1))
-    (value_pairs r.1 (integer_text z ∷ []) (integer_text y ∷ [])) []
+-- The pair of two integers, if both are ids of one label.
+abbrev pub whole_pairs : Option (List ℕ) → ℤ → Option (List ℕ) → ℤ → List Pair
+whole_pairs label z other y = value_pairs (whole_token label z) (whole_token other y)
 
 -- The pairs of two documents, each with its rules: the ids of one label at one place. Elements are
 -- at one place by their index, and members by their name.
 abbrev mutual
   pub doc_pairs : List Declared → Doc → List Declared → Doc → List Pair
-  doc_pairs rs (whole z) qs (whole y) = whole_pairs (here rs) z (here qs) y
+  doc_pairs rs (whole z) qs (whole y) = whole_pairs (here rs Whole) z (here qs Whole) y
   doc_pairs rs (text s) qs (text t) = text_pairs (here rs) s (here qs) t
   doc_pairs rs (list ds) qs (list es) = items_pairs rs ds qs es
   doc_pairs rs (object ms) qs (object ns) = members_pairs rs ms qs ns

@@ -5,11 +5,11 @@ use Rattle.std.specs.List.{list_any}
 use Rattle.std.specs.BTreeMap.{get_by, get_by_text}
 use Rattle.std.specs.Cmp.Lexicographic.{slice_cmp}
 use Rattle.std.specs.Ordering.{nat_cmp}
+use Rattle.dap_tokens.specs.Naming.{Id, Numbering}
 use Rattle.dap_tokens.specs.{Tokens.{Part, is_label}, Naming.{ids_of_parts, named_parts}}
-use Rattle.dap_tokens.specs.declared.form.Form.{Form}
 use Rattle.dap_tree.specs.Doc.{Doc}
-use Rattle.dap_naming.specs.Documents.{Declared, labelled, ids_of, named_doc}
-use Rattle.dap_naming.specs.Numbers.{Id, Numbering, distinct, number}
+use Rattle.dap_naming.specs.Documents.{Declared, ids_of, named_doc}
+use Rattle.dap_naming.specs.Numbers.{distinct, number}
 use Rattle.dap_naming.specs.Sessions.{AreFew, HasTooMany}
 use Rattle.dap_naming.specs.declared.value_numbers.ValueNumbers.{ValueNumbers}
 
@@ -93,17 +93,9 @@ ByTable old new P = Keeps old new
 abbrev pub NamesByTable : ValueNumbers → ValueNumbers → List Declared → Doc → Doc → Type 0
 NamesByTable old new rs d e = ByTable old new (λ f. e ≡ named_doc rs f d)
 
--- The ids of the parts of a text.
-abbrev pub part_ids : List ℕ → Form → List Part → List Id
-part_ids label form ps = labelled label (ids_of_parts label form ps)
-
 -- Appends the parts of a text, with the names of the ids. The last part holds even if the numbers
 -- are not those of a list of ids.
-abbrev pub Writes : ValueNumbers → ValueNumbers → List ℕ → Form → List Part → List ℕ → List ℕ
-    → Type 0
-Writes old new label form ps before after =
-    Names old new (part_ids label form ps)
-    (λ number. after ≡ before ++ named_parts label form (number label) ps)
-    × Keeps old new
-    × ((f : List ℕ → ℕ) → HasNumbers new label f
-    → after ≡ before ++ named_parts label form f ps)
+abbrev pub Writes : ValueNumbers → ValueNumbers → List Part → List ℕ → List ℕ → Type 0
+Writes old new ps before after =
+    Names old new (ids_of_parts ps) (λ number. after ≡ before ++ named_parts number ps)
+    × ByTable old new (λ f. after ≡ before ++ named_parts f ps)

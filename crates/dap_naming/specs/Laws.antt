@@ -1,9 +1,10 @@
 -- The laws that the functions of `laws` state.
 use Rattle.std.specs.Prelude.{◌≡◌, ◌↔◌, true, List, ◌++◌, decimal, Contains}
 use Rattle.dap_tree.specs.Doc.{Doc}
-use Rattle.dap_naming.specs.Numbers.{Id, Numbering, number, numbers, numbered, named_by, renumbered}
+use Rattle.dap_tokens.specs.Naming.{Id, IsNumbering, Numbering, named_by, numbered}
+use Rattle.dap_naming.specs.Numbers.{number, numbers, renumbered}
 use Rattle.dap_naming.specs.Numbers.{AreRenamed, AreCountable}
-use Rattle.dap_naming.specs.Documents.{Declared, AreNumberings, ids_of, named_doc, skeleton_doc}
+use Rattle.dap_naming.specs.Documents.{Declared, ids_of, named_doc, skeleton_doc}
 use Rattle.dap_naming.specs.Documents.{are_sound}
 use Rattle.dap_naming.specs.Messages.{Message, all_sound, ids_of_all, named_each, named_all}
 use Rattle.dap_naming.specs.Messages.{skeletons}
@@ -35,13 +36,13 @@ OnlyOwnIdsMatter = (rs : List Declared) (number other : Numbering) (d : Doc)
 -- The ids of a named document are its numbers, in the same order.
 abbrev pub NamesOfDocAreRead : Type 0
 NamesOfDocAreRead = (rs : List Declared) (number : Numbering) (d : Doc) → are_sound rs ≡ true
-    → AreNumberings number
+    → IsNumbering number
     → ids_of rs (named_doc rs number d) ≡ named_by number (ids_of rs d)
 
 -- Naming a named document replaces its numbers.
 abbrev pub NamedDocTwice : Type 0
 NamedDocTwice = (rs : List Declared) (number other : Numbering) (d : Doc) → are_sound rs ≡ true
-    → AreNumberings number
+    → IsNumbering number
     → named_doc rs other (named_doc rs number d)
     ≡ named_doc rs (λ label v. other label (decimal (number label v))) d
 
@@ -49,7 +50,7 @@ NamedDocTwice = (rs : List Declared) (number other : Numbering) (d : Doc) → ar
 -- and their ids have equal labels and numbers.
 abbrev pub EqualNamedDocs : Type 0
 EqualNamedDocs = (rs : List Declared) (number other : Numbering) (d e : Doc)
-    → are_sound rs ≡ true → AreNumberings number → AreNumberings other
+    → are_sound rs ≡ true → IsNumbering number → IsNumbering other
     → (named_doc rs number d ≡ named_doc rs other e)
     ↔ ((skeleton_doc rs d ≡ skeleton_doc rs e)
     × (numbered number (ids_of rs d) ≡ numbered other (ids_of rs e)))

@@ -1,7 +1,8 @@
 -- Lists of messages with declared ids. A message is a document with the rules that apply to it.
 use Rattle.std.specs.Prelude.{Bool, true, ◌&&◌, List, [], ◌∷◌, ◌++◌, map}
 use Rattle.dap_tree.specs.Doc.{Doc}
-use Rattle.dap_naming.specs.Numbers.{Id, Numbering, number}
+use Rattle.dap_tokens.specs.Naming.{Id, Numbering}
+use Rattle.dap_naming.specs.Numbers.{number}
 use Rattle.dap_naming.specs.Documents.{Declared, ids_of, named_doc, skeleton_doc, are_sound}
 
 abbrev pub Message : Type 0

@@ -1,11 +1,9 @@
 -- The numbers of declared ids. An id is a label and the text of a value. The values of each label
 -- are numbered from 1, in the order of their first appearance.
-use Rattle.std.specs.Prelude.{◌≡◌, ℕ, suc, cond, List, [], ◌∷◌, ◌++◌, map, bytes_eq, decimal}
+use Rattle.std.specs.Prelude.{◌≡◌, ℕ, suc, cond, List, [], ◌∷◌, ◌++◌, map, bytes_eq}
 use Rattle.std.specs.Prelude.{length, ◌<◌, ◌^◌}
 use Rattle.std.specs.List.{list_any, position_or_len}
-
-abbrev pub Id : Type 0
-Id = List ℕ × List ℕ
+use Rattle.dap_tokens.specs.Naming.{Id, numbered, named_by}
 
 -- The values of a label, in order.
 abbrev pub values : List ℕ → List Id → List (List ℕ)
@@ -29,14 +27,6 @@ distinct label is = add_all [] (values label is)
 abbrev pub number : List Id → List ℕ → List ℕ → ℕ
 number is label v = suc (position_or_len (bytes_eq v) (distinct label is))
 
--- A number for each value of each label.
-abbrev pub Numbering : Type 0
-Numbering = List ℕ → List ℕ → ℕ
-
--- The label of each id, and the number of its value.
-abbrev pub numbered : Numbering → List Id → List (List ℕ × ℕ)
-numbered number is = map (λ i. (i.0, number i.0 i.1)) is
-
 -- The labels of the ids, and the numbers of their values among these ids.
 abbrev pub numbers : List Id → List (List ℕ × ℕ)
 numbers is = numbered (number is) is
@@ -44,10 +34,6 @@ numbers is = numbered (number is) is
 -- The ids with each value replaced by the value that `to` gives.
 abbrev pub renamed : (List ℕ → List ℕ → List ℕ) → List Id → List Id
 renamed to is = map (λ i. (i.0, to i.0 i.1)) is
-
--- The ids with each value replaced by its number in decimal digits.
-abbrev pub named_by : Numbering → List Id → List Id
-named_by number is = renamed (λ label v. decimal (number label v)) is
 
 abbrev pub renumbered : List Id → List Id
 renumbered is = named_by (number is) is

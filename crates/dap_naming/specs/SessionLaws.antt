@@ -2,9 +2,10 @@
 use Rattle.std.specs.Prelude.{◌≡◌, ◌↔◌, true, List, [], ◌++◌, map}
 use Rattle.dap_tree.specs.{Doc.{Doc}, declared.side.Side.{Side}}
 use Rattle.dap_message.specs.{Faults.{fault}, Message.{Sent, IsTyped, message_of}}
+use Rattle.dap_tokens.specs.Naming.{Numbering}
 use Rattle.dap_mask.specs.Declarations.{Declaration, are_declared}
 use Rattle.dap_naming.specs.Documents.{ids_of, named_doc}
-use Rattle.dap_naming.specs.Numbers.{Numbering, number, AreRenamed, AreCountable}
+use Rattle.dap_naming.specs.Numbers.{number, AreRenamed, AreCountable}
 use Rattle.dap_naming.specs.Sessions.{rules_for, declared_ids, name_sent, named_sents}
 use Rattle.dap_naming.specs.Sessions.{sent_skeleton}
 
@@ -47,7 +48,7 @@ TypesKeepRules = (xs : List Declaration) (side : Side) (d : Doc)
     → rules_for xs (message_of side d) ≡ rules_for xs d
 
 -- A named document is typed as the named message. No declaration has the place of an id of the
--- profile, and the capabilities that are filled in are no ids.
+-- profile, and the capabilities that are filled in are not ids.
 abbrev pub TypedNamesCommute : Type 0
 TypedNamesCommute = (xs : List Declaration) (number : Numbering) (side : Side) (d : Doc)
     → are_declared xs ≡ true

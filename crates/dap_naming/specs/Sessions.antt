@@ -3,11 +3,12 @@
 use Rattle.std.specs.Prelude.{ℕ, ◌<◌, ◌≤◌, cond, List, [], ◌∷◌, map, length}
 use Rattle.dap_tree.specs.Doc.{Doc}
 use Rattle.dap_message.specs.Message.{Sent}
+use Rattle.dap_tokens.specs.Naming.{Id, Numbering}
 use Rattle.dap_mask.specs.Declarations.{Declaration, form_of}
 use Rattle.dap_mask.specs.Rules.{rule_applies}
 use Rattle.dap_naming.specs.Documents.{Declared, named_doc, skeleton_doc}
 use Rattle.dap_naming.specs.Messages.{Message, ids_of_all}
-use Rattle.dap_naming.specs.Numbers.{Id, Numbering, distinct, number}
+use Rattle.dap_naming.specs.Numbers.{distinct, number}
 
 -- The declaration, for messages to which its rule applies.
 abbrev pub declared_by : Declaration → Declared

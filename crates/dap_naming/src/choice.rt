@@ -3,37 +3,40 @@ ghost use Rattle.std.specs.Prelude.{◌≡◌, ◌++◌, Some, IfOk, OnOk, optio
 ghost use Rattle.dap_tree.specs.View.{view};
 ghost use Rattle.dap_mask.specs.{Rules.place_of, RuleSteps.is_called};
 ghost use Rattle.dap_naming.specs.Documents.{here, below, inside, is_to_member, is_to_element};
-ghost use Rattle.dap_naming.specs.DeclaredRules.{declared_of, rules_of, declared_as, with_place};
+ghost use Rattle.dap_tokens.specs.Models.{labels_of};
+ghost use Rattle.dap_naming.specs.DeclaredRules.{declared_of, rules_of, with_place};
 ghost use Rattle.dap_naming.specs.DeclaredRules.{after_if, is_only_member};
 
 use crate::rules::Declared;
 use dap_mask::Step;
-use dap_tokens::Form;
+use dap_tokens::Labels;
 use dap_tree::Tree;
 use std::alloc::{AllocError, Global};
 
-/// Returns what a value itself is declared as, by the first rule for it.
-pub(crate) fn here<'r>(rules: &[Declared<'r>]) -> Option<(Form, &'r str)>
-    ensures { declared_as result ≡ here (rules_of rules.now) }
+/// Returns the labels that the rules give to the forms of a value itself.
+pub(crate) fn here<'r>(rules: &[Declared<'r>]) -> Labels<'r>
+    ensures { labels_of result ≡ here (rules_of rules.now) }
 {
+    let mut labels = Labels::none();
     for rule in rules {
         if rule.place.is_empty() {
-            return Some((rule.form, rule.label));
+            labels.add(rule.form, rule.label);
         }
     }
-    None
+    labels
 }
 
-/// Returns what the value of the member of this name is declared as, by the first rule for it.
-pub(crate) fn here_below<'r>(rules: &[Declared<'r>], name: &str) -> Option<(Form, &'r str)>
-    ensures { declared_as result ≡ here (below name.now (rules_of rules.now)) }
+/// Returns the labels that the rules give to the forms of the value of the member of this name.
+pub(crate) fn here_below<'r>(rules: &[Declared<'r>], name: &str) -> Labels<'r>
+    ensures { labels_of result ≡ here (below name.now (rules_of rules.now)) }
 {
+    let mut labels = Labels::none();
     for rule in rules {
         if is_only_member(rule.place, name) {
-            return Some((rule.form, rule.label));
+            labels.add(rule.form, rule.label);
         }
     }
-    None
+    labels
 }
 
 // Returns whether the place is the value of the member of this name.

@@ -1,15 +1,17 @@
 //! Names in the place of the ids of a flat message.
 ghost use Rattle.std.specs.Prelude.{◌≡◌, ◌<◌, true, false, IfOk, OnOk, length, string_bytes};
+ghost use Rattle.std.specs.Prelude.{option_map};
 ghost use Rattle.std.specs.Bool.{MatchBool};
-ghost use Rattle.dap_tokens.specs.{Tokens.is_label, Naming.{ids, named}};
+ghost use Rattle.dap_tokens.specs.{Laws.AreLabels, Models.labels_of, Naming.{ids, named}};
 ghost use Rattle.dap_tree.specs.Doc.{whole};
 ghost use Rattle.dap_flat.specs.Pieces.{piece_of, end_list, leaf};
 ghost use Rattle.dap_mask.specs.Declarations.{are_declared, declarations_of};
-ghost use Rattle.dap_naming.specs.DeclaredRules.{declared_as, have_labels, rules_of, HasLabel};
-ghost use Rattle.dap_naming.specs.Documents.{below, ids_of_text, labelled, named_text};
+ghost use Rattle.dap_naming.specs.DeclaredRules.{have_labels, rules_of, IsLabel};
+ghost use Rattle.dap_naming.specs.Documents.{below};
 ghost use Rattle.dap_naming.specs.Flat.{FitsNodes, NamesNodes, NoneApply, NamesValue, NamesItems};
-ghost use Rattle.dap_naming.specs.Flat.{NamesMembers, NamesLeaf, NamesWhole, NamesWithin, WithRule};
-ghost use Rattle.dap_naming.specs.Flat.{is_sign, may_have_hex, may_have_tokens};
+ghost use Rattle.dap_naming.specs.Flat.{NamesMembers, NamesLeaf, NamesWhole, NamesWithin};
+ghost use Rattle.dap_naming.specs.Flat.{WithLabels, is_sign, has_others, may_have_hex};
+ghost use Rattle.dap_naming.specs.Flat.{may_have_tokens};
 ghost use Rattle.dap_naming.specs.Known.{limit_of};
 
 use crate::choice::{below, here, here_below};
@@ -22,7 +24,7 @@ use crate::value_numbers::ValueNumbers;
 use bumpalo::Bump;
 use dap_flat::{Node, Unclear, Unread, value_end};
 use dap_mask::Declaration;
-use dap_tokens::Form;
+use dap_tokens::Labels;
 use std::alloc::{AllocError, Global};
 
 // The memory for the texts with names.
@@ -94,7 +96,7 @@ fn name_value<'a>(
     match nodes[at] {
         Node::List(_) => name_items(numbers, nodes, at + 1, rules, memory),
         Node::Object(_) => name_members(numbers, nodes, at + 1, rules, memory),
-        _ => name_leaf(numbers, nodes, at, here(rules), memory),
+        _ => name_leaf(numbers, nodes, at, &here(rules), memory),
     }
 }
 
@@ -194,25 +196,25 @@ fn name_member<'a>(
             let left = below(memory.alloc, rules, name)?;
             name_value(numbers, nodes, at, &left, memory)
         }
-        _ => name_leaf(numbers, nodes, at, here_below(rules, name), memory),
+        _ => name_leaf(numbers, nodes, at, &here_below(rules, name), memory),
     }
 }
 
-// Names the value without parts at `at` by this rule.
+// Names the value without parts at `at` by its labels.
 fn name_leaf<'a>(
     numbers: &mut ValueNumbers,
     nodes: &mut [Node<'a>],
     at: usize,
-    rule: Option<(Form, &str)>,
+    labels: &Labels<'_>,
     memory: Memory<'a>,
 ) -> Result<(), Unread>
-    requires label { HasLabel (declared_as rule) }
+    requires labels { AreLabels (labels_of labels.now) }
     requires within { at < length nodes.old }
-    ensures names { OnOk result (WithRule (declared_as rule.entry)
+    ensures names { OnOk result (WithLabels (labels_of labels.now)
         (λ rs. NamesValue rs numbers.old numbers.new nodes.old nodes.new at)) }
     ensures limit { limit_of numbers.new ≡ limit_of numbers.old }
 {
-    let node = named_node(numbers, nodes[at], rule, memory)?;
+    let node = named_node(numbers, nodes[at], labels, memory)?;
     nodes[at] = node;
     Ok(())
 }
@@ -222,18 +224,18 @@ fn name_leaf<'a>(
 fn named_node<'a>(
     numbers: &mut ValueNumbers,
     node: Node<'a>,
-    rule: Option<(Form, &str)>,
+    labels: &Labels<'_>,
     memory: Memory<'a>,
 ) -> Result<Node<'a>, Unread>
-    requires { HasLabel (declared_as rule) }
-    ensures names { IfOk result (λ n. WithRule (declared_as rule.entry)
+    requires { AreLabels (labels_of labels.now) }
+    ensures names { IfOk result (λ n. WithLabels (labels_of labels.now)
         (λ rs. NamesLeaf rs numbers.old numbers.new (piece_of node.entry) (piece_of n))) }
     ensures limit { limit_of numbers.new ≡ limit_of numbers.old }
 {
     match node {
-        Node::Text(text) => Ok(Node::Text(named_text(numbers, text, rule, memory)?)),
-        Node::Unsigned(value) => named_integer(numbers, i128::from(value), rule, memory),
-        Node::Negative(value) => named_integer(numbers, i128::from(value), rule, memory),
+        Node::Text(text) => Ok(Node::Text(named_text(numbers, text, labels, memory)?)),
+        Node::Unsigned(value) => named_integer(numbers, i128::from(value), labels.whole, memory),
+        Node::Negative(value) => named_integer(numbers, i128::from(value), labels.whole, memory),
         Node::Null => Ok(Node::Null),
         Node::Bool(value) => Ok(Node::Bool(value)),
         Node::Id(_, _) => Ok(node),
@@ -244,15 +246,15 @@ fn named_node<'a>(
 fn named_integer<'a>(
     numbers: &mut ValueNumbers,
     value: i128,
-    rule: Option<(Form, &str)>,
+    label: Option<&str>,
     memory: Memory<'a>,
 ) -> Result<Node<'a>, Unread>
-    requires { HasLabel (declared_as rule) }
-    ensures names { IfOk result (λ n. NamesWhole (declared_as rule.entry) numbers.old numbers.new
-        value (piece_of n)) }
+    requires { IsLabel (option_map (λ l. l.now) label) }
+    ensures names { IfOk result (λ n. NamesWhole (option_map (λ l. l.now) label.entry)
+        numbers.old numbers.new value (piece_of n)) }
     ensures limit { limit_of numbers.new ≡ limit_of numbers.old }
 {
-    let named = named_whole(memory.alloc, numbers, value, rule)?;
+    let named = named_whole(memory.alloc, numbers, value, label)?;
     Ok(whole_node(named)?)
 }
 
@@ -268,54 +270,42 @@ fn whole_node<'a>(value: i128) -> Result<Node<'a>, Unclear>
     }
 }
 
+// Returns the text with each id replaced by its name. A text without tokens is not copied.
 fn named_text<'a>(
     numbers: &mut ValueNumbers,
     text: &'a str,
-    rule: Option<(Form, &str)>,
+    labels: &Labels<'_>,
     memory: Memory<'a>,
 ) -> Result<&'a str, Unread>
-    requires { HasLabel (declared_as rule) }
+    requires { AreLabels (labels_of labels.now) }
     ensures names { IfOk result (λ s. NamesWithin numbers.old numbers.new
-        (ids_of_text (declared_as rule.entry) text.now)
-        (λ number. s.now ≡ named_text (declared_as rule.entry) number text.now)) }
+        (ids (labels_of labels.now) text.now)
+        (λ number. s.now ≡ named (labels_of labels.now) number text.now)) }
     ensures limit { limit_of numbers.new ≡ limit_of numbers.old }
 {
-    match rule {
-        Some((form, label)) => named_by(numbers, text, form, label, memory),
-        None => Ok(text),
-    }
-}
-
-// Returns the text with each id replaced by its name. A text without tokens is not copied.
-fn named_by<'a>(
-    numbers: &mut ValueNumbers,
-    text: &'a str,
-    form: Form,
-    label: &str,
-    memory: Memory<'a>,
-) -> Result<&'a str, Unread>
-    requires { is_label label.now ≡ true }
-    ensures names { IfOk result (λ s. NamesWithin numbers.old numbers.new
-        (labelled label.now (ids label.now form text.now))
-        (λ number. s.now ≡ named label.now form (number label.now) text.now)) }
-    ensures limit { limit_of numbers.new ≡ limit_of numbers.old }
-{
-    if !may_have_tokens(form, text.as_bytes()) {
+    if *labels == Labels::none() || !may_have_tokens(labels, text.as_bytes()) {
         return Ok(text);
     }
-    let named = name_text(memory.alloc, numbers, label, form, text)?;
+    let named = name_text(memory.alloc, numbers, labels, text)?;
     Ok(stored(named, text, memory.arena)?)
 }
 
 // Returns whether the text may have tokens. A hexadecimal number starts with `0x` or `0X`, and a
 // name with `<`.
-fn may_have_tokens(form: Form, text: &[u8]) -> bool
-    ensures { result ≡ may_have_tokens form text.now }
+fn may_have_tokens(labels: &Labels<'_>, text: &[u8]) -> bool
+    ensures { result ≡ may_have_tokens (labels_of labels.now) text.now }
 {
-    match form {
-        Form::Hex => may_have_hex(text),
-        Form::Whole | Form::Digits | Form::Long | Form::Uuid => true,
-    }
+    has_others(labels) || may_have_hex(text)
+}
+
+// Returns whether a form other than that of hexadecimal numbers has a label.
+fn has_others(labels: &Labels<'_>) -> bool
+    ensures { result ≡ has_others (labels_of labels.now) }
+{
+    labels.whole.is_some()
+        || labels.digits.is_some()
+        || labels.long.is_some()
+        || labels.uuid.is_some()
 }
 
 fn may_have_hex(text: &[u8]) -> bool

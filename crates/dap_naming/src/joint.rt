@@ -1,13 +1,13 @@
 //! The joint numbers of the declared ids of two recordings.
 ghost use Rattle.std.specs.Prelude.{◌≡◌, ℕ, ◌<◌, ◌^◌, List, [], ◌∷◌, map, cond, true, Some, IfOk};
-ghost use Rattle.std.specs.Prelude.{OnOk, false, bytes_eq};
+ghost use Rattle.std.specs.Prelude.{OnOk, false, bytes_eq, option_map};
 ghost use Rattle.dap_tree.specs.View.{view, items_view, members_view};
 ghost use Rattle.dap_mask.specs.Declarations.{declarations_of, are_declared};
-ghost use Rattle.dap_tokens.specs.{Tokens.{parts, parts_from}, Values.value};
-ghost use Rattle.dap_naming.specs.DeclaredRules.{rules_of, declared_as};
+ghost use Rattle.dap_tokens.specs.{Models.labels_of, Tokens.{parts, parts_from}, Values.value};
+ghost use Rattle.dap_naming.specs.{DeclaredRules.rules_of, Documents.integer_text};
 ghost use Rattle.dap_naming.specs.Joint.{KeepsNumbers, limit_of_both, Joins, doc_pairs};
 ghost use Rattle.dap_naming.specs.Joint.{items_pairs, members_pairs, whole_pairs, text_pairs};
-ghost use Rattle.dap_naming.specs.Joint.{value_pairs, tokens_in};
+ghost use Rattle.dap_naming.specs.Joint.{value_pairs, tokens_in, id_of};
 ghost use Rattle.dap_naming.specs.Sessions.{rules_for};
 
 use crate::choice::{below, here, inside};
@@ -18,7 +18,7 @@ use crate::texts::split_part;
 use crate::trees::name_tree;
 use crate::value_numbers::ValueNumbers;
 use dap_mask::Declaration;
-use dap_tokens::{Form, is_nothing, part_length, value};
+use dap_tokens::{Form, Labels, is_nothing, token_at, value};
 use dap_tree::Tree;
 use itoa::Buffer;
 use std::alloc::{AllocError, Global};
@@ -32,6 +32,13 @@ pub struct JointNames {
     a: ValueNumbers,
     // The numbers of the values of B.
     b: BTreeMap<Vec<u8>, u64>,
+}
+
+// A token of a message: its label, and the text of its value.
+#[derive(Drop)]
+struct Labelled<'l> {
+    label: &'l str,
+    value: Vec<u8>,
 }
 
 impl JointNames {
@@ -202,10 +209,17 @@ fn join_trees(
     }
     match (a, b) {
         (Tree::Whole(x), Tree::Whole(y)) => {
-            join_wholes(alloc, names, *x, here(rules_a), *y, here(rules_b))
+            join_wholes(
+                alloc,
+                names,
+                *x,
+                here(rules_a).whole,
+                *y,
+                here(rules_b).whole,
+            )
         }
         (Tree::Text(text), Tree::Text(other)) => {
-            join_texts(alloc, names, text, here(rules_a), other, here(rules_b))
+            join_texts(alloc, names, text, &here(rules_a), other, &here(rules_b))
         }
         (Tree::List(items), Tree::List(others)) => {
             join_items(alloc, names, items, rules_a, others, rules_b)
@@ -270,25 +284,30 @@ fn join_wholes(
     alloc: Global,
     names: &mut JointNames,
     a: i128,
-    rule_a: Option<(Form, &str)>,
+    label_a: Option<&str>,
     b: i128,
-    rule_b: Option<(Form, &str)>,
+    label_b: Option<&str>,
 ) -> Result<(), NamingFault>
     ensures joined { OnOk result (Joins names.old names.new
-        (whole_pairs (declared_as rule_a.entry) a (declared_as rule_b.entry) b)) }
+        (whole_pairs (option_map (λ l. l.now) label_a.entry) a
+        (option_map (λ l. l.now) label_b.entry) b)) }
     ensures kept { OnOk result (KeepsNumbers names.old names.new) }
     ensures limit { limit_of_both names.new ≡ limit_of_both names.old }
 {
-    let (Some((Form::Whole, label)), Some((Form::Whole, other))) = (rule_a, rule_b) else {
+    let (Some(label_a), Some(label_b)) = (label_a, label_b) else {
         return Ok(());
     };
-    if label != other {
-        return Ok(());
-    }
-    let (mut buffer_a, mut buffer_b) = (Buffer::new(), Buffer::new());
-    let text_a = buffer_a.format(a).as_bytes();
-    let text_b = buffer_b.format(b).as_bytes();
-    join_ids(alloc, names, label, text_a, text_b)
+    let token_a = whole_token(alloc, label_a, a)?;
+    let token_b = whole_token(alloc, label_b, b)?;
+    join_ids(alloc, names, &token_a, &token_b)
+}
+
+fn whole_token<'l>(alloc: Global, label: &'l str, value: i128) -> Result<Labelled<'l>, AllocError>
+    ensures { IfOk result (λ t. id_of t ≡ (label.now, integer_text value)) }
+{
+    let mut buffer = Buffer::new();
+    let value = Vec::from_slice(alloc, buffer.format(value).as_bytes())?;
+    Ok(Labelled { label, value })
 }
 
 // Joins the ids at each position among the tokens of two strings, if they have one label.
@@ -296,116 +315,100 @@ fn join_texts(
     alloc: Global,
     names: &mut JointNames,
     a: &str,
-    rule_a: Option<(Form, &str)>,
+    labels_a: &Labels<'_>,
     b: &str,
-    rule_b: Option<(Form, &str)>,
+    labels_b: &Labels<'_>,
 ) -> Result<(), NamingFault>
     ensures joined { OnOk result (Joins names.old names.new
-        (text_pairs (declared_as rule_a.entry) a.now (declared_as rule_b.entry) b.now)) }
+        (text_pairs (labels_of labels_a.now) a.now (labels_of labels_b.now) b.now)) }
     ensures kept { OnOk result (KeepsNumbers names.old names.new) }
     ensures limit { limit_of_both names.new ≡ limit_of_both names.old }
 {
-    let (Some((form_a, label)), Some((form_b, other))) = (rule_a, rule_b) else {
-        return Ok(());
-    };
-    if label != other {
-        return Ok(());
-    }
-    let tokens_a = tokens_of(alloc, label, form_a, a.as_bytes())?;
-    let tokens_b = tokens_of(alloc, label, form_b, b.as_bytes())?;
-    join_tokens(alloc, names, label, form_a, &tokens_a, form_b, &tokens_b)
-}
-
-// Joins the ids at each position of two lists of tokens.
-fn join_tokens(
-    alloc: Global,
-    names: &mut JointNames,
-    label: &str,
-    form_a: Form,
-    tokens_a: &[&[u8]],
-    form_b: Form,
-    tokens_b: &[&[u8]],
-) -> Result<(), NamingFault>
-    ensures joined { OnOk result (Joins names.old names.new (value_pairs label.now
-        (map (λ t. value label.now form_a t.now) tokens_a.now)
-        (map (λ t. value label.now form_b t.now) tokens_b.now))) }
-    ensures kept { OnOk result (KeepsNumbers names.old names.new) }
-    ensures limit { limit_of_both names.new ≡ limit_of_both names.old }
-{
+    let tokens_a = tokens_of(alloc, labels_a, a.as_bytes())?;
+    let tokens_b = tokens_of(alloc, labels_b, b.as_bytes())?;
     for (token_a, token_b) in tokens_a.iter().zip(tokens_b.iter()) {
-        let value_a = value(alloc, label, form_a, *token_a)?;
-        let value_b = value(alloc, label, form_b, *token_b)?;
-        join_ids(alloc, names, label, &value_a, &value_b)?;
+        join_ids(alloc, names, token_a, token_b)?;
     }
     Ok(())
 }
 
-// Joins two values, if both are ids.
+// Joins two tokens, if both are ids of one label.
 fn join_ids(
     alloc: Global,
     names: &mut JointNames,
-    label: &str,
-    a: &[u8],
-    b: &[u8],
+    a: &Labelled<'_>,
+    b: &Labelled<'_>,
 ) -> Result<(), NamingFault>
     ensures joined { OnOk result (Joins names.old names.new
-        (value_pairs label.now (a.now ∷ []) (b.now ∷ []))) }
+        (value_pairs (id_of a.now ∷ []) (id_of b.now ∷ []))) }
     ensures kept { OnOk result (KeepsNumbers names.old names.new) }
     ensures limit { limit_of_both names.new ≡ limit_of_both names.old }
 {
-    if is_nothing(a) || is_nothing(b) {
+    if a.label != b.label || is_nothing(&a.value) || is_nothing(&b.value) {
         return Ok(());
     }
-    names.join_values(alloc, label, a, b)
+    names.join_values(alloc, a.label, &a.value, &b.value)
 }
 
 // Returns the tokens of a string.
-fn tokens_of<'t>(
+fn tokens_of<'l>(
     alloc: Global,
-    label: &str,
-    form: Form,
-    text: &'t [u8],
-) -> Result<Vec<&'t [u8]>, AllocError>
+    labels: &Labels<'l>,
+    text: &[u8],
+) -> Result<Vec<Labelled<'l>>, AllocError>
     ensures { IfOk result
-        (λ v. map (λ t. t.now) v.items ≡ tokens_in (parts label.now form text.now)) }
+        (λ v. map id_of v.items ≡ tokens_in (parts (labels_of labels.now) text.now)) }
 {
-    match form {
-        Form::Whole => only(alloc, text),
-        _ => tokens_among(alloc, label, form, text),
+    match labels.whole {
+        Some(label) => only(alloc, labelled_token(alloc, Form::Whole, label, text)?),
+        None => tokens_among(alloc, labels, text),
     }
 }
 
-fn only<'t>(alloc: Global, text: &'t [u8]) -> Result<Vec<&'t [u8]>, AllocError>
-    ensures { IfOk result (λ v. map (λ t. t.now) v.items ≡ text.now ∷ []) }
+fn labelled_token<'l>(
+    alloc: Global,
+    form: Form,
+    label: &'l str,
+    token: &[u8],
+) -> Result<Labelled<'l>, AllocError>
+    ensures { IfOk result (λ t. id_of t ≡ (label.now, value label.now form token.now)) }
+{
+    let value = value(alloc, label, form, token)?;
+    Ok(Labelled { label, value })
+}
+
+fn only<'l>(alloc: Global, token: Labelled<'l>) -> Result<Vec<Labelled<'l>>, AllocError>
+    ensures { IfOk result (λ v. map id_of v.items ≡ id_of token.entry ∷ []) }
 {
     let mut tokens = Vec::new(alloc);
-    tokens.push(text)?;
+    tokens.push(token)?;
     Ok(tokens)
 }
 
 // Returns the tokens of a string that is read from left to right.
-fn tokens_among<'t>(
+fn tokens_among<'l>(
     alloc: Global,
-    label: &str,
-    form: Form,
-    text: &'t [u8],
-) -> Result<Vec<&'t [u8]>, AllocError>
-    ensures { IfOk result (λ v. map (λ t. t.now) v.items
-        ≡ tokens_in (parts_from label.now form 0 false text.now)) }
+    labels: &Labels<'l>,
+    text: &[u8],
+) -> Result<Vec<Labelled<'l>>, AllocError>
+    ensures { IfOk result (λ v. map id_of v.items
+        ≡ tokens_in (parts_from (labels_of labels.now) 0 false text.now)) }
 {
     let mut tokens = Vec::new(alloc);
     let mut rest = text;
     let mut after_digit = false;
     'parts: while let Some((first, others)) = rest.split_first() {
-        let length = part_length(label, form, after_digit, rest);
-        if length == 0 {
-            after_digit = first.is_ascii_hexdigit();
-            rest = others;
-        } else {
-            let (part, others) = split_part(rest, length);
-            tokens.push(part)?;
-            after_digit = false;
-            rest = others;
+        match token_at(labels, after_digit, rest) {
+            None => {
+                after_digit = first.is_ascii_hexdigit();
+                rest = others;
+            }
+            Some(token) => {
+                let (part, others) = split_part(rest, token.count);
+                tokens.push(labelled_token(alloc, token.form, token.label, part)?)?;
+                after_digit = false;
+                rest = others;
+            }
         }
     }
     Ok(tokens)

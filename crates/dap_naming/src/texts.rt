@@ -1,20 +1,21 @@
 //! Names in the place of the ids of a string.
-ghost use Rattle.std.specs.Prelude.{◌≡◌, ◌∷◌, ◌++◌, [], true, false, IfOk, OnOk, string_bytes};
+ghost use Rattle.std.specs.Prelude.{◌≡◌, ◌∷◌, ◌++◌, [], false, Some, IfOk, OnOk, string_bytes};
 ghost use Rattle.std.specs.Prelude.{length, take, drop};
-ghost use Rattle.dap_tokens.specs.Tokens.{is_label, token, parts, parts_from};
-ghost use Rattle.dap_tokens.specs.Naming.{ids, named};
-ghost use Rattle.dap_naming.specs.Documents.{labelled};
+ghost use Rattle.dap_tokens.specs.Tokens.{token, parts, parts_from};
+ghost use Rattle.dap_tokens.specs.{Laws.AreLabels, Models.{labels_of, token_of}};
+ghost use Rattle.dap_tokens.specs.Naming.{ids, ids_of_parts, named};
 ghost use Rattle.dap_naming.specs.Known.{Names, Writes, FitsLimit, ExceedsLimit, limit_of};
-ghost use Rattle.dap_naming.specs.Known.{ByTable, part_ids};
-ghost use Rattle.dap_naming.specs.Literals.{literal_run, may_begin};
+ghost use Rattle.dap_naming.specs.Known.{ByTable};
+ghost use Rattle.dap_naming.specs.DeclaredRules.{IsLabel};
+ghost use Rattle.dap_naming.specs.Literals.{ends_in_digit, literal_run, may_begin, may_begin_run};
 
 use crate::fault::NamingFault;
 use crate::value_numbers::ValueNumbers;
-use dap_tokens::{Form, is_nothing, part_length, push_name, value};
+use dap_tokens::{Form, Labels, is_nothing, push_name, token_at, value};
 use std::alloc::{AllocError, Global};
 
-/// Returns the text with each id replaced by its name. The ids are those of the form, and of names
-/// of the label.
+/// Returns the text with each id replaced by its name. The ids are those of the forms that have
+/// labels, and of names of these labels.
 ///
 /// # Errors
 ///
@@ -22,50 +23,47 @@ use std::alloc::{AllocError, Global};
 pub(crate) fn name_text(
     alloc: Global,
     numbers: &mut ValueNumbers,
-    label: &str,
-    form: Form,
+    labels: &Labels<'_>,
     text: &str,
 ) -> Result<String, NamingFault>
-    requires { is_label label.now ≡ true }
+    requires { AreLabels (labels_of labels.now) }
     ensures names { IfOk result (λ s. Names numbers.old numbers.new
-        (labelled label.now (ids label.now form text.now))
-        (λ number. string_bytes s ≡ named label.now form (number label.now) text.now)) }
+        (ids (labels_of labels.now) text.now)
+        (λ number. string_bytes s ≡ named (labels_of labels.now) number text.now)) }
     ensures table { IfOk result (λ s. ByTable numbers.old numbers.new
-        (λ number. string_bytes s ≡ named label.now form (number label.now) text.now)) }
-    ensures few { OnOk result
-        (FitsLimit numbers.old (labelled label.now (ids label.now form text.now))) }
+        (λ number. string_bytes s ≡ named (labels_of labels.now) number text.now)) }
+    ensures few { OnOk result (FitsLimit numbers.old (ids (labels_of labels.now) text.now)) }
     ensures full { result ≡ Err NamingFault.Full
-        → ExceedsLimit numbers.old (labelled label.now (ids label.now form text.now)) }
+        → ExceedsLimit numbers.old (ids (labels_of labels.now) text.now) }
     ensures limit { limit_of numbers.new ≡ limit_of numbers.old }
 {
-    let named = name_bytes(alloc, numbers, label, form, text.as_bytes())?;
+    let named = name_bytes(alloc, numbers, labels, text.as_bytes())?;
     Ok(String::from_utf8(named).unwrap())
 }
 
 fn name_bytes(
     alloc: Global,
     numbers: &mut ValueNumbers,
-    label: &str,
-    form: Form,
+    labels: &Labels<'_>,
     text: &[u8],
 ) -> Result<Vec<u8>, NamingFault>
-    requires { is_label label.now ≡ true }
-    ensures writes { IfOk result (λ v. Writes numbers.old numbers.new label.now form
-        (parts label.now form text.now) [] v.items) }
+    requires { AreLabels (labels_of labels.now) }
+    ensures writes { IfOk result (λ v. Writes numbers.old numbers.new
+        (parts (labels_of labels.now) text.now) [] v.items) }
     ensures few { OnOk result
-        (FitsLimit numbers.old (part_ids label.now form (parts label.now form text.now))) }
+        (FitsLimit numbers.old (ids_of_parts (parts (labels_of labels.now) text.now))) }
     ensures full { result ≡ Err NamingFault.Full
-        → ExceedsLimit numbers.old (part_ids label.now form (parts label.now form text.now)) }
+        → ExceedsLimit numbers.old (ids_of_parts (parts (labels_of labels.now) text.now)) }
     ensures limit { limit_of numbers.new ≡ limit_of numbers.old }
 {
     let mut named = Vec::with_capacity(alloc, text.len())?;
-    match form {
-        Form::Whole => {
-            name_token(alloc, numbers, label, form, text, &mut named)?;
+    match labels.whole {
+        Some(label) => {
+            name_token(alloc, numbers, Form::Whole, label, text, &mut named)?;
             Ok(named)
         }
-        _ => {
-            name_parts(alloc, numbers, label, form, text, &mut named)?;
+        None => {
+            name_parts(alloc, numbers, labels, text, &mut named)?;
             Ok(named)
         }
     }
@@ -75,64 +73,81 @@ fn name_bytes(
 fn name_parts(
     alloc: Global,
     numbers: &mut ValueNumbers,
-    label: &str,
-    form: Form,
+    labels: &Labels<'_>,
     text: &[u8],
     named: &mut Vec<u8>,
 ) -> Result<(), NamingFault>
-    requires { is_label label.now ≡ true }
-    ensures writes { OnOk result (Writes numbers.old numbers.new label.now form
-        (parts_from label.now form 0 false text.now) named.old.items named.new.items) }
+    requires { AreLabels (labels_of labels.now) }
+    ensures writes { OnOk result (Writes numbers.old numbers.new
+        (parts_from (labels_of labels.now) 0 false text.now) named.old.items named.new.items) }
     ensures few { OnOk result (FitsLimit numbers.old
-        (part_ids label.now form (parts_from label.now form 0 false text.now))) }
+        (ids_of_parts (parts_from (labels_of labels.now) 0 false text.now))) }
     ensures full { result ≡ Err NamingFault.Full → ExceedsLimit numbers.old
-        (part_ids label.now form (parts_from label.now form 0 false text.now)) }
+        (ids_of_parts (parts_from (labels_of labels.now) 0 false text.now)) }
     ensures limit { limit_of numbers.new ≡ limit_of numbers.old }
 {
     let mut rest = text;
     let mut after_digit = false;
     'parts: while let Some((first, others)) = rest.split_first() {
-        let run = literal_run(form, rest);
+        let run = literal_run(labels, rest);
         if run > 0 {
             let (literal, others) = split_part(rest, run);
             named.extend_from_slice(literal)?;
-            after_digit = false;
+            after_digit = ends_in_digit(literal);
             rest = others;
             continue 'parts;
         }
-        let length = part_length(label, form, after_digit, rest);
-        if length == 0 {
-            push(*first, named)?;
-            after_digit = first.is_ascii_hexdigit();
-            rest = others;
-        } else {
-            let (part, others) = split_part(rest, length);
-            name_token(alloc, numbers, label, form, part, named)?;
-            after_digit = false;
-            rest = others;
+        match token_at(labels, after_digit, rest) {
+            None => {
+                push(*first, named)?;
+                after_digit = first.is_ascii_hexdigit();
+                rest = others;
+            }
+            Some(token) => {
+                let (part, others) = split_part(rest, token.count);
+                name_token(alloc, numbers, token.form, token.label, part, named)?;
+                after_digit = false;
+                rest = others;
+            }
         }
     }
     Ok(())
 }
 
-// Returns the number of bytes at the start with which no name and no token of the form starts.
-fn literal_run(form: Form, text: &[u8]) -> usize
-    ensures { result ≡ length (literal_run form text.now) }
+// Returns the number of bytes at the start with which no name and no token starts.
+fn literal_run(labels: &Labels<'_>, text: &[u8]) -> usize
+    ensures { result ≡ length (literal_run (labels_of labels.now) text.now) }
 {
     text.iter()
-        .take_while(|byte| !may_begin(form, **byte))
+        .take_while(|byte| !may_begin(labels, **byte))
         .count()
 }
 
-// Returns whether a name or a token of the form can start with the byte.
-fn may_begin(form: Form, byte: u8) -> bool
-    ensures { result ≡ may_begin form byte }
+// Returns whether a name can start with the byte, or a token of a form that has a label.
+fn may_begin(labels: &Labels<'_>, byte: u8) -> bool
+    ensures { result ≡ may_begin (labels_of labels.now) byte }
 {
-    match form {
-        Form::Whole => true,
-        Form::Digits => byte == b'<' || byte.is_ascii_digit(),
-        Form::Hex => byte == b'<' || byte == b'0',
-        Form::Long | Form::Uuid => byte == b'<' || byte.is_ascii_hexdigit(),
+    byte == b'<'
+        || (labels.digits.is_some() && byte.is_ascii_digit())
+        || (labels.hex.is_some() && byte == b'0')
+        || may_begin_run(labels, byte)
+}
+
+// Returns whether a long run of hexadecimal digits or a UUID can start with the byte, if such a
+// form has a label.
+fn may_begin_run(labels: &Labels<'_>, byte: u8) -> bool
+    ensures { result ≡ may_begin_run (labels_of labels.now) byte }
+{
+    (labels.long.is_some() || labels.uuid.is_some()) && byte.is_ascii_hexdigit()
+}
+
+// Returns whether the last byte is a hexadecimal digit.
+fn ends_in_digit(text: &[u8]) -> bool
+    ensures { result ≡ ends_in_digit text.now }
+{
+    match text {
+        [] => false,
+        [.., last] => last.is_ascii_hexdigit(),
     }
 }
 
@@ -159,18 +174,18 @@ fn push(byte: u8, named: &mut Vec<u8>) -> Result<(), AllocError>
 fn name_token(
     alloc: Global,
     numbers: &mut ValueNumbers,
-    label: &str,
     form: Form,
+    label: &str,
     part: &[u8],
     named: &mut Vec<u8>,
 ) -> Result<(), NamingFault>
-    requires { is_label label.now ≡ true }
-    ensures writes { OnOk result (Writes numbers.old numbers.new label.now form
-        (token part.now ∷ []) named.old.items named.new.items) }
+    requires { IsLabel (Some label.now) }
+    ensures writes { OnOk result (Writes numbers.old numbers.new
+        (token form label.now part.now ∷ []) named.old.items named.new.items) }
     ensures few { OnOk result
-        (FitsLimit numbers.old (part_ids label.now form (token part.now ∷ []))) }
+        (FitsLimit numbers.old (ids_of_parts (token form label.now part.now ∷ []))) }
     ensures full { result ≡ Err NamingFault.Full
-        → ExceedsLimit numbers.old (part_ids label.now form (token part.now ∷ [])) }
+        → ExceedsLimit numbers.old (ids_of_parts (token form label.now part.now ∷ [])) }
     ensures limit { limit_of numbers.new ≡ limit_of numbers.old }
 {
     let value = value(alloc, label, form, part)?;

@@ -1,22 +1,23 @@
 //! Names in the place of the ids of a message.
 ghost use Rattle.std.specs.Prelude.{◌≡◌, ◌<◌, ◌∷◌, ◌++◌, [], true, Some, IfOk, OnOk, length};
-ghost use Rattle.std.specs.Prelude.{string_bytes, string_cmp};
+ghost use Rattle.std.specs.Prelude.{string_bytes, string_cmp, option_map};
 ghost use Rattle.std.specs.BTreeMap.{insert_entry};
-ghost use Rattle.dap_tokens.specs.Tokens.{is_label};
+ghost use Rattle.dap_tokens.specs.{Tokens.is_label, Laws.AreLabels, Models.labels_of};
+ghost use Rattle.dap_tokens.specs.Naming.{ids, named as named_string};
 ghost use Rattle.dap_tree.specs.View.{view, items_view, members_view};
 ghost use Rattle.dap_naming.specs.Documents.{ids_of, items_ids, members_ids};
 ghost use Rattle.dap_naming.specs.Documents.{named_items, named_members};
-ghost use Rattle.dap_naming.specs.Documents.{ids_of_text, named_text, ids_of_whole, named_whole};
+ghost use Rattle.dap_naming.specs.Documents.{ids_of_whole, named_whole};
 ghost use Rattle.dap_naming.specs.Known.{Names, NamesDoc, FitsLimit, ExceedsLimit, limit_of};
 ghost use Rattle.dap_naming.specs.Known.{ByTable, NamesByTable};
-ghost use Rattle.dap_naming.specs.DeclaredRules.{rules_of, have_labels, declared_as, HasLabel};
+ghost use Rattle.dap_naming.specs.DeclaredRules.{rules_of, have_labels, IsLabel};
 
 use crate::choice::{below, here, inside};
 use crate::fault::NamingFault;
 use crate::rules::Declared;
 use crate::texts::name_text;
 use crate::value_numbers::ValueNumbers;
-use dap_tokens::{Form, is_nothing};
+use dap_tokens::{Labels, is_nothing};
 use dap_tree::Tree;
 use itoa::Buffer;
 use std::alloc::{AllocError, Global};
@@ -76,8 +77,11 @@ fn named(
         return Ok(tree);
     }
     match tree {
-        Tree::Whole(value) => Ok(Tree::Whole(named_whole(alloc, numbers, value, here(rules))?)),
-        Tree::Text(text) => Ok(Tree::Text(named_text(alloc, numbers, text, here(rules))?)),
+        Tree::Whole(value) => {
+            let label = here(rules).whole;
+            Ok(Tree::Whole(named_whole(alloc, numbers, value, label)?))
+        }
+        Tree::Text(text) => Ok(Tree::Text(named_text(alloc, numbers, text, &here(rules))?)),
         Tree::List(items) => Ok(Tree::List(named_items(alloc, numbers, items, rules)?)),
         Tree::Object(members) => Ok(Tree::Object(named_members(alloc, numbers, members, rules)?)),
         Tree::Null => Ok(Tree::Null),
@@ -166,71 +170,50 @@ fn named_text(
     alloc: Global,
     numbers: &mut ValueNumbers,
     text: String,
-    rule: Option<(Form, &str)>,
+    labels: &Labels<'_>,
 ) -> Result<String, NamingFault>
-    requires { HasLabel (declared_as rule) }
+    requires { AreLabels (labels_of labels.now) }
     ensures names { IfOk result (λ s. Names numbers.old numbers.new
-        (ids_of_text (declared_as rule.entry) (string_bytes text))
+        (ids (labels_of labels.now) (string_bytes text))
         (λ number. string_bytes s
-        ≡ named_text (declared_as rule.entry) number (string_bytes text))) }
+        ≡ named_string (labels_of labels.now) number (string_bytes text))) }
     ensures table { IfOk result (λ s. ByTable numbers.old numbers.new (λ number.
-        string_bytes s ≡ named_text (declared_as rule.entry) number (string_bytes text))) }
+        string_bytes s ≡ named_string (labels_of labels.now) number (string_bytes text))) }
     ensures few { OnOk result
-        (FitsLimit numbers.old (ids_of_text (declared_as rule.entry) (string_bytes text))) }
+        (FitsLimit numbers.old (ids (labels_of labels.now) (string_bytes text))) }
     ensures full { result ≡ Err NamingFault.Full
-        → ExceedsLimit numbers.old (ids_of_text (declared_as rule.entry) (string_bytes text)) }
+        → ExceedsLimit numbers.old (ids (labels_of labels.now) (string_bytes text)) }
     ensures limit { limit_of numbers.new ≡ limit_of numbers.old }
 {
-    match rule {
-        Some((form, label)) => name_text(alloc, numbers, label, form, &text),
-        None => Ok(text),
+    if *labels == Labels::none() {
+        Ok(text)
+    } else {
+        name_text(alloc, numbers, labels, &text)
     }
 }
 
+// Returns the integer with its number in its place, if it has a label and is an id.
 pub(crate) fn named_whole(
     alloc: Global,
     numbers: &mut ValueNumbers,
     value: i128,
-    rule: Option<(Form, &str)>,
+    label: Option<&str>,
 ) -> Result<i128, NamingFault>
-    requires { HasLabel (declared_as rule) }
+    requires { IsLabel (option_map (λ l. l.now) label) }
     ensures names { IfOk result (λ z. Names numbers.old numbers.new
-        (ids_of_whole (declared_as rule.entry) value)
-        (λ number. z ≡ named_whole (declared_as rule.entry) number value)) }
+        (ids_of_whole (option_map (λ l. l.now) label.entry) value)
+        (λ number. z ≡ named_whole (option_map (λ l. l.now) label.entry) number value)) }
     ensures table { IfOk result (λ z. ByTable numbers.old numbers.new
-        (λ number. z ≡ named_whole (declared_as rule.entry) number value)) }
+        (λ number. z ≡ named_whole (option_map (λ l. l.now) label.entry) number value)) }
     ensures few { OnOk result
-        (FitsLimit numbers.old (ids_of_whole (declared_as rule.entry) value)) }
-    ensures full { result ≡ Err NamingFault.Full
-        → ExceedsLimit numbers.old (ids_of_whole (declared_as rule.entry) value) }
+        (FitsLimit numbers.old (ids_of_whole (option_map (λ l. l.now) label.entry) value)) }
+    ensures full { result ≡ Err NamingFault.Full → ExceedsLimit numbers.old
+        (ids_of_whole (option_map (λ l. l.now) label.entry) value) }
     ensures limit { limit_of numbers.new ≡ limit_of numbers.old }
 {
-    match rule {
-        Some((Form::Whole, label)) => number_whole(alloc, numbers, value, label),
-        _ => Ok(value),
-    }
-}
-
-// Returns the number of an integer that a rule declares as an id. An integer that is not an id is
-// returned unchanged.
-fn number_whole(
-    alloc: Global,
-    numbers: &mut ValueNumbers,
-    value: i128,
-    label: &str,
-) -> Result<i128, NamingFault>
-    requires { is_label label.now ≡ true }
-    ensures names { IfOk result (λ z. Names numbers.old numbers.new
-        (ids_of_whole (Some (Form.Whole, label.now)) value)
-        (λ number. z ≡ named_whole (Some (Form.Whole, label.now)) number value)) }
-    ensures table { IfOk result (λ z. ByTable numbers.old numbers.new
-        (λ number. z ≡ named_whole (Some (Form.Whole, label.now)) number value)) }
-    ensures few { OnOk result
-        (FitsLimit numbers.old (ids_of_whole (Some (Form.Whole, label.now)) value)) }
-    ensures full { result ≡ Err NamingFault.Full
-        → ExceedsLimit numbers.old (ids_of_whole (Some (Form.Whole, label.now)) value) }
-    ensures limit { limit_of numbers.new ≡ limit_of numbers.old }
-{
+    let Some(label) = label else {
+        return Ok(value);
+    };
     let mut buffer = Buffer::new();
     let text = buffer.format(value).as_bytes();
     if is_nothing(text) {

@@ -4,7 +4,8 @@ use Rattle.std.proofs.Common.{refl, ap, arith, length-append}
 use Rattle.std.proofs.lemmas.Bool.{cases_lt}
 use Rattle.std.specs.List.{list_any, AllByRecursion}
 use Rattle.std.specs.Str.{bytes_eq}
-use Rattle.dap_naming.specs.Numbers.{Id, add, add_all, distinct, number, values}
+use Rattle.dap_tokens.specs.Naming.{Id}
+use Rattle.dap_naming.specs.Numbers.{add, add_all, distinct, number, values}
 use Rattle.dap_naming.specs.Sessions.{AreFew, HasTooMany}
 use Rattle.dap_naming.proofs.Additions.{distinct-append, same_bytes}
 use Rattle.dap_naming.proofs.Lists.{by_bool, place_within}

@@ -10,10 +10,11 @@ use Rattle.dap_tree.specs.Ids.{ids, numbers_of}
 use Rattle.dap_tree.specs.declared.sort.Sort.{Sort}
 use Rattle.dap_profile.specs.declared.profile.Kind.TheVariants.{Response}
 use Rattle.dap_message.specs.{Message.Sent, SwapRules.SwapRule}
+use Rattle.dap_tokens.specs.Naming.{Numbering}
 use Rattle.dap_mask.specs.Declarations.{Declaration, are_declared}
 use Rattle.dap_tokens.proofs.NamedStrings.{names_are_read, named_twice}
 use Rattle.dap_tokens.proofs.EqualStrings.{equal_named}
-use Rattle.dap_naming.specs.Numbers.{Numbering, number}
+use Rattle.dap_naming.specs.Numbers.{number}
 use Rattle.dap_naming.specs.Documents.{Declared, below, named_doc}
 use Rattle.dap_naming.specs.Sessions.{rules_for, declared_ids, name_sent, named_sents}
 use Rattle.dap_naming.proofs.SessionsNamed.{named_session_stays}

@@ -23,14 +23,15 @@ use Rattle.dap_tree.proofs.Texts.{text_is_read}
 use Rattle.dap_tree.proofs.Utf8.{read_is_utf8}
 use Rattle.dap_tree.proofs.WithoutIds.{without_no_id}
 use Rattle.dap_message.specs.Message.{Sent, IsTypedContent}
+use Rattle.dap_tokens.specs.Naming.{IsNumbering, Numbering}
 use Rattle.dap_mask.specs.Declarations.{Declaration, are_declared}
-use Rattle.dap_tokens.specs.declared.form.Form.{Form}
+use Rattle.dap_tokens.specs.Values.{is_nothing}
+use Rattle.dap_tokens.specs.declared.form.Form.TheVariants.{Whole}
 use Rattle.dap_tokens.proofs.NamedUtf8.{named_utf8}
-use Rattle.dap_naming.specs.Numbers.{Numbering, number}
-use Rattle.dap_naming.specs.Documents.{AreNumberings, Declared, here, below, inside, named_doc}
-use Rattle.dap_naming.specs.Documents.{named_items, named_members, named_text, named_whole}
-use Rattle.dap_naming.specs.Documents.{are_sound, integer_text, is_id_at}
-use Rattle.dap_naming.specs.DeclaredRules.{HasLabel}
+use Rattle.dap_naming.specs.Numbers.{number}
+use Rattle.dap_naming.specs.Documents.{Declared, here, below, inside, named_doc}
+use Rattle.dap_naming.specs.Documents.{named_items, named_members, named_whole}
+use Rattle.dap_naming.specs.Documents.{are_sound, integer_text}
 use Rattle.dap_naming.specs.Sessions.{rules_for, declared_ids, name_sent, named_sents}
 use Rattle.dap_naming.proofs.Lists.{by_bool}
 use Rattle.dap_naming.proofs.Numbers.{number-is_numbering}
@@ -122,18 +123,13 @@ module _ (f : Numbering) where
 
   -- ---- UTF-8
 
-  text-utf8 : (o : Option (Form × List ℕ)) (s : List ℕ) → HasLabel o → is_utf8 s ≡ true
-      → is_utf8 (named_text o f s) ≡ true
-  text-utf8 None s l u = u
-  text-utf8 (Some r) s l u = named_utf8 r.1 r.0 (f r.1) s l u
-
   mutual
     utf8-named : (rs : List Declared) (d : Doc) → are_sound rs ≡ true → all_utf8 d ≡ true
         → all_utf8 (named_doc rs f d) ≡ true
     utf8-named rs null s u = refl
     utf8-named rs (boolean b) s u = refl
     utf8-named rs (whole z) s u = refl
-    utf8-named rs (text t) s u = text-utf8 (here rs) t (label-here rs s) u
+    utf8-named rs (text t) s u = named_utf8 (here rs) f t (label-here rs s) u
     utf8-named rs (list ds) s u = items_utf8-named rs ds s u
     utf8-named rs (object ms) s u = members_utf8-named rs ms s u
     utf8-named rs (id sort z) s u = refl
@@ -158,24 +154,24 @@ module _ (f : Numbering) where
 
   -- ---- the range of integers
 
-  module _ (n : AreNumberings f) where
+  module _ (n : IsNumbering f) where
     small : (k : ℕ) → k < 2 ^ 64 → in_range (pos k) ≡ true
     small k h = grind (arith, nat_tests)
 
-    whole-range : (o : Option (Form × List ℕ)) (z : ℤ) → in_range z ≡ true
+    whole-range : (o : Option (List ℕ)) (z : ℤ) → in_range z ≡ true
         → in_range (named_whole o f z) ≡ true
     whole-range None z h = h
-    whole-range (Some r) z h =
-        by_bool (is_id_at (Some r) z)
-        (λ e. rw e (small (f r.1 (integer_text z)) (n r.1 (integer_text z)).1))
+    whole-range (Some label) z h =
+        by_bool (is_nothing (integer_text z))
         (λ e. rw e h)
+        (λ e. rw e (small (f label (integer_text z)) (n label (integer_text z)).1))
 
     mutual
       range-named : (rs : List Declared) (d : Doc) → all_in_range d ≡ true
           → all_in_range (named_doc rs f d) ≡ true
       range-named rs null h = refl
       range-named rs (boolean b) h = refl
-      range-named rs (whole z) h = whole-range (here rs) z h
+      range-named rs (whole z) h = whole-range (here rs Whole) z h
       range-named rs (text s) h = refl
       range-named rs (list ds) h = items_range-named rs ds h
       range-named rs (object ms) h = members_range-named rs ms h
@@ -234,7 +230,7 @@ off false h = refl
 
 -- The text of a named document is read as the named document.
 named_is_read : (rs : List Declared) (f : Numbering) (bytes : List ℕ) (d : Doc)
-    → are_sound rs ≡ true → AreNumberings f → IsRead bytes d
+    → are_sound rs ≡ true → IsNumbering f → IsRead bytes d
     → IsRead (text_of (named_doc rs f d)) (named_doc rs f d)
 named_is_read rs f bytes d s n reads =
     let e = named_doc rs f d in
@@ -248,7 +244,7 @@ named_is_read rs f bytes d s n reads =
 
 -- The canonical content of a named message is that of the named message.
 pub named_content : (xs : List Declaration) (f : Numbering) (side : Side) (bytes : List ℕ) (m : Doc)
-    → are_declared xs ≡ true → AreNumberings f → IsTypedContent side bytes m
+    → are_declared xs ≡ true → IsNumbering f → IsTypedContent side bytes m
     → let k = named_doc (rules_for xs m) f m in IsTypedContent side (text_of k) k
 named_content xs f side bytes m h n (d, reads, typed) =
     let e = named_doc (rules_for xs d) f d in
@@ -260,7 +256,7 @@ named_content xs f side bytes m h n (d, reads, typed) =
     )
 
 pub named_typed : (xs : List Declaration) (f : Numbering) (records : List Payload) (ms : List Sent)
-    → are_declared xs ≡ true → AreNumberings f → AreMessages records ms
+    → are_declared xs ≡ true → IsNumbering f → AreMessages records ms
     → AreMessages (contents_of (map (name_sent xs f) ms)) (map (name_sent xs f) ms)
 named_typed xs f [] [] h n typed = tt
 named_typed xs f [] (m ∷ ms) h n typed = absurd typed

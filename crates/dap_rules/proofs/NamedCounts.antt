@@ -8,11 +8,12 @@ use Rattle.std.proofs.lemmas.List.Sorted.{IsPermutation-refl, IsPermutation-sym}
 use Rattle.std.proofs.lemmas.List.Sorted.{IsPermutation-trans, length_permutation}
 use Rattle.std.proofs.lemmas.List.Sorted.{list_any-IsPermutation}
 use Rattle.dap_message.specs.Message.{Sent}
+use Rattle.dap_tokens.specs.Naming.{IsNumbering, Numbering, named_by}
 use Rattle.dap_mask.specs.Declarations.{Declaration, are_declared}
 use Rattle.dap_tokens.proofs.NamedStrings.{names_are_read, named_twice}
 use Rattle.dap_tokens.proofs.EqualStrings.{equal_named}
-use Rattle.dap_naming.specs.Documents.{AreNumberings, ids_of}
-use Rattle.dap_naming.specs.Numbers.{Numbering, AreCountable, add, add_all, distinct, named_by}
+use Rattle.dap_naming.specs.Documents.{ids_of}
+use Rattle.dap_naming.specs.Numbers.{AreCountable, add, add_all, distinct}
 use Rattle.dap_naming.specs.Numbers.{number, values}
 use Rattle.dap_naming.specs.Sessions.{rules_for, declared_ids, name_sent, named_sents}
 use Rattle.dap_naming.proofs.Additions.{add_all-append, any-add, same_bytes, values-append}
@@ -189,7 +190,7 @@ countable_reordered free xs ms ns p c label =
 
 -- The declared ids of named messages are the numbers.
 pub declared-named : (xs : List Declaration) (f : Numbering) (ms : List Sent)
-    → are_declared xs ≡ true → AreNumberings f
+    → are_declared xs ≡ true → IsNumbering f
     → declared_ids xs (map (name_sent xs f) ms) ≡ named_by f (declared_ids xs ms)
 declared-named xs f [] h n = refl
 declared-named xs f (m ∷ ms) h n =

@@ -6,8 +6,9 @@ use Rattle.dap_tree.specs.{Doc.{Doc, is_plain}}
 use Rattle.dap_tree.proofs.Outcomes.{read_is_plain}
 use Rattle.dap_message.specs.{Faults.{Fits as FitsProfile}, Message.{Sent, message_of}}
 use Rattle.dap_recording.specs.Recording.{recording_text}
+use Rattle.dap_tokens.specs.Naming.{Numbering}
 use Rattle.dap_mask.specs.Declarations.{Declaration, are_declared}
-use Rattle.dap_naming.specs.Numbers.{Numbering, number}
+use Rattle.dap_naming.specs.Numbers.{number}
 use Rattle.dap_naming.specs.Sessions.{AreFew, declared_ids, name_sent, named_sents}
 use Rattle.dap_naming.specs.SessionLaws.{typed_sent}
 use Rattle.dap_naming.proofs.Lists.{same_append}

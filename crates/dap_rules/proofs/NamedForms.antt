@@ -5,6 +5,7 @@ use Rattle.std.proofs.Common.{refl, sym, ◌∙◌, ap, ap₂, subst, arith, dec
 use Rattle.std.proofs.lemmas.List.{length-map}
 use Rattle.std.specs.List.{AllZip}
 use Rattle.dap_tree.proofs.Outcomes.{read_once}
+use Rattle.dap_tokens.specs.Naming.{Id, Numbering}
 use Rattle.dap_tokens.proofs.NamedStrings.{names_are_read, named_twice}
 use Rattle.dap_tokens.proofs.EqualStrings.{equal_named}
 use Rattle.dap_frame.proofs.Ends.{not_empty}
@@ -14,7 +15,7 @@ use Rattle.dap_recording.specs.Recording.{IsRecording}
 use Rattle.dap_recording.proofs.Records.{readable, record_grammar}
 use Rattle.dap_mask.specs.Declarations.{Declaration, are_declared}
 use Rattle.dap_naming.specs.Messages.{all_sound, ids_of_all}
-use Rattle.dap_naming.specs.Numbers.{AreCountable, Id, Numbering, distinct, number, renumbered}
+use Rattle.dap_naming.specs.Numbers.{AreCountable, distinct, number, renumbered}
 use Rattle.dap_naming.specs.Sessions.{AreFew, declared_ids, name_sent, named_sents, rules_for}
 use Rattle.dap_naming.specs.Sessions.{with_rules}
 use Rattle.dap_naming.specs.SessionLaws.{typed_sent}

@@ -12,10 +12,10 @@ use Rattle.dap_profile.specs.declared.profile.Kind.TheVariants.{Event}
 use Rattle.dap_message.specs.{Message.Sent, Rows.{is_text, name_key}}
 use Rattle.dap_message.proofs.RowMarks.{one_step}
 use Rattle.dap_message.proofs.Shapes.{text-shape, skeleton_keeps}
+use Rattle.dap_tokens.specs.Naming.{Numbering}
 use Rattle.dap_mask.specs.RuleSteps.{is_called}
 use Rattle.dap_mask.specs.Rules.{category_path}
 use Rattle.dap_mask.specs.Declarations.{Declaration, are_declared}
-use Rattle.dap_naming.specs.Numbers.{Numbering}
 use Rattle.dap_naming.specs.Documents.{Declared, below, inside, named_doc, named_items}
 use Rattle.dap_naming.specs.Documents.{named_members, ids_of, items_ids as declared_in_items}
 use Rattle.dap_naming.specs.Documents.{members_ids as declared_in_members}

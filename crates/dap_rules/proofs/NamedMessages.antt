@@ -5,10 +5,11 @@ use Rattle.dap_tree.specs.declared.side.Side.{Side}
 use Rattle.dap_tree.proofs.Outcomes.{read_is_plain}
 use Rattle.dap_message.specs.Faults.{Fits, fault}
 use Rattle.dap_message.specs.Message.{Sent, message_of}
+use Rattle.dap_tokens.specs.Naming.{Numbering}
 use Rattle.dap_mask.specs.Declarations.{Declaration, are_declared}
 use Rattle.dap_naming.specs.Documents.{named_doc}
 use Rattle.dap_naming.specs.Known.{FitsLimit, Knows, NamesDoc, limit_of}
-use Rattle.dap_naming.specs.Numbers.{Numbering, number}
+use Rattle.dap_naming.specs.Numbers.{number}
 use Rattle.dap_naming.specs.Sessions.{AreFew, declared_ids, name_sent, rules_for}
 use Rattle.dap_naming.specs.declared.value_numbers.ValueNumbers.{ValueNumbers}
 use Rattle.dap_naming.proofs.SessionsPlaces.{sound_for}

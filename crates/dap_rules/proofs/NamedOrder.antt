@@ -15,9 +15,9 @@ use Rattle.dap_profile.specs.declared.profile.Kind.TheVariants.{Request, Respons
 use Rattle.dap_message.specs.Envelope as envelope
 use Rattle.dap_message.specs.{Message.Sent, SwapRules.SwapRule}
 use Rattle.dap_message.specs.Rows.{is_of_kind, is_text, name_key}
+use Rattle.dap_tokens.specs.Naming.{Numbering}
 use Rattle.dap_mask.specs.Rules.{is_telling}
 use Rattle.dap_mask.specs.Declarations.{Declaration, are_declared}
-use Rattle.dap_naming.specs.Numbers.{Numbering}
 use Rattle.dap_naming.specs.Documents.{Declared, below, named_doc}
 use Rattle.dap_naming.specs.Sessions.{rules_for, name_sent}
 use Rattle.dap_naming.proofs.SessionsPlaces.{get-named, kind_alike, named_reads}

@@ -6,11 +6,12 @@ use Rattle.std.specs.List.{AllZip}
 use Rattle.std.proofs.Math.Logic.{∥∥₁_map}
 use Rattle.std.proofs.lemmas.List.{length-map, map-append}
 use Rattle.dap_message.specs.{Message.Sent, SwapRules.SwapRule}
+use Rattle.dap_tokens.specs.Naming.{Id, IsNumbering, Numbering, named_by}
 use Rattle.dap_mask.specs.Declarations.{Declaration, are_declared}
 use Rattle.dap_tokens.proofs.NamedStrings.{names_are_read, named_twice}
 use Rattle.dap_tokens.proofs.EqualStrings.{equal_named}
-use Rattle.dap_naming.specs.Documents.{AreNumberings, ids_of, skeleton_doc}
-use Rattle.dap_naming.specs.Numbers.{Id, Numbering, AreRenamed, named_by, renamed}
+use Rattle.dap_naming.specs.Documents.{ids_of, skeleton_doc}
+use Rattle.dap_naming.specs.Numbers.{AreRenamed, renamed}
 use Rattle.dap_naming.specs.Sessions.{rules_for, declared_ids, named_sents}
 use Rattle.dap_naming.specs.Sessions.{sent_skeleton}
 use Rattle.dap_naming.proofs.Lists.{front_of, rest_of, same_append}
@@ -38,7 +39,7 @@ own xs m = ids_of (rules_for xs m.doc) m.doc
 abbrev ones : Numbering
 ones label v = 1
 
-ones_number : AreNumberings ones
+ones_number : IsNumbering ones
 ones_number label v = (omega arith, omega arith)
 
 skeleton-own : (xs : List Declaration) (m : Sent) → are_declared xs ≡ true

@@ -8,11 +8,12 @@ use Rattle.dap_tree.proofs.Outcomes.{read_once}
 use Rattle.dap_flat.specs.declared.node.Node.{Node}
 use Rattle.dap_flat.specs.{Pieces.Represents, Reading.ReadsDocument}
 use Rattle.dap_message.specs.Message.{Sent}
+use Rattle.dap_tokens.specs.Naming.{Id, Numbering}
 use Rattle.dap_mask.specs.Declarations.{Declaration, are_declared}
 use Rattle.dap_naming.specs.Documents.{ids_of, named_doc}
 use Rattle.dap_naming.specs.Flat.{FitsNodes, NamesNodes, NoneApply}
 use Rattle.dap_naming.specs.Known.{FitsLimit, Knows, Names, NamesDoc, limit_of}
-use Rattle.dap_naming.specs.Numbers.{Id, Numbering, number}
+use Rattle.dap_naming.specs.Numbers.{number}
 use Rattle.dap_naming.specs.Sessions.{AreFew, declared_ids, named_sents, rules_for}
 use Rattle.dap_naming.specs.declared.value_numbers.ValueNumbers.{ValueNumbers}
 use Rattle.dap_naming.proofs.MoreParts.{no_ids, same_doc}

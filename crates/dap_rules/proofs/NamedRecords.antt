@@ -7,10 +7,11 @@ use Rattle.dap_tree.specs.Doc.{Doc, has_id, is_plain, is_sound}
 use Rattle.dap_tree.specs.Json.{IsRead, text_of}
 use Rattle.dap_tree.proofs.Booleans.{and_left}
 use Rattle.dap_message.specs.Message.{Sent}
+use Rattle.dap_tokens.specs.Naming.{Id}
 use Rattle.dap_mask.specs.{Declarations.Declaration, Mask.Mask}
 use Rattle.dap_naming.specs.Documents.{ids_of, named_doc}
 use Rattle.dap_naming.specs.Known.{ExceedsLimit, FitsLimit, Knows, NamesDoc, limit_of}
-use Rattle.dap_naming.specs.Numbers.{Id, number}
+use Rattle.dap_naming.specs.Numbers.{number}
 use Rattle.dap_naming.specs.Sessions.{AreFew, HasTooMany, declared_ids, name_sent, named_sents}
 use Rattle.dap_naming.specs.Sessions.{rules_for}
 use Rattle.dap_naming.specs.declared.value_numbers.ValueNumbers.{ValueNumbers}

@@ -5,10 +5,11 @@ use Rattle.std.proofs.Common.{subst}
 use Rattle.dap_tree.specs.Ids.{ids, numbers_of, sorts_of, with_ids}
 use Rattle.dap_tree.proofs.IdNumbers.{sorts_alike, skeleton-with, ids-with_numbers}
 use Rattle.dap_message.specs.Message.{Sent}
+use Rattle.dap_tokens.specs.Naming.{Id, Numbering}
 use Rattle.dap_mask.specs.Declarations.{Declaration, are_declared}
 use Rattle.dap_tokens.proofs.NamedStrings.{names_are_read, named_twice}
 use Rattle.dap_tokens.proofs.EqualStrings.{equal_named}
-use Rattle.dap_naming.specs.Numbers.{Id, Numbering, number, AreCountable}
+use Rattle.dap_naming.specs.Numbers.{number, AreCountable}
 use Rattle.dap_naming.specs.Sessions.{rules_for, declared_ids, name_sent, named_sents}
 use Rattle.dap_naming.specs.SessionLaws.{EqualNamedSessions}
 use Rattle.dap_naming.proofs.SessionsNamed.{equal_named_sessions}

@@ -6,9 +6,10 @@ use Rattle.dap_tree.specs.Doc.{item, Members, no_members, member, depth, items_d
 use Rattle.dap_tree.specs.Doc.{members_depth, in_range, all_in_range, items_in_range}
 use Rattle.dap_tree.specs.Doc.{members_in_range, is_sound, max_depth}
 use Rattle.dap_tree.proofs.Booleans.{and_left, and_right, and_both}
-use Rattle.dap_tokens.specs.declared.form.Form.{Form}
-use Rattle.dap_naming.specs.Numbers.{Numbering}
-use Rattle.dap_naming.specs.Documents.{Declared, below, here, inside, is_id_at, integer_text}
+use Rattle.dap_tokens.specs.Naming.{Numbering}
+use Rattle.dap_tokens.specs.Values.{is_nothing}
+use Rattle.dap_tokens.specs.declared.form.Form.TheVariants.{Whole}
+use Rattle.dap_naming.specs.Documents.{Declared, below, here, inside, integer_text}
 use Rattle.dap_naming.specs.Documents.{named_doc, named_items, named_members, named_whole}
 use Rattle.dap_naming.proofs.Lists.{by_bool}
 
@@ -47,20 +48,20 @@ module _ (number : Numbering) (small : AreSmall number) where
   number_in_range : (label v : List ℕ) → in_range (pos (number label v)) ≡ true
   number_in_range label v = let less = small label v in grind (arith, less)
 
-  whole_in_range : (r : Option (Form × List ℕ)) (z : ℤ) → in_range z ≡ true
-      → in_range (named_whole r number z) ≡ true
+  whole_in_range : (o : Option (List ℕ)) (z : ℤ) → in_range z ≡ true
+      → in_range (named_whole o number z) ≡ true
   whole_in_range None z is = is
-  whole_in_range (Some r) z is =
-      by_bool (is_id_at (Some r) z)
-      (λ named. rw named (number_in_range r.1 (integer_text z)))
-      (λ other. rw other is)
+  whole_in_range (Some label) z is =
+      by_bool (is_nothing (integer_text z))
+      (λ none. rw none is)
+      (λ some. rw some (number_in_range label (integer_text z)))
 
   mutual
     range-named : (rs : List Declared) (d : Doc) → all_in_range d ≡ true
         → all_in_range (named_doc rs number d) ≡ true
     range-named rs null is = refl
     range-named rs (boolean b) is = refl
-    range-named rs (whole z) is = whole_in_range (here rs) z is
+    range-named rs (whole z) is = whole_in_range (here rs Whole) z is
     range-named rs (text s) is = refl
     range-named rs (list ds) is = items_range-named rs ds is
     range-named rs (object ms) is = members_range-named rs ms is

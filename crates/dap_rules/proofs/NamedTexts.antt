@@ -1,5 +1,5 @@
 -- A document with names in the place of its ids is read from its own text.
-use Rattle.std.proofs.Common.{◌≡◌, ℕ, true, false, List, Some, None, Option, refl, ◌∙◌, ap}
+use Rattle.std.proofs.Common.{◌≡◌, ℕ, true, false, List, refl, ◌∙◌, ap}
 use Rattle.std.proofs.Common.{ap₂, subst, not, ◌&&◌}
 use Rattle.std.specs.Str.{is_utf8}
 use Rattle.std.specs.Ordering.{nat_cmp, is_lt}
@@ -16,17 +16,15 @@ use Rattle.dap_tree.proofs.Outcomes.{read_is_plain}
 use Rattle.dap_tree.proofs.Texts.{text_is_read}
 use Rattle.dap_tree.proofs.Utf8.{read_is_utf8}
 use Rattle.dap_tree.proofs.WithoutIds.{without_no_id}
-use Rattle.dap_tokens.specs.declared.form.Form.{Form}
+use Rattle.dap_tokens.specs.Naming.{Numbering}
 use Rattle.dap_tokens.proofs.NamedUtf8.{named_utf8}
-use Rattle.dap_naming.specs.DeclaredRules.{HasLabel}
 use Rattle.dap_naming.specs.Documents.{Declared, are_sound, below, here, inside, named_doc}
-use Rattle.dap_naming.specs.Documents.{named_items, named_members, named_text}
-use Rattle.dap_naming.specs.Numbers.{Numbering}
+use Rattle.dap_naming.specs.Documents.{named_items, named_members}
 use Rattle.dap_naming.proofs.SoundRules.{label-here, sound-below, sound-inside}
 use Rattle.dap_rules.proofs.NamedSound.{AreSmall, sound-named}
 
 module _ (number : Numbering) where
-  -- ---- names are no ids of the profile
+  -- ---- names are not ids of the profile
 
   mutual
     no_id-named : (rs : List Declared) (d : Doc) → has_id d ≡ false
@@ -87,18 +85,13 @@ module _ (number : Numbering) where
 
   -- ---- the strings stay UTF-8
 
-  text_utf8-named : (r : Option (Form × List ℕ)) (s : List ℕ) → HasLabel r → is_utf8 s ≡ true
-      → is_utf8 (named_text r number s) ≡ true
-  text_utf8-named None s label is = is
-  text_utf8-named (Some r) s label is = named_utf8 r.1 r.0 (number r.1) s label is
-
   mutual
     utf8-named : (rs : List Declared) (d : Doc) → are_sound rs ≡ true → all_utf8 d ≡ true
         → all_utf8 (named_doc rs number d) ≡ true
     utf8-named rs null sound is = refl
     utf8-named rs (boolean b) sound is = refl
     utf8-named rs (whole z) sound is = refl
-    utf8-named rs (text s) sound is = text_utf8-named (here rs) s (label-here rs sound) is
+    utf8-named rs (text s) sound is = named_utf8 (here rs) number s (label-here rs sound) is
     utf8-named rs (list ds) sound is = items_utf8-named rs ds sound is
     utf8-named rs (object ms) sound is = members_utf8-named rs ms sound is
     utf8-named rs (id sort z) sound is = refl

@@ -3,9 +3,10 @@
 use Rattle.std.proofs.Common.{◌≡◌, true, List, [], ◌∷◌, refl, ap, subst, sym, ◌∙◌, arith}
 use Rattle.std.specs.List.{AllZip}
 use Rattle.dap_message.specs.{Message.Sent, SwapRules.SwapRule}
+use Rattle.dap_tokens.specs.Naming.{Id}
 use Rattle.dap_mask.specs.Declarations.{Declaration, are_declared}
 use Rattle.dap_naming.specs.Documents.{ids_of}
-use Rattle.dap_naming.specs.Numbers.{AreCountable, Id}
+use Rattle.dap_naming.specs.Numbers.{AreCountable}
 use Rattle.dap_naming.specs.Sessions.{AreFew, declared_ids, named_sents, rules_for}
 use Rattle.dap_naming.proofs.Lists.{same_append}
 use Rattle.dap_naming.proofs.TypedNames.{typed_ids_stay}

@@ -3,8 +3,9 @@ use Rattle.std.proofs.Common.{◌≡◌, ℕ, zero, suc, Bool, true, false, List
 use Rattle.std.proofs.Common.{slice_get, Option, Some, None, refl, ap, ap₂, sym, ◌∙◌, append_assoc}
 use Rattle.std.specs.List.{filter}
 use Rattle.dap_message.specs.Message.{Sent}
+use Rattle.dap_tokens.specs.Naming.{Id}
 use Rattle.dap_mask.specs.Declarations.{Declaration}
-use Rattle.dap_naming.specs.{Numbers.Id, Documents.ids_of}
+use Rattle.dap_naming.specs.Documents.{ids_of}
 use Rattle.dap_naming.specs.Sessions.{declared_ids, rules_for}
 use Rattle.dap_naming.proofs.Lists.{by_bool, head_of, tail_of}
 use Rattle.dap_naming.proofs.MoreParts.{no_ids}

@@ -3,8 +3,9 @@
 use Rattle.std.specs.Prelude.{◌≡◌, ◌↔◌, ℕ, true, List, map, All}
 use Rattle.dap_tree.specs.{declared.side.Side.Side, declared.sort.Sort.Sort}
 use Rattle.dap_message.specs.{Message.Sent, SwapRules.SwapRule}
+use Rattle.dap_tokens.specs.Naming.{Numbering}
 use Rattle.dap_mask.specs.Declarations.{Declaration, are_declared}
-use Rattle.dap_naming.specs.Numbers.{Numbering, AreRenamed, AreCountable}
+use Rattle.dap_naming.specs.Numbers.{AreRenamed, AreCountable}
 use Rattle.dap_naming.specs.Sessions.{declared_ids, name_sent, named_sents, sent_skeleton}
 use Rattle.dap_session.specs.{RenamedLists.IsNumbered, Rules.{KeepsRules, open_requests}}
 use Rattle.dap_rename.specs.Messages.{AreSame, HasFewIds, IsNormal, no_stop}

@@ -249,21 +249,21 @@ fn label_all(lines: &mut Vec<Line<'_>>) {
     }
 }
 
-/// Labels the lines with the labels that are tried, except for those with which a file cannot have
-/// the label.
-fn label_lines(alloc: Global, given: &[u8], lines: &mut Vec<Line<'_>>) -> Result<(), AllocError> {
+/// Removes the labels that are tried, and gives them to their lines again, except for those that a
+/// file cannot have beside the others.
+fn keep_allowed(alloc: Global, given: &[u8], lines: &mut Vec<Line<'_>>) -> Result<(), AllocError> {
     let given = joined(alloc, given, missing_end(given))?;
-    label_all(lines);
     let all = text_of(alloc, lines.as_slice())?;
     if !are_refused(alloc, given.as_slice(), all.as_slice())? {
         return Ok(());
     }
+    let labelled: Vec<bool> = lines.iter().map(|line| line.has_tried()).collect(alloc)?;
     clear_labels(lines);
-    for index in 0..lines.len() {
-        if let Some(line) = lines.get_mut(index) {
+    for (index, is_labelled) in labelled.iter().enumerate() {
+        if *is_labelled && let Some(line) = lines.get_mut(index) {
             line.try_label();
         }
-        if lines.get(index).is_some_and(|line| line.has_tried())
+        if *is_labelled
             && is_refused(alloc, given.as_slice(), lines.as_slice(), index)?
             && let Some(line) = lines.get_mut(index)
         {
@@ -271,6 +271,13 @@ fn label_lines(alloc: Global, given: &[u8], lines: &mut Vec<Line<'_>>) -> Result
         }
     }
     Ok(())
+}
+
+/// Labels the lines with the labels that are tried, except for those that a file cannot have beside
+/// the others.
+fn label_lines(alloc: Global, given: &[u8], lines: &mut Vec<Line<'_>>) -> Result<(), AllocError> {
+    label_all(lines);
+    keep_allowed(alloc, given, lines)
 }
 
 /// Returns whether each rule before the next empty line declares ids.
@@ -337,9 +344,11 @@ fn clear_labels(lines: &mut Vec<Line<'_>>) {
 }
 
 /// Removes the tried labels of the rules for the messages that differ: those at the places at which
-/// they differ; or all if none is there; or those of all rules if these have none.
+/// they differ; or all if none is there; or those of all rules if these have none. Then removes
+/// those that a file cannot have beside the lines without them.
 fn unlabel(
     alloc: Global,
+    given: &[u8],
     lines: &mut Vec<Line<'_>>,
     mismatch: &Mismatch,
 ) -> Result<(), AllocError> {
@@ -351,7 +360,7 @@ fn unlabel(
     if !unlabel_at(lines, &a, Some(found.as_slice())) && !unlabel_at(lines, &a, None) {
         clear_labels(lines);
     }
-    Ok(())
+    keep_allowed(alloc, given, lines)
 }
 
 /// Returns the rules that were found in lines, with labels for the known ids that they find.
@@ -398,7 +407,7 @@ fn confirm_fewer(
         }
         match confirm_lines(alloc, inputs, lines.as_slice(), mode) {
             Ok(suggestion) => return Ok(Some(suggestion)),
-            Err(Unsolved::Differs(mismatch)) => unlabel(alloc, lines, &mismatch)?,
+            Err(Unsolved::Differs(mismatch)) => unlabel(alloc, inputs.given, lines, &mismatch)?,
             Err(Unsolved::NoRules(_)) => break,
             Err(Unsolved::Memory) => return Err(Unsolved::Memory),
         }
@@ -421,7 +430,7 @@ fn confirm_after(
     let plain = confirm(alloc, inputs, found)?;
     // In another mode the recordings may be the same with all labels.
     if plain.mode == inputs.mode {
-        unlabel(alloc, lines, mismatch)?;
+        unlabel(alloc, inputs.given, lines, mismatch)?;
     }
     match confirm_fewer(alloc, inputs, lines, plain.mode)? {
         Some(suggestion) => Ok(suggestion),

@@ -1,12 +1,14 @@
 -- The bytes of names.
-use Rattle.std.proofs.Common.{◌≡◌, ℕ, ◌==◌, Bool, true, false, List, [], ◌∷◌}
-use Rattle.std.proofs.Common.{◌++◌, refl, ap, ◌∙◌, sym}
+use Rattle.std.proofs.Common.{◌≡◌, ℕ, ◌==◌, Bool, true, false, not, List, [], ◌∷◌, ◌++◌, refl, ap}
+use Rattle.std.proofs.Common.{◌∙◌, sym}
 use Rattle.std.specs.Char.{is_ascii_digit}
 use Rattle.std.proofs.lemmas.Bool.{eqb-true}
 use Rattle.dap_words.specs.Runs.{all_of, begins_with}
 use Rattle.dap_tokens.specs.Tokens.{is_of_label, is_label, is_numeral}
-use Rattle.dap_tokens.proofs.Agrees.{not_opening}
 use Rattle.dap_tokens.proofs.Booleans.{by_bool, and_left, and_right, and_both, no_test, not_false}
+
+abbrev pub not_opening : ℕ → Bool
+not_opening b = not (b == 60)
 
 pub all_append : (class : ℕ → Bool) (s t : List ℕ) → all_of class s ≡ true → all_of class t ≡ true
     → all_of class (s ++ t) ≡ true

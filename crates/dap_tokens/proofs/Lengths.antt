@@ -1,41 +1,20 @@
--- The length of a part.
-use Rattle.std.proofs.Common.{◌≡◌, ℕ, ◌+◌, ◌<◌, ◌≤◌, ◌==◌, Bool, true, false, cond, not, ◌&&◌, List, []}
-use Rattle.std.proofs.Common.{◌∷◌, length, drop, refl, ap, ◌∙◌, arith, nat_lt}
+-- The length of a name or a token is within the string.
+use Rattle.std.proofs.Common.{◌≡◌, ℕ, ◌+◌, ◌≤◌, ◌==◌, Bool, true, false, not, ◌&&◌, List, [], ◌∷◌}
+use Rattle.std.proofs.Common.{length, drop, ap, ◌∙◌, arith, nat_lt}
 use Rattle.std.proofs.lemmas.List.{length-append}
-use Rattle.std.proofs.lemmas.Bool.{ltb-true, ltb-false, lt-ltb}
+use Rattle.std.proofs.lemmas.Bool.{ltb-true, ltb-false}
 use Rattle.std.specs.Char.{is_ascii_digit, is_ascii_hexdigit}
 use Rattle.dap_words.specs.Uuids.{nil_uuid, fits_at, begins_in_form}
 use Rattle.dap_words.specs.Long.{is_long}
 use Rattle.dap_words.specs.Uuids.{begins_uuid}
-use Rattle.dap_tokens.specs.Tokens.{name, name_length, token_length, part_length, hex_run}
-use Rattle.dap_tokens.specs.Tokens.{starts_hex}
+use Rattle.dap_tokens.specs.Tokens.{name, name_length, token_length, hex_run, starts_hex}
 use Rattle.dap_tokens.specs.declared.form.Form.{Form}
 use Rattle.dap_tokens.specs.declared.form.Form.TheVariants.{Whole, Digits, Hex, Long, Uuid}
 use Rattle.dap_tokens.proofs.Booleans.{by_bool, and_right}
 use Rattle.dap_tokens.proofs.Lists.{taken_within}
 use Rattle.dap_tokens.proofs.Names.{name_at, name_read}
 
--- ---- the first of two lengths that is not 0
-
-abbrev pub first_of : ℕ → ℕ → ℕ
-first_of n m = cond (nat_lt 0 n) n m
-
-pub first_none : (n m : ℕ) → first_of n m ≡ 0 → (n ≡ 0) × (m ≡ 0)
-first_none n m e = by_bool (nat_lt 0 n)
-    (λ k. let some = ltb-true 0 n k in let none : n ≡ 0 = rw k at e in absurd (omega arith))
-    (λ k. let none = ltb-false 0 n k in
-    let same : m ≡ 0 = rw k at e in
-    let zero : n ≡ 0 = omega arith in (zero, same))
-
-pub none_first : (n m : ℕ) → n ≡ 0 → first_of n m ≡ m
-none_first n m e = ap (λ x. first_of x m) e
-
-pub some_first : (n m : ℕ) → 0 < n → first_of n m ≡ n
-some_first n m h = rw (lt-ltb 0 n h) refl
-
--- ---- bounds
-
-name_within : (label s : List ℕ) → name_length label s ≤ length s
+pub name_within : (label s : List ℕ) → name_length label s ≤ length s
 name_within label s = by_bool (nat_lt 0 (name_length label s))
     (λ k. let some = ltb-true 0 (name_length label s) k in
     let at = name_at label s (λ e. absurd (omega arith)) in
@@ -58,18 +37,13 @@ hex_within (b ∷ c ∷ []) h = let no = and_right (b == 48) false h in cc
 hex_within (b ∷ c ∷ e ∷ s) h =
     let rest = taken_within is_ascii_hexdigit (e ∷ s) in omega arith
 
-token_within : (form : Form) (d : Bool) (s : List ℕ) → token_length form d s ≤ length s
+pub token_within : (form : Form) (d : Bool) (s : List ℕ) → token_length form d s ≤ length s
 token_within Whole d s = omega arith
 token_within Digits d s = taken_within is_ascii_digit s
-token_within Hex d s = by_bool (starts_hex s)
-    (λ k. rw k (hex_within s k)) (λ k. rw k (omega arith))
+token_within Hex d s = by_bool (not d && starts_hex s)
+    (λ k. rw k (hex_within s (and_right (not d) (starts_hex s) k))) (λ k. rw k (omega arith))
 token_within Long d s = by_bool (not d && is_long (hex_run s))
     (λ k. rw k (taken_within is_ascii_hexdigit s)) (λ k. rw k (omega arith))
 token_within Uuid d s = by_bool (begins_uuid d s)
     (λ k. rw k (form_within nil_uuid s (and_right (not d) (begins_in_form nil_uuid s) k)))
     (λ k. rw k (omega arith))
-
-pub part_within : (label : List ℕ) (form : Form) (d : Bool) (s : List ℕ)
-    → part_length label form d s ≤ length s
-part_within label form d s = by_bool (nat_lt 0 (name_length label s))
-    (λ k. rw k (name_within label s)) (λ k. rw k (token_within form d s))

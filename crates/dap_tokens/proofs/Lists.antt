@@ -4,7 +4,6 @@ use Rattle.std.proofs.Common.{[], ◌∷◌, ◌++◌, length, take, refl, sym, 
 use Rattle.std.specs.List.{take_while}
 use Rattle.std.specs.Str.{bytes_eq}
 use Rattle.std.proofs.lemmas.List.Sums.{take_while-cons}
-use Rattle.std.proofs.lemmas.List.{take-append-drop}
 use Rattle.std.proofs.lemmas.Bool.{eq-eqb}
 use Rattle.dap_words.specs.Runs.{all_of, begins_with}
 use Rattle.dap_tokens.proofs.Booleans.{by_bool, and_left, and_right, and_both}
@@ -60,9 +59,6 @@ taken_within p (b ∷ s) = by_bool (p b)
     (λ k. let more = taken_within p s in
     let e = ap length (yes p b s k) in omega arith)
     (λ k. let e = ap length (no p b s k) in omega arith)
-
-pub take_length : (n : ℕ) (s : List ℕ) → n ≤ length s → length (take n s) ≡ n
-take_length n s h = omega (arith, Rattle.std.proofs.lemmas.List.length-take-le n s h)
 
 -- ---- comparisons
 

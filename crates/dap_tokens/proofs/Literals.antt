@@ -1,7 +1,7 @@
 -- A literal byte is literal in the written string too.
-use Rattle.std.proofs.Common.{◌≡◌, ℕ, ◌+◌, ◌==◌, Bool, true, false, cond, not, ◌&&◌}
-use Rattle.std.proofs.Common.{List, [], ◌∷◌, ◌++◌, length, drop, refl, sym, ap, ap₂, ◌∙◌}
-use Rattle.std.proofs.Common.{arith, nat_le}
+use Rattle.std.proofs.Common.{◌≡◌, ℕ, ◌+◌, ◌==◌, Bool, true, false, cond, not, ◌&&◌, List, [], ◌∷◌}
+use Rattle.std.proofs.Common.{◌++◌, length, drop, refl, sym, ap, ap₂, ◌∙◌, arith, nat_le, Some}
+use Rattle.std.proofs.Common.{None, is_some}
 use Rattle.std.specs.Char.{is_ascii_digit, is_ascii_hexdigit}
 use Rattle.std.specs.List.{take_while}
 use Rattle.std.proofs.lemmas.Bool.{eqb-true, leb-true, le-leb}
@@ -10,21 +10,23 @@ use Rattle.dap_words.specs.Runs.{all_of, some_of}
 use Rattle.dap_words.specs.Digits.{is_x, goes_on_as_hex}
 use Rattle.dap_words.specs.Long.{is_long}
 use Rattle.dap_words.specs.Uuids.{begins_uuid}
-use Rattle.dap_tokens.specs.Tokens.{is_label, name, name_length, token_length}
-use Rattle.dap_tokens.specs.Tokens.{part_length, hex_run, starts_hex}
+use Rattle.dap_tokens.specs.Tokens.{is_label, name, name_length, token_length, Labels, token_at}
+use Rattle.dap_tokens.specs.Tokens.{tried, hex_run, starts_hex}
+use Rattle.dap_tokens.specs.Laws.{AreLabels}
 use Rattle.dap_tokens.specs.declared.form.Form.{Form}
 use Rattle.dap_tokens.specs.declared.form.Form.TheVariants.{Whole, Digits, Hex, Long, Uuid}
 use Rattle.dap_tokens.proofs.Booleans.{by_bool, and_left, and_right, and_both, no_test}
 use Rattle.dap_tokens.proofs.Lists.{yes, no, all_taken, split}
 use Rattle.dap_tokens.proofs.Names.{NameAt, name_at, name_read}
-use Rattle.dap_tokens.proofs.Lengths.{first_none, none_first}
-use Rattle.dap_tokens.proofs.Agrees.{Agree, same_front, not_opening, uuid_in_both}
-use Rattle.dap_tokens.proofs.Classes.{name_rest, rest_not_60, not_60, all_not_60}
+use Rattle.dap_tokens.proofs.FirstTokens.{skipped_again}
+use Rattle.dap_tokens.proofs.Starts.{name_counts, token_counts, all_forms, nothing_at, nothing_of}
+use Rattle.dap_tokens.proofs.Agrees.{Agree, Follows, follows_byte, same_front, uuid_in_both}
+use Rattle.dap_tokens.proofs.Classes.{not_opening, name_rest, rest_not_60, not_60, all_not_60}
 
 -- ---- names
 
-name_in_both : {form : Form} {n : ℕ} {d : Bool} {s w : List ℕ} (label : List ℕ) (b : ℕ)
-    → is_label label ≡ true → Agree form n d s w → NameAt label (b ∷ w)
+name_in_both : {labels : Labels} {n : ℕ} {d : Bool} {s w : List ℕ} (label : List ℕ) (b : ℕ)
+    → is_label label ≡ true → Agree labels n d s w → NameAt label (b ∷ w)
     → name_length label (b ∷ s) ≡ 0 → ⊥
 name_in_both {s = s} {w = w} label b l a at h =
     let e = at.whole in
@@ -37,8 +39,8 @@ name_in_both {s = s} {w = w} label b l a at h =
     let long = ap (name_length label) here ∙ name_read label at.number front.rest at.numeral in
     absurd (omega arith)
 
-pub no_name : {form : Form} {n : ℕ} {d : Bool} {s w : List ℕ} (label : List ℕ) (b : ℕ)
-    → is_label label ≡ true → Agree form n d s w → name_length label (b ∷ s) ≡ 0
+pub no_name : {labels : Labels} {n : ℕ} {d : Bool} {s w : List ℕ} (label : List ℕ) (b : ℕ)
+    → is_label label ≡ true → Agree labels n d s w → name_length label (b ∷ s) ≡ 0
     → name_length label (b ∷ w) ≡ 0
 no_name {s = s} {w = w} label b l a h = by_bool (name_length label (b ∷ w) == 0)
     (λ k. eqb-true (name_length label (b ∷ w)) 0 k)
@@ -68,7 +70,7 @@ taken_more p [] rest h = refl
 taken_more p (b ∷ run) rest h = yes p b (run ++ rest) (and_left (p b) (all_of p run) h)
     ∙ ap (λ x. b ∷ x) (taken_more p run rest (and_right (p b) (all_of p run) h))
 
-long_in_both : {form : Form} {n : ℕ} {d : Bool} {s w : List ℕ} (b : ℕ) → Agree form n d s w
+long_in_both : {labels : Labels} {n : ℕ} {d : Bool} {s w : List ℕ} (b : ℕ) → Agree labels n d s w
     → is_long (hex_run (b ∷ w)) ≡ true → is_long (hex_run (b ∷ s)) ≡ true
 long_in_both {s = s} {w = w} b a h = by_bool (is_ascii_hexdigit b)
     (λ k. let cut = split is_ascii_hexdigit w in
@@ -89,7 +91,8 @@ long_in_both {s = s} {w = w} b a h = by_bool (is_ascii_hexdigit b)
 x_not_60 : (x : ℕ) → is_x x ≡ true → not_opening x ≡ true
 x_not_60 x h = not_60 is_x x refl h
 
-goes_on_in_both : {form : Form} {n : ℕ} {d : Bool} {s : List ℕ} (w : List ℕ) → Agree form n d s w
+goes_on_in_both : {labels : Labels} {n : ℕ} {d : Bool} {s : List ℕ} (w : List ℕ)
+    → Agree labels n d s w
     → goes_on_as_hex w ≡ true → goes_on_as_hex s ≡ true
 goes_on_in_both [] a h = absurd cc
 goes_on_in_both (x ∷ []) a h = absurd cc
@@ -101,7 +104,7 @@ goes_on_in_both {s = s} (x ∷ y ∷ w) a h =
     let front = same_front (x ∷ y ∷ []) w a clear refl in
     ap goes_on_as_hex front.whole ∙ h
 
-hex_in_both : {form : Form} {n : ℕ} {d : Bool} {s w : List ℕ} (b : ℕ) → Agree form n d s w
+hex_in_both : {labels : Labels} {n : ℕ} {d : Bool} {s w : List ℕ} (b : ℕ) → Agree labels n d s w
     → starts_hex (b ∷ w) ≡ true → starts_hex (b ∷ s) ≡ true
 hex_in_both {s = s} {w = w} b a h = and_both (b == 48) (goes_on_as_hex s)
     (and_left (b == 48) (goes_on_as_hex w) h)
@@ -109,49 +112,46 @@ hex_in_both {s = s} {w = w} b a h = and_both (b == 48) (goes_on_as_hex s)
 
 -- ---- each form
 
--- strings of the form are read byte by byte
-abbrev pub Scans : Form → Type 0
-Scans Whole = ⊥
-Scans Digits = Unit {0}
-Scans Hex = Unit {0}
-Scans Long = Unit {0}
-Scans Uuid = Unit {0}
-
 -- what starts in the written string starts in the string
 by_test : (t u : Bool) (m n : ℕ) → (t ≡ true → u ≡ true) → (u ≡ true → m ≡ 0 → ⊥)
     → cond u m 0 ≡ 0 → cond t n 0 ≡ 0
 by_test false u m n f g h = refl
 by_test true u m n f g h = absurd (g (f refl) (rw (f refl) at h))
 
-no_token : (form : Form) {s w : List ℕ} (d : Bool) (b : ℕ) → Scans form
-    → Agree form 0 (is_ascii_hexdigit b) s w → token_length form d (b ∷ s) ≡ 0
+pub no_token : (labels : Labels) (form : Form) (label : List ℕ) {s w : List ℕ} (d : Bool) (b : ℕ)
+    → labels form ≡ Some label → Follows labels s w → token_length form d (b ∷ s) ≡ 0
     → token_length form d (b ∷ w) ≡ 0
-no_token Whole d b i a h = absurd i
-no_token Digits {s} {w} d b i a h = by_bool (is_ascii_digit b)
+no_token labels Whole label d b i f h = absurd (omega arith)
+no_token labels Digits label {s} {w} d b i f h = by_bool (is_ascii_digit b)
     (λ k. let some = ap length (yes is_ascii_digit b s k) in absurd (omega arith))
     (λ k. ap length (no is_ascii_digit b w k))
-no_token Hex {s} {w} d b i a h =
-    by_test (starts_hex (b ∷ w)) (starts_hex (b ∷ s)) (2 + length (hex_run (drop 2 (b ∷ s))))
-    (2 + length (hex_run (drop 2 (b ∷ w)))) (hex_in_both b a) (λ t z. absurd (omega arith)) h
-no_token Long {s} {w} d b i a h =
+no_token labels Hex label {s} {w} d b i f h =
+    by_test (not d && starts_hex (b ∷ w)) (not d && starts_hex (b ∷ s))
+    (2 + length (hex_run (drop 2 (b ∷ s)))) (2 + length (hex_run (drop 2 (b ∷ w))))
+    (λ t. and_both (not d) (starts_hex (b ∷ s)) (and_left (not d) (starts_hex (b ∷ w)) t)
+    (hex_in_both b f.agree (and_right (not d) (starts_hex (b ∷ w)) t)))
+    (λ t z. absurd (omega arith)) h
+no_token labels Long label {s} {w} d b i f h =
     by_test (not d && is_long (hex_run (b ∷ w))) (not d && is_long (hex_run (b ∷ s)))
     (length (hex_run (b ∷ s))) (length (hex_run (b ∷ w)))
     (λ t. and_both (not d) (is_long (hex_run (b ∷ s)))
     (and_left (not d) (is_long (hex_run (b ∷ w))) t)
-    (long_in_both b a (and_right (not d) (is_long (hex_run (b ∷ w))) t)))
+    (long_in_both b f.agree (and_right (not d) (is_long (hex_run (b ∷ w))) t)))
     (λ t z. let run = hex_run (b ∷ s) in
     let six = leb-true 6 (length run) (and_left (nat_le 6 (length run)) (some_of is_ascii_digit run)
     (and_right (not d) (is_long run) t)) in
     absurd (omega arith)) h
-no_token Uuid {s} {w} d b i a h =
-    by_test (begins_uuid d (b ∷ w)) (begins_uuid d (b ∷ s)) 36 36 (uuid_in_both d b a)
-    (λ t z. absurd (omega arith)) h
+no_token labels Uuid label {s} {w} d b i f h =
+    by_test (begins_uuid d (b ∷ w)) (begins_uuid d (b ∷ s)) 36 36
+    (uuid_in_both labels d b (ap is_some i) f) (λ t z. absurd (omega arith)) h
 
-pub stays_literal : (form : Form) (label : List ℕ) (d : Bool) (b : ℕ) {s w : List ℕ} → Scans form
-    → is_label label ≡ true → Agree form 0 (is_ascii_hexdigit b) s w
-    → part_length label form d (b ∷ s) ≡ 0 → part_length label form d (b ∷ w) ≡ 0
-stays_literal form label d b {s} {w} i l a h =
-    let none = first_none (name_length label (b ∷ s)) (token_length form d (b ∷ s)) h in
-    none_first (name_length label (b ∷ w)) (token_length form d (b ∷ w))
-    (no_name label b l a none.0)
-    ∙ no_token form d b i a none.1
+pub stays_literal : (labels : Labels) (d : Bool) (b : ℕ) {s w : List ℕ} → AreLabels labels
+    → Agree labels 0 (is_ascii_hexdigit b) s w → token_at labels d (b ∷ s) ≡ None
+    → token_at labels d (b ∷ w) ≡ None
+stays_literal labels d b {s} {w} l a h =
+    let nothing = nothing_of labels d (b ∷ s) h in
+    nothing_at labels d (b ∷ w)
+    (skipped_again labels (name_counts (b ∷ s)) (name_counts (b ∷ w)) all_forms
+    (λ form label i z. no_name label b (l form label i) a z) nothing.0)
+    (skipped_again labels (token_counts d (b ∷ s)) (token_counts d (b ∷ w)) (tried labels)
+    (λ form label i z. no_token labels form label d b i (follows_byte b a) z) nothing.1)

@@ -1,7 +1,7 @@
 -- A named string in UTF-8 is in UTF-8.
 use Rattle.std.proofs.Common.{◌≡◌, ℕ, zero, suc, ◌+◌, ◌/◌, ◌%◌, ◌<◌, ◌≤◌, ◌==◌, Bool, true, false}
-use Rattle.std.proofs.Common.{not, ◌&&◌, List, [], ◌∷◌, ◌++◌, length, drop, refl, sym, ap, ◌∙◌, subst}
-use Rattle.std.proofs.Common.{arith, append-nil, inl}
+use Rattle.std.proofs.Common.{not, ◌&&◌, List, [], ◌∷◌, ◌++◌, length, refl, sym, ap, ◌∙◌, subst}
+use Rattle.std.proofs.Common.{arith, append-nil, inl, inr, Option, Some, None}
 use Rattle.std.specs.Prelude.{decimal}
 use Rattle.std.specs.Fmt.{digits, digits_onto, digit_glyph}
 use Rattle.std.specs.Str.{is_utf8}
@@ -12,20 +12,21 @@ use Rattle.dap_words.specs.Runs.{all_of}
 use Rattle.dap_words.specs.Digits.{is_x}
 use Rattle.dap_words.specs.Long.{is_long}
 use Rattle.dap_words.specs.Uuids.{nil_uuid, fits_at, begins_in_form, begins_uuid}
-use Rattle.dap_tokens.specs.Tokens.{is_of_label, is_label, is_numeral, name, name_length}
-use Rattle.dap_tokens.specs.Tokens.{token_length, part_length, hex_run, starts_hex, Part, parts}
+use Rattle.dap_tokens.specs.Tokens.{Labels, token_at, tried, is_of_label, is_label, name}
+use Rattle.dap_tokens.specs.Tokens.{token_length, hex_run, starts_hex, Part, parts_from, whole_or}
 use Rattle.dap_tokens.specs.Values.{value, is_nothing}
-use Rattle.dap_tokens.specs.Naming.{named_token, named_parts, named}
+use Rattle.dap_tokens.specs.Naming.{Numbering, named_token, named_parts, named}
+use Rattle.dap_tokens.specs.Laws.{AreLabels}
 use Rattle.dap_tokens.specs.declared.form.Form.{Form}
 use Rattle.dap_tokens.specs.declared.form.Form.TheVariants.{Whole, Digits, Hex, Long, Uuid}
-use Rattle.dap_tokens.proofs.Booleans.{by_bool, and_left, and_right, and_both, no_test}
-use Rattle.dap_tokens.proofs.Lists.{yes}
-use Rattle.dap_tokens.proofs.Names.{name_at, name_read}
-use Rattle.dap_tokens.proofs.Lengths.{none_first, some_first}
+use Rattle.dap_tokens.proofs.Booleans.{by_bool, and_left, and_right, and_both}
+use Rattle.dap_tokens.proofs.FirstTokens.{token_with, found_count}
+use Rattle.dap_tokens.proofs.Starts.{Scans, token_counts, token_of, label_of, scans}
 use Rattle.dap_tokens.proofs.Readings.{Read, ended, byte, found, parts_are_read}
 use Rattle.dap_tokens.proofs.Classes.{all_append, digits_of_numeral}
-use Rattle.dap_tokens.proofs.Literals.{Scans}
-use Rattle.dap_tokens.proofs.Stays.{run_kept, same_prefix}
+use Rattle.dap_tokens.proofs.Runs.{run_kept}
+use Rattle.dap_tokens.proofs.TokensAgain.{HexKept, hex_kept}
+use Rattle.dap_tokens.proofs.Stays.{name_first}
 use Rattle.dap_tokens.proofs.Written.{unnamed, renamed}
 use Rattle.dap_tokens.proofs.Utf8.{Edited, utf8_edited, is_low, utf8_low, kept, replaced}
 
@@ -89,32 +90,21 @@ low_form (f ∷ shape) (b ∷ t) s l h = and_both (is_low b) (all_of is_low t)
     (low_form shape t s (omega arith)
     (and_right (fits_at f b) (begins_in_form shape (t ++ s)) h))
 
-low_hex : (b : ℕ) (t s : List ℕ) → starts_hex (b ∷ t ++ s) ≡ true
-    → 2 + length (hex_run (drop 2 (b ∷ t ++ s))) ≡ length (b ∷ t)
-    → all_of is_low (b ∷ t) ≡ true
-low_hex b [] s h e = absurd (omega arith)
-low_hex b (x ∷ []) [] h e = let none = and_right (b == 48) false h in absurd cc
-low_hex b (x ∷ []) (c ∷ s) h e =
-    let digit = and_right (is_x x) (is_ascii_hexdigit c)
-    (and_right (b == 48) (is_x x && is_ascii_hexdigit c) h) in
-    let some = ap length (yes is_ascii_hexdigit c s digit) in
-    absurd (omega arith)
-low_hex b (x ∷ y ∷ t) s h e =
-    let run = run_kept is_ascii_hexdigit (y ∷ t) s (omega arith) in
-    let letter = and_left (is_x x) (is_ascii_hexdigit y)
-    (and_right (b == 48) (is_x x && is_ascii_hexdigit y) h) in
-    let first = eqb-true b 48 (and_left (b == 48) (is_x x && is_ascii_hexdigit y) h) in
-    and_both (is_low b) (all_of is_low (x ∷ y ∷ t)) (ap is_low first)
-    (and_both (is_low x) (all_of is_low (y ∷ t)) (low_by is_x far_x x letter)
-    (all_low is_ascii_hexdigit (low_by is_ascii_hexdigit far_hexdigit) (y ∷ t) run.all))
+low_hex : (b : ℕ) (t s : List ℕ) → HexKept b t s → all_of is_low (b ∷ t) ≡ true
+low_hex b t s k =
+    ap (λ x. all_of is_low (b ∷ x)) k.whole
+    ∙ and_both (is_low b) (all_of is_low (k.letter ∷ k.digits)) (ap is_low (eqb-true b 48 k.first))
+    (and_both (is_low k.letter) (all_of is_low k.digits) (low_by is_x far_x k.letter k.second)
+    (all_low is_ascii_hexdigit (low_by is_ascii_hexdigit far_hexdigit) k.digits k.run.all))
 
 low_token : (form : Form) (d : Bool) (b : ℕ) (t s : List ℕ) → Scans form
     → token_length form d (b ∷ t ++ s) ≡ length (b ∷ t) → all_of is_low (b ∷ t) ≡ true
 low_token Whole d b t s i h = absurd i
 low_token Digits d b t s i h = all_low is_ascii_digit (low_by is_ascii_digit far_digit) (b ∷ t)
     (run_kept is_ascii_digit (b ∷ t) s h).all
-low_token Hex d b t s i h = by_bool (starts_hex (b ∷ t ++ s))
-    (λ k. low_hex b t s k (rw k at h))
+low_token Hex d b t s i h = by_bool (not d && starts_hex (b ∷ t ++ s))
+    (λ k. low_hex b t s
+    (hex_kept b t s (and_right (not d) (starts_hex (b ∷ t ++ s)) k) (rw k at h)))
     (λ k. let none : 0 ≡ length (b ∷ t) = rw k at h in absurd (omega arith))
 low_token Long d b t s i h = by_bool (not d && is_long (hex_run (b ∷ t ++ s)))
     (λ k. let len : length (hex_run (b ∷ t ++ s)) ≡ length (b ∷ t) = rw k at h in
@@ -127,23 +117,21 @@ low_token Uuid d b t s i h = by_bool (begins_uuid d (b ∷ t ++ s))
     (and_right (not d) (begins_in_form nil_uuid (b ∷ t ++ s)) k))
     (λ k. let none : 0 ≡ length (b ∷ t) = rw k at h in absurd (omega arith))
 
-low_part : (label : List ℕ) (form : Form) (d : Bool) (b : ℕ) (t s : List ℕ) → Scans form
-    → is_label label ≡ true → part_length label form d (b ∷ t ++ s) ≡ length (b ∷ t)
+low_part : (labels : Labels) (form : Form) (label : List ℕ) (d : Bool) (b : ℕ) (t s : List ℕ)
+    → AreLabels labels
+    → token_at labels d (b ∷ t ++ s) ≡ Some (token_with form label (length (b ∷ t)))
     → all_of is_low (b ∷ t) ≡ true
-low_part label form d b t s i l h = by_bool (name_length label (b ∷ t ++ s) == 0)
-    (λ k. low_token form d b t s i
-    (sym (none_first (name_length label (b ∷ t ++ s)) (token_length form d (b ∷ t ++ s))
-    (eqb-true (name_length label (b ∷ t ++ s)) 0 k)) ∙ h))
-    (λ k. let at = name_at label (b ∷ t ++ s)
-    (λ e. no_test (name_length label (b ∷ t ++ s) == 0) (ap (λ x. x == 0) e) k) in
-    let whole = name label at.number in
-    let long = ap (name_length label) at.whole ∙ name_read label at.number at.rest at.numeral in
-    let len : length (b ∷ t) ≡ length whole = sym h
-    ∙ some_first (name_length label (b ∷ t ++ s)) (token_length form d (b ∷ t ++ s))
-    (omega arith) ∙ long in
-    ap (all_of is_low) (same_prefix (b ∷ t) s whole at.rest at.whole len)
-    ∙ low_name label at.number l (all_low is_ascii_digit (low_by is_ascii_digit far_digit)
-    at.number (digits_of_numeral at.number at.numeral)))
+low_part labels form label d b t s l h =
+    let first = token_with form label (length (b ∷ t)) in
+    elim (token_of labels d (b ∷ t ++ s) first h) [
+      | inl k ↦ (let is = name_first labels form label (b ∷ t) s k in
+          ap (all_of is_low) is.whole
+          ∙ low_name label is.number (l form label (label_of labels d (b ∷ t ++ s) first h))
+          (all_low is_ascii_digit (low_by is_ascii_digit far_digit) is.number
+          (digits_of_numeral is.number is.numeral)))
+      | inr (n, k) ↦ low_token form d b t s (scans labels d (b ∷ t ++ s) first k)
+          (found_count labels (token_counts d (b ∷ t ++ s)) first (tried labels) k)
+    ]
 
 -- ---- strings
 
@@ -159,48 +147,50 @@ low_decimal : (n : ℕ) → all_of is_low (decimal n) ≡ true
 unfolding digits
 low_decimal n = low_onto 64 n [] refl
 
-module _ (label : List ℕ) (form : Form) (number : List ℕ → ℕ) (i : Scans form)
-    (l : is_label label ≡ true) where
-  edited : {d : Bool} {s : List ℕ} {ps : List Part} → Read label form d s ps
-      → Edited s (named_parts label form number ps)
+module _ (labels : Labels) (number : Numbering) (l : AreLabels labels) where
+  edited : {d : Bool} {s : List ℕ} {ps : List Part} → Read labels d s ps
+      → Edited s (named_parts number ps)
   edited ended = refl
-  edited (byte {ps = ps} n r) = inl (named_parts label form number ps, refl, edited r)
-  edited (found {d} {u} {s} {ps} b t e n r) = by_bool (is_nothing (value label form (b ∷ t)))
-      (λ k. let same = unnamed label form number (b ∷ t) k in
-      let w = named_parts label form number ps in
+  edited (byte {ps = ps} n r) = inl (named_parts number ps, refl, edited r)
+  edited (found {d} {u} {s} {ps} form label b t e n r) =
+      let w = named_parts number ps in
+      by_bool (is_nothing (value label form (b ∷ t)))
+      (λ k. let same = unnamed number form label (b ∷ t) k in
       subst (λ x. Edited u (x ++ w)) (sym same)
       (subst (λ x. Edited x (b ∷ t ++ w)) (sym e) (kept (b ∷ t) s w (edited r))))
-      (λ k. let same = renamed label form number (b ∷ t) k in
-      let w = named_parts label form number ps in
-      let v = value label form (b ∷ t) in
-      let low = low_part label form d b t s i l (ap (part_length label form d) (sym e) ∙ n) in
+      (λ k. let same = renamed number form label (b ∷ t) k in
+      let first = token_with form label (length (b ∷ t)) in
+      let digits_here = decimal (number label (value label form (b ∷ t))) in
+      let here = ap (token_at labels d) (sym e) ∙ n in
+      let low = low_part labels form label d b t s l here in
+      let ok = l form label (label_of labels d (b ∷ t ++ s) first here) in
       subst (λ x. Edited u (x ++ w)) (sym same)
-      (subst (λ x. Edited x (name label (decimal (number v)) ++ w)) (sym e)
-      (replaced b t (name label (decimal (number v))) s w low
-      (low_name label (decimal (number v)) l (low_decimal (number v))) (edited r))))
+      (subst (λ x. Edited x (name label digits_here ++ w)) (sym e)
+      (replaced b t (name label digits_here) s w low
+      (low_name label digits_here ok (low_decimal (number label (value label form (b ∷ t)))))
+      (edited r))))
 
-scanned_utf8 : (label : List ℕ) (form : Form) (number : List ℕ → ℕ) (s : List ℕ) → Scans form
-    → is_label label ≡ true → is_utf8 s ≡ true
-    → is_utf8 (named_parts label form number
-    (Rattle.dap_tokens.specs.Tokens.parts_from label form 0 false s)) ≡ true
-scanned_utf8 label form number s i l u =
-    is_utf8-from_IsUtf8 _ (utf8_edited s _ (IsUtf8-from_is_utf8 s u)
-    (edited label form number i l (parts_are_read label form false s)))
+  scanned_utf8 : (s : List ℕ) → is_utf8 s ≡ true
+      → is_utf8 (named_parts number (parts_from labels 0 false s)) ≡ true
+  scanned_utf8 s u = is_utf8-from_IsUtf8 _ (utf8_edited s _ (IsUtf8-from_is_utf8 s u)
+      (edited (parts_are_read labels false s)))
 
-whole_utf8 : (label : List ℕ) (number : List ℕ → ℕ) (s : List ℕ) → is_label label ≡ true
-    → is_utf8 s ≡ true → is_utf8 (named_token label Whole number s) ≡ true
-whole_utf8 label number s l u = by_bool (is_nothing (value label Whole s))
-    (λ k. ap is_utf8 (unnamed label Whole number s k) ∙ u)
-    (λ k. let digits_here = decimal (number (value label Whole s)) in
-    ap is_utf8 (renamed label Whole number s k)
-    ∙ is_utf8-from_IsUtf8 (name label digits_here) (utf8_low (name label digits_here)
-    (low_name label digits_here l (low_decimal (number (value label Whole s))))))
+  whole_utf8 : (label s : List ℕ) → labels Whole ≡ Some label → is_utf8 s ≡ true
+      → is_utf8 (named_token number Whole label s) ≡ true
+  whole_utf8 label s w u = by_bool (is_nothing (value label Whole s))
+      (λ k. ap is_utf8 (unnamed number Whole label s k) ∙ u)
+      (λ k. let digits_here = decimal (number label (value label Whole s)) in
+      ap is_utf8 (renamed number Whole label s k)
+      ∙ is_utf8-from_IsUtf8 (name label digits_here) (utf8_low (name label digits_here)
+      (low_name label digits_here (l Whole label w)
+      (low_decimal (number label (value label Whole s))))))
 
-pub named_utf8 : (label : List ℕ) (form : Form) (number : List ℕ → ℕ) (s : List ℕ)
-    → is_label label ≡ true → is_utf8 s ≡ true → is_utf8 (named label form number s) ≡ true
-named_utf8 label Whole number s l u =
-    ap is_utf8 (append-nil (named_token label Whole number s)) ∙ whole_utf8 label number s l u
-named_utf8 label Digits number s l u = scanned_utf8 label Digits number s tt l u
-named_utf8 label Hex number s l u = scanned_utf8 label Hex number s tt l u
-named_utf8 label Long number s l u = scanned_utf8 label Long number s tt l u
-named_utf8 label Uuid number s l u = scanned_utf8 label Uuid number s tt l u
+  utf8_by : (s : List ℕ) (o : Option (List ℕ)) → labels Whole ≡ o → is_utf8 s ≡ true
+      → is_utf8 (named_parts number (whole_or o s (parts_from labels 0 false s))) ≡ true
+  utf8_by s None w u = scanned_utf8 s u
+  utf8_by s (Some label) w u =
+      ap is_utf8 (append-nil (named_token number Whole label s)) ∙ whole_utf8 label s w u
+
+pub named_utf8 : (labels : Labels) (number : Numbering) (s : List ℕ) → AreLabels labels
+    → is_utf8 s ≡ true → is_utf8 (named labels number s) ≡ true
+named_utf8 labels number s l u = utf8_by labels number l s (labels Whole) refl u

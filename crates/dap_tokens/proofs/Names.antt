@@ -1,6 +1,6 @@
 -- Names at the start of a string.
-use Rattle.std.proofs.Common.{◌≡◌, ℕ, ◌+◌, ◌-◌, ◌<◌, ◌==◌, Bool, true, cond, not, ◌&&◌, List}
-use Rattle.std.proofs.Common.{[], ◌∷◌, ◌++◌, length, take, drop, refl, sym, ap, ◌∙◌, append_assoc}
+use Rattle.std.proofs.Common.{◌≡◌, ℕ, ◌+◌, ◌-◌, ◌<◌, ◌==◌, Bool, true, cond, not, ◌&&◌, List, []}
+use Rattle.std.proofs.Common.{◌∷◌, ◌++◌, length, take, drop, refl, sym, ap, ◌∙◌, append_assoc}
 use Rattle.std.proofs.Common.{arith, nat_lt}
 use Rattle.std.specs.List.{take_while}
 use Rattle.std.specs.Str.{bytes_eq}
@@ -116,7 +116,7 @@ name_at label s h = by_bool (starts_name label s)
     })
     (λ t. absurd (h (rw t refl)))
 
-regrouped : (label k rest : List ℕ)
+pub regrouped : (label k rest : List ℕ)
     → name label k ++ rest ≡ opening label ++ (k ++ 62 ∷ rest)
 regrouped label k rest = append_assoc (opening label ++ k) (62 ∷ []) rest
     ∙ append_assoc (opening label) k (62 ∷ rest)

@@ -3,3 +3,4 @@ pub mod Numerals
 pub mod Values
 pub mod Naming
 pub mod Laws
+pub mod Models

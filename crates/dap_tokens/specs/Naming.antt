@@ -1,40 +1,56 @@
 -- Strings whose tokens are replaced by names.
-use Rattle.std.specs.Prelude.{ℕ, ◌<◌, ◌^◌, cond, List, [], ◌∷◌, ◌++◌, decimal}
-use Rattle.dap_tokens.specs.Tokens.{Part, literal, token, parts, name}
+use Rattle.std.specs.Prelude.{ℕ, ◌<◌, ◌^◌, cond, List, [], ◌∷◌, ◌++◌, map, decimal}
+use Rattle.dap_tokens.specs.Tokens.{Labels, Part, literal, token, parts, name}
 use Rattle.dap_tokens.specs.Values.{value, is_nothing}
 use Rattle.dap_tokens.specs.declared.form.Form.{Form}
 
--- The values of the tokens that are ids, in their order.
-abbrev pub ids_of_parts : List ℕ → Form → List Part → List (List ℕ)
-ids_of_parts label form [] = []
-ids_of_parts label form (literal b ∷ ps) = ids_of_parts label form ps
-ids_of_parts label form (token t ∷ ps) =
-    cond (is_nothing (value label form t)) (ids_of_parts label form ps)
-    (value label form t ∷ ids_of_parts label form ps)
+-- An id: a label, and the text of a value.
+abbrev pub Id : Type 0
+Id = List ℕ × List ℕ
 
-abbrev pub ids : List ℕ → Form → List ℕ → List (List ℕ)
-ids label form s = ids_of_parts label form (parts label form s)
+-- A number for each value of each label.
+abbrev pub Numbering : Type 0
+Numbering = List ℕ → List ℕ → ℕ
+
+-- The tokens that are ids, in their order.
+abbrev pub ids_of_parts : List Part → List Id
+ids_of_parts [] = []
+ids_of_parts (literal b ∷ ps) = ids_of_parts ps
+ids_of_parts (token form label t ∷ ps) =
+    cond (is_nothing (value label form t)) (ids_of_parts ps)
+    ((label, value label form t) ∷ ids_of_parts ps)
+
+abbrev pub ids : Labels → List ℕ → List Id
+ids labels s = ids_of_parts (parts labels s)
 
 -- The token with its value replaced by the name of a number. What is not an id stays.
-abbrev pub named_token : List ℕ → Form → (List ℕ → ℕ) → List ℕ → List ℕ
-named_token label form number t =
-    cond (is_nothing (value label form t)) t (name label (decimal (number (value label form t))))
+abbrev pub named_token : Numbering → Form → List ℕ → List ℕ → List ℕ
+named_token number form label t = cond (is_nothing (value label form t)) t
+    (name label (decimal (number label (value label form t))))
 
-abbrev pub named_parts : List ℕ → Form → (List ℕ → ℕ) → List Part → List ℕ
-named_parts label form number [] = []
-named_parts label form number (literal b ∷ ps) = b ∷ named_parts label form number ps
-named_parts label form number (token t ∷ ps) =
-    named_token label form number t ++ named_parts label form number ps
+abbrev pub named_parts : Numbering → List Part → List ℕ
+named_parts number [] = []
+named_parts number (literal b ∷ ps) = b ∷ named_parts number ps
+named_parts number (token form label t ∷ ps) =
+    named_token number form label t ++ named_parts number ps
 
--- The string with each token that is an id replaced by its name. `number` gives each value a
--- number from 1.
-abbrev pub named : List ℕ → Form → (List ℕ → ℕ) → List ℕ → List ℕ
-named label form number s = named_parts label form number (parts label form s)
+-- The string with each token that is an id replaced by its name. `number` gives each value of a
+-- label a number from 1.
+abbrev pub named : Labels → Numbering → List ℕ → List ℕ
+named labels number s = named_parts number (parts labels s)
 
 -- Each value has a number of 64 bits, from 1.
-abbrev pub IsNumbering : (List ℕ → ℕ) → Type 0
-IsNumbering number = (v : List ℕ) → (0 < number v) × (number v < 2 ^ 64)
+abbrev pub IsNumbering : Numbering → Type 0
+IsNumbering number = (label v : List ℕ) → (0 < number label v) × (number label v < 2 ^ 64)
 
 -- The string with each id replaced by one mark.
-abbrev pub skeleton : List ℕ → Form → List ℕ → List ℕ
-skeleton label form s = named label form (λ v. 1) s
+abbrev pub skeleton : Labels → List ℕ → List ℕ
+skeleton labels s = named labels (λ label v. 1) s
+
+-- The label of each id, and the number of its value.
+abbrev pub numbered : Numbering → List Id → List (List ℕ × ℕ)
+numbered number is = map (λ i. (i.0, number i.0 i.1)) is
+
+-- The ids with each value replaced by its number in decimal digits.
+abbrev pub named_by : Numbering → List Id → List Id
+named_by number is = map (λ i. (i.0, decimal (number i.0 i.1))) is

@@ -1,15 +1,18 @@
-//! Reads the part that a string starts with.
-ghost use Rattle.std.specs.Prelude.{◌≡◌, ◌≤◌, ◌==◌, ℕ, List, ◌++◌, length, drop, take_while, false};
-ghost use Rattle.std.specs.Prelude.{not, ◌&&◌, nat_lt, MatchOption};
+//! Reads the token that a string starts with.
+ghost use Rattle.std.specs.Prelude.{◌≡◌, ◌≤◌, ◌==◌, ℕ, List, [], ◌∷◌, ◌++◌, length, drop};
+ghost use Rattle.std.specs.Prelude.{take_while};
+ghost use Rattle.std.specs.Prelude.{not, ◌&&◌, nat_lt, MatchOption, option_map};
 ghost use Rattle.std.specs.Char.{is_ascii_digit, is_ascii_hexdigit};
 ghost use Rattle.dap_words.specs.Runs.{begins_with, some_of};
 ghost use Rattle.dap_words.specs.Long.{is_long};
 ghost use Rattle.dap_words.specs.Uuids.{nil_uuid, fits_at, begins_in_form};
 ghost use Rattle.dap_tokens.specs.Tokens.{opening, hex_run, starts_hex, name_length, token_length};
-ghost use Rattle.dap_tokens.specs.Tokens.{part_length};
+ghost use Rattle.dap_tokens.specs.Tokens.{first_token, token_or, token_at, tried};
+ghost use Rattle.dap_tokens.specs.Models.{labels_of, token_of};
 ghost use Rattle.dap_tokens.specs.Numerals.{numeral_length};
 
 use crate::form::Form;
+use crate::labels::Labels;
 
 /// The nil UUID.
 pub(crate) const NIL: [u8; 36] = *b"00000000-0000-0000-0000-000000000000";
@@ -17,17 +20,102 @@ pub(crate) const NIL: [u8; 36] = *b"00000000-0000-0000-0000-000000000000";
 /// The least number of hexadecimal digits of a token of the form `Long`.
 const LONG: usize = 6;
 
-/// Returns the number of bytes of the name or the token that `text` starts with, or 0 if it starts
-/// with a literal byte. `after_digit` is whether a literal hexadecimal digit comes before. Does not
-/// allocate.
-pub fn part_length(label: &str, form: Form, after_digit: bool, text: &[u8]) -> usize
-    ensures { result ≡ part_length label.now form after_digit text.now }
+/// The token at the start of a text, which may be a name.
+#[derive(Clone, Copy, Debug, PartialEq, Eq, Drop)]
+pub struct Token<'l> {
+    /// The form of the token. The form of a name is the first form with its label.
+    pub form: Form,
+    /// The label of the token.
+    pub label: &'l str,
+    /// The number of bytes of the token.
+    pub count: usize,
+}
+
+/// Returns the token that `text` starts with, or `None` if it starts with a literal byte. The token
+/// is a name with one of the labels, or else a token of a form that has a label. `after_digit` is
+/// whether a literal hexadecimal digit comes before. Does not allocate.
+pub fn token_at<'l>(labels: &Labels<'l>, after_digit: bool, text: &[u8]) -> Option<Token<'l>>
+    ensures { option_map token_of result ≡ token_at (labels_of labels.now) after_digit text.now }
 {
-    let name = name_length(label, text);
-    if name > 0 {
-        name
+    if begins_with_byte(b'<', text) {
+        name_at(labels, text)
     } else {
-        token_length(form, after_digit, text)
+        form_at(labels, after_digit, text)
+    }
+}
+
+// Returns the name that the text starts with.
+fn name_at<'l>(labels: &Labels<'l>, text: &[u8]) -> Option<Token<'l>>
+    ensures { option_map token_of result ≡ first_token (labels_of labels.now)
+        (λ form label. name_length label text.now)
+        (Form.Digits ∷ Form.Hex ∷ Form.Long ∷ Form.Uuid ∷ []) None }
+{
+    if let Some(name) = name_in(Form::Digits, labels.digits, text) {
+        return Some(name);
+    }
+    if let Some(name) = name_in(Form::Hex, labels.hex, text) {
+        return Some(name);
+    }
+    if let Some(name) = name_in(Form::Long, labels.long, text) {
+        return Some(name);
+    }
+    name_in(Form::Uuid, labels.uuid, text)
+}
+
+// Returns the token of a form that the text starts with.
+fn form_at<'l>(labels: &Labels<'l>, after_digit: bool, text: &[u8]) -> Option<Token<'l>>
+    ensures { option_map token_of result ≡ first_token (labels_of labels.now)
+        (λ form label. token_length form after_digit text.now)
+        (tried (labels_of labels.now)) None }
+{
+    if let Some(token) = token_in(Form::Uuid, labels.uuid, after_digit, text) {
+        return Some(token);
+    }
+    if let Some(token) = token_in(Form::Hex, labels.hex, after_digit, text) {
+        return Some(token);
+    }
+    if let Some(token) = token_in(Form::Long, labels.long, after_digit, text) {
+        return Some(token);
+    }
+    if labels.uuid.is_some() {
+        None
+    } else {
+        token_in(Form::Digits, labels.digits, after_digit, text)
+    }
+}
+
+// Returns the name that the text starts with, if the form has its label.
+fn name_in<'l>(form: Form, label: Option<&'l str>, text: &[u8]) -> Option<Token<'l>>
+    ensures { option_map token_of result
+        ≡ token_or form (option_map (λ t. t.now) label.entry) (λ l. name_length l text.now) None }
+{
+    let label = label?;
+    counted(form, label, name_length(label, text))
+}
+
+// Returns the token that the text starts with, if the form has a label.
+fn token_in<'l>(
+    form: Form,
+    label: Option<&'l str>,
+    after_digit: bool,
+    text: &[u8],
+) -> Option<Token<'l>>
+    ensures { option_map token_of result ≡ token_or form
+        (option_map (λ t. t.now) label.entry)
+        (λ l. token_length form after_digit text.now) None }
+{
+    let label = label?;
+    counted(form, label, token_length(form, after_digit, text))
+}
+
+// Returns the token of this form with this label, if it has bytes.
+fn counted<'l>(form: Form, label: &'l str, count: usize) -> Option<Token<'l>>
+    ensures { option_map token_of result ≡ token_or form (Some label.now) (λ l. count) None }
+{
+    if count == 0 {
+        None
+    } else {
+        Some(Token { form, label, count })
     }
 }
 
@@ -91,16 +179,16 @@ fn token_length(form: Form, after_digit: bool, text: &[u8]) -> usize
     match form {
         Form::Whole => text.len(),
         Form::Digits => digit_count(text),
-        Form::Hex => hex_length(text),
+        Form::Hex => hex_length(after_digit, text),
         Form::Long => long_length(after_digit, text),
         Form::Uuid => uuid_length(after_digit, text),
     }
 }
 
-fn hex_length(text: &[u8]) -> usize
-    ensures { result ≡ token_length Form.Hex false text.now }
+fn hex_length(after_digit: bool, text: &[u8]) -> usize
+    ensures { result ≡ token_length Form.Hex after_digit text.now }
 {
-    if starts_hex(text) {
+    if !after_digit && starts_hex(text) {
         2 + hex_count(&text[2..])
     } else {
         0

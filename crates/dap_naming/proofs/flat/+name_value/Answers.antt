@@ -7,13 +7,15 @@ use Rattle.dap_flat.specs.declared.node.Node.TheVariants as node
 use Rattle.dap_flat.proofs.Found.{object_inside}
 use Rattle.dap_flat_message.specs.{Heads.text_in}
 use Rattle.dap_flat_message.proofs.Replacing.{list_inside}
-use Rattle.dap_naming.specs.DeclaredRules.{have_labels, rules_of, HasLabel}
+use Rattle.dap_tokens.specs.Laws.{AreLabels}
+use Rattle.dap_naming.specs.DeclaredRules.{have_labels, rules_of}
 use Rattle.dap_naming.specs.Documents.{below}
 use Rattle.dap_naming.specs.Flat.{inside_named, NamesStretch, NamesValue, of_doc, of_items}
 use Rattle.dap_naming.specs.Flat.{of_members}
-use Rattle.dap_naming.proofs.Choosing.{weight, falls_below, labelled_here, labels-below, no_rules}
+use Rattle.dap_naming.proofs.Choosing.{weight, falls_below, labels-below, no_rules}
 use Rattle.dap_naming.proofs.FlatNames.{none_so_far, one_item, one_member, items_done}
 use Rattle.dap_naming.proofs.FlatNames.{members_done, list_named, object_named, value_unruled}
+use Rattle.dap_naming.proofs.Heres.{labels_here}
 use Rattle.dap_naming.proofs.FlatRules.{falls_named, inside_each, inside_told, labels-named}
 use Rattle.dap_naming.proofs.flat.+name_value.Goals as goal
 
@@ -26,8 +28,8 @@ name_value-returns-then-is_empty-clause-names t c =
 
 pub name_value-name_leaf-requires : goal.name_value-name_leaf-requires
 name_value-name_leaf-requires t c = record {
-  label = subst HasLabel (sym c.here.ensures)
-      (labelled_here (rules_of c.args.rules.now) c.requires);
+  labels = subst AreLabels (sym c.here.ensures)
+      (labels_here (rules_of c.args.rules.now) c.requires);
   within = c.if-at-nodes.false;
 }
 
@@ -231,8 +233,8 @@ name_member-name_leaf-requires t c =
     let k = c.args.name.now in
     let rs = rules_of c.args.rules.now in
     record {
-      label = subst HasLabel (sym c.here_below.ensures)
-          (labelled_here (below k rs) (labels-below k rs c.requires.1.1.0));
+      labels = subst AreLabels (sym c.here_below.ensures)
+          (labels_here (below k rs) (labels-below k rs c.requires.1.1.0));
       within = c.requires.1.1.1.1;
     }
 

@@ -1,15 +1,21 @@
-use Rattle.std.proofs.Common.{◌∙◌, ap, sym, string_bytes}
+use mir.Val.{SFits}
+use Rattle.std.specs.Int.{w128}
+use Rattle.std.proofs.Common.{◌∙◌, ap, sym, string_bytes, to_z, of_z, rules}
+use Rattle.std.proofs.lemmas.Int.{to_z-of_z}
+use Rattle.std.proofs.lemmas.Result.{on_ok_weaker}
 use Rattle.std.proofs.lemmas.Slice.Zip.{Zip-more}
 use Rattle.std.specs.Iterator.Adapters.{zip_first, zip_second}
 use Rattle.std.specs.Slice.Iter.{iter_rest}
 use Rattle.std.specs.Option.{option_map}
-use Rattle.dap_tree.specs.View.{view, members_view}
+use Rattle.dap_tokens.specs.Models.{labels_of}
+use Rattle.dap_tree.specs.{Doc.{text, whole}, View.{view, members_view}}
 use Rattle.dap_naming.specs.Documents.{below}
 use Rattle.dap_naming.specs.DeclaredRules.{rules_of}
 use Rattle.dap_naming.specs.Joint.{table_of, doc_pairs}
 use Rattle.dap_naming.proofs.Choosing.{no_rules}
 use Rattle.dap_naming.proofs.Joining.{items_more, members_more, members_other, member_found}
-use Rattle.dap_naming.proofs.Joining.{none_joined, no_rules_a, no_rules_b}
+use Rattle.dap_naming.proofs.Joining.{none_joined, no_rules_a, no_rules_b, doc_texts, doc_wholes}
+use Rattle.dap_naming.proofs.Joining.{view-Text, view-Whole}
 use Rattle.dap_naming.proofs.JointNaming.{kept_then}
 use Rattle.dap_naming.proofs.joint.+join.Goals as goal
 
@@ -89,3 +95,33 @@ join_trees-returns-then-is_empty-clause-joined t c =
           (no_rules c.args.rules_b.now
           (sym w.is_empty-else-is_empty.ensures ∙ w.if-is_empty-2.true)))
     ]
+
+pub join_trees-returns-in-Text-Text-clause-joined :
+    goal.join_trees-returns-in-Text-Text-clause-joined
+join_trees-returns-in-Text-Text-clause-joined t c =
+    on_ok_weaker c.join_texts.result
+    (doc_texts c.args.names.now c.join_texts.new.names (rules_of c.args.rules_a.now)
+    (rules_of c.args.rules_b.now) (labels_of c.here-in-Text-Text.result)
+    (labels_of c.here-in-Text-Text-2.result) c.deref.result.now c.deref-in-Text-Text.result.now
+    (view c.args.a.now) (view c.args.b.now) c.here-in-Text-Text.ensures
+    c.here-in-Text-Text-2.ensures
+    (ap view c.in-Text-Text.is-0 ∙ view-Text c.in-Text-Text.text ∙ ap text (sym c.deref.ensures))
+    (ap view c.in-Text-Text.is-1 ∙ view-Text c.in-Text-Text.other
+    ∙ ap text (sym c.deref-in-Text-Text.ensures)))
+    c.join_texts.ensures.joined
+
+pub join_trees-returns-in-Whole-Whole-clause-joined :
+    goal.join_trees-returns-in-Whole-Whole-clause-joined
+join_trees-returns-in-Whole-Whole-clause-joined t c =
+    let x = c.in-Whole-Whole.x in
+    let y = c.in-Whole-Whole.y in
+    let fits_x : SFits w128 x = search rules in
+    let fits_y : SFits w128 y = search rules in
+    on_ok_weaker c.join_wholes.result
+    (doc_wholes c.args.names.now c.join_wholes.new.names (rules_of c.args.rules_a.now)
+    (rules_of c.args.rules_b.now) (labels_of c.here.result)
+    (labels_of c.here-in-Whole-Whole.result) (to_z w128 (of_z w128 x)) (to_z w128 (of_z w128 y))
+    (view c.args.a.now) (view c.args.b.now) c.here.ensures c.here-in-Whole-Whole.ensures
+    (ap view c.in-Whole-Whole.is-0 ∙ view-Whole x ∙ ap whole (sym (to_z-of_z w128 x fits_x)))
+    (ap view c.in-Whole-Whole.is-1 ∙ view-Whole y ∙ ap whole (sym (to_z-of_z w128 y fits_y))))
+    c.join_wholes.ensures.joined

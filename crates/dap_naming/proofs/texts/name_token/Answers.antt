@@ -6,7 +6,7 @@ use Rattle.dap_naming.proofs.texts.name_token.Goals as goal
 
 pub returns-in_err-number-clause-full : goal.returns-in_err-number-clause-full
 returns-in_err-number-clause-full c =
-    λ e. full_token c.args.label.now c.args.form c.args.numbers.now c.args.part.now
+    λ e. full_token c.args.form c.args.label.now c.args.numbers.now c.args.part.now
     c.deref-2.result.now (c.deref-2.ensures.value ∙ c.in_ok-value.ensures)
     (ap is_nothing (c.deref-2.ensures.value ∙ sym c.deref.ensures.value) ∙ sym c.is_nothing.ensures
     ∙ c.if-is_nothing.false)
@@ -15,7 +15,7 @@ returns-in_err-number-clause-full c =
 
 pub returns-clause-few : goal.returns-clause-few
 returns-clause-few c =
-    few_token c.args.label.now c.args.form c.args.numbers.now c.args.part.now
+    few_token c.args.form c.args.label.now c.args.numbers.now c.args.part.now
     c.deref-2.result.now (c.deref-2.ensures.value ∙ c.in_ok-value.ensures)
     (ap is_nothing (c.deref-2.ensures.value ∙ sym c.deref.ensures.value) ∙ sym c.is_nothing.ensures
     ∙ c.if-is_nothing.false)

@@ -1,17 +1,27 @@
+use mir.Val.{SFits, to_z, of_z}
 use Rattle.std.proofs.Common.{◌≡◌, ◌+◌, ◌*◌, ◌<◌, true, [], ◌∷◌, ◌++◌, ◌∙◌, sym, ap, subst, arith}
-use Rattle.std.proofs.Common.{append_assoc, string_bytes, string_cmp}
+use Rattle.std.proofs.Common.{append_assoc, rules, string_bytes, string_cmp}
+use Rattle.std.proofs.lemmas.Int.{to_z-of_z}
+use Rattle.std.specs.Int.{w128}
 use Rattle.std.specs.Map.{keys_of}
 use Rattle.std.specs.List.Sorted.{IsStrictlySortedBy}
+use Rattle.dap_tree.specs.Doc.{whole}
 use Rattle.dap_tree.specs.View.{view, items_view, members_view}
+use Rattle.dap_tokens.specs.{Laws.AreLabels, Models.labels_of}
+use Rattle.dap_tokens.specs.declared.form.Form.TheVariants.{Whole}
 use Rattle.dap_naming.specs.Documents.{inside, below, named_items, named_members}
-use Rattle.dap_naming.specs.DeclaredRules.{rules_of, have_labels, HasLabel}
+use Rattle.dap_naming.specs.DeclaredRules.{rules_of, have_labels}
+use Rattle.dap_naming.specs.Known.{ExceedsLimit, FitsLimit}
 use Rattle.dap_naming.proofs.Choosing.{weight, falls_inside, falls_below, labels-inside}
-use Rattle.dap_naming.proofs.Choosing.{labels-below, labelled_here, no_rules}
+use Rattle.dap_naming.proofs.Choosing.{labels-below, no_rules}
+use Rattle.dap_naming.proofs.Heres.{label_of_form, labels_here}
 use Rattle.dap_naming.proofs.Limits.{same_fault}
 use Rattle.dap_naming.proofs.LimitsInTrees.{few_unruled, items_few, items_full, members_few}
 use Rattle.dap_naming.proofs.LimitsInTrees.{members_full}
 use Rattle.dap_naming.proofs.MoreParts.{Entry}
-use Rattle.dap_naming.proofs.TreeNames.{doc_unruled, items_more, members_more}
+use Rattle.dap_naming.proofs.TreeNames.{doc_unruled, ids_of_integer, ids_of_string}
+use Rattle.dap_naming.proofs.TreeNames.{integer_by_table, integer_names, items_more, members_more}
+use Rattle.dap_naming.proofs.TreeNames.{string_by_table, string_names, view_integer, view_string}
 use Rattle.dap_naming.proofs.TableNames.{table_unruled, items_by_table, members_by_table}
 use Rattle.dap_naming.proofs.trees.+named.Goals as goal
 
@@ -32,12 +42,106 @@ named-returns-then-is_empty-clause-few t c =
 
 pub named-named_whole-requires : goal.named-named_whole-requires
 named-named_whole-requires t c =
-    subst HasLabel (sym c.here.ensures) (labelled_here (rules_of c.args.rules.now) c.requires)
+    label_of_form (labels_of c.here.result) Whole
+    (subst AreLabels (sym c.here.ensures) (labels_here (rules_of c.args.rules.now) c.requires))
 
 pub named-named_text-requires : goal.named-named_text-requires
 named-named_text-requires t c =
-    subst HasLabel (sym c.here-in-Text.ensures)
-    (labelled_here (rules_of c.args.rules.now) c.requires)
+    subst AreLabels (sym c.here-in-Text.ensures)
+    (labels_here (rules_of c.args.rules.now) c.requires)
+
+-- ---- integers
+
+pub named-returns-in_err-named_whole-in-Whole-clause-full :
+    goal.named-returns-in_err-named_whole-in-Whole-clause-full
+named-returns-in_err-named_whole-in-Whole-clause-full t c =
+    let failed = c.in_err-named_whole-in-Whole in
+    let wide : SFits w128 c.in-Whole.value = search rules in
+    λ e. subst (ExceedsLimit c.args.numbers.now)
+    (sym (ids_of_integer (rules_of c.args.rules.now) (labels_of c.here.result) c.here.ensures
+    (view c.args.tree) (to_z w128 (of_z w128 c.in-Whole.value)) (ap view c.in-Whole.is
+    ∙ view_integer c.in-Whole.value ∙ ap whole (sym (to_z-of_z w128 c.in-Whole.value wide)))))
+    (c.named_whole.ensures.full (same_fault c.named_whole.result c.from_residual.result
+    failed.field-0.0 failed.was c.from_residual.ensures.1 e))
+
+pub named-returns-in_ok-named_whole-in-Whole-clause-names :
+    goal.named-returns-in_ok-named_whole-in-Whole-clause-names
+named-returns-in_ok-named_whole-in-Whole-clause-names t c =
+    let y = c.in_ok-named_whole-in-Whole.field-0 in
+    let fits : SFits w128 y = search rules in
+    let wide : SFits w128 c.in-Whole.value = search rules in
+    integer_names (rules_of c.args.rules.now) (labels_of c.here.result) c.here.ensures
+    (view c.args.tree) c.args.numbers.now c.named_whole.new.numbers _
+    (to_z w128 (of_z w128 c.in-Whole.value)) y (ap view c.in-Whole.is
+    ∙ view_integer c.in-Whole.value ∙ ap whole (sym (to_z-of_z w128 c.in-Whole.value wide)))
+    (view_integer _ ∙ ap whole (to_z-of_z w128 y fits))
+    c.in_ok-named_whole-in-Whole.ensures.names
+
+pub named-returns-in_ok-named_whole-in-Whole-clause-table :
+    goal.named-returns-in_ok-named_whole-in-Whole-clause-table
+named-returns-in_ok-named_whole-in-Whole-clause-table t c =
+    let y = c.in_ok-named_whole-in-Whole.field-0 in
+    let fits : SFits w128 y = search rules in
+    let wide : SFits w128 c.in-Whole.value = search rules in
+    integer_by_table (rules_of c.args.rules.now) (labels_of c.here.result) c.here.ensures
+    (view c.args.tree) c.args.numbers.now c.named_whole.new.numbers _
+    (to_z w128 (of_z w128 c.in-Whole.value)) y (ap view c.in-Whole.is
+    ∙ view_integer c.in-Whole.value ∙ ap whole (sym (to_z-of_z w128 c.in-Whole.value wide)))
+    (view_integer _ ∙ ap whole (to_z-of_z w128 y fits))
+    c.in_ok-named_whole-in-Whole.ensures.table
+
+pub named-returns-in_ok-named_whole-in-Whole-clause-few :
+    goal.named-returns-in_ok-named_whole-in-Whole-clause-few
+named-returns-in_ok-named_whole-in-Whole-clause-few t c =
+    let wide : SFits w128 c.in-Whole.value = search rules in
+    subst (FitsLimit c.args.numbers.now)
+    (sym (ids_of_integer (rules_of c.args.rules.now) (labels_of c.here.result) c.here.ensures
+    (view c.args.tree) (to_z w128 (of_z w128 c.in-Whole.value)) (ap view c.in-Whole.is
+    ∙ view_integer c.in-Whole.value ∙ ap whole (sym (to_z-of_z w128 c.in-Whole.value wide)))))
+    c.in_ok-named_whole-in-Whole.ensures.few
+
+-- ---- strings
+
+pub named-returns-in_err-named_text-in-Text-clause-full :
+    goal.named-returns-in_err-named_text-in-Text-clause-full
+named-returns-in_err-named_text-in-Text-clause-full t c =
+    let failed = c.in_err-named_text-in-Text in
+    let passed = c.from_residual-in_err-named_text-in-Text in
+    λ e. subst (ExceedsLimit c.args.numbers.now)
+    (sym (ids_of_string (rules_of c.args.rules.now) (labels_of c.here-in-Text.result)
+    c.here-in-Text.ensures (view c.args.tree) (string_bytes c.in-Text.text)
+    (ap view c.in-Text.is ∙ view_string c.in-Text.text)))
+    (c.named_text.ensures.full (same_fault c.named_text.result passed.result failed.field-0.0
+    failed.was passed.ensures.1 e))
+
+pub named-returns-in_ok-named_text-in-Text-clause-names :
+    goal.named-returns-in_ok-named_text-in-Text-clause-names
+named-returns-in_ok-named_text-in-Text-clause-names t c =
+    string_names (rules_of c.args.rules.now) (labels_of c.here-in-Text.result)
+    c.here-in-Text.ensures (view c.args.tree) c.args.numbers.now c.named_text.new.numbers _
+    (string_bytes c.in-Text.text) (string_bytes c.in_ok-named_text-in-Text.field-0)
+    (ap view c.in-Text.is ∙ view_string c.in-Text.text) (view_string _)
+    c.in_ok-named_text-in-Text.ensures.names
+
+pub named-returns-in_ok-named_text-in-Text-clause-table :
+    goal.named-returns-in_ok-named_text-in-Text-clause-table
+named-returns-in_ok-named_text-in-Text-clause-table t c =
+    string_by_table (rules_of c.args.rules.now) (labels_of c.here-in-Text.result)
+    c.here-in-Text.ensures (view c.args.tree) c.args.numbers.now c.named_text.new.numbers _
+    (string_bytes c.in-Text.text) (string_bytes c.in_ok-named_text-in-Text.field-0)
+    (ap view c.in-Text.is ∙ view_string c.in-Text.text) (view_string _)
+    c.in_ok-named_text-in-Text.ensures.table
+
+pub named-returns-in_ok-named_text-in-Text-clause-few :
+    goal.named-returns-in_ok-named_text-in-Text-clause-few
+named-returns-in_ok-named_text-in-Text-clause-few t c =
+    subst (FitsLimit c.args.numbers.now)
+    (sym (ids_of_string (rules_of c.args.rules.now) (labels_of c.here-in-Text.result)
+    c.here-in-Text.ensures (view c.args.tree) (string_bytes c.in-Text.text)
+    (ap view c.in-Text.is ∙ view_string c.in-Text.text)))
+    c.in_ok-named_text-in-Text.ensures.few
+
+-- ---- items
 
 pub named_items-named-requires : goal.named_items-named-requires
 named_items-named-requires t c =
@@ -88,6 +192,8 @@ named_items-returns-in_err-named-clause-full t c =
     c.args.items.items _ (l.invariant.all ∙ ap (λ vs. l.yielded ++ vs) c.in-Some.ensures.steps.0)
     (c.named.ensures.full (same_fault c.named.result c.from_residual-in_err-named.result
     c.in_err-named.field-0.0 c.in_err-named.was c.from_residual-in_err-named.ensures.1 e))
+
+-- ---- members
 
 pub named_members-named-requires : goal.named_members-named-requires
 named_members-named-requires t c =

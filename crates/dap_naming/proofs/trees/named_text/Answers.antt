@@ -1,32 +1,33 @@
-use Rattle.std.proofs.Common.{ap, sym, subst, string_bytes, OnOk}
-use Rattle.dap_naming.specs.DeclaredRules.{declared_as}
-use Rattle.dap_naming.specs.Known.{FitsLimit, ExceedsLimit}
-use Rattle.dap_naming.proofs.RuledTexts.{ruled_ids, ruled_names}
-use Rattle.dap_naming.proofs.TableNames.{ruled_by_table}
+use Rattle.std.proofs.Common.{◌≡◌, IfOk, string_bytes, subst}
+use Rattle.dap_tokens.specs.Models.{labels_of}
+use Rattle.dap_tokens.specs.Naming.{named}
+use Rattle.dap_naming.specs.Known.{ByTable}
+use Rattle.dap_naming.proofs.LimitsInTrees.{few_unlabelled}
+use Rattle.dap_naming.proofs.TableNames.{table_unlabelled}
+use Rattle.dap_naming.proofs.TreeNames.{string_unlabelled}
+use Rattle.dap_naming.proofs.Unlabelled.{equal_none}
 use Rattle.dap_naming.proofs.trees.named_text.Goals as goal
 
-pub returns-in-Some-clause-names : goal.returns-in-Some-clause-names
-returns-in-Some-clause-names c =
-    ruled_names (declared_as c.args.rule) c.in-Some.form c.in-Some.label.now
-    (string_bytes c.args.text) c.deref.result.now (ap declared_as c.in-Some.is) c.deref.ensures
-    c.args.numbers.now c.name_text.new.numbers c.name_text.result c.name_text.ensures.names
+pub returns-then-eq-clause-names : goal.returns-then-eq-clause-names
+returns-then-eq-clause-names c =
+    string_unlabelled c.args.numbers.now (labels_of c.args.labels.now) (string_bytes c.args.text)
+    (equal_none _ c.args.labels.now c.none.result c.none.ensures c.eq.result c.if-eq.true
+    c.eq.ensures)
 
-pub returns-in-Some-clause-table : goal.returns-in-Some-clause-table
-returns-in-Some-clause-table c =
-    ruled_by_table (declared_as c.args.rule) c.in-Some.form c.in-Some.label.now
-    (string_bytes c.args.text) c.deref.result.now (ap declared_as c.in-Some.is) c.deref.ensures
-    c.args.numbers.now c.name_text.new.numbers c.name_text.result c.name_text.ensures.table
+pub returns-then-eq-clause-table : goal.returns-then-eq-clause-table
+returns-then-eq-clause-table c =
+    table_unlabelled c.args.numbers.now (labels_of c.args.labels.now) (string_bytes c.args.text)
+    (equal_none _ c.args.labels.now c.none.result c.none.ensures c.eq.result c.if-eq.true
+    c.eq.ensures)
 
-pub returns-in-Some-clause-few : goal.returns-in-Some-clause-few
-returns-in-Some-clause-few c =
-    subst (λ js. OnOk c.name_text.result (FitsLimit c.args.numbers.now js))
-    (sym (ruled_ids (declared_as c.args.rule) c.in-Some.form c.in-Some.label.now
-    (string_bytes c.args.text) c.deref.result.now (ap declared_as c.in-Some.is) c.deref.ensures))
-    c.name_text.ensures.few
+pub returns-then-eq-clause-few : goal.returns-then-eq-clause-few
+returns-then-eq-clause-few c =
+    few_unlabelled c.args.numbers.now (labels_of c.args.labels.now) (string_bytes c.args.text)
+    (equal_none _ c.args.labels.now c.none.result c.none.ensures c.eq.result c.if-eq.true
+    c.eq.ensures)
 
-pub returns-in-Some-clause-full : goal.returns-in-Some-clause-full
-returns-in-Some-clause-full c =
-    λ e. subst (ExceedsLimit c.args.numbers.now)
-    (sym (ruled_ids (declared_as c.args.rule) c.in-Some.form c.in-Some.label.now
-    (string_bytes c.args.text) c.deref.result.now (ap declared_as c.in-Some.is) c.deref.ensures))
-    (c.name_text.ensures.full e)
+pub returns-else-eq-clause-table : goal.returns-else-eq-clause-table
+returns-else-eq-clause-table c =
+    subst (λ u. IfOk c.name_text.result (λ s. ByTable c.args.numbers.now c.name_text.new.numbers
+    (λ n. string_bytes s ≡ named (labels_of c.args.labels.now) n u))) c.deref.ensures
+    c.name_text.ensures.table

@@ -1,19 +1,19 @@
-use Rattle.std.proofs.Common.{◌≡◌}
+use Rattle.std.proofs.Common.{◌≡◌, map}
 use Rattle.std.specs.Iterator.Adapters.{zip_first, zip_second}
 use Rattle.std.specs.Slice.Iter.{iter_rest}
+use Rattle.dap_tokens.specs.Models.{labels_of}
 use Rattle.dap_naming.specs.Joint.{KeepsNumbers, limit_of_both, table_of, join_all, value_pairs}
-use Rattle.dap_naming.proofs.Joining.{values_of}
-use Rattle.dap_naming.proofs.joint.join_tokens.Given as goal
+use Rattle.dap_naming.specs.Joint.{id_of, text_pairs}
+use Rattle.dap_naming.proofs.joint.join_texts.Given as goal
 
 -- the pairs of the tokens that are left are the rest of all pairs
 abbrev pub invariant-loop-token_a : goal.invariant-loop-token_a
 invariant-loop-token_a l = record {
   joined : join_all (table_of l.names)
-      (value_pairs l.label (values_of l.label l.form_a (iter_rest (zip_first l.token_a-iterator)))
-      (values_of l.label l.form_b (iter_rest (zip_second l.token_a-iterator))))
+      (value_pairs (map id_of (iter_rest (zip_first l.token_a-iterator)))
+      (map id_of (iter_rest (zip_second l.token_a-iterator))))
       ≡ join_all (table_of l.initial.names)
-      (value_pairs l.label (values_of l.label l.form_a l.tokens_a)
-      (values_of l.label l.form_b l.tokens_b));
+      (text_pairs (labels_of l.labels_a) l.a (labels_of l.labels_b) l.b);
   kept : KeepsNumbers l.initial.names l.names;
   limit : limit_of_both l.names ≡ limit_of_both l.initial.names;
 }
