@@ -26,7 +26,7 @@ AS_ZSH := share/zsh/site-functions/_dapnorm
 AS_FISH := share/fish/vendor_completions.d/dapnorm.fish
 # The guides and the examples keep their folders below this one, so that their links work there.
 AS_SHARED := share/dapnorm
-GUIDES := $(addprefix docs/,$(addsuffix .md,COMMANDS ERRORS FORMATS GLOSSARY HOWTO NORMAL-FORM PROFILE RULES TUTORIAL)) docs/session.svg
+GUIDES := $(addprefix docs/,$(addsuffix .md,COMMANDS ERRORS FORMATS GLOSSARY HOWTO IDS NORMAL-FORM PROFILE RULES TUTORIAL)) docs/session.svg
 EXAMPLES := examples/README.md examples/program.py examples/session.rules $(sort $(wildcard examples/rules/*.rules))
 RECIPES := $(addprefix examples/,golden_test.py trace_tee.py trace_proxy.py from_debugpy_log.py from_lldb_log.py)
 SHELL_RECIPES := $(addprefix examples/,golden.sh ci.sh git_setup.sh)

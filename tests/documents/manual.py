@@ -18,7 +18,7 @@ COMPLETIONS = {shell: os.path.join(TOP, "completions", name) for shell, name in 
 INSTALLED = {
     "bin/dapnorm": 0o755, "share/man/man1/dapnorm.1": 0o644, "share/bash-completion/completions/dapnorm": 0o644,
     "share/zsh/site-functions/_dapnorm": 0o644, "share/fish/vendor_completions.d/dapnorm.fish": 0o644,
-    **{f"share/dapnorm/docs/{it}.md": 0o644 for it in ("COMMANDS", "ERRORS", "FORMATS", "GLOSSARY", "HOWTO", "NORMAL-FORM", "PROFILE", "RULES", "TUTORIAL")},
+    **{f"share/dapnorm/docs/{it}.md": 0o644 for it in ("COMMANDS", "ERRORS", "FORMATS", "GLOSSARY", "HOWTO", "IDS", "NORMAL-FORM", "PROFILE", "RULES", "TUTORIAL")},
     "share/dapnorm/docs/session.svg": 0o644,
     **{f"share/dapnorm/examples/{it}": 0o644 for it in ("README.md", "program.py", "session.rules", "golden_test.py")},
     **{f"share/dapnorm/examples/{it}.py": 0o644 for it in ("trace_tee", "trace_proxy", "from_debugpy_log", "from_lldb_log")},
