@@ -1,4 +1,6 @@
+pub mod HiddenValues
 pub mod Lists
 pub mod Refusals
 pub mod Confirmations
 pub mod AlreadySame
+pub mod UnchangedTexts

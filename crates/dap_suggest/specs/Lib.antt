@@ -1,4 +1,5 @@
 pub mod Broad
 pub mod Guarded
+pub mod Hidden
 pub mod NotSuggested
 pub mod Suggested

@@ -1,4 +1,10 @@
 //! The candidates for the rules of one place, and what they do to its values.
+ghost use Rattle.std.specs.Prelude.{◌≡◌, ◌^◌, ◌%◌, IfOk, if◌then◌else◌, string_bytes};
+ghost use Rattle.std.specs.List.{list_any};
+ghost use Rattle.dap_tree.specs.{Doc.text as document, View.view};
+ghost use Rattle.dap_mask.specs.Rules.{of_verb};
+ghost use Rattle.dap_suggest.specs.Hidden.{actions_of, is_changed, is_digit_or_dash, value_by};
+
 use dap_mask::{Verb, digits, hex};
 use dap_tree::Tree;
 use dap_words::{long, uuid};
@@ -48,7 +54,9 @@ pub static CANDIDATES: [Actions; 10] = [
 pub type Candidates = u32;
 
 /// Returns the set that has only this candidate.
-pub fn only(candidate: Actions) -> Candidates {
+pub fn only(candidate: Actions) -> Candidates
+    ensures { result ≡ 2 ^ (candidate % 32) }
+{
     1u32.wrapping_shl(u32::from(candidate))
 }
 
@@ -64,13 +72,17 @@ pub fn strength_of(actions: Actions) -> u64 {
 }
 
 /// Returns whether an action other than `blank` may change a text.
-fn may_change(text: &str) -> bool {
+fn may_change(text: &str) -> bool
+    ensures { result ≡ list_any is_digit_or_dash text.now }
+{
     text.bytes()
         .any(|byte| byte.is_ascii_digit() || byte == b'-')
 }
 
 /// Returns the text that an action makes of a text.
-fn changed(alloc: Global, verb: Verb, text: String) -> String {
+fn changed(alloc: Global, verb: Verb, text: String) -> String
+    ensures { document (string_bytes result) ≡ of_verb verb (document (string_bytes text)) }
+{
     match verb {
         Verb::Blank => String::new(alloc),
         Verb::Digits => digits(text),
@@ -81,7 +93,10 @@ fn changed(alloc: Global, verb: Verb, text: String) -> String {
 }
 
 /// Returns the text that actions make of a text.
-pub fn text_after(alloc: Global, actions: Actions, text: &str) -> Result<String, AllocError> {
+pub fn text_after(alloc: Global, actions: Actions, text: &str) -> Result<String, AllocError>
+    ensures { IfOk result
+        (λ after. document (string_bytes after) ≡ value_by actions (document text.now)) }
+{
     let mut after = String::from_str(alloc, text)?;
     for (action, verb, _, _) in ACTIONS.iter() {
         if actions & *action != 0 {
@@ -91,30 +106,51 @@ pub fn text_after(alloc: Global, actions: Actions, text: &str) -> Result<String,
     Ok(after)
 }
 
+/// Returns whether an action changes a text.
+#[tactic(auto, unfolding(crate::specs::Hidden::is_changed))]
+fn does_change(alloc: Global, verb: Verb, text: &str) -> Result<bool, AllocError>
+    ensures { IfOk result (λ does. does ≡ is_changed verb (document text.now)) }
+{
+    let after = changed(alloc, verb, String::from_str(alloc, text)?);
+    Ok(after.as_str() != text)
+}
+
 /// Returns the actions that change a text.
-fn actions_changing(alloc: Global, text: &str) -> Result<Actions, AllocError> {
-    let mut actions = if text.is_empty() { 0 } else { BLANK };
-    if may_change(text) {
-        for (action, _, _, _) in ACTIONS.iter() {
-            if text_after(alloc, *action, text)?.as_str() != text {
-                actions |= *action;
-            }
+fn actions_changing(alloc: Global, text: &str) -> Result<Actions, AllocError>
+    ensures { IfOk result (λ set. set ≡ actions_of (document text.now)) }
+{
+    if !may_change(text) {
+        return Ok(if text.is_empty() { 0 } else { BLANK });
+    }
+    let mut actions = 0;
+    for (action, verb, _, _) in ACTIONS.iter() {
+        if does_change(alloc, *verb, text)? {
+            actions |= *action;
         }
     }
     Ok(actions)
 }
 
+/// Returns `blank` if it changes a value.
+fn blank_if(does_change: bool) -> Actions
+    ensures { result ≡ (if does_change then BLANK else 0) }
+{
+    if does_change { BLANK } else { 0 }
+}
+
 /// Returns the actions that change a value.
-pub fn changing(alloc: Global, value: &Tree) -> Result<Actions, AllocError> {
-    let is_changed = match value {
-        Tree::Text(text) => return actions_changing(alloc, text.as_str()),
-        Tree::Null | Tree::Id(..) => false,
-        Tree::Bool(value) => *value,
-        Tree::Whole(number) => *number != 0,
-        Tree::List(items) => !items.is_empty(),
-        Tree::Object(members) => !members.is_empty(),
-    };
-    Ok(if is_changed { BLANK } else { 0 })
+#[tactic(auto, unfolding(crate::specs::Hidden::is_changed))]
+pub fn changing(alloc: Global, value: &Tree) -> Result<Actions, AllocError>
+    ensures { IfOk result (λ set. set ≡ actions_of (view value.now)) }
+{
+    match value {
+        Tree::Text(text) => actions_changing(alloc, text.as_str()),
+        Tree::Null | Tree::Id(..) => Ok(0),
+        Tree::Bool(value) => Ok(blank_if(*value)),
+        Tree::Whole(number) => Ok(blank_if(*number != 0)),
+        Tree::List(items) => Ok(blank_if(!items.is_empty())),
+        Tree::Object(members) => Ok(blank_if(!members.is_empty())),
+    }
 }
 
 /// Returns whether actions make two texts equal.

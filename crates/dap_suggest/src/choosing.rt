@@ -1,4 +1,8 @@
 //! Chooses the cheapest rules for one place.
+ghost use Rattle.std.specs.Prelude.{◌≡◌, ℕ, List};
+ghost use Rattle.std.specs.List.{list_any};
+ghost use Rattle.dap_suggest.specs.Hidden.{AreRepresented, capped, changes, hidden_values, hides};
+
 use crate::candidates::{Actions, BLANK, CANDIDATES, Candidates, DIGITS, UUID, only, strength_of};
 use crate::spot::{ALL, Rule, Spot};
 use std::alloc::{AllocError, Global};
@@ -18,7 +22,10 @@ type Price = [u64; 5];
 
 /// Returns what rules, except for the one of an index, do to the values of a tally: their actions,
 /// and their candidates.
-fn effect(rules: &[Rule], left_out: Option<usize>, tally: usize) -> (Actions, Candidates) {
+fn effect(rules: &[Rule], left_out: Option<usize>, tally: usize) -> (Actions, Candidates)
+    ensures { left_out ≡ None
+        → (value : ℕ) → changes result.0 value ≡ list_any (hides tally value) rules.now }
+{
     let mut actions = 0;
     let mut candidates = 0;
     for (index, rule) in rules.iter().enumerate() {
@@ -44,7 +51,10 @@ fn are_enough(spot: &Spot, left_out: Option<usize>) -> bool {
 }
 
 /// Returns how many equal values a rule hides that the rules before it do not hide.
-pub fn hidden_by(spot: &Spot, before: &[Rule], rule: &Rule) -> u64 {
+pub fn hidden_by(spot: &Spot, before: &[Rule], rule: &Rule) -> u64
+    ensures { (values : List (List ℕ)) → AreRepresented spot.now.tallies.items values
+        → result ≡ capped (hidden_values before.now rule.now values) }
+{
     let mut hidden = 0u64;
     for (place, tally) in spot.tallies.iter().enumerate() {
         if rule.applies(place) {

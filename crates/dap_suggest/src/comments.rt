@@ -1,4 +1,7 @@
 //! The comments of the rules for values.
+ghost use Rattle.std.specs.Prelude.{◌≡◌, ◌++◌, OnOk, OnErr};
+ghost use Rattle.dap_suggest.specs.Hidden.{hidden_line};
+
 use crate::matched::Pair;
 use crate::words::{json_of, push_parts};
 use dap_compare::Which;
@@ -39,13 +42,18 @@ pub fn push_values(
 }
 
 /// Appends the comment on the equal values that a rule hides, if it hides some.
-pub fn push_hidden(alloc: Global, hidden: u64, out: &mut Vec<u8>) -> Result<(), AllocError> {
-    let line = match hidden {
-        0 => return Ok(()),
-        1 => format!(in alloc; "# also hides 1 value that is equal\n")?,
-        _ => format!(in alloc; "# also hides {hidden} values that are equal\n")?,
-    };
-    out.extend_from_slice(line.as_bytes())
+pub fn push_hidden(alloc: Global, hidden: u64, out: &mut Vec<u8>) -> Result<(), AllocError>
+    ensures ok { OnOk result (out.new.items ≡ out.old.items ++ hidden_line hidden) }
+    ensures err { OnErr result (out.new.items ≡ out.old.items) }
+{
+    match hidden {
+        0 => Ok(()),
+        1 => out.extend_from_slice(b"# also hides 1 value that is equal\n"),
+        _ => {
+            let line = format!(in alloc; "# also hides {hidden} values that are equal\n")?;
+            out.extend_from_slice(line.as_bytes())
+        }
+    }
 }
 
 /// Appends the comment on a rule that hides what a test looks at.

@@ -1,5 +1,5 @@
-//! Counts the events of two sessions, and drops those of which they have different numbers, or which
-//! come in another order.
+//! Counts the events of two sessions, and drops those of which they have different numbers, or
+//! which come in another order.
 use crate::broad::is_needed_event;
 use crate::reordered::{Places, are_reordered};
 use crate::sessions::Sessions;
@@ -86,8 +86,8 @@ impl Events {
         }
     }
 
-    /// Appends the rules that drop events of this name: all of them, if they come in another order or
-    /// if no categories explain the difference.
+    /// Appends the rules that drop events of this name: all of them, if they come in another order
+    /// or if no categories explain the difference.
     pub fn push_drops(
         &self,
         alloc: Global,
@@ -197,8 +197,8 @@ fn count_categories(
     Ok(())
 }
 
-/// Returns the events of which two sessions have different numbers, counted by their categories, and
-/// those that come in another order. Those that a session needs are left out.
+/// Returns the events of which two sessions have different numbers, counted by their categories,
+/// and those that come in another order. Those that a session needs are left out.
 pub fn differing_events(alloc: Global, sessions: &Sessions) -> Result<EventsByName, AllocError> {
     let mut events = differing(alloc, sessions)?;
     let mut scratch = Scratch::new(alloc);

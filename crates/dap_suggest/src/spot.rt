@@ -1,4 +1,7 @@
 //! A place at which pairs differ, what the candidates do there, and the rules that are chosen.
+ghost use Rattle.std.specs.Prelude.{◌≡◌};
+ghost use Rattle.dap_suggest.specs.Hidden.{applies_to};
+
 use crate::candidates::{Actions, BLANK, only};
 use crate::guarded::hidden_at;
 use crate::omitting::Omitted;
@@ -31,7 +34,9 @@ pub struct Rule {
 
 impl Rule {
     /// Returns whether the rules apply to the values of a tally.
-    pub fn applies(&self, tally: usize) -> bool {
+    pub fn applies(&self, tally: usize) -> bool
+        ensures { result ≡ applies_to tally self.now }
+    {
         self.scope == ALL || self.scope == tally
     }
 }

@@ -1,4 +1,7 @@
 //! Counts what the candidates do to the pairs of values at one place.
+ghost use Rattle.std.specs.Prelude.{◌≡◌, ℕ, [], ◌∷◌, ◌++◌, List, OnOk, OnErr, count_by};
+ghost use Rattle.dap_suggest.specs.Hidden.{Represents, capped, is_hidden};
+
 use crate::candidates::{Actions, Candidates};
 use crate::repeats::Repeats;
 use std::alloc::{AllocError, Global};
@@ -14,11 +17,18 @@ pub struct Different {
     pub comment: Vec<u8>,
 }
 
+/// How many equal values are changed by exactly these actions.
+#[derive(Clone, Copy)]
+pub struct Equal {
+    changing: Actions,
+    count: u64,
+}
+
 /// The pairs of values of elements of one name, or of all others.
 #[derive(Drop)]
 pub struct Tally {
-    /// The numbers of equal pairs, by the actions that change them.
-    equal: BTreeMap<Actions, u64>,
+    /// The numbers of equal pairs, one for each set of actions that changes some of them.
+    equal: Vec<Equal>,
     /// The pairs that differ, by the candidates that make them equal.
     different: BTreeMap<Candidates, Different>,
     /// Those pairs again, to find ids among them.
@@ -26,21 +36,45 @@ pub struct Tally {
 }
 
 impl Tally {
-    pub fn new(alloc: Global) -> Tally {
+    pub fn new(alloc: Global) -> Tally
+        ensures { Represents result [] }
+    {
         Tally {
-            equal: BTreeMap::new(alloc),
+            equal: Vec::new(alloc),
             different: BTreeMap::new(alloc),
             repeats: Repeats::new(alloc),
         }
     }
 
-    /// Adds a pair of equal values that these actions change.
-    pub fn add_equal(&mut self, actions: Actions) -> Result<(), AllocError> {
-        if actions != 0 {
-            let count = self.equal.entry(actions)?.or_insert(0);
-            *count = count.saturating_add(1);
+    /// Adds a pair of equal values that these actions change. If an allocation fails, the tally is
+    /// unchanged.
+    pub fn add_equal(&mut self, actions: Actions) -> Result<(), AllocError>
+        ensures ok { (values : List ℕ) → Represents self.old values
+            → OnOk result (Represents self.new (values ++ actions ∷ [])) }
+        ensures err { (values : List ℕ) → Represents self.old values
+            → OnErr result (Represents self.new values) }
+    {
+        if actions == 0 {
+            return Ok(());
         }
-        Ok(())
+        let place = self
+            .equal
+            .iter()
+            .position(|equal| equal.changing == actions);
+        match place {
+            Some(place) => {
+                let count = self.equal[place].count;
+                self.equal[place].count = count.saturating_add(1);
+                Ok(())
+            }
+            None => {
+                self.equal.push(Equal {
+                    changing: actions,
+                    count: 1,
+                })?;
+                Ok(())
+            }
+        }
     }
 
     /// Returns whether some different values are made equal by exactly these candidates.
@@ -55,7 +89,9 @@ impl Tally {
         candidates: Candidates,
         before: u64,
         comment: Vec<u8>,
-    ) -> Result<(), AllocError> {
+    ) -> Result<(), AllocError>
+        ensures { (values : List ℕ) → Represents self.old values → Represents self.new values }
+    {
         let first = Different {
             count: 0,
             before,
@@ -67,11 +103,14 @@ impl Tally {
     }
 
     /// Returns how many equal values actions change that other actions do not change.
-    pub fn hidden(&self, actions: Actions, others: Actions) -> u64 {
+    pub fn hidden(&self, actions: Actions, others: Actions) -> u64
+        ensures { (values : List ℕ) → Represents self.now values
+            → result ≡ capped (count_by (is_hidden actions others) values) }
+    {
         let mut hidden = 0u64;
-        for (changing, count) in self.equal.iter() {
-            if *changing & actions != 0 && *changing & others == 0 {
-                hidden = hidden.saturating_add(*count);
+        for equal in &self.equal {
+            if equal.changing & actions != 0 && equal.changing & others == 0 {
+                hidden = hidden.saturating_add(equal.count);
             }
         }
         hidden
