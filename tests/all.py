@@ -40,6 +40,7 @@ SCRIPTS = {
         "golden": "golden files",
         "ruled": "commands that apply rules",
         "suggest": "rules that are suggested",
+        "suggest_fills": "members that suggested rules set",
         "files": "inputs and outputs in files",
         "kept_files": "files that must not be lost",
         "replacing": "links, permissions and temporary files",

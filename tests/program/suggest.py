@@ -177,7 +177,7 @@ def hidden_values(folder, printed):
     """For each rule for values the rule, the number of equal values in its comment, and the number of those that it changes. For each rule that omits
     elements, the number of those that both lists have. Rules for names in lists from which elements are omitted are left out."""
     lines = printed.decode().splitlines(keepends=True)
-    folder.write("drops", "".join(line for line in lines if line.startswith("drop ")).encode())
+    folder.write("drops", "".join(line for line in lines if line.startswith(("drop ", "fill "))).encode())
     for given, dropped in (("a", "base"), ("b", "other")):
         folder.write(dropped, folder.run("mask", "drops", given)[1])
     marks = [marked(folder.read(dropped), False) for dropped in ("base", "other")]

@@ -24,8 +24,9 @@ struct BadFrame<'a> {
     limit: FrameLimits,
 }
 
-/// Returns what is wrong with a frame: `{0}` is its name, `{1}` are bytes that show it, if there are
-/// some, `{2}` is the length of its content, and `{3}` is a limit or the number of missing bytes.
+/// Returns what is wrong with a frame: `{0}` is its name, `{1}` are bytes that show it, if there
+/// are some, `{2}` is the length of its content, and `{3}` is a limit or the number of missing
+/// bytes.
 fn fault_text(fault: FrameFault, is_shown: bool) -> &'static str {
     match fault {
         FrameFault::HeaderLine if is_shown => {

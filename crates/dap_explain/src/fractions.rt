@@ -23,8 +23,8 @@ struct Fractions<'m> {
 }
 
 impl<'m> Fractions<'m> {
-    /// Adds the numbers in a value at a path that are also in `kept`, which is the value without the
-    /// elements that rules omit.
+    /// Adds the numbers in a value at a path that are also in `kept`, which is the value without
+    /// the elements that rules omit.
     #[cycle(search)]
     fn search(
         &mut self,

@@ -53,8 +53,8 @@ impl Sought {
     }
 }
 
-/// Adds a line about the message of a record, if it matches, and returns whether it does. `None`: it
-/// is not JSON.
+/// Adds a line about the message of a record, if it matches, and returns whether it does. `None`:
+/// it is not JSON.
 fn add_if_met(lines: &mut Lines, record: Record<'_>, sought: Sought) -> Option<bool> {
     let message = read_message(lines, record.content, None)?;
     let head = Head::of(record.side, &message);

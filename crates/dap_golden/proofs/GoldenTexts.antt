@@ -1,6 +1,6 @@
 -- The golden text of a session, decided by its counts.
-use Rattle.std.proofs.Common.{◌≡◌, ◌≢◌, Bool, false, List, [], ◌∷◌, ℕ, ◌∙◌, length, ap, refl, sym, subst}
-use Rattle.std.proofs.Common.{Option, Some, None, Result, Ok, Err, inl, inr}
+use Rattle.std.proofs.Common.{◌≡◌, ◌≢◌, Bool, false, List, [], ◌∷◌, ℕ, ◌∙◌, length, ap, refl}
+use Rattle.std.proofs.Common.{sym, subst, Option, Some, None, Result, Ok, Err, inl, inr}
 use Rattle.std.specs.Prelude.{IfErr, IfOk}
 use Rattle.dap_mask.specs.Mask.{Mask}
 use Rattle.dap_tree.specs.declared.side.Side.TheVariants.{Client, Adapter}

@@ -143,7 +143,8 @@ dropped-mask_by : (r : Rule) (ns : List (Option (List ℕ))) (d : Doc) → is_te
     → is_dropped ns (mask_by r d) ≡ is_dropped ns d
 dropped-mask_by r ns d h = go (rule_applies r d)
   where
-    go : (b : Bool) → is_dropped ns (cond b (change_at_place r.place (of_verb r.verb) d) d) ≡ is_dropped ns d
+    go : (b : Bool) → is_dropped ns (cond b (change_at_place r.place (of_verb r.verb) d) d)
+        ≡ is_dropped ns d
     go true = ap₂ (λ a b. a && b) (kind-edit r.verb r.place Event d h) (event-edit r.verb r.place ns
         d h)
     go false = refl

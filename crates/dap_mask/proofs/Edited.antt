@@ -76,8 +76,8 @@ top-verb Uuid d = top-text _ d
 
 -- ---- at a place
 
-pub place-change : (k : List ℕ) (f : Doc → Doc) (i : ℕ) (d : Doc) → step (place i) (change_child k f d)
-    ≡ step (place i) d
+pub place-change : (k : List ℕ) (f : Doc → Doc) (i : ℕ) (d : Doc)
+    → step (place i) (change_child k f d) ≡ step (place i) d
 place-change k f i null = refl
 place-change k f i (boolean b) = refl
 place-change k f i (whole z) = refl

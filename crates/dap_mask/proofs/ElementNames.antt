@@ -105,8 +105,8 @@ deep_called n (Some w) v (named k) (r ∷ rs) d h = by_bool (bytes_eq (codes "na
 deep_called n (Some w) v (elements m) rs d h = ap (is_text w)
     (get-change_items (change_called m (change_at_place rs (of_verb v))) d (codes "name"))
 
-called : (n : Option (List ℕ)) (w : List ℕ) (v : Verb) (rs : List RuleStep) (d : Doc) (p : List Step)
-    (y : Doc) → leads_to_name (elements n) rs ≡ false
+called : (n : Option (List ℕ)) (w : List ℕ) (v : Verb) (rs : List RuleStep) (d : Doc)
+    (p : List Step) (y : Doc) → leads_to_name (elements n) rs ≡ false
     → at p (change_at_place rs (of_verb v) d) ≡ Some y → Called w v rs d p
 called n w v [] d [] y h is = by_bool (takes_parts v)
     (λ t. inr (refl, blank_of v d t))
@@ -143,8 +143,8 @@ moved_member k l f d same =
     ap (λ q. get q (change_child k f d)) (sym same) ∙ get-change k f d
     ∙ ap (λ q. option_map f (get q d)) same
 
-member_same : (v : Verb) (k j l : List ℕ) (rs qs : List RuleStep) (d : Doc) (p : List Step) (y : Doc)
-    → k ≡ l → at (name l ∷ p) (change_at_place (named k ∷ rs) (of_verb v) d) ≡ Some y
+member_same : (v : Verb) (k j l : List ℕ) (rs qs : List RuleStep) (d : Doc) (p : List Step)
+    (y : Doc) → k ≡ l → at (name l ∷ p) (change_at_place (named k ∷ rs) (of_verb v) d) ≡ Some y
     → Keeps v rs qs p y → SameNames v (named k ∷ rs) (named j ∷ qs) (Some d) (name l ∷ p)
 member_same v k j l rs qs d p y same is keeps =
     let moved = moved_member k l (change_at_place rs (of_verb v)) d same in
@@ -162,8 +162,8 @@ off : (b x y : Bool) → b ≡ false → cond b x true ≡ cond b y true
 off true x y h = cc
 off false x y h = refl
 
-member_kept : (v : Verb) (k j l : List ℕ) (rs qs : List RuleStep) (d : Doc) (p : List Step) (y : Doc)
-    → is_name_in (named k ∷ rs) (named j ∷ qs) ≡ false
+member_kept : (v : Verb) (k j l : List ℕ) (rs qs : List RuleStep) (d : Doc) (p : List Step)
+    (y : Doc) → is_name_in (named k ∷ rs) (named j ∷ qs) ≡ false
     → at (name l ∷ p) (change_at_place (named k ∷ rs) (of_verb v) d) ≡ Some y
     → (is_name_in rs qs ≡ false → Keeps v rs qs p y)
     → SameNames v (named k ∷ rs) (named j ∷ qs) (Some d) (name l ∷ p)

@@ -166,5 +166,5 @@ shown_whole old new d e shows same r =
     let long : length new ≡ length r.put =
     same ∙ sym (length-map old piece_of) ∙ ap length shows ∙ sym r.long ∙ sym (ap length r.shows)
     ∙ length-map r.put piece_of in
-    ap (map piece_of) (r.is ∙ all_inside r.front r.put r.behind r.here (sym (ap length r.is) ∙ long))
-    ∙ r.shows
+    ap (map piece_of)
+    (r.is ∙ all_inside r.front r.put r.behind r.here (sym (ap length r.is) ∙ long)) ∙ r.shows

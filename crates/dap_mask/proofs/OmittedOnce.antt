@@ -1,5 +1,5 @@
--- Rules that omit elements: their order does not matter, and redacting a redacted document again does
--- not change it.
+-- Rules that omit elements: their order does not matter, and redacting a redacted document again
+-- does not change it.
 use Rattle.std.proofs.Common.{◌≡◌, true, cond, List, [], ◌∷◌, refl, sym, ap, ◌∙◌}
 use Rattle.std.specs.Prelude.{IsPermutation, All}
 use Rattle.std.specs.List.{AllByRecursion}

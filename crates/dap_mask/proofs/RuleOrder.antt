@@ -1,7 +1,8 @@
 -- The order in which rules apply: what later rules leave of the names and texts of earlier ones.
 use Rattle.std.proofs.Common.{◌≡◌, ◌⊎◌, inl, inr, ℕ, ◌<◌, ◌≤◌, Bool, true, false, cond, ◌&&◌}
-use Rattle.std.proofs.Common.{◌||◌, ◌==◌, List, [], ◌∷◌, Option, Some, None, length, codes, bytes_eq}
-use Rattle.std.proofs.Common.{nat_lt, refl, sym, ap, ap₂, ◌∙◌, true≢false, arith, filter, suc}
+use Rattle.std.proofs.Common.{◌||◌, ◌==◌, List, [], ◌∷◌, Option, Some, None, length, codes}
+use Rattle.std.proofs.Common.{bytes_eq, nat_lt, refl, sym, ap, ap₂, ◌∙◌, true≢false, arith, filter}
+use Rattle.std.proofs.Common.{suc}
 use Rattle.std.proofs.lemmas.Bool.{or_cases, or_left as true_left, or_right as true_right}
 use Rattle.std.proofs.lemmas.Bool.{ltb-true, ltb-false, lt-ltb, eqb-true, eq-eqb}
 use Rattle.std.proofs.lemmas.Slice.Eq.{bytes_eq-Decides}

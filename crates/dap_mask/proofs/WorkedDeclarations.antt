@@ -11,7 +11,8 @@ use Rattle.dap_mask.specs.Mask.{no_rules, declare, rule, bad}
 use Rattle.dap_mask.specs.RuleSteps.{named}
 use Rattle.dap_mask.specs.RuleText.{line_said}
 use Rattle.dap_mask.specs.RulesFile.{rules_said}
-use Rattle.dap_mask.specs.declared.fault.RulesCause.TheVariants.{BadPlace, Repeated, Clash, BadLabel}
+use Rattle.dap_mask.specs.declared.fault.RulesCause.TheVariants.{BadLabel, BadPlace, Clash}
+use Rattle.dap_mask.specs.declared.fault.RulesCause.TheVariants.{Repeated}
 use Rattle.dap_mask.specs.declared.rules.Verb.TheVariants.{Hex}
 use Rattle.dap_profile.specs.Profile.{profile, first_rows, later_rows}
 use Rattle.dap_profile.specs.declared.profile.Kind.TheVariants.{Event}

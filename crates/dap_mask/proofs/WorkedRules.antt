@@ -42,7 +42,8 @@ digits_rule = change (record {
   kind = Response;
   name = Some (codes "threads");
   category = None;
-  place = named (codes "body") ∷ named (codes "threads") ∷ elements None ∷ named (codes "name") ∷ [];
+  place = named (codes "body") ∷ named (codes "threads") ∷ elements None ∷ named (codes "name")
+      ∷ [];
 })
 
 digits_ends : GoesOn [] (codes " # a name")

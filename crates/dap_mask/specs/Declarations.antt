@@ -1,5 +1,5 @@
--- Rules that declare ids, and the rules that they exclude. A declaration is a rule with a label. Its
--- action finds ids, which keep their identity, in place of texts that it redacts.
+-- Rules that declare ids, and the rules that they exclude. A declaration is a rule with a label.
+-- Its action finds ids, which keep their identity, in place of texts that it redacts.
 use Rattle.std.specs.Prelude.{ℕ, Bool, true, false, cond, not, ◌&&◌, ◌||◌, List, [], ◌∷◌, map}
 use Rattle.std.specs.Prelude.{bytes_eq, string_bytes}
 use Rattle.std.specs.List.{list_any}

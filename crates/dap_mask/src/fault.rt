@@ -61,9 +61,9 @@ pub enum RulesCause {
     /// labels, or one of them by `blank`. Or one declares ids there, and the other is `digits` or
     /// `long`, which would change the numbers in their names.
     ///
-    /// - Cause: `uuid` and `digits` at one place, or two labels there for one action. Or a change of
-    ///   a category by which events are dropped, selected or joined. Or a `blank` of a value that
-    ///   contains the place of a `fill`.
+    /// - Cause: `uuid` and `digits` at one place, or two labels there for one action. Or a change
+    ///   of a category by which events are dropped, selected or joined. Or a `blank` of a value
+    ///   that contains the place of a `fill`.
     /// - Fix: leave one of the two out, or give two rules for events different categories.
     Clash,
     /// The text of a `word` line is empty, or a word of the file can overlap a text of the file:

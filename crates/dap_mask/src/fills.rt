@@ -22,16 +22,16 @@ pub enum Scalar {
 
 /// A rule that sets a member of objects.
 #[derive(Drop)]
-pub(crate) struct FillRule {
+pub struct FillRule {
     /// The kind of the messages to which the rule applies.
-    pub(crate) kind: Kind,
+    pub kind: Kind,
     /// The command or event of these messages; any, if `None`.
-    pub(crate) name: Option<String>,
+    pub name: Option<String>,
     /// The place of the objects in such a message.
-    pub(crate) parent: Vec<Step>,
+    pub parent: Vec<Step>,
     /// The last step of the place, to the member.
-    pub(crate) last: Step,
-    pub(crate) value: Scalar,
+    pub last: Step,
+    pub value: Scalar,
 }
 
 fn is_unnamed(place: &[Step]) -> bool

@@ -8,8 +8,8 @@
 //! [`read_masked`] puts in the words, sets the members, applies the other rules, and then omits the
 //! elements, as [`omit`] does. The file may contain rules for the order of messages,
 //! [`MaskRules::swaps`]; the line `per-stop`, [`MaskRules::per_stop`]; a line that joins output,
-//! [`MaskRules::joining`]; and rules that declare ids, [`MaskRules::declared`]. Masking does not use
-//! the last four.
+//! [`MaskRules::joining`]; and rules that declare ids, [`MaskRules::declared`]. Masking does not
+//! use the last four.
 //!
 //! [`digits`] and [`hex`] apply two of the actions to a text.
 //!
@@ -54,7 +54,7 @@ pub use dap_message::{Half, SwapRule};
 pub use declarations::Declaration;
 pub use fault::{RulesCause, RulesFault};
 pub use fill_lines::value_at;
-pub use fills::Scalar;
+pub use fills::{FillRule, Scalar};
 pub use flat_masking::read_masked_flat;
 pub use flat_told::{applies_to, told_category, told_kind, told_name};
 pub use joining::Joining;

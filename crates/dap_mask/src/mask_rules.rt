@@ -142,8 +142,8 @@ impl MaskRules {
         &self.list.words
     }
 
-    /// Returns the rules that declare ids, in the order of the file. `dap_naming` replaces the ids by
-    /// names, after all other rules. Masking does not use them.
+    /// Returns the rules that declare ids, in the order of the file. `dap_naming` replaces the ids
+    /// by names, after all other rules. Masking does not use them.
     pub fn declared(&self) -> &[Declaration]
         ensures same { declarations_of result.now ≡ declared_of_mask self.now }
         ensures declared { are_declared (declarations_of result.now) ≡ true }
@@ -152,7 +152,7 @@ impl MaskRules {
     }
 
     /// Returns the rules that set members before the other rules apply, in the order of the file.
-    pub(crate) fn fills(&self) -> &[FillRule]
+    pub fn fills(&self) -> &[FillRule]
         ensures { fills_of result.now ≡ fills_of_mask self.now }
     {
         self.list.fills.as_slice()

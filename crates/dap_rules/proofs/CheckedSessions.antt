@@ -66,7 +66,8 @@ module _ (limits : Limits) (all : List Payload) (messages : List Sent)
           (each_right (IsShort limits) is.before (is.held ∷ is.after)
           (subst (AllByRecursion (IsShort limits)) is.split fit.each)).0
 
-      text_split : recording_text all ≡ recording_text is.before ++ (own_record ++ recording_text is.after)
+      text_split : recording_text all
+          ≡ recording_text is.before ++ (own_record ++ recording_text is.after)
       text_split = ap recording_text is.split ∙ recorded-append is.before (is.held ∷ is.after)
 
       stops : IsRefused (accepting limits mode) (recording_text all) (Message number fault)
@@ -75,15 +76,16 @@ module _ (limits : Limits) (all : List Payload) (messages : List Sent)
           (objected (no_message (profile_fault fault))) refl
           (first_objected (accepting limits mode) (records limits.frame) (λ (h : Payload). h)
           (payloads limits mode) (recording_text all) (recording_text is.before)
-          (own_record ++ recording_text is.after) messages number text_split accepted is_number is.held
-          own_record (recording_text is.after) refl is_record fit.whole
+          (own_record ++ recording_text is.after) messages number text_split accepted is_number
+          is.held own_record (recording_text is.after) refl is_record fit.whole
           (no_message (profile_fault fault)) is.refused)
 
     -- The messages that the records contain are accepted.
     module _ (accepted : (front : List Payload) → Contain limits messages front
         → IsAccepted limits mode (recording_text front) messages) where
       pub ends_accepted : (fault : Option MessageFault) → HoldUpTo all messages fault
-          → IfOk (end_of number fault) (λ done. IsAccepted limits mode (recording_text all) messages)
+          → IfOk (end_of number fault)
+          (λ done. IsAccepted limits mode (recording_text all) messages)
       ends_accepted None is = accepted all (record { read = is; fits = fit })
       ends_accepted (Some fault) is = tt
 

@@ -246,7 +246,9 @@ module _ (limits : Limits) (sound : AreSound limits) where
         record {
           short = let fits = accepted.fits in fits.whole;
           records = contents_of (left_of mask messages);
-          recording = let fits = accepted.fits in recording_of limits sound (left_of mask messages) fits.each;
+          recording =
+              let fits = accepted.fits in
+              recording_of limits sound (left_of mask messages) fits.each;
           read = read_as rules_alone (contents_of (left_of mask messages)) (left_of mask messages)
               (read_again mask safe settled keep utf8 fills messages read accepted.whole)
               (all_filled mask safe settled keep full messages read)

@@ -45,7 +45,8 @@ module _ (limits : Limits) (ms : List Sent) where
   not_allowed : (n : ℕ) → PassesLimit limits ms n → Fits limits ms → ⊥
   not_allowed n p fits =
       p.too_long
-      (fits_front limits (p.before ++ p.message ∷ []) p.after (subst (Fits limits) (until n p) fits))
+      (fits_front limits (p.before ++ p.message ∷ []) p.after
+      (subst (Fits limits) (until n p) fits))
 
   not_before : (n k : ℕ) → PassesLimit limits ms n → PassesLimit limits ms k → n < k → ⊥
   not_before n k p q less =

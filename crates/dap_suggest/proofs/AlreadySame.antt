@@ -1,6 +1,7 @@
 -- Recordings that the rules that were given make the same.
 use Rattle.std.proofs.Common.{◌≡◌, ℕ, min, List, ◌++◌, length, take, drop, Ok, sym, ◌∙◌, ap}
-use Rattle.std.proofs.Common.{subst}
+use Rattle.std.proofs.Common.{subst, refl, true, Option, Some, None, IfSome}
+use Rattle.std.specs.Prelude.{is_none}
 use Rattle.std.proofs.lemmas.List.{length-map, length-take, take-append-drop}
 use Rattle.dap_message.specs.Message.{Sent}
 use Rattle.dap_mask.specs.{Mask.Mask, RulesFile.rules_said}
@@ -67,12 +68,21 @@ module _ (limits : Limits) (mode : Mode) (mask : Mask) where
       (subst (AreSame (stop_in mode) of_a.normalises.messages)
       (normal_messages b ns have.of_b makes_b have.b_is) same)
 
-  pub none_differs : (a b : List ℕ) (ms ns : List Sent) (number : ℕ)
+  none_differs : (a b : List ℕ) (ms ns : List Sent) (number : ℕ)
       → HaveOneNormal limits mode mask a b
       → MakesSession limits mode mask a ms → MakesSession limits mode mask b ns
       → DifferFirstAt mode ms ns number → ⊥
   none_differs a b ms ns number have makes_a makes_b first = first.differ
       (same_starts (stop_in mode) number ms ns (same_messages a b ms ns have makes_a makes_b))
+
+  -- No record is the first that differs.
+  pub none_first : (a b : List ℕ) (ms ns : List Sent) (first : Option ℕ)
+      → HaveOneNormal limits mode mask a b
+      → MakesSession limits mode mask a ms → MakesSession limits mode mask b ns
+      → IfSome first (DifferFirstAt mode ms ns) → is_none first ≡ true
+  none_first a b ms ns None have makes_a makes_b differ = refl
+  none_first a b ms ns (Some number) have makes_a makes_b differ =
+      absurd (none_differs a b ms ns number have makes_a makes_b differ)
 
 -- ---- the rules that were given
 

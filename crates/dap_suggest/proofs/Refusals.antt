@@ -46,11 +46,11 @@ module _ (limits : Limits) (given a b : List ℕ) where
   rules_rejected fault because.Memory is said short = short is
 
   module _ (mask : Mask) (said : rules_said given ≡ Ok mask) where
-    pub search_failed : (result : SuggestRefused) → IsSearchRefusal result
+    pub search_failed : (result : SuggestRefused) → IsSearchRefusal limits given a b result
         → IsNotSuggested limits given a b result
     search_failed (because.Rules fault) is = absurd is
     search_failed (because.Input which refused) is = absurd is
-    search_failed (because.NoRules obstacle) is = (mask, said)
+    search_failed (because.NoRules obstacle) is = ((mask, said), is)
     search_failed because.Memory is = accepted_are_short given mask said
 
     named : (which : Which) (refused : ApplyRefused)

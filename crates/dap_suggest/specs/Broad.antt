@@ -21,13 +21,15 @@ is_needed (Some name) = list_any (bytes_eq name) needed_events
 abbrev pub is_open_swap : SwapRule → Bool
 is_open_swap swap = is_none swap.one.name || is_none swap.another.name
 
--- How many broad rules a mask has: changes, omissions, declarations and exchanges for messages of
--- any name, and rules that drop events of any name or events that a session needs.
+-- How many broad rules a mask has: changes, omissions, declarations, exchanges and rules that set
+-- members for messages of any name, and rules that drop events of any name or events that a session
+-- needs.
 abbrev pub broad_of : Mask → Broad
 broad_of mask = record {
   changes = count_by (λ rule. is_none rule.name) mask.changes;
   drops = count_by is_needed mask.dropped;
   categories = count_by (λ rule. is_needed rule.name) mask.categories;
+  fills = count_by (λ f. is_none f.name) mask.fills;
   omissions = count_by (λ o. is_none o.name) mask.omissions;
   swaps = count_by is_open_swap mask.swaps;
   declared = count_by (λ x. is_none x.rule.name) mask.declared;

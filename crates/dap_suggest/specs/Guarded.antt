@@ -1,12 +1,12 @@
 -- The rules that hide what a test looks at. Source: own, over the bodies of the DAP specification.
-use Rattle.std.specs.Prelude.{◌≡◌, ℕ, ◌+◌, Bool, true, false, ◌&&◌, ◌||◌, List, [], ◌∷◌, Option}
-use Rattle.std.specs.Prelude.{Some, None, Ok, bytes_eq, codes, count_by}
+use Rattle.std.specs.Prelude.{◌≡◌, ℕ, ◌+◌, Bool, true, false, ◌&&◌, ◌||◌, List, [], ◌∷◌, ◌++◌}
+use Rattle.std.specs.Prelude.{Option, Some, Ok, bytes_eq, codes, count_by}
 use Rattle.std.specs.List.{list_any}
-use Rattle.dap_mask.specs.{Declarations.Declaration, Mask.Mask, Omissions.Omission}
+use Rattle.dap_mask.specs.{Declarations.Declaration, Fills.Fill, Mask.Mask, Omissions.Omission}
 use Rattle.dap_mask.specs.RuleSteps.{RuleStep, named, elements}
 use Rattle.dap_mask.specs.{Rules.{Rule, same_verb}, RulesFile.rules_said}
 use Rattle.dap_mask.specs.declared.rules.Verb.TheVariants.{Blank}
-use Rattle.dap_profile.specs.declared.profile.Kind.{Kind, TheVariants.{Request, Response, Event}}
+use Rattle.dap_profile.specs.declared.profile.Kind.{Kind, TheVariants.{Response, Event}}
 
 -- The lists in the bodies of responses that show what exists.
 abbrev pub guarded_lists : List (List ℕ)
@@ -61,11 +61,15 @@ is_guarded_id x = is_guarded x.rule
 abbrev pub is_guarded_omission : Omission → Bool
 is_guarded_omission o = is_guarded_place o.kind o.name o.parent
 
+-- The rule sets the value at a guarded place.
+abbrev pub is_guarded_fill : Fill → Bool
+is_guarded_fill f = is_guarded_place f.kind f.name (f.parent ++ f.last ∷ [])
+
 -- How many rules for guarded places the mask has: those that blank them, declare their values as
--- ids, or omit elements of them.
+-- ids, omit elements of them, or set their values.
 abbrev pub guarded_count : Mask → ℕ
 guarded_count mask = count_by is_guarded mask.changes + count_by is_guarded_id mask.declared
-    + count_by is_guarded_omission mask.omissions
+    + count_by is_guarded_omission mask.omissions + count_by is_guarded_fill mask.fills
 
 -- The second file of rules has this number of rules for guarded places more than the first one.
 abbrev pub AddsGuarded : ℕ → List ℕ → List ℕ → Type 0

@@ -1,4 +1,5 @@
 pub mod Broad
+pub mod Exchanges
 pub mod Guarded
 pub mod Hidden
 pub mod NotSuggested

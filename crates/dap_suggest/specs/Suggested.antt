@@ -14,7 +14,7 @@ use Rattle.dap_normalise.specs.declared.normal_session.NormalSession.{NormalSess
 use Rattle.dap_rules.specs.Applying.{IsNotNormalised, MakesSession, NormalisesByRules}
 use Rattle.dap_rules.specs.{Modes.mode_by, declared.fault.ApplyRefused.ApplyRefused}
 use Rattle.dap_suggest.specs.{Broad.broad_of, declared.broad.Broad.Broad}
-use Rattle.dap_suggest.specs.Guarded.{AddsGuarded, guarded_count}
+use Rattle.dap_suggest.specs.{Exchanges.AddsNeededSwaps, Guarded.{AddsGuarded, guarded_count}}
 use Rattle.dap_suggest.specs.declared.suggestion.Inputs.{Inputs}
 use Rattle.dap_suggest.specs.declared.sessions.Sessions.{Sessions}
 use Rattle.dap_suggest.specs.declared.suggestion.Suggestion.{Suggestion}
@@ -103,13 +103,15 @@ abbrev pub SaysWhatToCheck : List ℕ → Mode → List ℕ → Type 0
 SaysWhatToCheck given mode rules = (added : ℕ) × EndsWith (last_line mode added) rules
     × AddsGuarded added given (given ++ rules)
 
--- The rules that were given, and after them those of the suggestion, are confirmed, and the last
--- line is true.
+-- The rules that were given, and after them those of the suggestion, are confirmed, they add no
+-- exchanges that are not needed, and the last line is true.
 pub record IsSuggestion (inputs : Inputs) (s : Suggestion) : Type 0 where
   pub added : ℕ
   pub confirmed : IsConfirmed inputs (inputs.given.now ++ s.rules.items) s.mode added
   pub ends : EndsWith (last_line s.mode added) s.rules.items
   pub strict : inputs.strict ≡ true → added ≡ 0
+  pub swaps : AddsNeededSwaps inputs.limits inputs.given.now (inputs.given.now ++ s.rules.items)
+      inputs.a.now inputs.b.now
 
 -- ---- errors
 

@@ -2,11 +2,11 @@
 ghost use Rattle.std.specs.Prelude.{◌≡◌, Some, count_by, is_none, option_map, string_bytes};
 ghost use Rattle.dap_mask.specs.{Categories.category_of, KeptRules.mask_of, Rules.rule_of};
 ghost use Rattle.dap_mask.specs.Declarations.{declaration_of};
-ghost use Rattle.dap_mask.specs.Omissions.{omission_of};
+ghost use Rattle.dap_mask.specs.{Fills.fill_of, Omissions.omission_of};
 ghost use Rattle.dap_message.specs.SwapRules.{swap_of};
 ghost use Rattle.dap_suggest.specs.Broad.{broad_of, is_needed, is_open_swap};
 
-use dap_mask::{CategoryRule, Declaration, MaskRule, MaskRules, Omission};
+use dap_mask::{CategoryRule, Declaration, FillRule, MaskRule, MaskRules, Omission};
 use dap_message::SwapRule;
 
 /// Returns whether a session needs the events of this name.
@@ -59,6 +59,12 @@ fn broad_omissions(rules: &[Omission]) -> usize
     rules.iter().filter(|rule| rule.name.is_none()).count()
 }
 
+fn broad_fills(rules: &[FillRule]) -> usize
+    ensures { result ≡ count_by (λ f. is_none (fill_of f).name) rules.now }
+{
+    rules.iter().filter(|rule| rule.name.is_none()).count()
+}
+
 fn open_swaps(swaps: &[SwapRule]) -> usize
     ensures { result ≡ count_by (λ swap. is_open_swap (swap_of swap)) swaps.now }
 {
@@ -71,13 +77,15 @@ fn broad_declarations(rules: &[Declaration]) -> usize
     rules.iter().filter(|x| x.rule.name.is_none()).count()
 }
 
-/// How many broad rules a mask has: changes, omissions, declarations and exchanges for messages of
-/// any name, and rules that drop events of any name or events that a session needs.
+/// How many broad rules a mask has: changes, omissions, declarations, exchanges and rules that set
+/// members for messages of any name, and rules that drop events of any name or events that a
+/// session needs.
 #[derive(Clone, Copy, PartialEq, Eq)]
 pub struct Broad {
     pub changes: usize,
     pub drops: usize,
     pub categories: usize,
+    pub fills: usize,
     pub omissions: usize,
     pub swaps: usize,
     pub declared: usize,
@@ -92,6 +100,7 @@ pub fn broad_of(rules: &MaskRules) -> Broad
         changes: broad_changes(rules.changes()),
         drops: broad_drops(rules.dropped()),
         categories: broad_categories(rules.categories()),
+        fills: broad_fills(rules.fills()),
         omissions: broad_omissions(rules.omissions()),
         swaps: open_swaps(rules.swaps()),
         declared: broad_declarations(rules.declared()),

@@ -14,7 +14,7 @@ const SHOWN: usize = 120;
 
 /// Appends the line that shows the value of a record, or the part of a long value in which it
 /// differs from the other value.
-fn push_value(
+pub fn push_value(
     alloc: Global,
     (which, number): (Which, u64),
     value: &str,

@@ -1,16 +1,20 @@
 //! Confirms that rules make two recordings the same.
 ghost use Rattle.std.specs.Prelude.{◌≡◌, ◌++◌, true, IfOk, OnOk, string_bytes};
+ghost use Rattle.std.specs.List.{AllByRecursion, Contains};
 ghost use Rattle.dap_input.specs.Limits.{AreSound};
 ghost use Rattle.dap_mask.specs.KeptRules.{mask_of};
+ghost use Rattle.dap_message.specs.SwapRules.{swaps_of};
 ghost use Rattle.dap_rules.specs.Applying.{NormalisesByRules};
+ghost use Rattle.dap_suggest.specs.Exchanges.{HasNeededSwaps, HasSwapsAmong};
 ghost use Rattle.dap_suggest.specs.Suggested.{HaveOneNormal, IsConfirmed, IsConfirmedBy};
 ghost use Rattle.dap_suggest.specs.Suggested.{IsSuggestion};
 ghost use Rattle.dap_suggest.specs.Suggested.{check_note, last_line, verdict};
 
 use crate::broad::broad_of;
+use crate::exchanges::are_among;
 use crate::guarded::guarded_count;
 use crate::joined_rules::{joined, read_joined};
-use crate::obstacle::{Mismatch, Obstacle, Unsolved};
+use crate::obstacle::{Mismatch, NoneFound, Unsolved};
 use crate::suggestion::{Inputs, Suggestion};
 use dap_compare::Which;
 use dap_input::Limits;
@@ -64,15 +68,21 @@ fn content_after(alloc: Global, text: &[u8], records: usize) -> Result<Vec<u8>, 
     Vec::from_slice(alloc, line.unwrap_or(&[]))
 }
 
-/// Returns the record in which two different normal texts first differ.
-fn first_mismatch(alloc: Global, text: &[u8], other: &[u8]) -> Result<Mismatch, AllocError> {
+/// Returns the records in which two different normal texts first differ, after the rules that were
+/// found.
+fn first_mismatch(
+    alloc: Global,
+    found: &[u8],
+    text: &[u8],
+    other: &[u8],
+) -> Result<Mismatch, AllocError> {
     let both = text.iter().zip(other);
     let same = both.take_while(|(byte, found)| **byte == **found);
     let ends = same.filter(|(byte, _)| **byte == b'\n').count();
     // A record has three LF: two in its header part, and one after its content.
     let records = ends / 3;
     Ok(Mismatch {
-        record: (records as u64).saturating_add(1),
+        rules: Vec::from_slice(alloc, found)?,
         a: content_after(alloc, text, records)?,
         b: content_after(alloc, other, records)?,
     })
@@ -101,7 +111,8 @@ fn normal_by(
     normal.map_err(|refused| (which, refused))
 }
 
-/// Compares what the rules make of two recordings.
+/// Compares what the rules make of two recordings. The rules are those that were given, and those
+/// that were found after them.
 ///
 /// # Errors
 ///
@@ -110,6 +121,7 @@ fn compare_by(
     alloc: Global,
     rules: &MaskRules,
     inputs: &Inputs<'_>,
+    found: &[u8],
     mode: Mode,
 ) -> Result<(), Unsolved>
     requires { AreSound inputs.now.limits }
@@ -122,35 +134,42 @@ fn compare_by(
     if one == other {
         return Ok(());
     }
-    Err(Unsolved::Differs(first_mismatch(alloc, one, other)?))
+    Err(Unsolved::Differs(first_mismatch(alloc, found, one, other)?))
 }
 
-/// Compares two recordings by these rules, as `compare --rules` does. Returns the mode in which
-/// they are the same.
+/// Compares two recordings by the rules that were given and those that were found after them, as
+/// `compare --rules` does. Returns the mode in which they are the same.
 ///
 /// # Errors
 ///
-/// There are more broad rules than those that were given, or not `to_check` rules more for guarded
-/// places; and the errors of [`compare_by`].
+/// There are more broad rules than those that were given, not `to_check` rules more for guarded
+/// places, or other exchanges than those of the inputs; and the errors of [`compare_by`].
 fn same_by_rules(
     alloc: Global,
     rules: &MaskRules,
     inputs: &Inputs<'_>,
+    found: &[u8],
     to_check: usize,
 ) -> Result<Mode, Unsolved>
     requires { AreSound inputs.now.limits }
-    ensures { IfOk result (IsConfirmedBy inputs.now (mask_of rules.now) to_check) }
+    ensures confirmed { IfOk result (IsConfirmedBy inputs.now (mask_of rules.now) to_check) }
+    ensures swaps { IfOk result (λ mode. AllByRecursion (Contains (swaps_of inputs.now.swaps.now))
+        (mask_of rules.now).swaps) }
 {
     let guarded = guarded_count(rules);
-    if broad_of(rules) != inputs.broad || guarded.checked_sub(inputs.guarded) != Some(to_check) {
-        return Err(Unsolved::NoRules(Obstacle::Unread));
+    if broad_of(rules) != inputs.broad
+        || guarded.checked_sub(inputs.guarded) != Some(to_check)
+        || !are_among(inputs.swaps, rules.swaps())
+    {
+        return Err(Unsolved::NoRules(NoneFound::Unread));
     }
     let mode = mode_by(rules, Mode::Whole);
-    compare_by(alloc, rules, inputs, mode)?;
+    compare_by(alloc, rules, inputs, found, mode)?;
     Ok(mode)
 }
 
-/// Compares two recordings by the rules of a text. Returns the mode in which they are the same.
+/// Compares two recordings by the rules that were given and the text of others after them. Returns
+/// the mode in which they are the same.
 ///
 /// # Errors
 ///
@@ -158,15 +177,19 @@ fn same_by_rules(
 #[tactic(auto, using(crate::proofs::Confirmations::confirmed_by))]
 fn same_by(
     alloc: Global,
-    text: &[u8],
     inputs: &Inputs<'_>,
+    found: &[u8],
     to_check: usize,
 ) -> Result<Mode, Unsolved>
     requires { AreSound inputs.now.limits }
-    ensures { IfOk result (λ mode. IsConfirmed inputs.now text.now mode to_check) }
+    ensures confirmed { IfOk result
+        (λ mode. IsConfirmed inputs.now (inputs.now.given.now ++ found.now) mode to_check) }
+    ensures swaps { IfOk result (λ mode. HasSwapsAmong (swaps_of inputs.now.swaps.now)
+        (inputs.now.given.now ++ found.now)) }
 {
-    let rules = MaskRules::read(alloc, text)?;
-    same_by_rules(alloc, &rules, inputs, to_check)
+    let whole = joined(alloc, inputs.given, found)?;
+    let rules = MaskRules::read(alloc, whole.as_slice())?;
+    same_by_rules(alloc, &rules, inputs, found, to_check)
 }
 
 /// Suggests these rules, if two recordings are the same by them in this mode.
@@ -178,6 +201,7 @@ pub fn suggested(
     to_check: usize,
 ) -> Result<Suggestion, Unsolved>
     requires limits { AreSound inputs.now.limits }
+    requires swaps { HasNeededSwaps inputs.now }
     requires strict { inputs.now.strict ≡ true → to_check ≡ 0 }
     ensures confirmed { IfOk result (IsSuggestion inputs.now) }
     ensures text { IfOk result
@@ -185,9 +209,8 @@ pub fn suggested(
 {
     let end = last_line(alloc, mode, to_check)?;
     let rules = joined(alloc, found, end.as_slice())?;
-    let whole = joined(alloc, inputs.given, rules.as_slice())?;
-    if same_by(alloc, whole.as_slice(), inputs, to_check)? != mode {
-        return Err(Unsolved::NoRules(Obstacle::Unread));
+    if same_by(alloc, inputs, rules.as_slice(), to_check)? != mode {
+        return Err(Unsolved::NoRules(NoneFound::Unread));
     }
     Ok(Suggestion { rules, mode })
 }
@@ -206,12 +229,13 @@ pub fn confirm_in(
     found: &[u8],
     mode: Mode,
 ) -> Result<Suggestion, Unsolved>
-    requires { AreSound inputs.now.limits }
+    requires limits { AreSound inputs.now.limits }
+    requires swaps { HasNeededSwaps inputs.now }
     ensures { IfOk result (IsSuggestion inputs.now) }
 {
     let to_check = to_check_in(alloc, inputs, found)?;
     if inputs.strict && to_check > 0 {
-        return Err(Unsolved::NoRules(Obstacle::Unread));
+        return Err(Unsolved::NoRules(NoneFound::Unread));
     }
     if mode == inputs.mode {
         return suggested(alloc, inputs, found, mode, to_check);
@@ -224,7 +248,8 @@ pub fn confirm_in(
 /// recording; or from each stop, if the rules that were given say so, or if only that makes the
 /// recordings the same.
 pub fn confirm(alloc: Global, inputs: &Inputs<'_>, found: &[u8]) -> Result<Suggestion, Unsolved>
-    requires { AreSound inputs.now.limits }
+    requires limits { AreSound inputs.now.limits }
+    requires swaps { HasNeededSwaps inputs.now }
     ensures { IfOk result (IsSuggestion inputs.now) }
 {
     let confirmed = confirm_in(alloc, inputs, found, inputs.mode);

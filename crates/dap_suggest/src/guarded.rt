@@ -1,15 +1,16 @@
 //! The rules that hide what a test looks at.
-ghost use Rattle.std.specs.Prelude.{◌≡◌, count_by, option_map, string_bytes};
-ghost use Rattle.dap_mask.specs.{KeptRules.mask_of, Rules.{place_of, rule_of}};
+ghost use Rattle.std.specs.Prelude.{◌≡◌, ◌++◌, [], ◌∷◌, count_by, option_map, string_bytes};
+ghost use Rattle.dap_mask.specs.{KeptRules.mask_of, Rules.{place_of, rule_of, step_of}};
+ghost use Rattle.dap_mask.specs.{Fills.fill_of, RuleSteps.named};
 ghost use Rattle.dap_mask.specs.Declarations.{declaration_of};
 ghost use Rattle.dap_mask.specs.Omissions.{omission_of};
 ghost use Rattle.dap_suggest.specs.Guarded.{guarded_count, is_guarded, is_guarded_event};
-ghost use Rattle.dap_suggest.specs.Guarded.{is_guarded_id, is_guarded_omission};
+ghost use Rattle.dap_suggest.specs.Guarded.{is_guarded_fill, is_guarded_id, is_guarded_omission};
 ghost use Rattle.dap_suggest.specs.Guarded.{is_guarded_inside, is_guarded_list, is_guarded_member};
 ghost use Rattle.dap_suggest.specs.Guarded.{is_guarded_place, is_list_or_names};
 
 use crate::words::parts_of;
-use dap_mask::{Declaration, MaskRule, MaskRules, Omission, RulesCause, Step, Verb};
+use dap_mask::{Declaration, FillRule, MaskRule, MaskRules, Omission, RulesCause, Step, Verb};
 use dap_message::Kind;
 use std::alloc::{AllocError, Global};
 
@@ -104,8 +105,56 @@ fn guarded_omissions(rules: &[Omission]) -> usize
         .count()
 }
 
+/// Returns whether a test looks at the member of an object in a body, or at the body.
+fn is_guarded_end(kind: Kind, name: &Option<String>, parent: &[Step], last: &Step) -> bool
+    ensures { result ≡ is_guarded_place kind (option_map string_bytes name.now)
+        (place_of parent.now ++ step_of last.now ∷ []) }
+{
+    match (parent, last) {
+        ([], Step::Member(body)) => body.as_str() == "body" && is_guarded_inside(kind, name, &[]),
+        ([Step::Member(body)], Step::Member(member)) => {
+            body.as_str() == "body" && is_guarded_in_body(kind, name, member.as_str())
+        }
+        (
+            [
+                Step::Member(body),
+                Step::Member(list),
+                Step::Each | Step::Element(_),
+            ],
+            Step::Member(member),
+        ) => {
+            body.as_str() == "body"
+                && kind == Kind::Response
+                && is_guarded_list(list.as_str())
+                && member.as_str() == "name"
+        }
+        _ => false,
+    }
+}
+
+/// Returns whether a test looks at the member of a body.
+fn is_guarded_in_body(kind: Kind, name: &Option<String>, member: &str) -> bool
+    ensures { result ≡ is_guarded_inside kind (option_map string_bytes name.now)
+        (named member.now ∷ []) }
+{
+    match (kind, name) {
+        (Kind::Response, _) => is_guarded_list(member),
+        (Kind::Event, Some(event)) => is_guarded_member(event.as_str(), member),
+        _ => false,
+    }
+}
+
+fn guarded_fills(rules: &[FillRule]) -> usize
+    ensures { result ≡ count_by (λ f. is_guarded_fill (fill_of f)) rules.now }
+{
+    rules
+        .iter()
+        .filter(|rule| is_guarded_end(rule.kind, &rule.name, &rule.parent, &rule.last))
+        .count()
+}
+
 /// Returns how many rules for guarded places a mask has: those that blank them, declare their
-/// values as ids, or omit elements of them.
+/// values as ids, omit elements of them, or set their values.
 #[tactic(auto, using(crate::proofs::Lists::counted_mapped))]
 pub fn guarded_count(rules: &MaskRules) -> usize
     ensures { result ≡ guarded_count (mask_of rules.now) }
@@ -113,6 +162,7 @@ pub fn guarded_count(rules: &MaskRules) -> usize
     guarded_changes(rules.changes())
         + guarded_ids(rules.declared())
         + guarded_omissions(rules.omissions())
+        + guarded_fills(rules.fills())
 }
 
 /// What is hidden if a guarded member of a body is blanked, or the names of its elements.

@@ -1,5 +1,6 @@
 //! Rules that follow the rules that were given.
-ghost use Rattle.std.specs.Prelude.{◌≡◌, ◌++◌, IfOk};
+ghost use Rattle.std.specs.Prelude.{◌≡◌, ◌++◌, IfOk, Ok};
+ghost use Rattle.dap_mask.specs.{KeptRules.mask_of, RulesFile.rules_said};
 ghost use Rattle.dap_suggest.specs.Suggested.{missing_end};
 
 use crate::obstacle::Unsolved;
@@ -31,7 +32,9 @@ pub fn missing_end(given: &[u8]) -> &'static [u8]
 /// # Errors
 ///
 /// A file cannot have the rules, or an allocation failed.
-pub fn read_joined(alloc: Global, given: &[u8], rules: &[u8]) -> Result<MaskRules, Unsolved> {
+pub fn read_joined(alloc: Global, given: &[u8], rules: &[u8]) -> Result<MaskRules, Unsolved>
+    ensures { IfOk result (λ read. rules_said (given.now ++ rules.now) ≡ Ok (mask_of read)) }
+{
     let whole = joined(alloc, given, rules)?;
     Ok(MaskRules::read(alloc, whole.as_slice())?)
 }

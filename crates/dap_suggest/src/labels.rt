@@ -1,7 +1,7 @@
 //! Labels for the ids that rules find, so that the rules keep which of them are equal.
 ghost use Rattle.std.specs.Prelude.{IfOk, IfSome};
 ghost use Rattle.dap_input.specs.Limits.{AreSound};
-ghost use Rattle.dap_suggest.specs.Suggested.{IsSuggestion};
+ghost use Rattle.dap_suggest.specs.{Exchanges.HasNeededSwaps, Suggested.IsSuggestion};
 
 use crate::confirming::{confirm, confirm_in};
 use crate::joined_rules::{are_refused, joined, missing_end};
@@ -383,7 +383,8 @@ fn confirm_lines(
     lines: &[Line<'_>],
     mode: Mode,
 ) -> Result<Suggestion, Unsolved>
-    requires { AreSound inputs.now.limits }
+    requires limits { AreSound inputs.now.limits }
+    requires swaps { HasNeededSwaps inputs.now }
     ensures { IfOk result (IsSuggestion inputs.now) }
 {
     let text = text_of(alloc, lines)?;
@@ -398,7 +399,8 @@ fn confirm_fewer(
     lines: &mut Vec<Line<'_>>,
     mode: Mode,
 ) -> Result<Option<Suggestion>, Unsolved>
-    requires { AreSound inputs.now.limits }
+    requires limits { AreSound inputs.now.limits }
+    requires swaps { HasNeededSwaps inputs.now }
     ensures { IfOk result (λ o. IfSome o (IsSuggestion inputs.now)) }
 {
     for _ in 0..MAX_ROUNDS {
@@ -424,7 +426,8 @@ fn confirm_after(
     lines: &mut Vec<Line<'_>>,
     mismatch: &Mismatch,
 ) -> Result<Suggestion, Unsolved>
-    requires { AreSound inputs.now.limits }
+    requires limits { AreSound inputs.now.limits }
+    requires swaps { HasNeededSwaps inputs.now }
     ensures { IfOk result (IsSuggestion inputs.now) }
 {
     let plain = confirm(alloc, inputs, found)?;
@@ -449,7 +452,8 @@ fn confirm_known(
     found: &[u8],
     lines: &mut Vec<Line<'_>>,
 ) -> Result<Suggestion, Unsolved>
-    requires { AreSound inputs.now.limits }
+    requires limits { AreSound inputs.now.limits }
+    requires swaps { HasNeededSwaps inputs.now }
     ensures { IfOk result (IsSuggestion inputs.now) }
 {
     if !have_labels(lines.as_slice()) {
@@ -479,7 +483,8 @@ pub fn confirm_labelled(
     inputs: &Inputs<'_>,
     found: &FoundRules,
 ) -> Result<Suggestion, Unsolved>
-    requires { AreSound inputs.now.limits }
+    requires limits { AreSound inputs.now.limits }
+    requires swaps { HasNeededSwaps inputs.now }
     ensures { IfOk result (IsSuggestion inputs.now) }
 {
     let text = found.text.as_slice();

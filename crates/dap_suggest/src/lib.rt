@@ -11,6 +11,8 @@ mod comments;
 mod confirming;
 mod counting;
 mod elements;
+mod exchanges;
+mod filling;
 mod fractions;
 mod guarded;
 mod joined_rules;
@@ -35,6 +37,6 @@ mod values;
 mod walking;
 mod words;
 
-pub use obstacle::{Obstacle, Reason};
+pub use obstacle::{NoneFound, Obstacle, Reason};
 pub use suggesting::suggest;
 pub use suggestion::{SuggestRefused, Suggestion};

@@ -91,26 +91,44 @@ impl Display for Remaining {
     }
 }
 
-/// Why no rules make two recordings the same. Its text follows `no rules can: `.
+/// Why a search found no rules.
 #[derive(Drop)]
-pub enum Obstacle {
-    /// Some records.
+pub enum NoneFound {
+    /// No rule can make some records the same.
     Remaining(Remaining),
     /// The rules that were found cannot be applied to a recording.
     Unapplied(Which, ApplyRefused),
     /// The rules that were found are too many for one file, or contradict the rules that were
     /// given.
     Unread,
-    /// After the rules that were found, the recordings still differ from this record on.
+}
+
+impl Display for NoneFound {
+    fn fmt<W: Write>(&self, f: &mut Formatter<W>) -> fmt::Result {
+        match self {
+            NoneFound::Remaining(remaining) => write!(f, "{remaining}"),
+            NoneFound::Unapplied(which, refused) => write!(
+                f,
+                "{which}: after the rules: {refused}"
+            ),
+            NoneFound::Unread => f.write_str("a file cannot have the rules that would be needed"),
+        }
+    }
+}
+
+/// Why no rules make two recordings the same. Its text follows `no rules can: `.
+#[derive(Drop)]
+pub enum Obstacle {
+    /// A search found none.
+    NoneFound(NoneFound),
+    /// After the rules that were found, the recordings differ first in the record with this number.
     StillDiffers(u64),
 }
 
 impl Display for Obstacle {
     fn fmt<W: Write>(&self, f: &mut Formatter<W>) -> fmt::Result {
         match self {
-            Obstacle::Remaining(remaining) => write!(f, "{remaining}"),
-            Obstacle::Unapplied(which, refused) => write!(f, "{which}: after the rules: {refused}"),
-            Obstacle::Unread => f.write_str("a file cannot have the rules that would be needed"),
+            Obstacle::NoneFound(because) => write!(f, "{because}"),
             Obstacle::StillDiffers(number) => {
                 write!(f, "after the rules, record {number} still differs")
             }
@@ -118,21 +136,21 @@ impl Display for Obstacle {
     }
 }
 
-/// The first record in which the normal forms of two recordings differ.
+/// The first records in which the normal forms of two recordings differ.
 #[derive(Drop)]
 pub struct Mismatch {
-    /// The number of the record.
-    pub record: u64,
-    /// Its content in A, and in B.
+    /// The rules that were found.
+    pub rules: Vec<u8>,
+    /// The content of the record in A, and in B.
     pub a: Vec<u8>,
     pub b: Vec<u8>,
 }
 
-/// Why a search found no rules.
+/// Why rules are not confirmed.
 #[derive(Drop)]
 pub enum Unsolved {
     /// There are none.
-    NoRules(Obstacle),
+    NoRules(NoneFound),
     /// With the rules that were found, the recordings still differ.
     Differs(Mismatch),
     /// An allocation failed.
@@ -149,7 +167,7 @@ impl From<RulesFault> for Unsolved {
     fn from(fault: RulesFault) -> Unsolved {
         match fault.cause {
             RulesCause::Memory => Unsolved::Memory,
-            _ => Unsolved::NoRules(Obstacle::Unread),
+            _ => Unsolved::NoRules(NoneFound::Unread),
         }
     }
 }
@@ -158,7 +176,7 @@ impl From<(Which, ApplyRefused)> for Unsolved {
     fn from((which, refused): (Which, ApplyRefused)) -> Unsolved {
         match refused {
             ApplyRefused::Memory => Unsolved::Memory,
-            _ => Unsolved::NoRules(Obstacle::Unapplied(which, refused)),
+            _ => Unsolved::NoRules(NoneFound::Unapplied(which, refused)),
         }
     }
 }

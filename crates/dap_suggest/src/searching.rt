@@ -2,9 +2,10 @@
 ghost use Rattle.dap_input.specs.Limits.{AreSound};
 
 use crate::counting::EventsByName;
+use crate::filling::push_fills;
 use crate::joined_rules::{fault_after, is_full, joined};
 use crate::matched::{add_matched, pairs_of};
-use crate::obstacle::{Obstacle, Reason, Remaining, Unsolved};
+use crate::obstacle::{NoneFound, Reason, Remaining, Unsolved};
 use crate::pairs::Pairs;
 use crate::sessions::Sessions;
 use crate::spots::Spots;
@@ -18,10 +19,21 @@ use dap_input::Limits;
 use std::alloc::{AllocError, Global};
 use std::collections::BTreeSet;
 
+/// Which rules a search tries beside the others.
+#[derive(Clone, Copy)]
+pub struct Tries {
+    /// Those that set members.
+    pub fill: bool,
+    /// Those that omit elements.
+    pub omit: bool,
+}
+
 /// The rules that a search finds.
 #[derive(Drop)]
 pub struct FoundRules {
     pub text: Vec<u8>,
+    /// Rules that set members. If there are some, the search ends before it finds others.
+    pub fills: Vec<u8>,
     /// The lines of it that blank ids of which some occur twice.
     pub blanked_ids: BTreeSet<Vec<u8>>,
     /// Whether some rules omit elements.
@@ -122,6 +134,12 @@ impl Search<'_> {
     /// Searches rules, and writes them. Adds the records for which there are none.
     fn search(&mut self, sessions: &Sessions, found: &mut Found) -> Result<(), AllocError> {
         self.pairs.number(sessions)?;
+        if self.chooser.may_fill {
+            push_fills(&self.chooser, &mut self.pairs, &mut found.rules.fills)?;
+            if !found.rules.fills.is_empty() {
+                return Ok(());
+            }
+        }
         self.order.search(&mut self.pairs)?;
         self.choose()?;
         self.write(&mut found.rules.text)?;
@@ -164,7 +182,7 @@ fn search_sessions(
     inputs: &Inputs<'_>,
     sessions: &Sessions,
     events: &EventsByName,
-    may_omit: bool,
+    tries: Tries,
     found: &mut Found,
 ) -> Result<(), AllocError>
     requires { AreSound inputs.now.limits }
@@ -178,7 +196,8 @@ fn search_sessions(
         before: before.as_slice(),
         are_joined: false,
         are_strict: inputs.strict,
-        may_omit,
+        may_fill: tries.fill,
+        may_omit: tries.omit,
     };
     let mut a = Vec::new(alloc);
     let mut b = Vec::new(alloc);
@@ -188,7 +207,7 @@ fn search_sessions(
 }
 
 /// Returns the rules for two sessions of which some events are dropped, after the rules `before`
-/// them. Some may omit elements if `may_omit`. Drops the sessions from memory.
+/// them.
 ///
 /// # Errors
 ///
@@ -197,25 +216,26 @@ pub fn rules_for(
     alloc: Global,
     inputs: &Inputs<'_>,
     before: &[u8],
-    sessions: Sessions,
+    sessions: &Sessions,
     events: &EventsByName,
-    may_omit: bool,
+    tries: Tries,
 ) -> Result<FoundRules, Unsolved>
     requires { AreSound inputs.now.limits }
 {
     let mut found = Found {
         rules: FoundRules {
             text: Vec::from_slice(alloc, before)?,
+            fills: Vec::new(alloc),
             blanked_ids: BTreeSet::new(alloc),
             have_omissions: false,
         },
         remaining: Remaining::new(alloc),
     };
-    search_sessions(alloc, inputs, &sessions, events, may_omit, &mut found)?;
+    search_sessions(alloc, inputs, sessions, events, tries, &mut found)?;
     let Found { rules, remaining } = found;
     if remaining.is_empty() {
         Ok(rules)
     } else {
-        Err(Unsolved::NoRules(Obstacle::Remaining(remaining)))
+        Err(Unsolved::NoRules(NoneFound::Remaining(remaining)))
     }
 }

@@ -1,17 +1,20 @@
 //! The sessions that the rules make of two recordings.
-ghost use Rattle.std.specs.Prelude.{◌≡◌, IfErr, IfOk, true};
+ghost use Rattle.std.specs.Prelude.{◌≡◌, IfErr, IfOk, IfSome, true};
+ghost use Rattle.dap_compare.specs.Sessions.{DifferFirstAt};
 ghost use Rattle.dap_input.specs.Limits.{AreSound};
 ghost use Rattle.dap_mask.specs.KeptRules.{mask_of};
+ghost use Rattle.dap_rename.specs.declared.mode.Mode.TheVariants.{Whole};
+ghost use Rattle.dap_rules.specs.Modes.{mode_by};
+ghost use Rattle.dap_stored.specs.Sessions.{messages_of};
 ghost use Rattle.dap_suggest.specs.Suggested.{AreAlreadySame, AreMade, IsOneRejected};
 
-use crate::obstacle::Unsolved;
 use crate::suggestion::Inputs;
 use dap_compare::{Verdict, Which, compare_sessions};
 use dap_mask::MaskRules;
 use dap_rename::{Mode, index_tables};
 use dap_rules::{ApplyRefused, mode_by, session_by_rules};
 use dap_stored::StoredSession;
-use std::alloc::Global;
+use std::alloc::{AllocError, Global};
 
 /// The sessions that the rules make of two recordings.
 #[derive(Drop)]
@@ -43,21 +46,18 @@ pub fn sessions_by(
     Ok(Sessions { a, b })
 }
 
-/// Returns whether the sessions that the rules make of two recordings are the same.
-///
-/// # Errors
-///
-/// - `Memory`: an allocation failed.
-pub fn are_same(
+/// Compares the sessions that the rules make of two recordings. Returns the number of the first
+/// record that differs, or `None` if they are the same.
+pub fn first_difference(
     alloc: Global,
     rules: &MaskRules,
     inputs: &Inputs<'_>,
     sessions: &Sessions,
-) -> Result<bool, Unsolved>
+) -> Result<Option<u64>, AllocError>
     requires limits { AreSound inputs.now.limits }
     requires made { AreMade inputs.now (mask_of rules.now) sessions.now }
-    ensures { AreAlreadySame inputs.now (mask_of rules.now)
-        → IfOk result (λ same. same ≡ true) }
+    ensures { IfOk result (λ first. IfSome first (DifferFirstAt (mode_by (mask_of rules.now) Whole)
+        (messages_of sessions.now.a) (messages_of sessions.now.b))) }
 {
     let mode = mode_by(rules, Mode::Whole);
     let (Sessions { a, b }, limits) = (sessions, inputs.limits);
@@ -75,5 +75,28 @@ pub fn are_same(
         &mut text_a,
         &mut text_b,
     )?;
-    Ok(matches!(verdict, Verdict::Same(_)))
+    match verdict {
+        Verdict::Same(_) => Ok(None),
+        Verdict::Differ(number) => Ok(Some(number)),
+    }
+}
+
+/// Returns whether the sessions that the rules make of two recordings are the same.
+///
+/// # Errors
+///
+/// - `AllocError`: an allocation failed.
+pub fn are_same(
+    alloc: Global,
+    rules: &MaskRules,
+    inputs: &Inputs<'_>,
+    sessions: &Sessions,
+) -> Result<bool, AllocError>
+    requires limits { AreSound inputs.now.limits }
+    requires made { AreMade inputs.now (mask_of rules.now) sessions.now }
+    ensures { AreAlreadySame inputs.now (mask_of rules.now)
+        → IfOk result (λ same. same ≡ true) }
+{
+    let first = first_difference(alloc, rules, inputs, sessions)?;
+    Ok(first.is_none())
 }

@@ -2,23 +2,26 @@
 ghost use Rattle.std.specs.Prelude.{◌≡◌, ◌++◌, true, IfErr, IfOk, IfSome, IsTrue};
 ghost use Rattle.dap_input.specs.Limits.{AreSound};
 ghost use Rattle.dap_mask.specs.{KeptRules.mask_of, RulesFile.rules_said};
-ghost use Rattle.dap_suggest.specs.NotSuggested.{HasNoSuggestion, IsNotMaskable, IsNotSuggested};
+ghost use Rattle.dap_suggest.specs.Exchanges.{AddsNeededSwaps, HasGivenSwaps};
+ghost use Rattle.dap_suggest.specs.NotSuggested.{FailsSearch, HasNoSuggestion, IsNotMaskable};
+ghost use Rattle.dap_suggest.specs.NotSuggested.{IsNotSuggested, StillDiffer};
 ghost use Rattle.dap_suggest.specs.{Broad.{AddsNoBroadRule, broad_of}, Guarded.AddsGuarded};
 ghost use Rattle.dap_suggest.specs.Guarded.{guarded_count};
-ghost use Rattle.dap_suggest.specs.Suggested.{AreAlreadySame, AreSameBy, IsSuggestion};
+ghost use Rattle.dap_suggest.specs.Suggested.{AreAlreadySame, AreMade, AreSameBy, IsSuggestion};
 ghost use Rattle.dap_suggest.specs.Suggested.{SaysWhatToCheck, SuggestsNothing};
 
 use crate::broad::broad_of;
 use crate::confirming::suggested;
 use crate::counting::{EventsByName, differing_events, forget_categories, have_categories};
+use crate::exchanges::{are_among, are_needed};
 use crate::fractions::fraction_rules;
 use crate::guarded::guarded_count;
 use crate::joined_rules::{joined, missing_end, read_joined};
 use crate::labels::confirm_labelled;
-use crate::obstacle::Unsolved;
+use crate::obstacle::{NoneFound, Obstacle, Unsolved};
 use crate::pieces::{JOINS, comment_on_join};
-use crate::searching::rules_for;
-use crate::sessions::{Sessions, are_same, sessions_by};
+use crate::searching::{FoundRules, Tries, rules_for};
+use crate::sessions::{Sessions, are_same, first_difference, sessions_by};
 use crate::suggestion::{Inputs, SuggestRefused, Suggestion};
 use dap_input::{Limits, Refused};
 use dap_mask::MaskRules;
@@ -27,10 +30,105 @@ use dap_rules::{ApplyRefused, mode_by};
 use std::alloc::Global;
 use std::collections::BTreeMap;
 
+/// Confirms and labels rules that were found for two recordings, if they add only exchanges that
+/// the sessions need. `rules` make the sessions, which are dropped from memory first.
+#[tactic(auto, using(crate::proofs::NeededSwaps::found_are_needed, crate::proofs::NeededSwaps::same_suggestion))]
+fn confirm_found(
+    alloc: Global,
+    rules: &MaskRules,
+    inputs: &Inputs<'_>,
+    sessions: Sessions,
+    found: &FoundRules,
+) -> Result<Suggestion, Unsolved>
+    requires limits { AreSound inputs.now.limits }
+    requires given { HasGivenSwaps inputs.now }
+    requires made { AreMade inputs.now (mask_of rules.now) sessions }
+    ensures { IfOk result (IsSuggestion inputs.now) }
+{
+    let read = read_joined(alloc, inputs.given, found.text.as_slice())?;
+    let (given, swaps) = (inputs.swaps, read.swaps());
+    if !are_among(given, rules.swaps()) || !are_needed(alloc, given, swaps, &sessions)? {
+        return Err(Unsolved::NoRules(NoneFound::Unread));
+    }
+    drop(sessions);
+    let inputs = Inputs { swaps, ..*inputs };
+    confirm_labelled(alloc, &inputs, found)
+}
+
+/// Confirms and labels rules that were found. If the recordings differ by rules that omit elements,
+/// searches again without such rules.
+fn confirm_or_omit_none(
+    alloc: Global,
+    rules: &MaskRules,
+    inputs: &Inputs<'_>,
+    before: &[u8],
+    sessions: Sessions,
+    events: &EventsByName,
+    found: &FoundRules,
+) -> Result<Suggestion, Unsolved>
+    requires limits { AreSound inputs.now.limits }
+    requires given { HasGivenSwaps inputs.now }
+    requires made { AreMade inputs.now (mask_of rules.now) sessions }
+    ensures { IfOk result (IsSuggestion inputs.now) }
+{
+    let confirmed = confirm_found(alloc, rules, inputs, sessions, found);
+    if !found.have_omissions || !matches!(&confirmed, Err(Unsolved::Differs(_))) {
+        return confirmed;
+    }
+    let tries = Tries {
+        fill: false,
+        omit: false,
+    };
+    let sessions = sessions_by(alloc, rules, inputs)?;
+    let found = rules_for(alloc, inputs, before, &sessions, events, tries)?;
+    confirm_found(alloc, rules, inputs, sessions, &found)
+}
+
+/// Does the same as [`find_by`], without rules that set members.
+fn find_without_fills(
+    alloc: Global,
+    rules: &MaskRules,
+    inputs: &Inputs<'_>,
+    before: &[u8],
+    sessions: Sessions,
+    events: &EventsByName,
+) -> Result<Suggestion, Unsolved>
+    requires limits { AreSound inputs.now.limits }
+    requires given { HasGivenSwaps inputs.now }
+    requires made { AreMade inputs.now (mask_of rules.now) sessions }
+    ensures { IfOk result (IsSuggestion inputs.now) }
+{
+    let tries = Tries {
+        fill: false,
+        omit: true,
+    };
+    let found = rules_for(alloc, inputs, before, &sessions, events, tries)?;
+    confirm_or_omit_none(alloc, rules, inputs, before, sessions, events, &found)
+}
+
+/// Searches rules after those `before` them, the last of which set members. Returns `None` if the
+/// rules make no sessions.
+fn find_after_fills(
+    alloc: Global,
+    inputs: &Inputs<'_>,
+    before: &[u8],
+    events: &EventsByName,
+) -> Result<Option<Suggestion>, Unsolved>
+    requires limits { AreSound inputs.now.limits }
+    requires given { HasGivenSwaps inputs.now }
+    ensures { IfOk result (λ o. IfSome o (IsSuggestion inputs.now)) }
+{
+    let rules = read_joined(alloc, inputs.given, before)?;
+    let Ok(sessions) = sessions_by(alloc, &rules, inputs) else {
+        return Ok(None);
+    };
+    let found = find_without_fills(alloc, &rules, inputs, before, sessions, events)?;
+    Ok(Some(found))
+}
+
 /// Searches rules for two recordings and their sessions, which `rules` make: those that were given
-/// and those `before` the others. Some of these events are dropped. Confirms and labels the rules
-/// that are found, after the sessions are dropped from memory. If the recordings differ by rules
-/// that omit elements, searches again without such rules.
+/// and those `before` the others. Some of these events are dropped. Rules that set members are
+/// tried first, if pairs need some. Confirms and labels the rules that are found.
 fn find_by(
     alloc: Global,
     rules: &MaskRules,
@@ -39,17 +137,26 @@ fn find_by(
     sessions: Sessions,
     events: &EventsByName,
 ) -> Result<Suggestion, Unsolved>
-    requires { AreSound inputs.now.limits }
+    requires limits { AreSound inputs.now.limits }
+    requires given { HasGivenSwaps inputs.now }
+    requires made { AreMade inputs.now (mask_of rules.now) sessions }
     ensures { IfOk result (IsSuggestion inputs.now) }
 {
-    let found = rules_for(alloc, inputs, before, sessions, events, true)?;
-    let confirmed = confirm_labelled(alloc, inputs, &found);
-    if !found.have_omissions || !matches!(&confirmed, Err(Unsolved::Differs(_))) {
-        return confirmed;
+    let tries = Tries {
+        fill: true,
+        omit: true,
+    };
+    let found = rules_for(alloc, inputs, before, &sessions, events, tries)?;
+    if found.fills.is_empty() {
+        return confirm_or_omit_none(alloc, rules, inputs, before, sessions, events, &found);
     }
-    let sessions = sessions_by(alloc, rules, inputs)?;
-    let found = rules_for(alloc, inputs, before, sessions, events, false)?;
-    confirm_labelled(alloc, inputs, &found)
+    let filled = joined(alloc, before, found.fills.as_slice())?;
+    match find_after_fills(alloc, inputs, filled.as_slice(), events) {
+        Ok(Some(suggestion)) => return Ok(suggestion),
+        Err(Unsolved::Memory) => return Err(Unsolved::Memory),
+        _ => {}
+    }
+    find_without_fills(alloc, rules, inputs, before, sessions, events)
 }
 
 /// Searches and confirms rules by events of one category, or by all events of a name, if no rules
@@ -61,7 +168,9 @@ fn find_confirmed(
     before: &[u8],
     sessions: Sessions,
 ) -> Result<Suggestion, Unsolved>
-    requires { AreSound inputs.now.limits }
+    requires limits { AreSound inputs.now.limits }
+    requires given { HasGivenSwaps inputs.now }
+    requires made { AreMade inputs.now (mask_of rules.now) sessions }
     ensures { IfOk result (IsSuggestion inputs.now) }
 {
     let mut events = differing_events(alloc, &sessions)?;
@@ -82,7 +191,8 @@ fn find_with_join(
     inputs: &Inputs<'_>,
     before: &[u8],
 ) -> Result<Option<Suggestion>, Unsolved>
-    requires { AreSound inputs.now.limits }
+    requires limits { AreSound inputs.now.limits }
+    requires given { HasGivenSwaps inputs.now }
     ensures { IfOk result (λ o. IfSome o (IsSuggestion inputs.now)) }
 {
     let rules = read_joined(alloc, inputs.given, before)?;
@@ -104,7 +214,8 @@ fn find_joined(
     before: &[u8],
     comment: &[u8],
 ) -> Result<Option<Suggestion>, Unsolved>
-    requires { AreSound inputs.now.limits }
+    requires limits { AreSound inputs.now.limits }
+    requires given { HasGivenSwaps inputs.now }
     ensures { IfOk result (λ o. IfSome o (IsSuggestion inputs.now)) }
 {
     for join in JOINS {
@@ -127,7 +238,9 @@ fn find_joined_first(
     before: &[u8],
     sessions: Sessions,
 ) -> Result<Suggestion, Unsolved>
-    requires { AreSound inputs.now.limits }
+    requires limits { AreSound inputs.now.limits }
+    requires given { HasGivenSwaps inputs.now }
+    requires made { AreMade inputs.now (mask_of rules.now) sessions }
     ensures { IfOk result (IsSuggestion inputs.now) }
 {
     let comment = match rules.joining() {
@@ -153,7 +266,8 @@ fn find_after(
     inputs: &Inputs<'_>,
     before: &[u8],
 ) -> Result<Option<Suggestion>, Unsolved>
-    requires { AreSound inputs.now.limits }
+    requires limits { AreSound inputs.now.limits }
+    requires given { HasGivenSwaps inputs.now }
     ensures { IfOk result (λ o. IfSome o (IsSuggestion inputs.now)) }
 {
     match sessions_by(alloc, rules, inputs) {
@@ -170,12 +284,47 @@ fn find_after_fractions(
     rules: &MaskRules,
     inputs: &Inputs<'_>,
 ) -> Result<Option<Suggestion>, Unsolved>
-    requires { AreSound inputs.now.limits }
+    requires limits { AreSound inputs.now.limits }
+    requires given { HasGivenSwaps inputs.now }
     ensures { IfOk result (λ o. IfSome o (IsSuggestion inputs.now)) }
 {
     let before = fraction_rules(alloc, rules, inputs)?;
     let rules = read_joined(alloc, inputs.given, before.as_slice())?;
     find_after(alloc, &rules, inputs, before.as_slice())
+}
+
+/// Returns the number of the first record in which two recordings differ by the rules that were
+/// given and those that were found after them, or `None` if they do not differ.
+fn first_after(alloc: Global, inputs: &Inputs<'_>, found: &[u8]) -> Result<Option<u64>, Unsolved>
+    requires { AreSound inputs.now.limits }
+    ensures { IfOk result (λ first. IfSome first (StillDiffer inputs.now.limits inputs.now.given.now
+        inputs.now.a.now inputs.now.b.now)) }
+{
+    let rules = read_joined(alloc, inputs.given, found)?;
+    let sessions = sessions_by(alloc, &rules, inputs)?;
+    Ok(first_difference(alloc, &rules, inputs, &sessions)?)
+}
+
+/// Returns why no rules are suggested, after a search without a result.
+fn refusal(alloc: Global, inputs: &Inputs<'_>, unsolved: Unsolved) -> SuggestRefused
+    requires { AreSound inputs.now.limits }
+    ensures { FailsSearch inputs.now result }
+{
+    let because = match unsolved {
+        Unsolved::NoRules(because) => because,
+        Unsolved::Differs(mismatch) => {
+            match first_after(alloc, inputs, mismatch.rules.as_slice()) {
+                Ok(Some(number)) => {
+                    return SuggestRefused::NoRules(Obstacle::StillDiffers(number));
+                }
+                Ok(None) => NoneFound::Unread,
+                Err(Unsolved::NoRules(because)) => because,
+                Err(_) => return SuggestRefused::Memory,
+            }
+        }
+        Unsolved::Memory => return SuggestRefused::Memory,
+    };
+    SuggestRefused::NoRules(Obstacle::NoneFound(because))
 }
 
 /// Returns whether a recording is rejected for a number that is not an integer of 64 bits.
@@ -189,6 +338,7 @@ fn has_fraction(refused: &SuggestRefused) -> bool
 }
 
 /// Suggests rules for two recordings, one of which the rules that were given reject.
+#[tactic(auto, using(crate::proofs::Refusals::search_failed))]
 fn suggest_after(
     alloc: Global,
     rules: &MaskRules,
@@ -196,6 +346,7 @@ fn suggest_after(
     refused: SuggestRefused,
 ) -> Result<Suggestion, SuggestRefused>
     requires limits { AreSound inputs.now.limits }
+    requires given { HasGivenSwaps inputs.now }
     requires read { rules_said inputs.now.given.now ≡ Ok (mask_of rules.now) }
     requires rejected { HasNoSuggestion inputs.now refused }
     ensures ok { IfOk result (IsSuggestion inputs.now) }
@@ -205,19 +356,22 @@ fn suggest_after(
     if !has_fraction(&refused) {
         return Err(refused);
     }
-    match find_after_fractions(alloc, rules, inputs)? {
-        Some(suggestion) => Ok(suggestion),
-        None => Err(refused),
+    match find_after_fractions(alloc, rules, inputs) {
+        Ok(Some(suggestion)) => Ok(suggestion),
+        Ok(None) => Err(refused),
+        Err(unsolved) => Err(refusal(alloc, inputs, unsolved)),
     }
 }
 
 /// Suggests rules in addition to those that were given and read.
+#[tactic(auto, using(crate::proofs::NeededSwaps::given_are_needed, crate::proofs::Refusals::search_failed))]
 fn suggest_by(
     alloc: Global,
     rules: &MaskRules,
     inputs: &Inputs<'_>,
 ) -> Result<Suggestion, SuggestRefused>
     requires limits { AreSound inputs.now.limits }
+    requires given { HasGivenSwaps inputs.now }
     requires read { rules_said inputs.now.given.now ≡ Ok (mask_of rules.now) }
     ensures ok { IfOk result (IsSuggestion inputs.now) }
     ensures nothing { AreAlreadySame inputs.now (mask_of rules.now)
@@ -231,12 +385,15 @@ fn suggest_by(
         }
     };
     let before = missing_end(inputs.given);
-    if are_same(alloc, rules, inputs, &sessions)? {
-        let nothing = suggested(alloc, inputs, before, inputs.mode, 0)?;
-        return Ok(nothing);
+    let found = if are_same(alloc, rules, inputs, &sessions)? {
+        suggested(alloc, inputs, before, inputs.mode, 0)
+    } else {
+        find_joined_first(alloc, rules, inputs, before, sessions)
+    };
+    match found {
+        Ok(suggestion) => Ok(suggestion),
+        Err(unsolved) => Err(refusal(alloc, inputs, unsolved)),
     }
-    let found = find_joined_first(alloc, rules, inputs, before, sessions)?;
-    Ok(found)
 }
 
 /// Suggests rules that make two recordings of one scenario the same, in addition to the rules that
@@ -248,8 +405,8 @@ fn suggest_by(
 /// have in another order. At each place at which pairs differ,
 /// the rules that hide the fewest equal values are suggested, for all elements of a list or for
 /// those of one name; or a parent is blanked. If lists have different lengths, up to four names of
-/// elements are omitted, or the lists are blanked. Pairs in another order may change places. Numbers
-/// that are not integers of 64 bits are blanked. Then the rules are applied to both recordings, and
+/// elements are omitted, or the lists are blanked. Members that only one of them has are set.
+/// Pairs in another order may change places. Numbers that are not integers of 64 bits are blanked. Then the rules are applied to both recordings, and
 /// the results are compared. Last, the rules get labels, so that they keep which ids are equal,
 /// except for labels with which the recordings differ.
 ///
@@ -289,6 +446,11 @@ pub fn suggest(
     ensures narrow { IfOk result
         (λ s. AddsNoBroadRule given.now (given.now ++ s.rules.items)) }
 
+    // Each exchange that is suggested is for messages that come in one order in A and in the other
+    // order in B.
+    ensures swaps { IfOk result (λ s. AddsNeededSwaps limits given.now
+        (given.now ++ s.rules.items) a.now b.now) }
+
     // The last line says in which mode the recordings are the same, and how many rules are for
     // guarded places. If `strict`, none is.
     ensures checked { IfOk result (λ s. SaysWhatToCheck given.now s.mode s.rules.items) }
@@ -296,7 +458,8 @@ pub fn suggest(
         (λ s. AddsGuarded 0 given.now (given.now ++ s.rules.items)) }
 
     // The rules that were given are rejected, or the first recording that they reject is, or no
-    // rules were found. `Memory` is returned only if the rules that were given are not too long.
+    // rules were found. If a record is named, it is the first in which the recordings differ after
+    // some rules. `Memory` is returned only if the rules that were given are not too long.
     ensures err { IfErr result (IsNotSuggested limits given.now a.now b.now) }
 {
     let rules = MaskRules::read(alloc, given)?;
@@ -305,6 +468,7 @@ pub fn suggest(
         given,
         broad: broad_of(&rules),
         guarded: guarded_count(&rules),
+        swaps: rules.swaps(),
         strict,
         mode,
         a,

@@ -1,11 +1,13 @@
 //! What rules are suggested for, and what a suggestion returns.
 use crate::broad::Broad;
-use crate::obstacle::{Obstacle, Unsolved};
+use crate::obstacle::Obstacle;
 use dap_compare::Which;
 use dap_input::Limits;
 use dap_mask::{RulesCause, RulesFault};
+use dap_message::SwapRule;
 use dap_rename::Mode;
 use dap_rules::ApplyRefused;
+use std::alloc::AllocError;
 
 /// Two recordings of one scenario, and the text of the rules that were given for them.
 #[derive(Clone, Copy)]
@@ -15,6 +17,9 @@ pub struct Inputs<'i> {
     pub broad: Broad,
     /// How many rules they have for guarded places.
     pub guarded: usize,
+    /// The exchanges that a suggestion may have: those that were given, and others once they are
+    /// found.
+    pub swaps: &'i [SwapRule],
     /// Whether no rule may be suggested that has to be checked.
     pub strict: bool,
     /// The mode in which ids are numbered after these rules.
@@ -74,18 +79,13 @@ impl From<(Which, ApplyRefused)> for SuggestRefused {
     }
 }
 
-impl From<Unsolved> for SuggestRefused {
-    ghost use Rattle.dap_suggest.specs.NotSuggested.{IsSearchRefusal};
+impl From<AllocError> for SuggestRefused {
+    ghost use Rattle.std.specs.Prelude.{◌≡◌};
+    ghost use Rattle.dap_suggest.specs.declared.suggestion.SuggestRefused.TheVariants.{Memory};
 
-    ghost from_gives = { λ _ refused. IsSearchRefusal refused };
+    ghost from_gives = { λ _ refused. refused ≡ Memory };
 
-    fn from(unsolved: Unsolved) -> SuggestRefused {
-        match unsolved {
-            Unsolved::NoRules(obstacle) => SuggestRefused::NoRules(obstacle),
-            Unsolved::Differs(mismatch) => {
-                SuggestRefused::NoRules(Obstacle::StillDiffers(mismatch.record))
-            }
-            Unsolved::Memory => SuggestRefused::Memory,
-        }
+    fn from(_: AllocError) -> SuggestRefused {
+        SuggestRefused::Memory
     }
 }

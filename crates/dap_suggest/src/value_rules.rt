@@ -119,6 +119,8 @@ pub struct Chooser<'c> {
     pub are_joined: bool,
     /// Whether nothing that a test looks at may be hidden.
     pub are_strict: bool,
+    /// Whether members may be set that only one recording has.
+    pub may_fill: bool,
     /// Whether elements may be omitted from lists of different lengths.
     pub may_omit: bool,
 }

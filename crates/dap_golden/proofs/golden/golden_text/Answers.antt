@@ -1,7 +1,8 @@
 use Rattle.std.proofs.Common.{subst}
 use Rattle.std.specs.Prelude.{IfErr, IfOk}
 use Rattle.std.proofs.lemmas.Result.{IfErr-weaker, IfOk-weaker, err_from_is_err_and}
-use Rattle.dap_golden.specs.{Golden.{IsGolden, IsRefusedGolden, mask_given}, GoldenFiles.IsNormalText}
+use Rattle.dap_golden.specs.Golden.{IsGolden, IsRefusedGolden, mask_given}
+use Rattle.dap_golden.specs.GoldenFiles.{IsNormalText}
 use Rattle.dap_rename.specs.declared.mode.Mode.{Mode}
 use Rattle.dap_golden.proofs.GoldenTexts.{golden_of_input, no_session, session_refused}
 use Rattle.dap_golden.proofs.golden.golden_text.Goals as goal

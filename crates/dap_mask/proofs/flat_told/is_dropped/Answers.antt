@@ -12,11 +12,12 @@ returns-then-event c =
     let ns = c.args.nodes.now in
     let rules = c.args.rules.now in
     IfOk-weaker c.is_event_dropped.result
-    (IsTold ns 0 (λ d. is_event_of (dropped_of rules) d || is_dropped_by (categories_of_mask rules) d))
+    (IsTold ns 0
+    (λ d. is_event_of (dropped_of rules) d || is_dropped_by (categories_of_mask rules) d))
     (IsTold ns 0 (leaves_out (mask_of rules)))
     (λ b told d h. told d h
-    ∙ ap (λ e. e && (is_event_of (dropped_of rules) d || is_dropped_by (categories_of_mask rules) d))
-    (sym c.if-event.true ∙ c.in_ok-event.ensures d h))
+    ∙ ap (λ e. e && (is_event_of (dropped_of rules) d
+    || is_dropped_by (categories_of_mask rules) d)) (sym c.if-event.true ∙ c.in_ok-event.ensures d h))
     c.is_event_dropped.ensures
 
 pub returns-else-event : goal.returns-else-event

@@ -16,7 +16,8 @@ returns-in-Ok-session_by-clause-ok c =
 
 pub returns-in-Err-session_by-clause-err : goal.returns-in-Err-session_by-clause-err
 returns-in-Err-session_by-clause-err c =
-    subst (IsRejectedInOrder c.args.limits c.args.mode (mask_of c.args.rules.now) c.args.recording.now)
+    subst (IsRejectedInOrder c.args.limits c.args.mode (mask_of c.args.rules.now)
+    c.args.recording.now)
     (sym c.order_refusal.ensures)
     (session_refused c.args.limits c.requires.limits c.args.mode c.args.rules.now
     c.args.recording.now c.in-Ok.masked c.in-Ok.ensures.ok (swaps_of c.swaps.result.now)

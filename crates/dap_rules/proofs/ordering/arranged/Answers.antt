@@ -28,11 +28,11 @@ returns-in_err-check_messages-clause-err c recording accepted =
     let all = map stored_sent c.in_ok-messages.messages.items in
     let within : AreWithin c.args.limits (ordered rules ms) all =
     subst (λ ns. AreWithin c.args.limits ns all) c.in-Ok.ensures c.in_ok-messages.ensures.ok in
-    let own = own_records c.args.limits c.args.mode rules recording ms accepted c.requires.limits all
-    within in
+    let own = own_records c.args.limits c.args.mode rules recording ms accepted c.requires.limits
+    all within in
     rw (because.1, because.2)
-    (own_refused c.args.limits c.args.mode rules recording ms accepted c.requires.limits all within _
-    (c.in_err-check_messages.ensures.err (contents_of all) (begin_all own)))
+    (own_refused c.args.limits c.args.mode rules recording ms accepted c.requires.limits all within
+    _ (c.in_err-check_messages.ensures.err (contents_of all) (begin_all own)))
 
 pub returns-clause-ok : goal.returns-clause-ok
 returns-clause-ok c recording accepted =

@@ -32,8 +32,8 @@ returns-clause-err c recording accepted =
     let all = map stored_sent c.in_ok-messages.messages.items in
     let within : AreWithin c.args.limits (ordered rules ms) all =
     subst (λ ns. AreWithin c.args.limits ns all) c.in-Ok.ensures c.in_ok-messages.ensures.ok in
-    let own = own_records c.args.limits c.args.mode rules recording ms accepted c.requires.limits all
-    within in
+    let own = own_records c.args.limits c.args.mode rules recording ms accepted c.requires.limits
+    all within in
     IfErr-weaker c.normalise_messages.result _ _
     (own_refused c.args.limits c.args.mode rules recording ms accepted c.requires.limits all within)
     (c.normalise_messages.ensures.err (contents_of all) (begin_all own))
@@ -45,8 +45,8 @@ returns-clause-ok c recording accepted =
     let all = map stored_sent c.in_ok-messages.messages.items in
     let within : AreWithin c.args.limits (ordered rules ms) all =
     subst (λ ns. AreWithin c.args.limits ns all) c.in-Ok.ensures c.in_ok-messages.ensures.ok in
-    let own = own_records c.args.limits c.args.mode rules recording ms accepted c.requires.limits all
-    within in
+    let own = own_records c.args.limits c.args.mode rules recording ms accepted c.requires.limits
+    all within in
     both_ok c.normalise_messages.result
     (λ session is in_order. (
       recording_text (contents_of all),

@@ -21,6 +21,6 @@ returns-in-Ok c =
 pub returns-in-Err-NoRules : goal.returns-in-Err-NoRules
 returns-in-Err-NoRules c =
     let Explains = IsNotSuggested LIMITS c.as_slice.result.now c.args.a.now c.args.b.now in
-    let accepted = subst AreAccepted c.as_slice.ensures.value
-    (subst Explains c.in-Err-NoRules.field-0-is c.in-Err-NoRules.ensures.err) in
+    let explained = subst Explains c.in-Err-NoRules.field-0-is c.in-Err-NoRules.ensures.err in
+    let accepted = subst AreAccepted c.as_slice.ensures.value explained.0 in
     accepted_are_short c.args.given.items accepted.0 accepted.1
